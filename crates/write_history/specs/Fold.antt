@@ -1,0 +1,60 @@
+-- What a change makes of the world, and a history of it.
+use Rattle.std.specs.Prelude.{ℕ, ◌≡◌, ◌+◌, true, List, [], ◌∷◌, ◌++◌, take, Option, Some, None, Result, Ok, Err}
+use Rattle.write_history.specs.declared.change.Change.{Change}
+use Rattle.write_history.specs.declared.change.Change.TheVariants.{Create, Write, Intake}
+use Rattle.write_history.specs.declared.change.Entry.{Entry}
+use Rattle.write_history.specs.declared.refusal.Refusal.{Refusal}
+use Rattle.write_history.specs.World.{World, empty_world, is_live_at, is_live_id}
+use Rattle.write_history.specs.Effect.{refusal_of, rewritten, taken_in, with_files}
+
+-- the world after a change that is accepted
+abbrev pub effect_of : World → Change → World
+effect_of world (Create path text) = record {
+  files = world.files ++ record { id = world.next_id; path = path; content = text; stamp = world.next_stamp; live = true; indexed = None } ∷ [];
+  documents = world.documents;
+  next_id = world.next_id + 1;
+  next_stamp = world.next_stamp + 1;
+  entries = world.entries + 1;
+}
+effect_of world (Write path text) = record {
+  files = with_files (is_live_at path) (rewritten text world.next_stamp) world.files;
+  documents = world.documents;
+  next_id = world.next_id;
+  next_stamp = world.next_stamp + 1;
+  entries = world.entries + 1;
+}
+effect_of world (Intake file stamp) = record {
+  files = with_files (is_live_id file) (taken_in stamp) world.files;
+  documents = world.documents;
+  next_id = world.next_id;
+  next_stamp = world.next_stamp;
+  entries = world.entries + 1;
+}
+
+-- the world after a change, or why it is refused
+abbrev pub outcome : Option Refusal → World → Result World Refusal
+outcome None world = Ok world
+outcome (Some refusal) world = Err refusal
+
+abbrev pub apply : World → Change → Result World Refusal
+apply world change = outcome (refusal_of world change) (effect_of world change)
+
+-- the world after the changes of a history
+abbrev pub fold_from : World → List Entry → World
+fold_from world [] = world
+fold_from world (entry ∷ entries) = fold_from (effect_of world entry.change) entries
+
+abbrev pub fold : List Entry → World
+fold entries = fold_from empty_world entries
+
+-- no entry is refused where it stands
+abbrev pub IsLegalFrom : World → List Entry → Type 0
+IsLegalFrom world [] = Unit {0}
+IsLegalFrom world (entry ∷ entries) = (refusal_of world entry.change ≡ None) × IsLegalFrom (effect_of world entry.change) entries
+
+abbrev pub IsLegal : List Entry → Type 0
+IsLegal entries = IsLegalFrom empty_world entries
+
+-- the world at a prefix of a history
+abbrev pub world_at : List Entry → ℕ → World
+world_at entries n = fold (take n entries)

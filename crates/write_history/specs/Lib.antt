@@ -1,0 +1,8 @@
+-- The world and its changes
+pub mod Path
+pub mod World
+pub mod Effect
+pub mod Fold
+-- The kept history and its print
+pub mod Kept
+pub mod Print
