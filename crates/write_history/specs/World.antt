@@ -67,9 +67,5 @@ abbrev pub unready_files : World → List File
 unready_files world = filter (is_unready world) world.files
 
 -- the unready file with the lowest id
-abbrev pub first_of_files : List File → Option File
-first_of_files [] = None
-first_of_files (file ∷ files) = Some file
-
 abbrev pub lowest_unready : World → Option File
-lowest_unready world = first_of_files (unready_files world)
+lowest_unready world = find (is_unready world) world.files
