@@ -56,6 +56,7 @@ rewritten text stamp file = record { id = file.id; path = file.path; content = t
 abbrev pub taken_in : ℕ → File → File
 taken_in stamp file = record { id = file.id; path = file.path; content = file.content; stamp = file.stamp; live = file.live; indexed = Some stamp }
 
--- the files with those that pass a test changed
-abbrev pub with_files : (File → Bool) → (File → File) → List File → List File
-with_files is_meant change files = map (λ file. if is_meant file then change file else file) files
+-- the files with the first one that passes a test changed
+abbrev pub with_first : (File → Bool) → (File → File) → List File → List File
+with_first is_meant change [] = []
+with_first is_meant change (file ∷ files) = if is_meant file then change file ∷ files else file ∷ with_first is_meant change files

@@ -5,7 +5,7 @@ use Rattle.write_history.specs.declared.change.Change.TheVariants.{Create, Write
 use Rattle.write_history.specs.declared.change.Entry.{Entry}
 use Rattle.write_history.specs.declared.refusal.Refusal.{Refusal}
 use Rattle.write_history.specs.World.{World, empty_world, is_live_at, is_live_id}
-use Rattle.write_history.specs.Effect.{refusal_of, rewritten, taken_in, with_files}
+use Rattle.write_history.specs.Effect.{refusal_of, rewritten, taken_in, with_first}
 
 -- the world after a change that is accepted
 abbrev pub effect_of : World → Change → World
@@ -17,14 +17,14 @@ effect_of world (Create path text) = record {
   entries = world.entries + 1;
 }
 effect_of world (Write path text) = record {
-  files = with_files (is_live_at path) (rewritten text world.next_stamp) world.files;
+  files = with_first (is_live_at path) (rewritten text world.next_stamp) world.files;
   documents = world.documents;
   next_id = world.next_id;
   next_stamp = world.next_stamp + 1;
   entries = world.entries + 1;
 }
 effect_of world (Intake file stamp) = record {
-  files = with_files (is_live_id file) (taken_in stamp) world.files;
+  files = with_first (is_live_id file) (taken_in stamp) world.files;
   documents = world.documents;
   next_id = world.next_id;
   next_stamp = world.next_stamp;
