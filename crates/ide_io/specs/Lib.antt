@@ -1,0 +1,3 @@
+-- Words for what the outside world does: faults that are counted, and bytes that are known.
+pub mod Fault
+pub mod Known

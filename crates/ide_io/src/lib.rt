@@ -1,0 +1,18 @@
+//! The outside world as three traits: a source of bytes, a tree of files and a sink of bytes.
+//!
+//! Each object counts its faults, and a call that answers `Failed` has raised that count. Objects
+//! in memory tell the bytes that they hold, so that contracts speak of them; the adapters over
+//! the system tell none.
+#![tactic(auto)]
+
+mod failed;
+mod reading;
+mod sink;
+mod source;
+mod writing;
+
+pub use crate::failed::Failed;
+pub use crate::reading::{ReadAllError, read_all};
+pub use crate::sink::Sink;
+pub use crate::source::Source;
+pub use crate::writing::write_all;
