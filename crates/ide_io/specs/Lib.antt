@@ -1,3 +1,5 @@
 -- Words for what the outside world does: faults that are counted, and bytes that are known.
 pub mod Fault
 pub mod Known
+pub mod Plan
+pub mod Room

@@ -5,13 +5,19 @@
 //! the system tell none.
 #![tactic(auto)]
 
+mod bytes_sink;
+mod bytes_source;
 mod failed;
+mod fault_plan;
 mod reading;
 mod sink;
 mod source;
 mod writing;
 
+pub use crate::bytes_sink::BytesSink;
+pub use crate::bytes_source::BytesSource;
 pub use crate::failed::Failed;
+pub use crate::fault_plan::FaultPlan;
 pub use crate::reading::{ReadAllError, read_all};
 pub use crate::sink::Sink;
 pub use crate::source::Source;
