@@ -8,6 +8,7 @@
 mod bytes_sink;
 mod bytes_source;
 mod failed;
+mod failing;
 mod fault_plan;
 mod reading;
 mod sink;
@@ -17,6 +18,7 @@ mod writing;
 pub use crate::bytes_sink::BytesSink;
 pub use crate::bytes_source::BytesSource;
 pub use crate::failed::Failed;
+pub use crate::failing::Failing;
 pub use crate::fault_plan::FaultPlan;
 pub use crate::reading::{ReadAllError, read_all};
 pub use crate::sink::Sink;
