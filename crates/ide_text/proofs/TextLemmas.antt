@@ -1,0 +1,74 @@
+-- The column that follows a list of characters, and the text that bytes spell.
+use Rattle.std.proofs.Common.{ℕ, ◌≡◌, ◌≢◌, ◌+◌, ◌<◌, ◌≤◌, Bool, true, false, List, [], ◌∷◌, ◌++◌, length, take, get_or, encode_utf8_all, encode_utf8, refl, ap, sym, ◌∙◌, Ok, Err, eq-eqb, append-nil}
+use Rattle.std.specs.Prelude.{◌==◌, ◌&&◌, if◌then◌else◌}
+use Rattle.std.specs.Str.{chars, IsUtf8}
+use Rattle.std.specs.Str.Lossy.{utf8_valid_len}
+use Rattle.std.proofs.lemmas.Str.{is_utf8-from_IsUtf8, IsUtf8-from_is_utf8, encodes-append}
+use Rattle.std.proofs.lemmas.List.{take_more}
+use Rattle.std.proofs.lemmas.Bool.{le-leb, lt-leb, ne_eqb}
+use Rattle.ide_text.specs.declared.text.TextRefusal.TheVariants.{NotText, TooLong}
+use Rattle.ide_text.specs.Text.{line_feed, carriage_return, max_chars, repaired, repaired_after, repaired_char, sized_text, text_of, HasNoReturn}
+use Rattle.ide_text.specs.Place.{since_break}
+
+-- after one character more the column is 0 or one more
+since_break-append : (cs : List ℕ) (n c : ℕ) → since_break n (cs ++ c ∷ []) ≡ (if c == line_feed then 0 else since_break n cs + 1)
+since_break-append [] n c = refl
+since_break-append (d ∷ cs) n c = elim (d == line_feed) as (λ b. (if b then since_break 0 (cs ++ c ∷ []) else since_break (n + 1) (cs ++ c ∷ [])) ≡ (if c == line_feed then 0 else (if b then since_break 0 cs else since_break (n + 1) cs) + 1)) [
+  | true ↦ since_break-append cs 0 c
+  | false ↦ since_break-append cs (n + 1) c
+]
+
+-- the same at a place of a list
+since_break_more : (cs : List ℕ) (i c : ℕ) → i < length cs → c ≡ get_or cs i c → since_break 0 (take (i + 1) cs) ≡ (if c == line_feed then 0 else since_break 0 (take i cs) + 1)
+since_break_more cs i c l e = ap (since_break 0) (take_more cs i c l ∙ ap (λ d. take i cs ++ d ∷ []) (sym e)) ∙ since_break-append (take i cs) 0 c
+
+pub since_break_at_break : (cs : List ℕ) (i c : ℕ) → i < length cs → c ≡ get_or cs i c → c ≡ line_feed → since_break 0 (take (i + 1) cs) ≡ 0
+since_break_at_break cs i c l e h = since_break_more cs i c l e ∙ ap (λ b. if b then 0 else since_break 0 (take i cs) + 1) (eq-eqb c line_feed h)
+
+pub since_break_at_other : (cs : List ℕ) (i c : ℕ) → i < length cs → c ≡ get_or cs i c → c ≢ line_feed → since_break 0 (take (i + 1) cs) ≡ since_break 0 (take i cs) + 1
+since_break_at_other cs i c l e h = since_break_more cs i c l e ∙ ap (λ b. if b then 0 else since_break 0 (take i cs) + 1) (ne_eqb c line_feed h)
+
+-- the bytes of one character more
+pub encodes_more : (cs : List ℕ) (i c : ℕ) → i < length cs → c ≡ get_or cs i c → encode_utf8_all (take i cs) ++ encode_utf8 c ≡ encode_utf8_all (take (i + 1) cs)
+encodes_more cs i c l e = sym (ap encode_utf8_all (take_more cs i c l ∙ ap (λ d. take i cs ++ d ∷ []) (sym e)) ∙ encodes-append (take i cs) (c ∷ []) ∙ ap (λ bs. encode_utf8_all (take i cs) ++ bs) (append-nil (encode_utf8 c)))
+
+-- a test that isn't true is false
+not_true : {b : Bool} → (b ≢ true) → b ≡ false
+not_true {b} = elim b as (λ v. v ≢ true → v ≡ false) [ true ↦ λ h. absurd (h refl) | false ↦ λ h. refl ]
+
+-- bytes that are UTF-8 spell a text unless it is too long
+text_of-utf8 : (bytes : List ℕ) → IsUtf8 bytes → text_of bytes ≡ sized_text (repaired (chars bytes))
+text_of-utf8 bytes u = ap (λ b. if b then sized_text (repaired (chars bytes)) else Err (NotText (utf8_valid_len bytes))) (is_utf8-from_IsUtf8 bytes u)
+
+-- the same where the bytes are a given text, whose repaired characters are these
+pub text_of-spelled : (bytes text cs : List ℕ) → (text ≡ bytes) × IsUtf8 bytes → cs ≡ repaired (chars text) → text_of bytes ≡ sized_text cs
+text_of-spelled bytes text cs h e = text_of-utf8 bytes h.1 ∙ ap sized_text (sym (e ∙ ap (λ t. repaired (chars t)) h.0))
+
+-- bytes that aren't UTF-8 spell no text
+pub text_of-not_utf8 : (bytes : List ℕ) → ¬ IsUtf8 bytes → text_of bytes ≡ Err (NotText (utf8_valid_len bytes))
+text_of-not_utf8 bytes h = ap (λ b. if b then sized_text (repaired (chars bytes)) else Err (NotText (utf8_valid_len bytes))) (not_true (λ t. h (IsUtf8-from_is_utf8 bytes t)))
+
+-- few enough characters are a text, and more aren't
+pub sized_text-few : (cs : List ℕ) → length cs ≤ max_chars → sized_text cs ≡ Ok cs
+sized_text-few cs h = ap (λ b. if b then Ok cs else Err (TooLong (length cs))) (le-leb (length cs) max_chars h)
+
+pub sized_text-many : (cs : List ℕ) → max_chars < length cs → sized_text cs ≡ Err (TooLong (length cs))
+sized_text-many cs h = ap (λ b. if b then Ok cs else Err (TooLong (length cs))) (lt-leb (length cs) max_chars h)
+
+-- no carriage return is left where line breaks are repaired
+HasNoReturn-append : (xs ys : List ℕ) → HasNoReturn xs → HasNoReturn ys → HasNoReturn (xs ++ ys)
+HasNoReturn-append [] ys h k = k
+HasNoReturn-append (x ∷ xs) ys h k = (h.0, HasNoReturn-append xs ys h.1 k)
+
+-- by whether a test holds
+bool_cases : (b : Bool) (P : Bool → Type 0) → (b ≡ true → P true) → (b ≡ false → P false) → P b
+bool_cases b P = elim b as (λ v. (v ≡ true → P true) → (v ≡ false → P false) → P v) [ true ↦ λ yes no'. yes refl | false ↦ λ yes no'. no' refl ]
+
+HasNoReturn-repaired_char : (after_return : Bool) (c : ℕ) → HasNoReturn (repaired_char after_return c)
+HasNoReturn-repaired_char after_return c = bool_cases (c == carriage_return) (λ b. HasNoReturn (if b then line_feed ∷ [] else (if after_return && c == line_feed then [] else c ∷ [])))
+    (λ e. (refl, tt))
+    (λ e. elim (after_return && c == line_feed) as (λ b. HasNoReturn (if b then [] else c ∷ [])) [ true ↦ tt | false ↦ (e, tt) ])
+
+pub HasNoReturn-repaired_after : (after_return : Bool) (cs : List ℕ) → HasNoReturn (repaired_after after_return cs)
+HasNoReturn-repaired_after after_return [] = tt
+HasNoReturn-repaired_after after_return (c ∷ cs) = HasNoReturn-append (repaired_char after_return c) (repaired_after (c == carriage_return) cs) (HasNoReturn-repaired_char after_return c) (HasNoReturn-repaired_after (c == carriage_return) cs)
