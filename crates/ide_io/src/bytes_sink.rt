@@ -7,6 +7,7 @@ ghost use Rattle.ide_io.specs.Known.{WriteTakes};
 ghost use Rattle.ide_io.specs.Room.{Filled};
 
 use crate::failed::Failed;
+use crate::fault_count::FaultCount;
 use crate::sink::Sink;
 use std::alloc::{AllocError, Global};
 use std::marker::Model;
@@ -19,7 +20,7 @@ pub struct BytesSink {
     taken: Vec<u8>,
     room: usize,
     most: usize,
-    faults: u64,
+    faults: FaultCount,
 }
 
 impl Model for BytesSink {
@@ -39,7 +40,7 @@ impl BytesSink {
             taken: Vec::with_capacity(alloc, room)?,
             room,
             most: usize::MAX,
-            faults: 0,
+            faults: FaultCount::new(),
         })
     }
 
@@ -73,7 +74,7 @@ impl BytesSink {
     pub fn faults(&self) -> u64
         ensures { result ≡ self.now.faults }
     {
-        self.faults
+        self.faults.get()
     }
 }
 
@@ -96,8 +97,7 @@ impl Sink for BytesSink {
     {
         let count = piece.len().min(self.room).min(self.most);
         if count == 0 && !piece.is_empty() {
-            self.faults = self.faults.saturating_add(1);
-            return Err(Failed);
+            return Err(self.faults.raise());
         }
         self.taken.extend_from_slice(&piece[..count]).unwrap();
         self.room -= count;

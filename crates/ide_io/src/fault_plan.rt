@@ -3,6 +3,7 @@
 ghost use Rattle.std.specs.Prelude.{◌≡◌};
 ghost use Rattle.ide_io.specs.Plan.{Plan, is_next_listed, plan_after};
 
+use crate::fault_count::FaultCount;
 use std::marker::Model;
 
 /// A list of the calls that are to fail, with the count of calls and of faults.
@@ -12,7 +13,7 @@ use std::marker::Model;
 pub struct FaultPlan {
     failing: Vec<u64>,
     calls: u64,
-    faults: u64,
+    faults: FaultCount,
 }
 
 impl Model for FaultPlan {
@@ -29,7 +30,7 @@ impl FaultPlan {
         FaultPlan {
             failing,
             calls: 0,
-            faults: 0,
+            faults: FaultCount::new(),
         }
     }
 
@@ -41,7 +42,7 @@ impl FaultPlan {
         self.calls = self.calls.saturating_add(1);
         let is_listed = self.failing.contains(&self.calls);
         if is_listed {
-            self.faults = self.faults.saturating_add(1);
+            let _ = self.faults.raise();
         }
         is_listed
     }
@@ -50,6 +51,6 @@ impl FaultPlan {
     pub fn faults(&self) -> u64
         ensures { result ≡ self.now.faults }
     {
-        self.faults
+        self.faults.get()
     }
 }

@@ -4,7 +4,7 @@ ghost use Rattle.std.specs.Prelude.{◌≡◌, ◌≢◌, ◌≤◌, ◌<◌, So
 ghost use Rattle.ide_io.specs.Fault.{HasFault, next_count};
 ghost use Rattle.ide_io.specs.Files.{files_of};
 
-use crate::failed::Failed;
+use crate::fault_count::FaultCount;
 use crate::tree::{MAX_FILE_LEN, ReadFileError, Tree};
 use ide_text::Name;
 use std::alloc::Global;
@@ -14,7 +14,7 @@ use std::collections::BTreeMap;
 #[derive(Drop)]
 pub struct MemoryTree {
     pub files: BTreeMap<Name, Vec<u8>>,
-    pub faults: u64,
+    pub faults: FaultCount,
 }
 
 impl MemoryTree {
@@ -23,7 +23,10 @@ impl MemoryTree {
         ensures files { result.files ≡ files }
         ensures faults { result.faults ≡ 0 }
     {
-        MemoryTree { files, faults: 0 }
+        MemoryTree {
+            files,
+            faults: FaultCount::new(),
+        }
     }
 }
 
@@ -47,14 +50,9 @@ impl Tree for MemoryTree {
         ensures fault { IsErrOf result ReadFileError.Failed
             → HasFault self.old.faults self.new.faults }
     {
-        let Some(bytes) = self.files.get(path) else {
-            self.faults = self.faults.saturating_add(1);
-            return Err(ReadFileError::Failed);
-        };
-        if bytes.len() > MAX_FILE_LEN {
-            self.faults = self.faults.saturating_add(1);
-            return Err(ReadFileError::Failed);
+        match self.files.get(path) {
+            Some(bytes) if bytes.len() <= MAX_FILE_LEN => Ok(Vec::from_slice(alloc, bytes)?),
+            _ => Err(ReadFileError::from(self.faults.raise())),
         }
-        Ok(Vec::from_slice(alloc, bytes)?)
     }
 }
