@@ -1,6 +1,6 @@
 //! Objects whose listed calls fail.
 
-ghost use Rattle.std.specs.Prelude.{◌≡◌, ◌<◌, ◌≤◌, IsErr, IfOk, OnOk, OnErr, length, false, true};
+ghost use Rattle.std.specs.Prelude.{◌≡◌, ◌≢◌, ◌<◌, ◌≤◌, Err, Some, IsErr, IsErrOf, IfOk, IfSome, OnOk, OnErr, length, vec_len, false, true};
 ghost use Rattle.std.specs.Io.{ReadsAtMost, WritesAtMost};
 ghost use Rattle.ide_io.specs.Failing.{faults_with};
 ghost use Rattle.ide_io.specs.Fault.{HasFault};
@@ -11,6 +11,9 @@ use crate::failed::Failed;
 use crate::fault_plan::FaultPlan;
 use crate::sink::Sink;
 use crate::source::Source;
+use crate::tree::{MAX_FILE_LEN, ReadFileError, Tree};
+use ide_text::Name;
+use std::alloc::Global;
 
 /// An object whose calls fail where the plan lists them. Every other call is passed on to `inner`.
 ///
@@ -73,5 +76,34 @@ impl<K: Sink> Sink for Failing<K> {
             return Err(Failed);
         }
         self.inner.write(piece)
+    }
+}
+
+impl<T: Tree> Tree for Failing<T> {
+    ghost files = { λ tree. T.files tree.inner };
+
+    ghost faults = { faults_with T.faults };
+
+    fn read_file(&mut self, alloc: Global, path: &Name) -> Result<Vec<u8>, ReadFileError>
+        ensures counted { self.new.plan ≡ plan_after self.old.plan }
+        ensures listed { is_next_listed self.old.plan ≡ true
+            → (result ≡ Err ReadFileError.Failed) × (self.new.inner ≡ self.old.inner) }
+        ensures other { is_next_listed self.old.plan ≡ false → IsErrOf result ReadFileError.Failed
+            → HasFault (T.faults self.old.inner) (T.faults self.new.inner) }
+
+        ensures bytes { IfOk result
+            (λ v. IfSome (T.files self.old.inner) (λ at. at path.now ≡ Some v.items)) }
+        ensures limit { IfOk result (λ v. vec_len v ≤ MAX_FILE_LEN) }
+        ensures files { T.files self.new.inner ≡ T.files self.old.inner }
+        ensures never_falls { faults_with T.faults self.old ≤ faults_with T.faults self.new }
+        ensures no_fault { result ≢ Err ReadFileError.Failed
+            → faults_with T.faults self.new ≡ faults_with T.faults self.old }
+        ensures fault { IsErrOf result ReadFileError.Failed
+            → HasFault (faults_with T.faults self.old) (faults_with T.faults self.new) }
+    {
+        if self.plan.count_call() {
+            return Err(ReadFileError::Failed);
+        }
+        self.inner.read_file(alloc, path)
     }
 }

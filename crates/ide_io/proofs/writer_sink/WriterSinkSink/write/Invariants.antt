@@ -1,0 +1,6 @@
+use Rattle.std.proofs.Common.{◌≡◌}
+use Rattle.ide_io.proofs.writer_sink.WriterSinkSink.write.Given as goal
+
+-- no fault was counted
+abbrev pub invariant-tries : goal.invariant-tries
+invariant-tries g l = l.self.faults ≡ l.fn.self.faults
