@@ -17,6 +17,10 @@ WriteTakes old new r piece = MatchResult r (λ n. new ≡ append_known old (take
 abbrev pub TakesSome : Option (List ℕ) → Option (List ℕ) → Type 0
 TakesSome old new = (front : List ℕ) × (old ≡ prepend_known front new)
 
+-- more bytes than so many were taken from the front
+abbrev pub TakesOver : ℕ → Option (List ℕ) → Option (List ℕ) → Type 0
+TakesOver limit old new = (front : List ℕ) × (limit < length front) × (old ≡ prepend_known front new)
+
 -- a prefix of the bytes was put last
 abbrev pub TakesPrefix : Option (List ℕ) → Option (List ℕ) → List ℕ → Type 0
 TakesPrefix old new bytes = (n : ℕ) × (n ≤ length bytes) × (new ≡ append_known old (take n bytes))

@@ -1,6 +1,6 @@
 //! The files of the current folder as a tree.
 
-ghost use Rattle.std.specs.Prelude.{◌≤◌, None, IfOk, vec_len};
+ghost use Rattle.std.specs.Prelude.{◌≡◌, ◌≤◌, None, IfOk, vec_len};
 
 use crate::fault_count::FaultCount;
 use crate::reader_source::ReaderSource;
@@ -17,13 +17,15 @@ use std::rt::Files;
 /// refuses is a fault.
 #[derive(Drop)]
 pub struct FolderTree<'a, R> {
-    rt: &'a R,
-    faults: FaultCount,
+    pub rt: &'a R,
+    pub faults: FaultCount,
 }
 
 impl<'a, R: Files> FolderTree<'a, R> {
     /// The tree of the current folder, which has met no fault.
-    pub fn new(rt: &'a R) -> FolderTree<'a, R> {
+    pub fn new(rt: &'a R) -> FolderTree<'a, R>
+        ensures { result.faults ≡ 0 }
+    {
         FolderTree {
             rt,
             faults: FaultCount::new(),

@@ -1,6 +1,10 @@
 //! A reader of std as a source.
 
-ghost use Rattle.std.specs.Prelude.{None};
+ghost use Rattle.std.specs.Prelude.{◌≡◌, ◌≤◌, None, OnOk, OnErr};
+ghost use Rattle.std.specs.Io.{ReadsAtMost};
+ghost use Rattle.std.specs.Io.KnownBytes.{ReadConsumes};
+ghost use Rattle.ide_io.specs.Fault.{HasFault};
+ghost use Rattle.ide_io.specs.Known.{ReadTakes};
 
 use crate::failed::Failed;
 use crate::fault_count::FaultCount;
@@ -14,8 +18,8 @@ const TRIES: usize = 64;
 /// fault.
 #[derive(Drop)]
 pub struct ReaderSource<R> {
-    reader: R,
-    faults: FaultCount,
+    pub reader: R,
+    pub faults: FaultCount,
 }
 
 /// Standard input: `StdinSource::<R>::new(rt.reader())`.
@@ -23,7 +27,10 @@ pub type StdinSource<R> = ReaderSource<<R as Input>::Reader>;
 
 impl<R> ReaderSource<R> {
     /// The source of a reader, which has met no fault.
-    pub fn new(reader: R) -> ReaderSource<R> {
+    pub fn new(reader: R) -> ReaderSource<R>
+        ensures reader { result.reader ≡ reader }
+        ensures faults { result.faults ≡ 0 }
+    {
         ReaderSource {
             reader,
             faults: FaultCount::new(),
@@ -36,7 +43,16 @@ impl<R: Read> Source for ReaderSource<R> {
 
     ghost faults = { λ source. source.faults };
 
-    fn read(&mut self, into: &mut [u8]) -> Result<usize, Failed> {
+    fn read(&mut self, into: &mut [u8]) -> Result<usize, Failed>
+        // What the reader gives, where it tells that.
+        ensures given { ReadConsumes (R.remaining self.old.reader) (R.remaining self.new.reader) result into.new }
+
+        ensures count { ReadsAtMost result into.new }
+        ensures bytes { ReadTakes None None result into.new }
+        ensures never_falls { self.old.faults ≤ self.new.faults }
+        ensures no_fault { OnOk result (self.new.faults ≡ self.old.faults) }
+        ensures fault { OnErr result (HasFault self.old.faults self.new.faults) }
+    {
         'tries: for _ in 0..TRIES {
             match self.reader.read(into) {
                 Ok(count) => return Ok(count),

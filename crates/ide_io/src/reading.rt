@@ -3,7 +3,7 @@
 ghost use Rattle.std.specs.Prelude.{◌≡◌, ◌≢◌, ℕ, ◌≤◌, ◌<◌, List, length, vec_len, IfOk, OnOk, IfSome, IsErrOf};
 ghost use Rattle.std.specs.Io.KnownBytes.{IsAtEnd, prepend_known};
 ghost use Rattle.ide_io.specs.Fault.{HasFault};
-ghost use Rattle.ide_io.specs.Known.{TakesSome};
+ghost use Rattle.ide_io.specs.Known.{TakesOver, TakesSome};
 ghost use Rattle.ide_io.specs.declared.reading.ReadAllError.TheVariants as variant;
 
 use crate::failed::Failed;
@@ -54,6 +54,8 @@ pub fn read_all<S: Source>(
     ensures limit { IfOk result (λ v. vec_len v ≤ limit) }
     ensures too_long { IsErrOf result ReadAllError.TooLong
         → IfSome (S.left source.old) (λ all. limit < length all) }
+    ensures over { IsErrOf result ReadAllError.TooLong
+        → TakesOver limit (S.left source.old) (S.left source.new) }
     ensures fault { IsErrOf result ReadAllError.Failed
         → HasFault (S.faults source.old) (S.faults source.new) }
     ensures never_falls { S.faults source.old ≤ S.faults source.new }
