@@ -1,0 +1,5 @@
+pub mod LineLemmas
+pub mod CharLemmas
+pub mod QuoteLemmas
+pub mod CommandLemmas
+pub mod ScriptLemmas
