@@ -6,27 +6,24 @@ mod sources;
 mod trees;
 
 use ide_io::{ReaderSource, WriterSink, read_all, write_all};
-use std::alloc::AllocError;
 use std::io;
 
 // More than one read gives.
 const INPUT_LIMIT: usize = 100_000;
 
-fn main(rt: HostRuntime) -> Result<(), AllocError> {
-    let alloc = rt.alloc();
-    let mut log = String::new(alloc);
-    sources::run(alloc, &mut log)?;
-    sinks::run(alloc, &mut log)?;
-    trees::run(&rt, alloc, &mut log)?;
+fn main(rt: HostRuntime) -> io::Result<()> {
+    sources::run(&rt)?;
+    sinks::run(&rt)?;
+    trees::run(&rt)?;
+    copy_input(&rt)
+}
+
+// Writes what standard input has to standard output.
+fn copy_input<R: Input + Print + AllocGlobal>(rt: &R) -> io::Result<()> {
     let mut input = ReaderSource::new(rt.reader());
-    match read_all(alloc, &mut input, INPUT_LIMIT) {
-        Ok(bytes) => {
-            let len = bytes.len();
-            writeln!(log, "standard input: {len} bytes")?;
-        }
-        Err(error) => writeln!(log, "standard input: {error:?}")?,
+    let mut output = WriterSink::new(io::writer(rt));
+    match read_all(rt.alloc(), &mut input, INPUT_LIMIT) {
+        Ok(bytes) => println!(rt; "copied: {:?}", write_all(&mut output, &bytes)),
+        Err(error) => println!(rt; "not read: {error:?}"),
     }
-    let mut output = WriterSink::new(io::writer(&rt));
-    let _ = write_all(&mut output, log.as_bytes());
-    Ok(())
 }

@@ -1,52 +1,50 @@
 //! Trees in memory and in the current folder.
 
-use ide_io::{Failing, FaultPlan, FolderTree, MAX_FILE_LEN, MemoryTree, ReadFileError, Tree};
+use ide_io::{Failing, FaultPlan, FolderTree, MAX_FILE_LEN, MemoryTree, Tree};
 use ide_text::Name;
-use std::alloc::{AllocError, Global};
 use std::collections::BTreeMap;
+use std::io;
 use std::rt::Files;
 
 /// Reads files that are there, absent, too long, and by a call that fails.
-pub fn run(rt: &impl Files, alloc: Global, log: &mut String) -> Result<(), AllocError> {
-    let mut files = BTreeMap::new(alloc);
-    files.insert(Name::of(alloc, "small")?, vec![in alloc; b'a'; 3]?)?;
-    files.insert(
-        Name::of(alloc, "full")?,
-        vec![in alloc; b'a'; MAX_FILE_LEN]?,
-    )?;
-    files.insert(
-        Name::of(alloc, "long")?,
-        vec![in alloc; b'a'; MAX_FILE_LEN + 1]?,
-    )?;
+pub fn run<R: Files + Print + AllocGlobal>(rt: &R) -> io::Result<()> {
     let mut tree = Failing {
-        inner: MemoryTree::new(files),
-        plan: FaultPlan::new(vec![in alloc; 5]?),
+        inner: memory_tree(rt)?,
+        plan: FaultPlan::new(vec![in rt.alloc(); 5]?),
     };
     for path in ["small", "full", "long", "absent", "small", "small"] {
-        read_path(alloc, &mut tree, path, log)?;
+        print_file(rt, &mut tree, path)?;
     }
-    let (found, listed) = (tree.inner.faults.get(), tree.plan.faults());
-    writeln!(log, "faults found {found}, listed {listed}")?;
+    println!(rt;
+        "faults {} and {}",
+        tree.inner.faults.get(),
+        tree.plan.faults()
+    )?;
     let mut folder = FolderTree::new(rt);
     for path in ["folder/B.txt", "folder/absent", "folder"] {
-        read_path(alloc, &mut folder, path, log)?;
+        print_file(rt, &mut folder, path)?;
     }
-    let faults = folder.faults.get();
-    writeln!(log, "faults {faults}")
+    println!(rt; "faults {}", folder.faults.get())
 }
 
-fn read_path<T: Tree>(
-    alloc: Global,
-    tree: &mut T,
-    path: &str,
-    log: &mut String,
-) -> Result<(), AllocError> {
-    let name = Name::of(alloc, path)?;
-    match tree.read_file(alloc, &name) {
-        Ok(bytes) => {
-            let len = bytes.len();
-            writeln!(log, "file {path}: {len} bytes")
-        }
-        Err(error) => writeln!(log, "file {path}: {error:?}"),
+// A small file, one that is as long as may be, and one that is a byte longer.
+fn memory_tree<R: AllocGlobal>(rt: &R) -> io::Result<MemoryTree> {
+    let alloc = rt.alloc();
+    let mut files = BTreeMap::new(alloc);
+    for (path, len) in [
+        ("small", 3),
+        ("full", MAX_FILE_LEN),
+        ("long", MAX_FILE_LEN + 1),
+    ] {
+        files.insert(Name::of(alloc, path)?, vec![in alloc; b'a'; len]?)?;
+    }
+    Ok(MemoryTree::new(files))
+}
+
+fn print_file<R: Print + AllocGlobal, T: Tree>(rt: &R, tree: &mut T, path: &str) -> io::Result<()> {
+    let name = Name::of(rt.alloc(), path)?;
+    match tree.read_file(rt.alloc(), &name) {
+        Ok(bytes) => println!(rt; "file {path}: {} bytes", bytes.len()),
+        Err(error) => println!(rt; "file {path}: {error:?}"),
     }
 }
