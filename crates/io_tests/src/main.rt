@@ -5,7 +5,7 @@ mod sinks;
 mod sources;
 mod trees;
 
-use ide_io::{ReaderSource, WriterSink, read_all, write_all};
+use ide_io::{StdinSource, StdoutSink, read_all, write_all};
 use std::io;
 
 // More than one read gives.
@@ -20,8 +20,8 @@ fn main(rt: HostRuntime) -> io::Result<()> {
 
 // Writes what standard input has to standard output.
 fn copy_input<R: Input + Print + AllocGlobal>(rt: &R) -> io::Result<()> {
-    let mut input = ReaderSource::new(rt.reader());
-    let mut output = WriterSink::new(io::writer(rt));
+    let mut input = StdinSource::<R>::new(rt.reader());
+    let mut output = StdoutSink::new(io::writer(rt));
     match read_all(rt.alloc(), &mut input, INPUT_LIMIT) {
         Ok(bytes) => println!(rt; "copied: {:?}", write_all(&mut output, &bytes)),
         Err(error) => println!(rt; "not read: {error:?}"),
