@@ -1,6 +1,7 @@
 -- Characters of a text, one after another, and where a space stands among them.
 use Rattle.std.proofs.Common.{◌≡◌, ◌≢◌, ℕ, Bool, true, false, ◌+◌, ◌<◌, List, [], ◌∷◌, ◌++◌, length, get_or, drop, take, Option, Some, None, option_map, refl, ap, sym, ◌∙◌, arith, Bor, subst, lit<, cond, ◌&&◌, ◌≤◌}
-use Rattle.std.specs.List.{list_all}
+use Rattle.std.specs.List.{All, list_all}
+use Rattle.std.proofs.lemmas.List.Elements.{All-nil, All-cons, All-head, All-tail}
 use Rattle.std.specs.Str.{chars, IsUtf8, IsCharBoundary, bytes_eq}
 use lib.Utf8.{encodes, encode, scalars}
 use Rattle.std.proofs.lemmas.Bool.{ne_eqb}
@@ -9,7 +10,7 @@ use Rattle.std.proofs.lemmas.List.{drop_more, get_or-append-add, length-append, 
 use Rattle.std.proofs.lemmas.Slice.Eq.{bytes_eq-Decides}
 use Rattle.std.proofs.lemmas.Str.{chars-append, chars-encodes, encodes-chars, IsUtf8-take, IsCharBoundary-before_ascii, encode_ascii, IsUtf8-drop, IsCharBoundary-from_take, chars_past_char, chars-nil}
 use Rattle.std.proofs.lemmas.Str.Pattern.{IsSplitOnceResult, split_parts}
-use Rattle.script_lang.specs.Words.{parts_at_space, is_word_form, begins_word, continues_word}
+use Rattle.script_lang.specs.Words.{space, parts_at_space, is_word_form, begins_word, continues_word}
 
 -- the characters from a place on, where the character there is known
 pub drop_here : (cs : List ℕ) (n c : ℕ) → (n < length cs) × (c ≡ get_or cs n c) → drop n cs ≡ c ∷ drop (n + 1) cs
@@ -31,19 +32,24 @@ rest_no_space xs ys none i l =
     let e : get_or (xs ++ ys) (length xs + i) 0 ≡ get_or ys i 0 = get_or-append-add xs ys i 0 in
     λ is. none (length xs + i) (omega (arith, length-append xs ys)) (e ∙ is)
 
--- the parts of characters, where no byte of the first is a space
-parts_at_space-none : (cs : List ℕ) → HasNoSpace (encodes cs) → parts_at_space cs ≡ None
+-- then no character is a space
+All-no_space : (cs : List ℕ) → HasNoSpace (encodes cs) → All (λ c. c ≢ space) cs
+All-no_space [] none = All-nil (λ c. c ≢ space)
+All-no_space (c ∷ cs) none =
+    All-cons (λ c. c ≢ space) c cs (first_no_space c cs none) (All-no_space cs (rest_no_space (encode c) (encodes cs) none))
+
+-- the parts of characters, where none of the first is a space
+parts_at_space-none : (cs : List ℕ) → All (λ c. c ≢ space) cs → parts_at_space cs ≡ None
 parts_at_space-none [] none = refl
 parts_at_space-none (c ∷ cs) none =
-    let e : parts_at_space cs ≡ None = parts_at_space-none cs (rest_no_space (encode c) (encodes cs) none) in
-    rw (ne_eqb c 32 (first_no_space c cs none), e) refl
+    let e : parts_at_space cs ≡ None = parts_at_space-none cs (All-tail (λ c. c ≢ space) c cs none) in
+    rw (ne_eqb c space (All-head (λ c. c ≢ space) c cs none), e) refl
 
-parts_at_space-found : (cs ds : List ℕ) → HasNoSpace (encodes cs) → parts_at_space (cs ++ 32 ∷ ds) ≡ Some (cs, ds)
+pub parts_at_space-found : (cs ds : List ℕ) → All (λ c. c ≢ space) cs → parts_at_space (cs ++ space ∷ ds) ≡ Some (cs, ds)
 parts_at_space-found [] ds none = refl
 parts_at_space-found (c ∷ cs) ds none =
-    let e : parts_at_space (cs ++ 32 ∷ ds) ≡ Some (cs, ds)
-    = parts_at_space-found cs ds (rest_no_space (encode c) (encodes cs) none) in
-    rw (ne_eqb c 32 (first_no_space c cs none), e) refl
+    let e : parts_at_space (cs ++ space ∷ ds) ≡ Some (cs, ds) = parts_at_space-found cs ds (All-tail (λ c. c ≢ space) c cs none) in
+    rw (ne_eqb c space (All-head (λ c. c ≢ space) c cs none), e) refl
 
 -- a space before a text is a character before the text's
 chars-space : (ys : List ℕ) → chars (32 ∷ ys) ≡ 32 ∷ chars ys
@@ -60,14 +66,14 @@ parts_at_space-chars bs xs ys text split none =
     let all : chars bs ≡ chars xs ++ 32 ∷ chars ys
     = ap chars split ∙ chars-append xs (32 ∷ ys) text_front ∙ ap (λ l. chars xs ++ l) (chars-space ys) in
     let none' : HasNoSpace (encodes (chars xs)) = subst HasNoSpace (sym (encodes-chars xs text_front)) none in
-    ap parts_at_space all ∙ parts_at_space-found (chars xs) (chars ys) none'
+    ap parts_at_space all ∙ parts_at_space-found (chars xs) (chars ys) (All-no_space (chars xs) none')
 
 -- what `split_once` at a space gives, by characters
 pub parts_from_split : (bs : List ℕ) (r : Option (Bor (List ℕ) × Bor (List ℕ))) → IsUtf8 bs → IsSplitOnceResult 32 bs r
     → option_map (λ p. (chars p.0.now, chars p.1.now)) r ≡ parts_at_space (chars bs)
 parts_from_split bs None text h =
     let none : HasNoSpace bs = split_parts 32 bs None h (lit< tt) in
-    sym (parts_at_space-none (chars bs) (subst HasNoSpace (sym (encodes-chars bs text)) none))
+    sym (parts_at_space-none (chars bs) (All-no_space (chars bs) (subst HasNoSpace (sym (encodes-chars bs text)) none)))
 parts_from_split bs (Some p) text h =
     let parts = split_parts 32 bs (Some p) h (lit< tt) in
     sym (parts_at_space-chars bs p.0.now p.1.now text parts.0 parts.1)
