@@ -1,0 +1,4 @@
+pub mod Pieces
+pub mod KindLemmas
+pub mod TokenLemmas
+pub mod WordLemmas

@@ -1,0 +1,17 @@
+//! The tokens and the words of a Java text (Java Language Specification, chapter 3).
+#![tactic(auto)]
+
+mod chars;
+mod gather;
+mod kind;
+mod piece;
+mod place;
+mod reserved;
+mod scan;
+mod token;
+mod tokenizer;
+
+pub use kind::Kind;
+pub use place::Place;
+pub use token::Token;
+pub use tokenizer::tokens;
