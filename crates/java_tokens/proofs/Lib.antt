@@ -2,3 +2,5 @@ pub mod Pieces
 pub mod KindLemmas
 pub mod TokenLemmas
 pub mod WordLemmas
+pub mod WordListLemmas
+pub mod MaskLemmas

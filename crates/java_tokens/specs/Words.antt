@@ -1,10 +1,12 @@
 -- The words of a text: each with where it stands, in code, in comments or in strings.
-use Rattle.std.specs.Prelude.{ℕ, Bool, not, ◌||◌, ◌==◌, if◌then◌else◌, List, [], ◌∷◌, map, filter, fold, bit_or, Option, unwrap_or}
+use Rattle.std.specs.Prelude.{ℕ, Bool, not, ◌||◌, ◌==◌, if◌then◌else◌, List, [], ◌∷◌, map, filter, fold, bit_or, Option, Some, None, unwrap_or}
 use Rattle.std.specs.List.{flat_map, slice_split}
 use Rattle.std.specs.Ordering.{nat_cmp}
 use Rattle.std.specs.declared.cmp.Ordering.{Ordering}
 use Rattle.std.specs.Cmp.Lexicographic.{slice_cmp}
-use Rattle.std.specs.Map.{lookup}
+use Rattle.std.specs.List.Sorted.{IsStrictlySortedBy}
+use Rattle.std.specs.Str.{bytes_eq}
+use Rattle.std.specs.Map.{lookup, keys_of}
 use Rattle.std.specs.BTreeMap.{is_at, insert_entry}
 use Rattle.java_tokens.specs.declared.kind.Kind.TheVariants.{Word, Str, TextBlock, LineComment, BlockComment}
 use Rattle.java_tokens.specs.declared.place.Place.{Place}
@@ -101,3 +103,12 @@ with_occurrence ws o = insert_entry name_cmp ws o.0 (bit_or (unwrap_or (mask_in 
 -- the words of a text: the names that occur, in order and each once, with the union of their bits
 unfoldable pub words_of : List ℕ → List WordRow
 words_of text = fold with_occurrence [] (occurrences_of text)
+
+-- the names rise, so each comes once
+abbrev pub AreInOrder : List WordRow → Type 0
+AreInOrder ws = IsStrictlySortedBy name_cmp (keys_of ws)
+
+-- the union of the bits with which a name occurs, if it occurs
+abbrev pub bits_of : List WordRow → List ℕ → Option ℕ
+bits_of [] name = None
+bits_of (o ∷ os) name = if bytes_eq o.0 name then Some (bit_or o.1 (unwrap_or (bits_of os name) 0)) else bits_of os name

@@ -13,12 +13,18 @@ use crate::reserved::is_reserved;
 use crate::scan::run_end;
 use crate::token::Token;
 use crate::tokenizer::{begins_word_at, next_token};
+use crate::word_list::{Masks, WordList};
 use ide_text::{Name, Text};
 use std::alloc::{AllocError, Global};
 use std::collections::BTreeMap;
 
-/// Words and their masks, while they are gathered.
-type Masks = BTreeMap<Name, u8>;
+/// The words of a text: its identifiers, and the words in its comments and strings. Linear in the text, but for
+/// the look-up of each word among those so far.
+pub fn words(alloc: Global, text: &Text) -> Result<WordList, AllocError>
+    ensures { IfOk result (λ list. list ≡ words_of text.now) }
+{
+    WordList::from_masks(alloc, masks_of(alloc, text)?)
+}
 
 /// The words of a text, each with the places where it stands.
 #[tactic(auto, unfolding(crate::specs::Words::words_of))]

@@ -10,8 +10,11 @@ mod reserved;
 mod scan;
 mod token;
 mod tokenizer;
+mod word_list;
 
+pub use gather::words;
 pub use kind::Kind;
 pub use place::Place;
 pub use token::Token;
 pub use tokenizer::tokens;
+pub use word_list::WordList;
