@@ -4,3 +4,4 @@ pub mod TokenLemmas
 pub mod WordLemmas
 pub mod WordListLemmas
 pub mod MaskLemmas
+pub mod AsciiWords

@@ -5,9 +5,9 @@ use Rattle.std.proofs.lemmas.List.{drop-drop, get_or-drop}
 use Rattle.std.proofs.lemmas.List.Sums.{prefix_len_stops}
 use Rattle.std.proofs.Math.Seq.{drop-cons}
 use Rattle.std.proofs.Math.ListN.{drop_of_length-le}
-use Rattle.std.proofs.lemmas.Bool.{cases_Bool, cond-true}
+use Rattle.std.proofs.lemmas.Bool.{cases_Bool, cases_lt, cond-true}
 use Rattle.java_tokens.specs.Chars.{is_white_space}
-use Rattle.java_tokens.specs.Tokens.{token_len, token_at, tokens_past}
+use Rattle.java_tokens.specs.Tokens.{token_len, token_at, tokens_past, tokens_of, AreTokensFrom}
 use Rattle.java_tokens.proofs.KindLemmas.{length_of-le, length_of-positive}
 
 -- the rest of the token before may be left out
@@ -80,3 +80,25 @@ token_len-inside at text inside =
     let Q : List ℕ → Type 0 = λ cs. (0 < token_len cs) × (token_len cs ≤ length cs) in
     let both : Q (drop at text) = subst Q (sym (drop-cons text at 0 inside)) (length_of-positive _ _, length_of-le _ _) in
     (both.0, omega (arith, both.1, length-drop at text))
+
+-- no token is left where the white space reaches the end
+none_are_tokens : (from : ℕ) (text : List ℕ) → length text ≤ from + prefix_len is_white_space (drop from text) → AreTokensFrom from text (tokens_past 0 from (drop from text))
+none_are_tokens from text past =
+    subst (AreTokensFrom from text) (sym (tokens_past-none from _ text refl past))
+    (drop-drop (prefix_len is_white_space (drop from text)) from text ∙ drop_of_length-le text past)
+
+are_tokens_within : (fuel from : ℕ) (text : List ℕ) → length text ≤ from + fuel → AreTokensFrom from text (tokens_past 0 from (drop from text))
+are_tokens_within zero from text enough = none_are_tokens from text (omega arith)
+are_tokens_within (suc fuel) from text enough =
+    let at = from + prefix_len is_white_space (drop from text) in
+    ⊎_elim
+    (λ inside.
+    let sized = token_len-inside at text inside in
+    subst (AreTokensFrom from text) (sym (tokens_past-next from at text refl inside))
+    ((λ none. let some = drop-cons text at 0 inside in cc), refl, are_tokens_within fuel (at + token_len (drop at text)) text (omega (arith, sized.0))))
+    (λ past. none_are_tokens from text past)
+    (cases_lt at (length text))
+
+-- the tokens of a text are its tokens as the relation says
+pub are_tokens_of : (text : List ℕ) → AreTokensFrom 0 text (tokens_of text)
+are_tokens_of text = are_tokens_within (length text) 0 text (omega arith)

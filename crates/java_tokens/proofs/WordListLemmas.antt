@@ -15,7 +15,7 @@ use Rattle.java_tokens.specs.Words.{WordRow, name_cmp, mask_in, AreInOrder}
 pub reversed : (a b : List ℕ) (r : Ordering) → name_cmp a b ≡ r → name_cmp b a ≡ ordering_reverse r
 reversed a b r is = nat_list_cmp_total.antisymm b a ∙ ap ordering_reverse is
 
-is_eq-reversed : (r : Ordering) → is_eq (ordering_reverse r) ≡ is_eq r
+pub is_eq-reversed : (r : Ordering) → is_eq (ordering_reverse r) ≡ is_eq r
 is_eq-reversed Less = refl
 is_eq-reversed Equal = refl
 is_eq-reversed Greater = refl

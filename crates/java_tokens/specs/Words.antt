@@ -1,5 +1,5 @@
 -- The words of a text: each with where it stands, in code, in comments or in strings.
-use Rattle.std.specs.Prelude.{ℕ, Bool, not, ◌||◌, ◌==◌, if◌then◌else◌, List, [], ◌∷◌, map, filter, fold, bit_or, Option, Some, None, unwrap_or}
+use Rattle.std.specs.Prelude.{◌≡◌, ℕ, Bool, not, ◌||◌, ◌==◌, if◌then◌else◌, List, [], ◌∷◌, map, filter, fold, bit_or, Option, Some, None, unwrap_or}
 use Rattle.std.specs.List.{flat_map, slice_split}
 use Rattle.std.specs.Ordering.{nat_cmp}
 use Rattle.std.specs.declared.cmp.Ordering.{Ordering}
@@ -108,7 +108,15 @@ words_of text = fold with_occurrence [] (occurrences_of text)
 abbrev pub AreInOrder : List WordRow → Type 0
 AreInOrder ws = IsStrictlySortedBy name_cmp (keys_of ws)
 
--- the union of the bits with which a name occurs, if it occurs
-abbrev pub bits_of : List WordRow → List ℕ → Option ℕ
-bits_of [] name = None
-bits_of (o ∷ os) name = if bytes_eq o.0 name then Some (bit_or o.1 (unwrap_or (bits_of os name) 0)) else bits_of os name
+-- the bits with which a name occurs
+abbrev pub bits_of : List WordRow → List ℕ → List ℕ
+bits_of os name = map (λ o. o.1) (filter (λ o. bytes_eq o.0 name) os)
+
+-- the union of some bits, if there are any
+abbrev pub union_of : List ℕ → Option ℕ
+union_of [] = None
+union_of (b ∷ bs) = Some (fold bit_or b bs)
+
+-- each name has the union of the bits with which it occurs, and no other name is there
+abbrev pub HasMasksOf : List WordRow → List WordRow → Type 0
+HasMasksOf ws os = (name : List ℕ) → mask_in ws name ≡ union_of (bits_of os name)

@@ -3,7 +3,7 @@ ghost use Rattle.std.specs.Prelude.{◌≡◌, ◌+◌, ◌-◌, ◌≤◌, OnOk
 ghost use Rattle.std.specs.List.{prefix_len};
 ghost use Rattle.ide_text.specs.Text.{max_chars};
 ghost use Rattle.java_tokens.specs.Chars.{continues_word};
-ghost use Rattle.java_tokens.specs.Words.{bit_of, gap_at, words_among, words_at, marked, occurrences_at, with_occurrence, words_of};
+ghost use Rattle.java_tokens.specs.Words.{AreInOrder, HasMasksOf, bit_of, gap_at, words_among, words_at, marked, occurrences_at, occurrences_of, with_occurrence, words_of};
 
 use crate::chars::Class;
 use crate::kind::Kind;
@@ -21,7 +21,11 @@ use std::collections::BTreeMap;
 /// The words of a text: its identifiers, and the words in its comments and strings. Linear in the text, but for
 /// the look-up of each word among those so far.
 pub fn words(alloc: Global, text: &Text) -> Result<WordList, AllocError>
-    ensures { IfOk result (λ list. list ≡ words_of text.now) }
+    ensures value { IfOk result (λ list. list ≡ words_of text.now) }
+
+    // So the names rise, and each has the union of the bits of the places where it stands.
+    ensures in_order { IfOk result AreInOrder }
+    ensures masks { IfOk result (λ list. HasMasksOf list (occurrences_of text.now)) }
 {
     WordList::from_masks(alloc, masks_of(alloc, text)?)
 }

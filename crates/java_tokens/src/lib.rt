@@ -3,6 +3,7 @@
 
 mod chars;
 mod gather;
+mod identifier;
 mod kind;
 mod piece;
 mod place;
@@ -13,6 +14,7 @@ mod tokenizer;
 mod word_list;
 
 pub use gather::words;
+pub use identifier::{is_identifier, is_word};
 pub use kind::Kind;
 pub use place::Place;
 pub use token::Token;

@@ -1,7 +1,8 @@
 //! The words that are no identifiers.
-ghost use Rattle.std.specs.Prelude.{◌≡◌};
-ghost use Rattle.std.specs.List.{list_any};
-ghost use Rattle.std.specs.Str.{bytes_eq};
+ghost use Rattle.std.specs.Prelude.{◌≡◌, IsTrue};
+ghost use Rattle.std.specs.Char.{is_ascii};
+ghost use Rattle.std.specs.List.{list_all, list_any};
+ghost use Rattle.std.specs.Str.{bytes_eq, chars};
 ghost use Rattle.java_tokens.specs.Identifier.{is_reserved};
 
 use crate::piece::Piece;
@@ -96,4 +97,20 @@ fn spells(piece: &Piece, word: &str) -> bool
         at += 1;
     }
     piece.get(at).is_none()
+}
+
+/// Whether a text is a word that is no identifier.
+#[tactic(auto, unfolding(crate::specs::Identifier::is_reserved))]
+pub fn is_reserved_text(text: &str) -> bool
+    ensures { result ≡ is_reserved (chars text.now) }
+{
+    is_one_of(text, &RESERVED)
+}
+
+/// Whether a text is one of these ASCII words.
+fn is_one_of(text: &str, words: &[&str]) -> bool
+    requires { IsTrue (list_all (λ word. list_all is_ascii word.now) words.now) }
+    ensures { result ≡ list_any (λ word. bytes_eq word.now (chars text.now)) words.now }
+{
+    words.contains(&text)
 }

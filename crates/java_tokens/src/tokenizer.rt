@@ -4,7 +4,7 @@ ghost use Rattle.std.specs.Char.{is_ascii_digit};
 ghost use Rattle.ide_text.specs.Text.{max_chars};
 ghost use Rattle.java_tokens.specs.Chars.{begins_word, first_passes};
 ghost use Rattle.java_tokens.specs.Kind.{begins_number, kind_at, length_of};
-ghost use Rattle.java_tokens.specs.Tokens.{tokens_past, tokens_of};
+ghost use Rattle.java_tokens.specs.Tokens.{AreTokensFrom, tokens_past, tokens_of};
 
 use crate::chars::{Class, begins_word};
 use crate::kind::Kind;
@@ -16,7 +16,10 @@ use std::alloc::{AllocError, Global};
 
 /// The tokens of a text, in order. Linear in the text.
 pub fn tokens(alloc: Global, text: &Text) -> Result<Vec<Token>, AllocError>
-    ensures { IfOk result (λ list. list.items ≡ tokens_of text.now) }
+    ensures value { IfOk result (λ list. list.items ≡ tokens_of text.now) }
+
+    // So each stands behind white space, is of the first kind that fits, and has its whole length.
+    ensures cut { IfOk result (λ list. AreTokensFrom 0 text.now list.items) }
 {
     let piece = Piece::whole(text);
     let mut list = Vec::new(alloc);
