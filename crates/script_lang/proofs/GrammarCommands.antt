@@ -7,7 +7,8 @@ use Rattle.std.proofs.lemmas.Bool.{cases_Bool, eqb-true, eqb-false}
 use Rattle.std.proofs.lemmas.List.Elements.{All-nil, All-cons}
 use Rattle.std.proofs.lemmas.Option.{none-some, same_Some, cond_some}
 use Rattle.std.proofs.lemmas.Slice.Eq.{bytes_eq-Decides}
-use Rattle.script_lang.specs.Words.{space, parts_at_space, before_first_part, is_word_form}
+use Rattle.java_tokens.specs.Identifier.{is_word}
+use Rattle.script_lang.specs.Fields.{space, parts_at_space, before_first_part}
 use Rattle.script_lang.specs.Quotes.{text_of_field}
 use Rattle.script_lang.specs.Commands.{path_of, path_and_text, keyword_of, command_with, command_of_parts, command_of}
 use Rattle.script_lang.specs.Grammar.{IsQuoted, HasPathAndText, IsCommandLine}
@@ -108,7 +109,7 @@ IsCommandLine-with key.Write line rest command e read =
     let made = option_map-some (λ p. Write p.0 p.1) (path_and_text rest) command read in
     subst (IsCommandLine line) made.2 (HasPathAndText-read (codes "write") line rest made.0 e made.1)
 IsCommandLine-with key.Word line rest command e read =
-    let made = cond_some (is_word_form rest) (Word rest) command read in
+    let made = cond_some (is_word rest) (Word rest) command read in
     subst (IsCommandLine line) made.1 (e, made.0)
 
 IsCommandLine-parts : (line : List ℕ) (parts : Option (List ℕ × List ℕ)) (command : Command) → parts_at_space line ≡ parts → command_of_parts line parts ≡ Some command → IsCommandLine line command
@@ -134,4 +135,4 @@ command_of-IsCommandLine line (Write path text) is =
     let read = path_and_text-found path is.field text is.not_empty is.no_space is.quoted in
     ap command_of is.pieces ∙ (rw read refl)
 command_of-IsCommandLine line Settle e = ap command_of e
-command_of-IsCommandLine line (Word name) (e, is_word) = ap command_of e ∙ (rw is_word refl)
+command_of-IsCommandLine line (Word name) (e, whole) = ap command_of e ∙ (rw whole refl)

@@ -4,7 +4,8 @@ use Rattle.std.specs.List.{All}
 use Rattle.std.specs.Str.{chars, IsUtf8}
 use Rattle.ide_text.specs.Text.{repaired, max_chars}
 use Rattle.script_lang.specs.Lines.{line_feed, carriage_return, number_sign}
-use Rattle.script_lang.specs.Words.{space, is_word_form}
+use Rattle.java_tokens.specs.Identifier.{is_word}
+use Rattle.script_lang.specs.Fields.{space}
 use Rattle.script_lang.specs.Quotes.{quote, backslash, escape_of}
 use Rattle.script_lang.specs.declared.command.Command.{Command}
 use Rattle.script_lang.specs.declared.command.Command.TheVariants.{Create, Write, Settle, Word}
@@ -46,7 +47,7 @@ abbrev pub IsCommandLine : List ℕ → Command → Type 0
 IsCommandLine line (Create path text) = HasPathAndText (codes "create") line path text
 IsCommandLine line (Write path text) = HasPathAndText (codes "write") line path text
 IsCommandLine line Settle = line ≡ codes "settle"
-IsCommandLine line (Word name) = (line ≡ codes "word" ++ space ∷ name) × IsTrue (is_word_form name)
+IsCommandLine line (Word name) = (line ≡ codes "word" ++ space ∷ name) × IsTrue (is_word name)
 
 -- a line's bytes are UTF-8, and a command's form
 abbrev pub HoldsCommand : List ℕ → Command → Type 0

@@ -3,6 +3,6 @@ pub mod Grammar
 pub mod Script
 -- The parts that these two are made of.
 pub mod Lines
-pub mod Words
+pub mod Fields
 pub mod Quotes
 pub mod Commands
