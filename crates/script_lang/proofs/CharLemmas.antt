@@ -1,15 +1,16 @@
 -- Characters of a text, one after another, and where a space stands among them.
-use Rattle.std.proofs.Common.{◌≡◌, ◌≢◌, ℕ, Bool, true, false, ◌+◌, ◌<◌, List, [], ◌∷◌, ◌++◌, length, get_or, drop, take, Option, Some, None, option_map, refl, ap, sym, ◌∙◌, arith, Bor, subst, lit<, cond, ◌&&◌, ◌≤◌}
-use Rattle.std.specs.List.{list_all}
+use Rattle.std.proofs.Common.{◌≡◌, ◌≢◌, ℕ, true, ◌+◌, ◌<◌, List, [], ◌∷◌, ◌++◌, length, get_or, drop, take, Option, Some, None, option_map, refl, ap, sym, ◌∙◌, arith, Bor, subst, lit<, ◌≤◌}
+use Rattle.std.specs.List.{All}
+use Rattle.std.proofs.lemmas.List.Elements.{All-nil, All-cons, All-head, All-tail}
 use Rattle.std.specs.Str.{chars, IsUtf8, IsCharBoundary, bytes_eq}
 use lib.Utf8.{encodes, encode, scalars}
 use Rattle.std.proofs.lemmas.Bool.{ne_eqb}
 use Rattle.std.proofs.lemmas.Bool.Decides.{same_from_decides}
-use Rattle.std.proofs.lemmas.List.{drop_more, get_or-append-add, length-append, take_at, get_or_at, append-nil, drop_at, drop_all, length_push}
+use Rattle.std.proofs.lemmas.List.{drop_more, get_or-append-add, length-append, take_at, get_or_at, append-nil, drop_at}
 use Rattle.std.proofs.lemmas.Slice.Eq.{bytes_eq-Decides}
 use Rattle.std.proofs.lemmas.Str.{chars-append, chars-encodes, encodes-chars, IsUtf8-take, IsCharBoundary-before_ascii, encode_ascii, IsUtf8-drop, IsCharBoundary-from_take, chars_past_char, chars-nil}
 use Rattle.std.proofs.lemmas.Str.Pattern.{IsSplitOnceResult, split_parts}
-use Rattle.script_lang.specs.Words.{parts_at_space, is_word_form, begins_word, continues_word}
+use Rattle.script_lang.specs.Fields.{space, parts_at_space}
 
 -- the characters from a place on, where the character there is known
 pub drop_here : (cs : List ℕ) (n c : ℕ) → (n < length cs) × (c ≡ get_or cs n c) → drop n cs ≡ c ∷ drop (n + 1) cs
@@ -31,19 +32,24 @@ rest_no_space xs ys none i l =
     let e : get_or (xs ++ ys) (length xs + i) 0 ≡ get_or ys i 0 = get_or-append-add xs ys i 0 in
     λ is. none (length xs + i) (omega (arith, length-append xs ys)) (e ∙ is)
 
--- the parts of characters, where no byte of the first is a space
-parts_at_space-none : (cs : List ℕ) → HasNoSpace (encodes cs) → parts_at_space cs ≡ None
+-- then no character is a space
+All-no_space : (cs : List ℕ) → HasNoSpace (encodes cs) → All (λ c. c ≢ space) cs
+All-no_space [] none = All-nil (λ c. c ≢ space)
+All-no_space (c ∷ cs) none =
+    All-cons (λ c. c ≢ space) c cs (first_no_space c cs none) (All-no_space cs (rest_no_space (encode c) (encodes cs) none))
+
+-- the parts of characters, where none of the first is a space
+parts_at_space-none : (cs : List ℕ) → All (λ c. c ≢ space) cs → parts_at_space cs ≡ None
 parts_at_space-none [] none = refl
 parts_at_space-none (c ∷ cs) none =
-    let e : parts_at_space cs ≡ None = parts_at_space-none cs (rest_no_space (encode c) (encodes cs) none) in
-    rw (ne_eqb c 32 (first_no_space c cs none), e) refl
+    let e : parts_at_space cs ≡ None = parts_at_space-none cs (All-tail (λ c. c ≢ space) c cs none) in
+    rw (ne_eqb c space (All-head (λ c. c ≢ space) c cs none), e) refl
 
-parts_at_space-found : (cs ds : List ℕ) → HasNoSpace (encodes cs) → parts_at_space (cs ++ 32 ∷ ds) ≡ Some (cs, ds)
+pub parts_at_space-found : (cs ds : List ℕ) → All (λ c. c ≢ space) cs → parts_at_space (cs ++ space ∷ ds) ≡ Some (cs, ds)
 parts_at_space-found [] ds none = refl
 parts_at_space-found (c ∷ cs) ds none =
-    let e : parts_at_space (cs ++ 32 ∷ ds) ≡ Some (cs, ds)
-    = parts_at_space-found cs ds (rest_no_space (encode c) (encodes cs) none) in
-    rw (ne_eqb c 32 (first_no_space c cs none), e) refl
+    let e : parts_at_space (cs ++ space ∷ ds) ≡ Some (cs, ds) = parts_at_space-found cs ds (All-tail (λ c. c ≢ space) c cs none) in
+    rw (ne_eqb c space (All-head (λ c. c ≢ space) c cs none), e) refl
 
 -- a space before a text is a character before the text's
 chars-space : (ys : List ℕ) → chars (32 ∷ ys) ≡ 32 ∷ chars ys
@@ -60,14 +66,14 @@ parts_at_space-chars bs xs ys text split none =
     let all : chars bs ≡ chars xs ++ 32 ∷ chars ys
     = ap chars split ∙ chars-append xs (32 ∷ ys) text_front ∙ ap (λ l. chars xs ++ l) (chars-space ys) in
     let none' : HasNoSpace (encodes (chars xs)) = subst HasNoSpace (sym (encodes-chars xs text_front)) none in
-    ap parts_at_space all ∙ parts_at_space-found (chars xs) (chars ys) none'
+    ap parts_at_space all ∙ parts_at_space-found (chars xs) (chars ys) (All-no_space (chars xs) none')
 
 -- what `split_once` at a space gives, by characters
 pub parts_from_split : (bs : List ℕ) (r : Option (Bor (List ℕ) × Bor (List ℕ))) → IsUtf8 bs → IsSplitOnceResult 32 bs r
     → option_map (λ p. (chars p.0.now, chars p.1.now)) r ≡ parts_at_space (chars bs)
 parts_from_split bs None text h =
     let none : HasNoSpace bs = split_parts 32 bs None h (lit< tt) in
-    sym (parts_at_space-none (chars bs) (subst HasNoSpace (sym (encodes-chars bs text)) none))
+    sym (parts_at_space-none (chars bs) (All-no_space (chars bs) (subst HasNoSpace (sym (encodes-chars bs text)) none)))
 parts_from_split bs (Some p) text h =
     let parts = split_parts 32 bs (Some p) h (lit< tt) in
     sym (parts_at_space-chars bs p.0.now p.1.now text parts.0 parts.1)
@@ -80,11 +86,6 @@ bytes_eq-chars w k text ascii fits =
     let to : w ≡ k → chars w ≡ k = λ e. ap chars (e ∙ sym ascii) ∙ chars-encodes k fits in
     let from : chars w ≡ k → w ≡ k = λ e. sym (encodes-chars w text) ∙ ap encodes e ∙ ascii in
     same_from_decides (bytes_eq (chars w) k) (bytes_eq w k) by_chars (λ e. to (by_bytes.0 e), λ e. by_bytes.1 (from e))
-
--- whether the characters complete a word, of which some stand before them
-abbrev pub is_word_rest : Bool → List ℕ → Bool
-is_word_rest false cs = is_word_form cs
-is_word_rest true cs = list_all continues_word cs
 
 -- what follows a text in a text is a text
 IsUtf8-rest : (xs ys : List ℕ) → IsUtf8 xs → IsUtf8 (xs ++ ys) → IsUtf8 ys
@@ -100,41 +101,3 @@ chars-push old new c text text' grown =
     let one : IsUtf8 (encode c) = IsUtf8-rest old (encode c) text (subst IsUtf8 grown text') in
     let last : chars (encode c) ≡ c ∷ [] = chars_past_char (encode c) [] c one (sym (append-nil (encode c))) ∙ ap (λ l. c ∷ l) chars-nil in
     ap chars grown ∙ chars-append old (encode c) text ∙ ap (λ l. chars old ++ l) last
-
--- one character of a word, begun before it or not
-is_word_rest-char : (begun : Bool) (c : ℕ) (cs : List ℕ) → is_word_rest begun (c ∷ cs) ≡ (cond begun (continues_word c) (begins_word c) && list_all continues_word cs)
-is_word_rest-char false c cs = refl
-is_word_rest-char true c cs = refl
-
-is_word_rest-here : (all yielded : List ℕ) (c : ℕ) (begun fits : Bool) (u : Bool)
-    → (length yielded < length all) × (c ≡ get_or all (length yielded) c) → fits ≡ cond begun (continues_word c) (begins_word c)
-    → is_word_rest begun (drop (length yielded) all) ≡ u → (fits && list_all continues_word (drop (length yielded + 1) all)) ≡ u
-is_word_rest-here all yielded c begun fits u here e before =
-    rw e (sym (is_word_rest-char begun c (drop (length yielded + 1) all)) ∙ ap (is_word_rest begun) (sym (drop_here all (length yielded) c here)) ∙ before)
-
--- a turn of the loop, where the character may stand there
-pub is_word_rest-turn : (all yielded : List ℕ) (c : ℕ) (begun fits : Bool) (u : Bool)
-    → (length yielded < length all) × (c ≡ get_or all (length yielded) c) → fits ≡ cond begun (continues_word c) (begins_word c) → fits ≡ true
-    → is_word_rest begun (drop (length yielded) all) ≡ u → is_word_rest true (drop (length (yielded ++ c ∷ [])) all) ≡ u
-is_word_rest-turn all yielded c begun fits u here e fit before =
-    let n : length (yielded ++ c ∷ []) ≡ length yielded + 1 = length_push yielded c in
-    let h = is_word_rest-here all yielded c begun fits u here e before in
-    rw n (rw fit at h)
-
--- and where it may not
-pub is_word_rest-breaks : (all yielded : List ℕ) (c : ℕ) (begun fits : Bool) (u : Bool)
-    → (length yielded < length all) × (c ≡ get_or all (length yielded) c) → fits ≡ cond begun (continues_word c) (begins_word c) → fits ≡ false
-    → is_word_rest begun (drop (length yielded) all) ≡ u → false ≡ u
-is_word_rest-breaks all yielded c begun fits u here e unfit before =
-    let h = is_word_rest-here all yielded c begun fits u here e before in
-    rw unfit at h
-
-is_word_rest-nil : (begun : Bool) → is_word_rest begun [] ≡ begun
-is_word_rest-nil false = refl
-is_word_rest-nil true = refl
-
--- at the end
-pub is_word_rest-end : (all yielded : List ℕ) (begun : Bool) (u : Bool) → length yielded ≡ length all
-    → is_word_rest begun (drop (length yielded) all) ≡ u → begun ≡ u
-is_word_rest-end all yielded begun u whole before =
-    sym (is_word_rest-nil begun) ∙ ap (is_word_rest begun) (sym (drop_all (length yielded) all (omega arith))) ∙ before

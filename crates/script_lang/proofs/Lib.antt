@@ -3,3 +3,8 @@ pub mod CharLemmas
 pub mod QuoteLemmas
 pub mod CommandLemmas
 pub mod ScriptLemmas
+pub mod OptionLemmas
+pub mod GrammarLines
+pub mod GrammarQuotes
+pub mod GrammarCommands
+pub mod GrammarScript

@@ -1,7 +1,8 @@
 -- The command on a line, from the line's characters.
 use Rattle.std.specs.Prelude.{ℕ, List, [], ◌∷◌, Option, Some, None, if◌then◌else◌, option_map, codes, bytes_eq}
 use Rattle.std.specs.Option.{option_and_then, option_zip}
-use Rattle.script_lang.specs.Words.{is_word_form, parts_at_space}
+use Rattle.java_tokens.specs.Identifier.{is_word}
+use Rattle.script_lang.specs.Fields.{parts_at_space}
 use Rattle.script_lang.specs.Quotes.{text_of_field}
 use Rattle.script_lang.specs.declared.command.Command.{Command}
 use Rattle.script_lang.specs.declared.command.Command.TheVariants.{Create, Write, Settle, Word}
@@ -19,7 +20,7 @@ path_and_text fields = option_and_then (λ p. option_zip (path_of p.0) (text_of_
 
 -- the question for a word, where the field is a name
 abbrev pub word_command : List ℕ → Option Command
-word_command field = if is_word_form field then Some (Word field) else None
+word_command field = if is_word field then Some (Word field) else None
 
 -- the keyword that the characters spell
 abbrev pub keyword_of : List ℕ → Option Keyword

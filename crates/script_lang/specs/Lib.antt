@@ -1,7 +1,8 @@
--- What a script is: `Script` computes it.
+-- What a script is: `Grammar` says it by the pieces of each line, `Script` computes it.
+pub mod Grammar
 pub mod Script
--- The parts that it is made of.
+-- The parts that these two are made of.
 pub mod Lines
-pub mod Words
+pub mod Fields
 pub mod Quotes
 pub mod Commands

@@ -3,9 +3,10 @@ ghost use Rattle.std.specs.Prelude.{◌≡◌, IfOk, option_map};
 ghost use Rattle.std.specs.Str.{chars};
 ghost use Rattle.script_lang.specs.Commands.{command_of, command_with, keyword_of, lone_command, path_and_text, path_of, word_command};
 
-use crate::field::{is_name, parts_at_space};
+use crate::field::parts_at_space;
 use crate::quoted::text_of_field;
 use ide_text::{Name, Text};
+use java_tokens::is_word;
 use std::alloc::{AllocError, Global};
 
 /// What a line of a script asks for.
@@ -81,11 +82,11 @@ fn command_with(alloc: Global, keyword: Keyword, rest: &str) -> Result<Option<Co
     }
 }
 
-/// The question for a word, where the field is a name.
+/// The question for a word, where the field is one whole word.
 fn word_command(alloc: Global, field: &str) -> Result<Option<Command>, AllocError>
     ensures { IfOk result (λ command. command ≡ word_command (chars field.now)) }
 {
-    if !is_name(field) {
+    if !is_word(field) {
         return Ok(None);
     }
     Ok(Some(Command::Word {

@@ -1,6 +1,8 @@
 //! A script: its commands with their line numbers, read from bytes.
-ghost use Rattle.std.specs.Prelude.{◌≡◌, ◌≤◌, ◌<◌, ◌==◌, IfOk, IfErr, Ok, Some, length, slice_get};
+ghost use Rattle.std.specs.Prelude.{◌≡◌, ◌≤◌, ◌<◌, ◌==◌, List, IfOk, IfErr, MatchResult, Ok, Some, length, slice_get};
 ghost use Rattle.script_lang.specs.Script.{script_of, IsRefusalOf};
+ghost use Rattle.script_lang.specs.Grammar.{IsScript, IsRefused};
+ghost use Rattle.script_lang.specs.declared.line.Line.{Line};
 
 use crate::line::{Content, content_of, first_line};
 use crate::{Line, ScriptRefusal};
@@ -51,6 +53,23 @@ impl Script {
 
 /// The script that the bytes spell. Linear in the bytes.
 pub fn parse(alloc: Global, bytes: &[u8]) -> Result<Script, ScriptRefusal>
+    requires { length bytes.now ≤ MAX_BYTES }
+    ensures ok { IfOk result (λ script. script_of bytes.now ≡ Ok script) }
+    ensures err { IfErr result (λ refusal. IsRefusalOf (script_of bytes.now) refusal) }
+
+    // What is answered is in the grammar, and a script of the grammar is answered unless memory runs out.
+    ensures script { IfOk result (λ script. IsScript bytes.now script) }
+    ensures only { (script : List Line) → IsScript bytes.now script
+        → MatchResult result (λ read. read ≡ script) (λ refusal. refusal ≡ ScriptRefusal.OutOfMemory) }
+
+    // The line that is named is the first up to which the lines begin no script.
+    ensures bad_line { IfErr result (λ refusal. IsRefused bytes.now refusal) }
+{
+    script_of(alloc, bytes)
+}
+
+/// The script of the bytes, line by line.
+fn script_of(alloc: Global, bytes: &[u8]) -> Result<Script, ScriptRefusal>
     requires { length bytes.now ≤ MAX_BYTES }
     ensures ok { IfOk result (λ script. script_of bytes.now ≡ Ok script) }
     ensures err { IfErr result (λ refusal. IsRefusalOf (script_of bytes.now) refusal) }

@@ -2,7 +2,7 @@ use Rattle.std.proofs.Common.{◌≡◌, ◌≤◌, ◌+◌, length}
 use Rattle.script_lang.specs.Lines.{lines_of}
 use Rattle.script_lang.specs.Script.{script_from, script_of}
 use Rattle.script_lang.proofs.ScriptLemmas.{lines_then}
-use Rattle.script_lang.proofs.script.parse.Given as goal
+use Rattle.script_lang.proofs.script.script_of.Given as goal
 
 abbrev pub invariant-loop-line : goal.invariant-loop-line
 invariant-loop-line l =

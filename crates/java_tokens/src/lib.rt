@@ -1,0 +1,22 @@
+//! The tokens and the words of a Java text (Java Language Specification, chapter 3).
+#![tactic(auto)]
+
+mod chars;
+mod gather;
+mod identifier;
+mod kind;
+mod piece;
+mod place;
+mod reserved;
+mod scan;
+mod token;
+mod tokenizer;
+mod word_list;
+
+pub use gather::words;
+pub use identifier::{is_identifier, is_word};
+pub use kind::Kind;
+pub use place::Place;
+pub use token::Token;
+pub use tokenizer::tokens;
+pub use word_list::WordList;
