@@ -1,5 +1,4 @@
 -- What the parts of a ready change are for.
-use Rattle.std.specs.Prelude.{ℕ, List}
 use Rattle.write_history.specs.declared.change.Change.TheVariants.{Create, Write, Intake}
 use Rattle.ide_world.specs.declared.change.Parts.{Parts}
 use Rattle.ide_world.specs.declared.change.Parts.TheVariants as parts

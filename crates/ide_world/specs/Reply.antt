@@ -22,15 +22,15 @@ word_row world name file =
 abbrev pub word_rows : World → List ℕ → List WordRow
 word_rows world name = flat_map (word_row world name) world.files
 
--- not ready, with the path of the unready file of the lowest id, or the rows
-abbrev pub reply_unless : Option File → List WordRow → Result (List WordRow) WordRefusal
+-- the path of the unready file with the lowest id, or the rows
+abbrev pub reply_unless : Option File → List WordRow → Result (List WordRow) (List ℕ)
 reply_unless None rows = Ok rows
-reply_unless (Some file) rows = Err (NotReady file.path)
+reply_unless (Some file) rows = Err file.path
 
-abbrev pub word_reply : World → List ℕ → Result (List WordRow) WordRefusal
+abbrev pub word_reply : World → List ℕ → Result (List WordRow) (List ℕ)
 word_reply world name = reply_unless (lowest_unready world) (word_rows world name)
 
 -- an answer other than want of memory is this one
-abbrev pub IsReplyRefusal : Result (List WordRow) WordRefusal → WordRefusal → Type 0
+abbrev pub IsReplyRefusal : Result (List WordRow) (List ℕ) → WordRefusal → Type 0
 IsReplyRefusal expected OutOfMemory = Unit {0}
-IsReplyRefusal expected (NotReady path) = expected ≡ Err (NotReady path)
+IsReplyRefusal expected (NotReady path) = expected ≡ Err path

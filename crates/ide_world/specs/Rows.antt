@@ -1,12 +1,14 @@
 -- The rows by which a state keeps its files.
-use Rattle.std.specs.Prelude.{ℕ, ◌≡◌, ◌≤◌, ◌<◌, ◌+◌, ◌-◌, true, Bool, List, [], ◌∷◌, length, All, Option, Some, None, IfSome, option_map, if◌then◌else◌, vec_len, vec_capacity}
+use Rattle.std.specs.Prelude.{ℕ, ◌≡◌, ◌≤◌, ◌<◌, ◌+◌, ◌-◌, true, Bool, List, [], ◌∷◌, length, All, Some, IfSome, vec_len, vec_capacity}
 use Rattle.java_tokens.specs.Words.{words_of}
 use Rattle.write_history.specs.Path.{is_java}
-use Rattle.write_history.specs.World.{World, File}
+use Rattle.write_history.specs.World.{World, File, empty_world, is_unready}
 use Rattle.write_history.specs.Effect.{max_files, max_entries}
 use Rattle.ide_world.specs.declared.rows.FileRow.{FileRow}
 use Rattle.ide_world.specs.declared.state.State.TheInside.{Inside}
+use Rattle.ide_world.specs.declared.reply.WordRow.{WordRow}
 use Rattle.ide_world.specs.Held.{Held}
+use Rattle.ide_world.specs.Reply.{word_row}
 
 -- the file of a row
 abbrev pub file_of : ℕ → FileRow → File
@@ -17,17 +19,22 @@ abbrev pub files_from : ℕ → List FileRow → List File
 files_from id [] = []
 files_from id (row ∷ rows) = file_of id row ∷ files_from (id + 1) rows
 
--- the place of the first row whose file passes a test, where the first of the rows has this id
-abbrev pub place_of : (File → Bool) → ℕ → List FileRow → Option ℕ
-place_of is_meant id [] = None
-place_of is_meant id (row ∷ rows) = if is_meant (file_of id row) then Some 0 else option_map (λ place. place + 1) (place_of is_meant (id + 1) rows)
+-- what a row's file is whatever its id: whether it is unready, and its answer for a word
+abbrev pub is_unready_row : FileRow → Bool
+is_unready_row row = is_unready empty_world (file_of 0 row)
+
+abbrev pub row_of_word : List ℕ → FileRow → List WordRow
+row_of_word name row = word_row empty_world name (file_of 0 row)
 
 -- the world of a state
 abbrev pub world_of : Inside → World
 world_of inside = record {
-    files = files_from 1 inside.files.items; documents = []; next_id = length inside.files.items + 1;
-    next_stamp = inside.next_stamp; entries = inside.entries;
-  }
+  files = files_from 1 inside.files.items;
+  documents = [];
+  next_id = length inside.files.items + 1;
+  next_stamp = inside.next_stamp;
+  entries = inside.entries;
+}
 
 abbrev pub held : Inside → Held
 held inside = record { world = world_of inside; spare = vec_capacity inside.files - vec_len inside.files }

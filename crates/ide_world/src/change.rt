@@ -9,8 +9,7 @@ ghost use Rattle.ide_world.specs.Prepared.{IsReadyFor, HasRoom, IsRefusalOf, IsE
 
 use crate::data::Made;
 use crate::state::{MAX_FILES, State};
-use ide_text::Name;
-use ide_text::Text;
+use ide_text::{Name, Text};
 use std::alloc::{AllocError, Global};
 use std::marker::Model;
 use std::sync::Arc;

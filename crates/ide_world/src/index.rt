@@ -1,7 +1,7 @@
 //! Indexing: the work of an unready file, and the data made from its text.
-ghost use Rattle.std.specs.Prelude.{◌≡◌, IfOk, option_map};
+ghost use Rattle.std.specs.Prelude.{◌≡◌, IfOk, IfSome, option_map};
 ghost use Rattle.write_history.specs.World.{lowest_unready};
-ghost use Rattle.ide_world.specs.Prepared.{task_with_id};
+ghost use Rattle.ide_world.specs.Prepared.{task_with_id, IsOfWorld};
 
 use crate::data::{Job, Made};
 use crate::state::State;
@@ -17,7 +17,8 @@ pub fn lowest_unready(state: &State) -> Option<u32>
 
 /// The work of indexing a file, where it is unready.
 pub fn job(state: &State, id: u32) -> Result<Option<Job>, AllocError>
-    ensures { IfOk result (λ job. option_map (λ j. record { file = j.file; stamp = j.stamp; content = j.text.value }) job ≡ task_with_id state.now.world id) }
+    ensures task { IfOk result (λ job. option_map (λ j. record { file = j.file; stamp = j.stamp; content = j.text.value }) job ≡ task_with_id state.now.world id) }
+    ensures of_world { IfOk result (λ job. IfSome job (λ j. IsOfWorld state.now.world (record { file = j.file; stamp = j.stamp; content = j.text.value }))) }
 {
     let Some(row) = state.unready_row(id) else {
         return Ok(None);

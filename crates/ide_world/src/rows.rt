@@ -1,9 +1,8 @@
 //! The rows of files, and what is sought among them.
-ghost use Rattle.std.specs.Prelude.{◌≡◌, ℕ, All, IfOk};
+ghost use Rattle.std.specs.Prelude.{◌≡◌, ◌<◌, All, IfOk, IfSome, bytes_eq, length, position};
 ghost use Rattle.std.specs.List.{flat_map};
-ghost use Rattle.write_history.specs.World.{empty_world, is_live_at, is_unready};
-ghost use Rattle.ide_world.specs.Reply.{row_with_mask, word_row};
-ghost use Rattle.ide_world.specs.Rows.{files_from, file_of, place_of, IsSearchable};
+ghost use Rattle.ide_world.specs.Reply.{row_with_mask};
+ghost use Rattle.ide_world.specs.Rows.{is_unready_row, row_of_word, IsSearchable};
 
 use crate::path::is_java_source;
 use crate::reply::WordRow;
@@ -25,39 +24,35 @@ pub(crate) struct FileRow {
 
 /// The place of the row of the live file at a path.
 pub(crate) fn place_of_path(rows: &[FileRow], path: &Name) -> Option<usize>
-    ensures { result ≡ place_of (is_live_at path.now) 1 rows.now }
+    ensures place { result ≡ position (λ row. bytes_eq row.path path.now) rows.now }
+    ensures inside { IfSome result (λ place. place < length rows.now) }
 {
-    for (place, row) in rows.iter().enumerate() {
-        if row.path.same(path) {
-            return Some(place);
-        }
-    }
-    None
+    rows.iter().position(|row| row.path == *path)
 }
 
 /// The place of the first row whose file is unready.
 pub(crate) fn place_of_unready(rows: &[FileRow]) -> Option<usize>
-    ensures { result ≡ place_of (is_unready empty_world) 1 rows.now }
+    ensures place { result ≡ position is_unready_row rows.now }
+    ensures inside { IfSome result (λ place. place < length rows.now) }
 {
-    for (place, row) in rows.iter().enumerate() {
-        if is_unready(row) {
-            return Some(place);
-        }
-    }
-    None
+    rows.iter().position(is_unready)
 }
 
 /// Whether the file of a row isn't indexed at its stamp and is to be.
 pub(crate) fn is_unready(row: &FileRow) -> bool
-    ensures { (id : ℕ) → result ≡ is_unready empty_world (file_of id row.now) }
+    ensures { result ≡ is_unready_row row.now }
 {
     is_java_source(&row.path) && row.indexed != Some(row.stamp)
 }
 
 /// The rows of the files that have a word.
-pub(crate) fn rows_with_word(alloc: Global, files: &[FileRow], name: &Name) -> Result<Vec<WordRow>, AllocError>
+pub(crate) fn rows_with_word(
+    alloc: Global,
+    files: &[FileRow],
+    name: &Name,
+) -> Result<Vec<WordRow>, AllocError>
     requires { All IsSearchable files.now }
-    ensures { IfOk result (λ rows. rows.items ≡ flat_map (word_row empty_world name.now) (files_from 1 files.now)) }
+    ensures { IfOk result (λ rows. rows.items ≡ flat_map (row_of_word name.now) files.now) }
 {
     let mut rows = Vec::new(alloc);
     for row in files {
@@ -74,7 +69,7 @@ pub(crate) fn rows_with_word(alloc: Global, files: &[FileRow], name: &Name) -> R
 /// In which places a Java file has a word.
 pub(crate) fn mask_of(row: &FileRow, name: &Name) -> Option<u8>
     requires { IsSearchable row.now }
-    ensures { (id : ℕ) → row_with_mask row.now.path result ≡ word_row empty_world name.now (file_of id row.now) }
+    ensures { row_with_mask row.now.path result ≡ row_of_word name.now row.now }
 {
     if !is_java_source(&row.path) {
         return None;

@@ -51,6 +51,7 @@ pub fn empty(alloc: Global) -> Result<State, AllocError>
 impl State {
     ghost use Rattle.ide_world.specs.Prepared.{task_with_id};
     ghost use Rattle.ide_world.specs.Reply.{word_rows};
+    ghost use Rattle.ide_world.specs.Rows.{file_of};
 
     /// Whether a live file has the path.
     pub(crate) fn has_file_at(&self, path: &Name) -> bool
@@ -59,15 +60,22 @@ impl State {
         place_of_path(&self.files, path).is_some()
     }
 
+    /// The row of a live file.
+    fn row_with_id(&self, id: u32) -> Option<&FileRow>
+        ensures { option_map (λ row. file_of id row.now) result ≡ file_with_id self.now.world id }
+    {
+        let rows = &self.files;
+        if id == 0 {
+            return None;
+        }
+        rows.get(id as usize - 1)
+    }
+
     /// The stamp of a live file.
     pub(crate) fn stamp_of(&self, id: u32) -> Option<u64>
         ensures { result ≡ option_map (λ file. file.stamp) (file_with_id self.now.world id) }
     {
-        if id == 0 {
-            return None;
-        }
-        let row = self.files.get(id as usize - 1)?;
-        Some(row.stamp)
+        Some(self.row_with_id(id)?.stamp)
     }
 
     /// How many files were ever made.
@@ -102,12 +110,11 @@ impl State {
 
     /// The row of a file, where it is unready.
     pub(crate) fn unready_row(&self, id: u32) -> Option<&FileRow>
-        ensures { option_map (λ row. record { file = id; stamp = row.now.stamp; content = row.now.content.value }) result ≡ task_with_id self.now.world id }
+        ensures task { option_map (λ row. record { file = id; stamp = row.now.stamp; content = row.now.content.value }) result ≡ task_with_id self.now.world id }
+        ensures live { IfSome result (λ row. file_with_id self.now.world id ≡ Some (file_of id row.now)) }
     {
-        if id == 0 {
-            return None;
-        }
-        let row = self.files.get(id as usize - 1)?;
+        let _ = &self.files;
+        let row = self.row_with_id(id)?;
         if is_unready(row) { Some(row) } else { None }
     }
 
