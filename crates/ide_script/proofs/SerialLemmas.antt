@@ -1,5 +1,7 @@
 -- Histories that grow by an entry, and settles that go on by a file.
-use Rattle.std.proofs.Common.{ℕ, ◌≡◌, ◌+◌, ◌<◌, Bool, true, false, cond, List, [], ◌∷◌, ◌++◌, length, drop, refl, ap, sym, ◌∙◌, subst, arith, Some, None, Option, find, filter, slice_get, drop-cons, eqb, eq-eqb, and-false}
+use Rattle.std.proofs.Common.{ℕ, ◌≡◌, ◌+◌, ◌<◌, Bool, true, false, cond, List, [], ◌∷◌, ◌++◌, length, drop, refl, ap, sym, ◌∙◌, subst, arith, Some, None, Option, Ok, Err, Result, IfOk, find, filter, slice_get, eq-eqb}
+use Rattle.std.proofs.Math.Bool.{and-false}
+use Rattle.std.proofs.lemmas.List.{drop_more}
 use Rattle.std.specs.Prelude.{◌==◌, ◌&&◌, option_map}
 use Rattle.std.proofs.lemmas.Option.{slice_get_within, get_or_from_slice_get}
 use Rattle.write_history.specs.declared.change.Entry.{Entry}
@@ -8,9 +10,14 @@ use Rattle.write_history.specs.declared.refusal.Refusal.{Refusal}
 use Rattle.write_history.specs.World.{World, File, empty_world, is_unready, unready_files, lowest_unready}
 use Rattle.write_history.specs.Effect.{refusal_of}
 use Rattle.write_history.specs.Fold.{fold, fold_from, effect_of, IsLegal, IsLegalFrom}
-use Rattle.ide_world.specs.Prepared.{task_with_id, task_of}
+use Rattle.ide_world.specs.declared.data.Made.{Made}
+use Rattle.ide_world.specs.Prepared.{Task, task_with_id, task_of, IsOfWorld}
+use Rattle.script_lang.specs.declared.line.Line.{Line}
+use Rattle.ide_script.specs.declared.record.Answer.{Answer}
+use Rattle.ide_script.specs.declared.record.Record.{Record}
 use Rattle.ide_script.specs.declared.record.Answer.TheVariants.{Smart, Refused}
-use Rattle.ide_script.specs.Serial.{settle_step, intakes, settle_unless, with_entry, entry_of, intake_of}
+use Rattle.ide_script.specs.Settle.{IsOfLowest}
+use Rattle.ide_script.specs.Serial.{settle_step, intakes, settle_unless, with_entry, entry_of, intake_of, step_of, after_step, run_from, Done}
 
 -- by whether a test holds
 bool_cases : (b : Bool) (P : Bool → Type 0) → (b ≡ true → P true) → (b ≡ false → P false) → P b
@@ -91,18 +98,58 @@ found_with_id world (f ∷ files) file h = bool_cases (is_unready world f)
     (λ t e. ap (λ b. cond b (Some f) (find (λ g. g.id == file.id && is_unready world g) files)) (and-false (f.id == file.id)) ∙ found_with_id world files file e)
     h
 
+TaskOfLowest : World → ℕ → Type 0
+TaskOfLowest world id = (file : File) × (lowest_unready world ≡ Some file) × (file.id ≡ id) × (task_with_id world id ≡ Some (task_of file))
+
+task_of_lowest_is : (world : World) (id : ℕ) (lowest : Option File) → lowest_unready world ≡ lowest → option_map (λ (f : File). f.id) lowest ≡ Some id → TaskOfLowest world id
+unfolding TaskOfLowest
+task_of_lowest_is world id None is h = absurd (cc)
+task_of_lowest_is world id (Some file) is h =
+    let same : file.id ≡ id = cc in
+    (file, is, same, subst (λ n. task_with_id world n ≡ Some (task_of file)) same (ap (option_map task_of) (found_with_id world world.files file is)))
+
 -- the task of the lowest unready file
 pub task_of_lowest : (world : World) (id : ℕ) → option_map (λ (f : File). f.id) (lowest_unready world) ≡ Some id
     → (file : File) × (lowest_unready world ≡ Some file) × (file.id ≡ id) × (task_with_id world id ≡ Some (task_of file))
-task_of_lowest world id h = by_lowest (lowest_unready world) refl h
-  where
-    by_lowest : (lowest : Option File) → lowest_unready world ≡ lowest → option_map (λ (f : File). f.id) lowest ≡ Some id
-        → (file : File) × (lowest_unready world ≡ Some file) × (file.id ≡ id) × (task_with_id world id ≡ Some (task_of file))
-    by_lowest None is h = absurd (cc)
-    by_lowest (Some file) is h =
-        let same : file.id ≡ id = cc in
-        (file, is, same, subst (λ n. task_with_id world n ≡ Some (task_of file)) same (ap (option_map task_of) (found_with_id world world.files file is)))
+unfolding TaskOfLowest
+task_of_lowest world id h = task_of_lowest_is world id (lowest_unready world) refl h
+
+-- where the lowest unready file has a task, a job for it is there
+pub no_task : {J : Type 0} (view : J → Task) (job : Option J) (world value : World) (id : ℕ) (task : Task) → world ≡ value → option_map view job ≡ task_with_id world id → task_with_id value id ≡ Some task → job ≡ None → ⊥
+no_task view job world value id task same told is none = let seen : Some task ≡ None = sym is ∙ ap (λ w. task_with_id w id) (sym same) ∙ sym told ∙ ap (option_map view) none in cc
+
+-- what was made of that task is of the lowest unready file
+pub made_of_lowest : {E : Type 0} (world value : World) (id : ℕ) (job : Task) (file : File) (result : Result Made E) → world ≡ value → Some job ≡ task_with_id world id → lowest_unready value ≡ Some file
+    → task_with_id value id ≡ Some (task_of file) → IsOfWorld world job → IfOk result (λ made. made.file ≡ job.file) → IfOk result (λ made. made.stamp ≡ job.stamp)
+    → IfOk result (λ made. made.text.value ≡ job.content) → IfOk result (λ made. IsOfLowest value made.file made.stamp made.text.value)
+made_of_lowest world value id job file (Ok made) same told lowest is of_world files stamps texts =
+    let seen : Some job ≡ Some (task_of file) = told ∙ ap (λ w. task_with_id w id) same ∙ is in
+    let task : job ≡ task_of file = cc in
+    let made_task : job ≡ record { file = made.file; stamp = made.stamp; content = made.text.value } = cc in
+    record {
+      file = file;
+      lowest = lowest;
+      same_id = files ∙ ap (λ (t : Task). t.file) task;
+      same_stamp = stamps ∙ ap (λ (t : Task). t.stamp) task;
+      of_world = subst (λ w. IsOfWorld w (record { file = made.file; stamp = made.stamp; content = made.text.value })) same (subst (IsOfWorld world) made_task of_world);
+    }
+made_of_lowest world value id job file (Err e) same told lowest is of_world files stamps texts = tt
+
+-- nothing comes of nothing
+pub none_from_map : {X Y : Type 0} (f : X → Y) (o : Option X) → option_map f o ≡ None → o ≡ None
+none_from_map f None h = refl
+none_from_map f (Some x) h = absurd (cc)
 
 -- the rest of a list from a place on begins with what stands there
 pub drop_at : {X : Type 0} (xs : List X) (i : ℕ) (x : X) → slice_get xs i ≡ Some x → drop i xs ≡ x ∷ drop (i + 1) xs
-drop_at xs i x h = drop-cons xs i x (slice_get_within xs i x h) ∙ ?
+drop_at xs i x h = drop_more xs i x (slice_get_within xs i x h) ∙ ap (λ y. y ∷ drop (i + 1) xs) (get_or_from_slice_get xs i x x h)
+
+-- one turn of a run: the rest of the script goes on from what a line leaves
+pub run_turn : (history history' : List Entry) (records records' : List Record) (script : List Line) (i : ℕ) (line : Line) (answer : Answer) (done : Done)
+    → slice_get script i ≡ Some line → history' ≡ history ++ (step_of history line.number line.command).added → answer ≡ (step_of history line.number line.command).answer
+    → records' ≡ records ++ record { line = line.number; answer = answer } ∷ [] → run_from (record { history = history; records = records }) (drop i script) ≡ done
+    → run_from (record { history = history'; records = records' }) (drop (i + 1) script) ≡ done
+run_turn history history' records records' script i line answer done is grown answered recorded rest =
+    let here : drop i script ≡ line ∷ drop (i + 1) script = drop_at script i line is in
+    let left : record { history = history'; records = records' } ≡ after_step history records line.number (step_of history line.number line.command) = cc in
+    ap (λ d. run_from d (drop (i + 1) script)) left ∙ sym (ap (run_from (record { history = history; records = records })) here) ∙ rest

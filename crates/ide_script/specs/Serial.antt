@@ -55,7 +55,7 @@ abbrev pub intakes : List Entry → ℕ → List File → Step
 intakes history line [] = record { added = []; answer = Smart (length history) }
 intakes history line (file ∷ files) =
     settle_unless (refusal_of (fold history) (intake_of file)) history (entry_of line (intake_of file))
-        (intakes (history ++ entry_of line (intake_of file) ∷ []) line files)
+    (intakes (history ++ entry_of line (intake_of file) ∷ []) line files)
 
 -- a settle takes in every unready file, in order of ids
 abbrev pub settle_step : List Entry → ℕ → Step

@@ -1,14 +1,17 @@
 //! A run in progress: the state of the workspace and the history that led to it.
 ghost use Rattle.std.specs.Prelude.{◌≡◌, ◌+◌, [], ◌∷◌, ◌++◌, Some, IfOk, OnOk, option_map, length};
 ghost use Rattle.write_history.specs.World.{lowest_unready};
-ghost use Rattle.write_history.specs.Fold.{fold};
+ghost use Rattle.write_history.specs.Fold.{fold, IsLegal};
 ghost use Rattle.ide_world.specs.Prepared.{IsEdit, IsReadyFor};
 ghost use Rattle.ide_script.specs.Serial.{change_step, settle_step, word_step, step_of, entry_of};
 ghost use Rattle.ide_script.specs.Settle.{IsOfLowest, TakesIn};
 
 use crate::Answer;
 use ide_text::Name;
-use ide_world::{Made, Ready, State, WordRefusal, ask_word, install, job, lowest_unready, make, prepare, prepare_intake, reserve};
+use ide_world::{
+    Made, Ready, State, WordRefusal, ask_word, install, job, lowest_unready, make, prepare,
+    prepare_intake, reserve,
+};
 use script_lang::{Command, Line};
 use std::alloc::{AllocError, Global};
 use std::marker::Model;
@@ -53,7 +56,8 @@ impl Session {
 
     /// The history.
     pub(crate) fn into_history(self) -> History
-        ensures { result.entries ≡ self }
+        ensures entries { result.entries ≡ self }
+        ensures legal { IsLegal result.entries }
     {
         let Session {
             alloc: _,
