@@ -1,0 +1,4 @@
+pub mod Counts
+pub mod Words
+pub mod Views
+pub mod Rule
