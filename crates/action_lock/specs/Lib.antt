@@ -2,3 +2,4 @@ pub mod Counts
 pub mod Words
 pub mod Views
 pub mod Rule
+pub mod Steps

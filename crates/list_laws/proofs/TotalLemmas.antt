@@ -30,9 +30,13 @@ module _ {A : Type 0} where
   total-append f (x ∷ xs) m = let r = total-append f xs m in omega arith
 
   -- where each element weighs as much or less, so do all
-  pub total-mono : (f g : A → ℕ) (l : List A) → ((v : A) → f v ≤ g v) → total f l ≤ total g l
-  total-mono f g [] h = omega arith
-  total-mono f g (x ∷ xs) h = let a = h x in let r = total-mono f g xs h in omega arith
+  pub total-below : (f g : A → ℕ) (l : List A) → ((i : ℕ) (v : A) → get_elem? l i ≡ some v → f v ≤ g v) → total f l ≤ total g l
+  total-below f g [] h = omega arith
+  total-below f g (x ∷ xs) h = let a = h 0 x refl in let r = total-below f g xs (λ i v e. h (suc i) v e) in omega arith
+
+  -- an element that weighs the same in the place of another changes no total
+  pub total-same : (f : A → ℕ) (l : List A) (i : ℕ) (v w : A) → get_elem? l i ≡ some v → f w ≡ f v → total f (set l i w) ≡ total f l
+  total-same f l i v w e same = let r = total-set f l i v w e in omega arith
 
   -- where the elements weigh nothing, one by one, so do all
   pub total-none : (f : A → ℕ) (l : List A) → ((i : ℕ) (v : A) → get_elem? l i ≡ some v → f v ≡ 0) → total f l ≡ 0

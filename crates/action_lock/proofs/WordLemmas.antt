@@ -1,0 +1,22 @@
+-- The bits of the gate word.
+use Rattle.std.proofs.Common.{◌≡◌, ℕ, ◌+◌, ◌*◌, ◌/◌, ◌%◌, ◌≤◌, Bool, true, false, eqb, sym, refl, ap, ◌∙◌, ⊎_elim, eqb-true, arith, bit_or, bit_and, max}
+use Rattle.std.proofs.lemmas.Bool.{false≢true}
+use Rattle.std.proofs.lemmas.Bool.Decides.{eqb_tells}
+use Rattle.std.proofs.lemmas.Nat.Bits.{and_pow}
+use Rattle.std.specs.Int.Bits.{or_step}
+use Rattle.action_lock.specs.Words.{has_turn, has_pending}
+
+below_two : (n : ℕ) → eqb (n % 2) 1 ≡ false → n % 2 ≡ 0
+below_two n e = ⊎_elim (λ t. absurd (false≢true (sym e ∙ t.0))) (λ t. let apart = t.1 in omega arith) (eqb_tells (n % 2) 1)
+
+pub turn_set : (n : ℕ) → has_turn n ≡ true → n % 2 ≡ 1
+turn_set n e = eqb-true (n % 2) 1 e
+
+pub turn_clear : (n : ℕ) → has_turn n ≡ false → n % 2 ≡ 0
+turn_clear n e = below_two n e
+
+pub pending_set : (n : ℕ) → has_pending n ≡ true → n / 4 % 2 ≡ 1
+pending_set n e = eqb-true (n / 4 % 2) 1 e
+
+pub pending_clear : (n : ℕ) → has_pending n ≡ false → n / 4 % 2 ≡ 0
+pending_clear n e = below_two (n / 4) e
