@@ -3,7 +3,7 @@ use Rattle.std.proofs.Common.{◌≡◌, ℕ, ◌+◌, ◌*◌, ◌/◌, ◌%◌
 use Rattle.std.proofs.lemmas.Bool.{false≢true}
 use Rattle.std.proofs.lemmas.Bool.Decides.{eqb_tells}
 use Rattle.std.proofs.lemmas.Nat.Bits.{and_pow}
-use Rattle.std.specs.Int.Bits.{or_step}
+use Rattle.std.specs.Int.Bits.{or_step, or_zero_r}
 use Rattle.action_lock.specs.Words.{has_turn, has_pending}
 
 below_two : (n : ℕ) → eqb (n % 2) 1 ≡ false → n % 2 ≡ 0
@@ -20,3 +20,9 @@ pending_set n e = eqb-true (n / 4 % 2) 1 e
 
 pub pending_clear : (n : ℕ) → has_pending n ≡ false → n / 4 % 2 ≡ 0
 pending_clear n e = below_two (n / 4) e
+
+pub or_odd : (n : ℕ) → n % 2 ≡ 1 → bit_or n 1 ≡ n
+or_odd n odd = or_step n 1 ∙ (let e : bit_or (n / 2) 0 ≡ n / 2 = or_zero_r (n / 2) in omega arith)
+
+pub or_even : (n : ℕ) → n % 2 ≡ 0 → bit_or n 1 ≡ n + 1
+or_even n even = or_step n 1 ∙ (let e : bit_or (n / 2) 0 ≡ n / 2 = or_zero_r (n / 2) in omega arith)

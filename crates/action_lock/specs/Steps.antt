@@ -1,5 +1,5 @@
 -- The table of steps: what each tells the seat that takes it. A step changes one word, and the view of its seat alone.
-use Rattle.std.specs.Prelude.{◌≡◌, ℕ, ◌+◌, ◌<◌, Bool, true, false, if◌then◌else◌, nat_lt, List, [], ◌∷◌, ◌++◌, length, All, Option, Some, None}
+use Rattle.std.specs.Prelude.{◌≡◌, ℕ, ◌+◌, ◌<◌, Bool, true, false, if◌then◌else◌, List, [], ◌∷◌, ◌++◌, length, All, Option, Some, None}
 use Rattle.atomic_table.specs.Table.{Me, Step}
 use Rattle.action_lock.specs.declared.view.Phase.{Phase}
 use Rattle.action_lock.specs.declared.view.Phase.TheVariants.{Out, Entering, Backing, Reading}
@@ -9,11 +9,7 @@ use Rattle.action_lock.specs.Counts.{counted}
 use Rattle.action_lock.specs.Words.{has_turn, has_pending}
 use Rattle.action_lock.specs.Views.{times, fresh}
 use Rattle.action_lock.specs.Rule.{entries_of}
-use Rattle.list_laws.specs.Fronts.{IsFront}
-
--- the longer of two lists
-abbrev pub longer : {E : Type 0} → List E → List E → List E
-longer xs ys = if nat_lt (length xs) (length ys) then ys else xs
+use Rattle.list_laws.specs.Fronts.{IsFront, longer}
 
 -- the sights of a view that found this word
 abbrev pub sights_after : ℕ → ℕ → ℕ
