@@ -6,3 +6,6 @@ pub mod EnterStep
 pub mod HoldStep
 pub mod ExitStep
 pub mod TellStep
+pub mod SplitStep
+pub mod JoinStep
+pub mod Ends
