@@ -1,5 +1,5 @@
 -- The bits of the gate word.
-use Rattle.std.proofs.Common.{◌≡◌, ℕ, ◌+◌, ◌*◌, ◌/◌, ◌%◌, ◌≤◌, Bool, true, false, eqb, sym, refl, ap, ◌∙◌, ⊎_elim, eqb-true, arith, bit_or, bit_and, max}
+use Rattle.std.proofs.Common.{◌≡◌, ℕ, zero, suc, ◌+◌, ◌*◌, ◌/◌, ◌%◌, ◌<◌, ◌≤◌, not, nat_eq, Bool, true, false, eqb, sym, refl, ap, ◌∙◌, ⊎_elim, eqb-true, arith, bit_or, bit_and, max}
 use Rattle.std.proofs.lemmas.Bool.{false≢true}
 use Rattle.std.proofs.lemmas.Bool.Decides.{eqb_tells}
 use Rattle.std.proofs.lemmas.Nat.Bits.{and_pow}
@@ -26,3 +26,12 @@ or_odd n odd = or_step n 1 ∙ (let e : bit_or (n / 2) 0 ≡ n / 2 = or_zero_r (
 
 pub or_even : (n : ℕ) → n % 2 ≡ 0 → bit_or n 1 ≡ n + 1
 or_even n even = or_step n 1 ∙ (let e : bit_or (n / 2) 0 ≡ n / 2 = or_zero_r (n / 2) in omega arith)
+
+marked : (b : ℕ) → b < 2 → not (nat_eq (b * 4) 0) ≡ eqb b 1
+marked zero l = refl
+marked (suc zero) l = refl
+marked (suc (suc b)) l = absurd (omega arith)
+
+-- what the code tests is whether the word has the pending mark
+pub pending_test : (word : ℕ) → not (nat_eq (bit_and word 4) 0) ≡ has_pending word
+pending_test word = ap (λ (x : ℕ). not (nat_eq x 0)) (and_pow word 2) ∙ marked (word / 4 % 2) (omega arith)

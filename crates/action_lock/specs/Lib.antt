@@ -3,3 +3,5 @@ pub mod Words
 pub mod Views
 pub mod Rule
 pub mod Steps
+pub mod Passes
+pub mod Reads

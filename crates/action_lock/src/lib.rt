@@ -2,11 +2,20 @@
 #![tactic(auto)]
 
 mod home;
+mod lock;
+mod pass;
+mod plays;
+mod refusal;
 mod rule;
+mod steps;
 mod view;
 mod watch;
+mod words;
 
 pub use home::Home;
+pub use lock::ActionLock;
+pub use pass::Pass;
+pub use refusal::{ReadRefusal, SplitRefusal};
 pub use rule::GateRule;
 pub use view::{Ended, Phase, View};
 pub use watch::Watch;

@@ -10,13 +10,22 @@ pub trait Watch {
     // How often it has seen that the work is to end.
     ghost sightings: { Self → ℕ };
 
-    // It may look. No step of the work changes that.
-    ghost can_look: { Self → Type 0 } = { λ _. Unit {0} };
+    // It may look.
+    ghost can_look: { Self → Type 0 };
 
+    // From the one to the other nothing changed but by looks.
+    ghost stays: { Self → Self → Type 0 };
+
+    /// Answers whether it now sees that the work is to end.
     fn look(&mut self) -> bool
         requires { can_look self.old }
         ensures again { can_look self.new }
+        ensures stays { stays self.old self.new }
         ensures looks { looks self.new ≡ counted (looks self.old) }
         ensures kept { sightings self.old ≤ sightings self.new }
         ensures seen { IsTrue result → HasRisen (sightings self.old) (sightings self.new) };
+
+    ghost stays_itself: { (watch : Self) → stays watch watch };
+
+    ghost stays_on: { (a b c : Self) → stays a b → stays b c → stays a c };
 }

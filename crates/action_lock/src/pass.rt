@@ -1,0 +1,22 @@
+//! The token by which one thread uses a lock.
+ghost use Rattle.std.specs.Prelude.{◌≡◌, ◌<◌, ◌≤◌, Some, length};
+ghost use Rattle.std.proofs.Props.{props};
+
+use crate::home::Home;
+use crate::view::View;
+use atomic_table::Seat;
+
+/// What one thread knows of a lock, and its right to step on it. It has to be spent: met into another pass, or given to `close`.
+pub struct Pass<H: Home> {
+    pub(crate) seat: Seat<H, View<H::Entry>>,
+    pub(crate) number: u32,
+    // How many numbers it has given, if it is number 0.
+    pub(crate) drawn: u32,
+    // How many passes were met into it.
+    pub(crate) met: u32,
+    pub(crate) sights: u64,
+    ghost numbered: { seat.me.0.number ≡ Some number } by { Prim.hlevel props },
+    ghost counts: { number ≡ 0 → seat.me.0.drawn ≡ drawn },
+    ghost meets: { length seat.me.0.ended ≡ met },
+    ghost sees: { seat.me.0.sights ≡ sights },
+}

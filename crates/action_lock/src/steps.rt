@@ -1,0 +1,112 @@
+//! The steps on the gate word, one call each.
+ghost use Rattle.std.specs.Prelude.{◌≡◌, [], IfOk, IfErr};
+ghost use Rattle.action_lock.specs.declared.view.Phase.TheVariants.{Out, Backing, Reading};
+ghost use Rattle.action_lock.specs.Words.{has_turn, has_pending};
+ghost use Rattle.action_lock.specs.Passes.{view_of, IsSamePass, IsAt, IsEntering};
+ghost use Rattle.action_lock.specs.Reads.{HasRead, IsRefused};
+ghost use Rattle.action_lock.specs.Steps.{EntersAt, looked, with_phase};
+
+use crate::home::Home;
+use crate::lock::ActionLock;
+use crate::pass::Pass;
+use crate::plays::{Enter, Exit, Hold, Look};
+use crate::refusal::ReadRefusal;
+use crate::words::{READER, TURN, has_pending, has_turn, sights_after};
+use std::alloc::{AllocError, Global};
+
+impl<H: Home> ActionLock<H> {
+    // The one step that decides a read.
+    pub(crate) fn enter(&self, pass: &mut Pass<H>) -> u64
+        requires { IsAt self.now pass.old Out }
+        ensures same { IsSamePass pass.old pass.new }
+        ensures told { EntersAt H.stands (has_pending result) (has_turn result) pass.old.seat.me result pass.new.seat.me }
+    {
+        let shared = &self.table.shared;
+        let found = shared.fetch_or::<Enter<H>>(&mut pass.seat, 0, TURN);
+        pass.sights = sights_after(pass.sights, found);
+        found
+    }
+
+    // The home value is given back, and the pass is counted as a reader.
+    pub(crate) fn hold(&self, pass: &mut Pass<H>)
+        requires { IsEntering self.now pass.old }
+        ensures same { IsSamePass pass.old pass.new }
+        ensures view { pass.new.seat.me ≡ (with_phase Reading (view_of pass.old), []) }
+    {
+        let shared = &self.table.shared;
+        shared.fetch_add::<Hold>(&mut pass.seat, 0, READER - TURN);
+    }
+
+    // A reader leaves.
+    pub(crate) fn exit(&self, pass: &mut Pass<H>)
+        requires { IsAt self.now pass.old Reading }
+        ensures same { IsSamePass pass.old pass.new }
+        ensures view { pass.new.seat.me ≡ (with_phase Out (view_of pass.old), []) }
+    {
+        let shared = &self.table.shared;
+        shared.fetch_sub::<Exit>(&mut pass.seat, 0, READER);
+    }
+
+    // The turn is given back, with nothing done.
+    pub(crate) fn back(&self, pass: &mut Pass<H>)
+        requires { IsAt self.now pass.old Backing }
+        ensures same { IsSamePass pass.old pass.new }
+        ensures view { pass.new.seat.me ≡ (with_phase Out (view_of pass.old), []) }
+    {
+        let shared = &self.table.shared;
+        shared.fetch_sub::<Exit>(&mut pass.seat, 0, TURN);
+    }
+
+    pub(crate) fn look_at_gate(&self, pass: &mut Pass<H>) -> u64
+        requires { IsAt self.now pass.old Reading }
+        ensures same { IsSamePass pass.old pass.new }
+        ensures view { pass.new.seat.me ≡ (looked result (view_of pass.old), []) }
+    {
+        let shared = &self.table.shared;
+        let found = shared.load::<Look>(&mut pass.seat, 0);
+        pass.sights = sights_after(pass.sights, found);
+        found
+    }
+
+    // A share of the home value that the pass has in hand.
+    fn share_in_hand(&self, alloc: Global, pass: &mut Pass<H>) -> Result<H::Share, AllocError>
+        requires { IsEntering self.now pass.old }
+        ensures same { IsSamePass pass.old pass.new }
+        ensures view { view_of pass.new ≡ view_of pass.old }
+        ensures entering { IsEntering self.now pass.new }
+        ensures share { IfOk result (λ share. H.share_stands share (view_of pass.old).seen) }
+    {
+        let home = pass.seat.slot_mut(&self.table.shared, 0);
+        home.share(alloc)
+    }
+
+    // One attempt to read, by any pass that is out.
+    pub(crate) fn try_enter(
+        &self,
+        alloc: Global,
+        pass: &mut Pass<H>,
+    ) -> Result<H::Share, ReadRefusal>
+        requires { IsAt self.now pass.old Out }
+        ensures same { IsSamePass pass.old pass.new }
+        ensures ok { IfOk result (λ share. IsAt self.now pass.new Reading × HasRead Reading (view_of pass.old) (view_of pass.new) × H.share_stands share (view_of pass.new).seen) }
+        ensures err { IfErr result (λ refusal. IsAt self.now pass.new Out × IsRefused refusal (view_of pass.old) (view_of pass.new)) }
+    {
+        let found = self.enter(pass);
+        if has_pending(found) {
+            if !has_turn(found) {
+                self.back(pass);
+            }
+            return Err(ReadRefusal::Pending { word: found });
+        }
+        if has_turn(found) {
+            return Err(ReadRefusal::Turn { word: found });
+        }
+        let share = self.share_in_hand(alloc, pass);
+        self.hold(pass);
+        let Ok(share) = share else {
+            self.exit(pass);
+            return Err(ReadRefusal::OutOfMemory);
+        };
+        Ok(share)
+    }
+}
