@@ -1,5 +1,5 @@
 -- A load that tells a seat what a join left, and which entries the history has, keeps the rule.
-use Rattle.std.proofs.Common.{◌≡◌, ◌≢◌, ℕ, zero, suc, ◌+◌, ◌<◌, Bool, true, List, [], ◌∷◌, length, get_or, refl, sym, ap, ◌∙◌, arith, Some, None, Option, All, nat_lt, eqb, lt-ltb}
+use Rattle.std.proofs.Common.{◌≡◌, ◌≢◌, ℕ, zero, suc, ◌+◌, ◌<◌, ◌≤◌, Bool, true, List, [], ◌∷◌, length, get_or, refl, sym, ap, ◌∙◌, arith, Some, None, Option, All, nat_lt, eqb, lt-ltb}
 use mathlib.Core.Option.{none, some}
 use lib.ListN.{get_elem?}
 use Rattle.atomic_table.specs.Table.{Me, State, step, keeps, Allows}
@@ -10,7 +10,7 @@ use Rattle.action_lock.specs.Steps.{told, Tells, IsTold}
 use Rattle.action_lock.proofs.Placing.{Rule, quiet}
 use Rattle.action_lock.proofs.Sound.{told_all}
 use Rattle.list_laws.specs.Totals.{total}
-use Rattle.list_laws.proofs.TotalLemmas.{total-only}
+use Rattle.list_laws.proofs.TotalLemmas.{total-at, total-only}
 use Rattle.list_laws.proofs.FrontLemmas.{All-weaken}
 
 module _ {E : Type 0} where
@@ -37,6 +37,7 @@ module _ {H E : Type 0} (number_of : E → ℕ) (stands : H → List E → Type 
 
   pub is_told : (s : State H (View E)) (r : Rule number_of stands s) (id : ℕ) (v : View E) → get_elem? s.views id ≡ some v → IsTold number_of v r.history
   is_told s r id v at = let sound = r.each id v at in record {
+    few = (let some_of = total-at numbers s.views id v at in let all = r.in_all in let limit = r.limit in omega arith);
     seen = sound.seen;
     mine = λ n e. (sound.mine n e).0;
     ended = sound.ended;

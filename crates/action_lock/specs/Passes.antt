@@ -1,11 +1,16 @@
 -- What contracts see of a pass.
-use Rattle.std.specs.Prelude.{◌≡◌, List, [], ◌∷◌, Bool, false}
+use Rattle.std.specs.Prelude.{◌≡◌, ◌+◌, List, [], ◌∷◌, length, Bool, false, Some}
 use Rattle.action_lock.specs.declared.home.Home.{Ghosts}
 use Rattle.action_lock.specs.declared.view.Phase.{Phase}
 use Rattle.action_lock.specs.declared.view.Phase.TheVariants.{Out, Entering}
 use Rattle.action_lock.specs.declared.view.View.{View}
 use Rattle.action_lock.specs.declared.pass.Pass.{Pass}
 use Rattle.action_lock.specs.declared.lock.ActionLock.{ActionLock}
+
+-- the view is that of number 0, and every other number that was given was met into it
+pub record IsLast {E : Type 0} (v : View E) : Type 0 where
+  pub leads : v.number ≡ Some 0
+  pub all_met : v.drawn ≡ length v.ended + 1
 
 module _ {H E S : Type 0} {g : Ghosts H E S} where
   -- what the lock's rule knows of the pass

@@ -1,5 +1,5 @@
 -- The table of steps: what each tells the seat that takes it. A step changes one word, and the view of its seat alone.
-use Rattle.std.specs.Prelude.{◌≡◌, ℕ, ◌+◌, ◌<◌, Bool, true, false, if◌then◌else◌, List, [], ◌∷◌, ◌++◌, length, All, Option, Some, None}
+use Rattle.std.specs.Prelude.{◌≡◌, ℕ, ◌+◌, ◌≤◌, Bool, true, false, if◌then◌else◌, List, [], ◌∷◌, ◌++◌, length, All, Option, Some, None}
 use Rattle.atomic_table.specs.Table.{Me, Step}
 use Rattle.action_lock.specs.declared.view.Phase.{Phase}
 use Rattle.action_lock.specs.declared.view.Phase.TheVariants.{Out, Entering, Backing, Reading}
@@ -7,7 +7,7 @@ use Rattle.action_lock.specs.declared.view.Ended.{Ended}
 use Rattle.action_lock.specs.declared.view.View.{View}
 use Rattle.action_lock.specs.Counts.{counted}
 use Rattle.action_lock.specs.Words.{has_turn, has_pending}
-use Rattle.action_lock.specs.Views.{times, fresh}
+use Rattle.action_lock.specs.Views.{numbers, times, fresh}
 use Rattle.action_lock.specs.Rule.{entries_of}
 use Rattle.list_laws.specs.Fronts.{IsFront, longer}
 
@@ -58,9 +58,10 @@ module _ {E : Type 0} where
   }
 
   module _ (number_of : E → ℕ) where
-    -- the history that was found begins with what the view has seen, and the entries of its numbers are those that it keeps.
+    -- A view has 65,536 numbers at most. The history that was found begins with what it has seen, and the entries of its numbers are those that it keeps.
     -- Where it is number 0 and has met every other number, there are no further entries
     pub record IsTold (v : View E) (history : List E) : Type 0 where
+      pub few : numbers v ≤ 65536
       pub seen : IsFront v.seen history
       pub mine : (n : ℕ) → v.number ≡ Some n → v.mine ≡ entries_of number_of n history
       pub ended : All (λ (e : Ended E). e.entries ≡ entries_of number_of e.number history) v.ended

@@ -1,5 +1,5 @@
 //! The token by which one thread uses a lock.
-ghost use Rattle.std.specs.Prelude.{◌≡◌, ◌<◌, ◌≤◌, Some, length};
+ghost use Rattle.std.specs.Prelude.{◌≡◌, ◌≤◌, Some, length};
 ghost use Rattle.std.proofs.Props.{props};
 
 use crate::home::Home;
@@ -18,5 +18,23 @@ pub struct Pass<H: Home> {
     ghost numbered: { seat.me.0.number ≡ Some number } by { Prim.hlevel props },
     ghost counts: { number ≡ 0 → seat.me.0.drawn ≡ drawn },
     ghost meets: { length seat.me.0.ended ≡ met },
+    ghost few: { drawn ≤ 65536 },
     ghost sees: { seat.me.0.sights ≡ sights },
+}
+
+impl<H: Home> Pass<H> {
+    ghost use Rattle.action_lock.specs.Passes.{view_of};
+
+    pub fn number(&self) -> u32
+        ensures { (view_of self.now).number ≡ Some result }
+    {
+        self.number
+    }
+
+    /// How often it has found the pending mark, up to 2^64 - 1.
+    pub fn sights(&self) -> u64
+        ensures { result ≡ (view_of self.now).sights }
+    {
+        self.sights
+    }
 }
