@@ -1,0 +1,24 @@
+-- What contracts see of a pass that reads.
+use Rattle.std.specs.Prelude.{◌≡◌, Result, IfErr}
+use Rattle.std.specs.Borrow.{Fml, RattleType, MutBor, RestsIfErr}
+use Rattle.action_lock.specs.declared.home.Home.{Ghosts}
+use Rattle.action_lock.specs.declared.lock.ActionLock.{ActionLock}
+use Rattle.action_lock.specs.declared.pass.Pass.{Pass}
+use Rattle.action_lock.specs.declared.reading.Reading.{Reading}
+use Rattle.action_lock.specs.declared.refusal.ReadRefusal.{ReadRefusal}
+use Rattle.action_lock.specs.declared.view.Phase.TheVariants as phase
+use Rattle.action_lock.specs.contracts.pass.Pass as pass
+use Rattle.action_lock.specs.Passes.{view_of, IsSamePass, IsAt, IsPassOf}
+use Rattle.action_lock.specs.Reads.{IsRefused}
+
+module _ {H E S : Type 0} {g : Ghosts H E S} where
+  -- the pass reads, and its share stands for all that it has seen
+  pub record IsReading (r : Reading H E S g) : Type 0 where
+    pub inside : IsAt r.lock.now r.pass.now phase.Reading
+    pub share : g.share_stands r.share (view_of r.pass.now).seen
+
+module _ (H E S : RattleType) (g : Ghosts H.Denot E.Denot S.Denot) where
+  -- where the read was refused, the pass is back at rest, and has learned the word that was found
+  abbrev pub rests_if_refused : ActionLock H.Denot E.Denot S.Denot → MutBor (Pass H.Denot E.Denot S.Denot g) → Result (Reading H.Denot E.Denot S.Denot g) ReadRefusal → Fml
+  rests_if_refused lock p r = RestsIfErr (pass.the_row H E S g) p (λ it. it.pass.ghost_name) r
+      (λ last. IfErr r (λ refusal. IsPassOf lock last × IsSamePass p.now last × IsRefused refusal (view_of p.now) (view_of last)))

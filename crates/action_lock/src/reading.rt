@@ -1,0 +1,82 @@
+//! The guard of a read.
+ghost use Rattle.std.specs.Prelude.{◌≡◌, IfOk, IfErr};
+ghost use Rattle.std.specs.Borrow.{sem};
+ghost use Rattle.action_lock.specs.declared.view.Phase.TheVariants as phase;
+ghost use Rattle.action_lock.specs.Words.{has_pending};
+ghost use Rattle.action_lock.specs.Steps.{looked, with_phase};
+ghost use Rattle.action_lock.specs.Passes.{view_of, IsSamePass, IsAt, IsPassOf};
+ghost use Rattle.action_lock.specs.Reads.{HasRead};
+ghost use Rattle.action_lock.specs.Readings.{IsReading, rests_if_refused};
+
+use crate::home::Home;
+use crate::lock::ActionLock;
+use crate::pass::Pass;
+use crate::refusal::ReadRefusal;
+use crate::words::has_pending;
+use std::alloc::Global;
+
+/// A read that goes on. It is not `Drop`: end it by `leave`.
+pub struct Reading<'a, H: Home> {
+    pub(crate) lock: &'a ActionLock<H>,
+    pub(crate) pass: &'a mut Pass<H>,
+    pub(crate) share: H::Share,
+}
+
+impl<H: Home> Pass<H> {
+    /// One attempt to read. It does not wait.
+    pub fn try_read<'a>(
+        &'a mut self,
+        alloc: Global,
+        lock: &'a ActionLock<H>,
+    ) -> Result<Reading<'a, H>, ReadRefusal>
+        requires { IsPassOf lock.now self.old }
+        ensures* refused { sem 𝓛 (rests_if_refused H.row H.Entry.row H.Share.row H.Home lock.now self.entry result) }
+        ensures same_reference { IfOk result (λ it. it.pass.ghost_name ≡ self.entry.ghost_name) }
+        ensures ok { IfOk result (λ it. IsReading it × (it.lock.now ≡ lock.now) × IsSamePass self.old it.pass.now × HasRead phase.Reading (view_of self.old) (view_of it.pass.now)) }
+    {
+        let share = lock.try_enter(alloc, self)?;
+        Ok(Reading {
+            lock,
+            pass: self,
+            share,
+        })
+    }
+}
+
+impl<'a, H: Home> Reading<'a, H> {
+    /// A share of the home value of the moment in which the read was let in.
+    pub fn share(&self) -> &H::Share
+        requires { IsReading self.now }
+        ensures value { result.now ≡ self.now.share }
+        ensures stands { H.share_stands result.now (view_of self.now.pass.now).seen }
+    {
+        &self.share
+    }
+
+    /// Looks whether a write waits.
+    pub fn check(&mut self) -> bool
+        requires { IsReading self.old }
+        ensures same_reference { self.new.pass.ghost_name ≡ self.old.pass.ghost_name }
+        ensures same { IsReading self.new × (self.new.lock ≡ self.old.lock) × (self.new.share ≡ self.old.share) × IsSamePass self.old.pass.now self.new.pass.now }
+        ensures view { view_of self.new.pass.now ≡ looked (view_of self.new.pass.now).last (view_of self.old.pass.now) }
+        ensures found { result ≡ has_pending (view_of self.new.pass.now).last }
+    {
+        let found = self.lock.look_at_gate(self.pass);
+        has_pending(found)
+    }
+
+    /// Ends the read.
+    pub fn leave(self)
+        requires { IsReading self }
+        ensures out { IsAt self.entry.lock.now self.exit.1.0.now phase.Out }
+        ensures same { IsSamePass self.entry.pass.now self.exit.1.0.now }
+        ensures view { view_of self.exit.1.0.now ≡ with_phase phase.Out (view_of self.entry.pass.now) }
+    {
+        let Reading {
+            lock,
+            pass,
+            share: _,
+        } = self;
+        lock.exit(pass);
+    }
+}
