@@ -9,3 +9,4 @@ pub mod TellStep
 pub mod SplitStep
 pub mod JoinStep
 pub mod Ends
+pub mod ReadLemmas

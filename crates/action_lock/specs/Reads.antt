@@ -1,10 +1,11 @@
 -- What an attempt to read leaves of the pass's view.
-use Rattle.std.specs.Prelude.{◌≡◌, ℕ, Bool, true, false, List}
+use Rattle.std.specs.Prelude.{◌≡◌, ℕ, ◌≤◌, Bool, true, false, List}
 use Rattle.action_lock.specs.declared.refusal.ReadRefusal.{ReadRefusal}
 use Rattle.action_lock.specs.declared.refusal.ReadRefusal.TheVariants.{Pending, Turn, OutOfMemory}
 use Rattle.action_lock.specs.declared.view.Phase.{Phase}
 use Rattle.action_lock.specs.declared.view.Phase.TheVariants.{Out}
 use Rattle.action_lock.specs.declared.view.View.{View}
+use Rattle.action_lock.specs.Counts.{HasCounted}
 use Rattle.action_lock.specs.Words.{has_turn, has_pending}
 use Rattle.action_lock.specs.Steps.{looked, entering, with_phase}
 use Rattle.list_laws.specs.Fronts.{IsFront}
@@ -25,3 +26,15 @@ module _ {E : Type 0} where
   IsRefused (Pending word) v w = (has_pending word ≡ true) × (w ≡ looked word v)
   IsRefused (Turn word) v w = (has_pending word ≡ false) × (has_turn word ≡ true) × (w ≡ looked word v)
   IsRefused OutOfMemory v w = HasRead Out v w
+
+  -- the pass has looked at the gate, and learned nothing else
+  pub record HasLooked (v w : View E) : Type 0 where
+    pub same : w ≡ record v { looks = w.looks; last = w.last; sights = w.sights }
+    pub looks : v.looks ≤ w.looks
+    pub sights : HasCounted v.sights w.sights
+
+  -- after some looks the pass was let in
+  pub record HasWaited (phase : Phase) (v w : View E) : Type 0 where
+    pub before : View E
+    pub waited : HasLooked v before
+    pub read : HasRead phase before w

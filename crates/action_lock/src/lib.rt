@@ -16,7 +16,7 @@ mod words;
 pub use home::Home;
 pub use lock::ActionLock;
 pub use pass::Pass;
-pub use reading::Reading;
+pub use reading::{Looking, Reading};
 pub use refusal::{ReadRefusal, SplitRefusal};
 pub use rule::GateRule;
 pub use view::{Ended, Phase, View};

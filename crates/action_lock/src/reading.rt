@@ -5,15 +5,16 @@ ghost use Rattle.action_lock.specs.declared.view.Phase.TheVariants as phase;
 ghost use Rattle.action_lock.specs.Words.{has_pending};
 ghost use Rattle.action_lock.specs.Steps.{looked, with_phase};
 ghost use Rattle.action_lock.specs.Passes.{view_of, IsSamePass, IsAt, IsPassOf};
-ghost use Rattle.action_lock.specs.Reads.{HasRead};
-ghost use Rattle.action_lock.specs.Readings.{IsReading, rests_if_refused};
+ghost use Rattle.action_lock.specs.Reads.{HasRead, HasWaited};
+ghost use Rattle.action_lock.specs.Readings.{IsReading, IsLooking, rests_if_refused, rests_if_no_memory};
 
 use crate::home::Home;
 use crate::lock::ActionLock;
 use crate::pass::Pass;
 use crate::refusal::ReadRefusal;
 use crate::words::has_pending;
-use std::alloc::Global;
+use std::alloc::{AllocError, Global};
+use std::sync::Wait;
 
 /// A read that goes on. It is not `Drop`: end it by `leave`.
 pub struct Reading<'a, H: Home> {
@@ -41,6 +42,32 @@ impl<H: Home> Pass<H> {
             share,
         })
     }
+
+    /// Reads as soon as the gate lets it in. It may wait for ever.
+    pub fn read<'a, R: Wait>(
+        &'a mut self,
+        rt: &R,
+        alloc: Global,
+        lock: &'a ActionLock<H>,
+    ) -> Result<Reading<'a, H>, AllocError>
+        requires { IsPassOf lock.now self.old }
+        ensures* refused { sem 𝓛 (rests_if_no_memory H.row H.Entry.row H.Share.row H.Home lock.now self.entry result) }
+        ensures same_reference { IfOk result (λ it. it.pass.ghost_name ≡ self.entry.ghost_name) }
+        ensures ok { IfOk result (λ it. IsReading it × (it.lock.now ≡ lock.now) × IsSamePass self.old it.pass.now × HasWaited phase.Reading (view_of self.old) (view_of it.pass.now)) }
+    {
+        let share = lock.enter_waiting(rt, alloc, self)?;
+        Ok(Reading {
+            lock,
+            pass: self,
+            share,
+        })
+    }
+}
+
+/// The gate of a read that goes on, for work that looks at it now and then.
+pub struct Looking<'a, H: Home> {
+    pub(crate) lock: &'a ActionLock<H>,
+    pub(crate) pass: &'a mut Pass<H>,
 }
 
 impl<'a, H: Home> Reading<'a, H> {
@@ -77,6 +104,43 @@ impl<'a, H: Home> Reading<'a, H> {
             pass,
             share: _,
         } = self;
+        lock.exit(pass);
+    }
+
+    /// The share, and what looks at the gate beside it. `together` undoes it.
+    pub fn apart(self) -> (H::Share, Looking<'a, H>)
+        requires { IsReading self }
+        ensures share { result.0 ≡ self.entry.share }
+        ensures stands { H.share_stands result.0 (view_of result.1.pass.now).seen }
+        ensures looking { IsLooking result.1 }
+        ensures pass { (result.1.pass ≡ self.entry.pass) × (result.1.lock ≡ self.entry.lock) }
+    {
+        let Reading { lock, pass, share } = self;
+        (share, Looking { lock, pass })
+    }
+}
+
+impl<'a, H: Home> Looking<'a, H> {
+    /// The read, with a share that stands for all that its pass has seen.
+    pub fn together(self, share: H::Share) -> Reading<'a, H>
+        requires looking { IsLooking self }
+        requires share { H.share_stands share (view_of self.pass.now).seen }
+        ensures reading { IsReading result }
+        ensures share { result.share ≡ share }
+        ensures pass { (result.pass ≡ self.entry.pass) × (result.lock ≡ self.entry.lock) }
+    {
+        let Looking { lock, pass } = self;
+        Reading { lock, pass, share }
+    }
+
+    /// Ends the read, once its share is gone.
+    pub fn leave(self)
+        requires { IsLooking self }
+        ensures out { IsAt self.entry.lock.now self.exit.1.0.now phase.Out }
+        ensures same { IsSamePass self.entry.pass.now self.exit.1.0.now }
+        ensures view { view_of self.exit.1.0.now ≡ with_phase phase.Out (view_of self.entry.pass.now) }
+    {
+        let Looking { lock, pass } = self;
         lock.exit(pass);
     }
 }

@@ -1,9 +1,9 @@
 //! The steps on the gate word, one call each.
-ghost use Rattle.std.specs.Prelude.{◌≡◌, [], IfOk, IfErr};
+ghost use Rattle.std.specs.Prelude.{◌≡◌, [], IfOk, IfErr, OnErr};
 ghost use Rattle.action_lock.specs.declared.view.Phase.TheVariants.{Out, Backing, Reading};
 ghost use Rattle.action_lock.specs.Words.{has_turn, has_pending};
 ghost use Rattle.action_lock.specs.Passes.{view_of, IsSamePass, IsAt, IsEntering};
-ghost use Rattle.action_lock.specs.Reads.{HasRead, IsRefused};
+ghost use Rattle.action_lock.specs.Reads.{HasRead, HasWaited, IsRefused};
 ghost use Rattle.action_lock.specs.Steps.{EntersAt, looked, with_phase};
 
 use crate::home::Home;
@@ -13,6 +13,8 @@ use crate::plays::{Enter, Exit, Hold, Look};
 use crate::refusal::ReadRefusal;
 use crate::words::{READER, TURN, has_pending, has_turn, sights_after};
 use std::alloc::{AllocError, Global};
+use std::sync::Wait;
+use std::thread;
 
 impl<H: Home> ActionLock<H> {
     // The one step that decides a read.
@@ -108,5 +110,28 @@ impl<H: Home> ActionLock<H> {
             return Err(ReadRefusal::OutOfMemory);
         };
         Ok(share)
+    }
+
+    // Tries again until it is let in, or finds no memory.
+    pub(crate) fn enter_waiting<R: Wait>(
+        &self,
+        rt: &R,
+        alloc: Global,
+        pass: &mut Pass<H>,
+    ) -> Result<H::Share, AllocError>
+        requires { IsAt self.now pass.old Out }
+        ensures same { IsSamePass pass.old pass.new }
+        ensures ok { IfOk result (λ share. IsAt self.now pass.new Reading × HasWaited Reading (view_of pass.old) (view_of pass.new) × H.share_stands share (view_of pass.new).seen) }
+        ensures err { OnErr result (IsAt self.now pass.new Out × HasWaited Out (view_of pass.old) (view_of pass.new)) }
+    {
+        for _ in rt.forever() {
+            match self.try_enter(alloc, pass) {
+                Ok(share) => return Ok(share),
+                Err(ReadRefusal::OutOfMemory) => return Err(AllocError),
+                Err(ReadRefusal::Pending { word: _ }) => thread::yield_now(),
+                Err(ReadRefusal::Turn { word: _ }) => thread::yield_now(),
+            }
+        }
+        unreachable!()
     }
 }
