@@ -6,3 +6,4 @@ pub mod Steps
 pub mod Passes
 pub mod Reads
 pub mod Readings
+pub mod Watching

@@ -6,7 +6,7 @@ use Rattle.action_lock.specs.declared.home.Home.{Ghosts}
 use Rattle.action_lock.specs.declared.lock.ActionLock.{ActionLock}
 use Rattle.action_lock.specs.declared.pass.Pass.{Pass}
 use Rattle.action_lock.specs.declared.reading.Reading.{Reading}
-use Rattle.action_lock.specs.declared.reading.Looking.{Looking}
+use Rattle.action_lock.specs.declared.looking.Looking.{Looking}
 use Rattle.action_lock.specs.declared.refusal.ReadRefusal.{ReadRefusal}
 use Rattle.action_lock.specs.declared.view.Phase.TheVariants as phase
 use Rattle.action_lock.specs.contracts.pass.Pass as pass

@@ -3,6 +3,7 @@
 
 mod home;
 mod lock;
+mod looking;
 mod pass;
 mod plays;
 mod reading;
@@ -15,8 +16,9 @@ mod words;
 
 pub use home::Home;
 pub use lock::ActionLock;
+pub use looking::Looking;
 pub use pass::Pass;
-pub use reading::{Looking, Reading};
+pub use reading::Reading;
 pub use refusal::{ReadRefusal, SplitRefusal};
 pub use rule::GateRule;
 pub use view::{Ended, Phase, View};

@@ -1,5 +1,5 @@
 //! The guard of a read.
-ghost use Rattle.std.specs.Prelude.{◌≡◌, IfOk, IfErr};
+ghost use Rattle.std.specs.Prelude.{◌≡◌, ◌≤◌, IfOk};
 ghost use Rattle.std.specs.Borrow.{sem};
 ghost use Rattle.action_lock.specs.declared.view.Phase.TheVariants as phase;
 ghost use Rattle.action_lock.specs.Words.{has_pending};
@@ -10,6 +10,7 @@ ghost use Rattle.action_lock.specs.Readings.{IsReading, IsLooking, rests_if_refu
 
 use crate::home::Home;
 use crate::lock::ActionLock;
+use crate::looking::Looking;
 use crate::pass::Pass;
 use crate::refusal::ReadRefusal;
 use crate::words::has_pending;
@@ -64,12 +65,6 @@ impl<H: Home> Pass<H> {
     }
 }
 
-/// The gate of a read that goes on, for work that looks at it now and then.
-pub struct Looking<'a, H: Home> {
-    pub(crate) lock: &'a ActionLock<H>,
-    pub(crate) pass: &'a mut Pass<H>,
-}
-
 impl<'a, H: Home> Reading<'a, H> {
     /// A share of the home value of the moment in which the read was let in.
     pub fn share(&self) -> &H::Share
@@ -86,6 +81,7 @@ impl<'a, H: Home> Reading<'a, H> {
         ensures same_reference { self.new.pass.ghost_name ≡ self.old.pass.ghost_name }
         ensures same { IsReading self.new × (self.new.lock ≡ self.old.lock) × (self.new.share ≡ self.old.share) × IsSamePass self.old.pass.now self.new.pass.now }
         ensures view { view_of self.new.pass.now ≡ looked (view_of self.new.pass.now).last (view_of self.old.pass.now) }
+        ensures kept { (view_of self.old.pass.now).sights ≤ (view_of self.new.pass.now).sights }
         ensures found { result ≡ has_pending (view_of self.new.pass.now).last }
     {
         let found = self.lock.look_at_gate(self.pass);
@@ -117,30 +113,5 @@ impl<'a, H: Home> Reading<'a, H> {
     {
         let Reading { lock, pass, share } = self;
         (share, Looking { lock, pass })
-    }
-}
-
-impl<'a, H: Home> Looking<'a, H> {
-    /// The read, with a share that stands for all that its pass has seen.
-    pub fn together(self, share: H::Share) -> Reading<'a, H>
-        requires looking { IsLooking self }
-        requires share { H.share_stands share (view_of self.pass.now).seen }
-        ensures reading { IsReading result }
-        ensures share { result.share ≡ share }
-        ensures pass { (result.pass ≡ self.entry.pass) × (result.lock ≡ self.entry.lock) }
-    {
-        let Looking { lock, pass } = self;
-        Reading { lock, pass, share }
-    }
-
-    /// Ends the read, once its share is gone.
-    pub fn leave(self)
-        requires { IsLooking self }
-        ensures out { IsAt self.entry.lock.now self.exit.1.0.now phase.Out }
-        ensures same { IsSamePass self.entry.pass.now self.exit.1.0.now }
-        ensures view { view_of self.exit.1.0.now ≡ with_phase phase.Out (view_of self.entry.pass.now) }
-    {
-        let Looking { lock, pass } = self;
-        lock.exit(pass);
     }
 }

@@ -1,5 +1,5 @@
 //! The steps on the gate word, one call each.
-ghost use Rattle.std.specs.Prelude.{◌≡◌, [], IfOk, IfErr, OnErr};
+ghost use Rattle.std.specs.Prelude.{◌≡◌, ◌≤◌, [], IfOk, IfErr, OnErr};
 ghost use Rattle.action_lock.specs.declared.view.Phase.TheVariants.{Out, Backing, Reading};
 ghost use Rattle.action_lock.specs.Words.{has_turn, has_pending};
 ghost use Rattle.action_lock.specs.Passes.{view_of, IsSamePass, IsAt, IsEntering};
@@ -63,6 +63,7 @@ impl<H: Home> ActionLock<H> {
         requires { IsAt self.now pass.old Reading }
         ensures same { IsSamePass pass.old pass.new }
         ensures view { pass.new.seat.me ≡ (looked result (view_of pass.old), []) }
+        ensures kept { (view_of pass.old).sights ≤ (view_of pass.new).sights }
     {
         let shared = &self.table.shared;
         let found = shared.load::<Look>(&mut pass.seat, 0);
