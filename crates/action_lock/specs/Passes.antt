@@ -1,8 +1,8 @@
 -- What contracts see of a pass.
-use Rattle.std.specs.Prelude.{◌≡◌, ◌+◌, List, [], ◌∷◌, length, Bool, false, Some}
+use Rattle.std.specs.Prelude.{◌≡◌, ◌+◌, List, [], ◌∷◌, length, Bool, false, Some, None}
 use Rattle.action_lock.specs.declared.home.Home.{Ghosts}
 use Rattle.action_lock.specs.declared.view.Phase.{Phase}
-use Rattle.action_lock.specs.declared.view.Phase.TheVariants.{Out, Entering}
+use Rattle.action_lock.specs.declared.view.Phase.TheVariants.{Out, Entering, Reading}
 use Rattle.action_lock.specs.declared.view.View.{View}
 use Rattle.action_lock.specs.declared.pass.Pass.{Pass}
 use Rattle.action_lock.specs.declared.lock.ActionLock.{ActionLock}
@@ -29,6 +29,22 @@ module _ {H E S : Type 0} {g : Ghosts H E S} where
     pub empty : p.seat.me.1 ≡ []
     pub told : (view_of p).olds ≡ []
 
+  -- the pass keeps a share, which stands for all that it has seen
+  pub record HasShare (p : Pass H E S g) : Type 0 where
+    pub share : S
+    pub kept : p.share ≡ Some share
+    pub stands : g.share_stands share (view_of p).seen
+
+  -- the pass is out
+  pub record IsOut (l : ActionLock H E S) (p : Pass H E S g) : Type 0 where
+    pub at : IsAt l p Out
+    pub no_share : p.share ≡ None
+
+  -- the pass reads
+  pub record IsInside (l : ActionLock H E S) (p : Pass H E S g) : Type 0 where
+    pub at : IsAt l p Reading
+    pub has : HasShare p
+
   -- the pass is on its way in: it has the home value in hand, which stands for all that it has seen
   pub record IsEntering (l : ActionLock H E S) (p : Pass H E S g) : Type 0 where
     pub home : H
@@ -40,6 +56,6 @@ module _ {H E S : Type 0} {g : Ghosts H E S} where
 
   -- the pass is one of this lock and at rest: it may be handed to a call
   pub record IsPassOf (l : ActionLock H E S) (p : Pass H E S g) : Type 0 where
-    pub out : IsAt l p Out
+    pub out : IsOut l p
     pub no_intent : (view_of p).intent ≡ false
     pub not_current : (view_of p).current ≡ false

@@ -1,5 +1,5 @@
 -- What contracts see of a pass that reads.
-use Rattle.std.specs.Prelude.{◌≡◌, Result, IfErr, OnErr}
+use Rattle.std.specs.Prelude.{◌≡◌, Result, IfErr, OnErr, None}
 use Rattle.std.specs.declared.alloc.AllocError.{AllocError}
 use Rattle.std.specs.Borrow.{Fml, RattleType, MutBor, RestsIfErr}
 use Rattle.action_lock.specs.declared.home.Home.{Ghosts}
@@ -10,18 +10,18 @@ use Rattle.action_lock.specs.declared.looking.Looking.{Looking}
 use Rattle.action_lock.specs.declared.refusal.ReadRefusal.{ReadRefusal}
 use Rattle.action_lock.specs.declared.view.Phase.TheVariants as phase
 use Rattle.action_lock.specs.contracts.pass.Pass as pass
-use Rattle.action_lock.specs.Passes.{view_of, IsSamePass, IsAt, IsPassOf}
+use Rattle.action_lock.specs.Passes.{view_of, IsSamePass, IsAt, IsInside, IsPassOf}
 use Rattle.action_lock.specs.Reads.{HasLooked, HasWaited, IsRefused}
 
 module _ {H E S : Type 0} {g : Ghosts H E S} where
   -- the pass reads, and its share stands for all that it has seen
   pub record IsReading (r : Reading H E S g) : Type 0 where
-    pub inside : IsAt r.lock.now r.pass.now phase.Reading
-    pub share : g.share_stands r.share (view_of r.pass.now).seen
+    pub inside : IsInside r.lock.now r.pass.now
 
-  -- the pass reads, and looks at the gate for its work
+  -- the pass reads, and its work has the share
   pub record IsLooking (l : Looking H E S g) : Type 0 where
     pub inside : IsAt l.lock.now l.pass.now phase.Reading
+    pub no_share : l.pass.now.share ≡ None
 
   -- the same looking, after some looks
   pub record StaysLooking (l m : Looking H E S g) : Type 0 where

@@ -43,6 +43,7 @@ impl<H: Home> ActionLock<H> {
                     drawn: 1,
                     met: 0,
                     sights: 0,
+                    share: None,
                 };
                 Ok((ActionLock { table }, pass))
             }
@@ -74,6 +75,7 @@ impl<H: Home> ActionLock<H> {
             drawn: 0,
             met: 0,
             sights: 0,
+            share: None,
         })
     }
 
@@ -93,7 +95,9 @@ impl<H: Home> ActionLock<H> {
             drawn: _,
             met,
             sights: _,
+            share,
         } = other;
+        let None = share else { unreachable!() };
         self.table.shared.join_seat::<Glue>(&mut pass.seat, seat);
         self.table.shared.load::<Tell<H>>(&mut pass.seat, 0);
         pass.met += met + 1;
@@ -124,7 +128,9 @@ impl<H: Home> ActionLock<H> {
             drawn: _,
             met: _,
             sights: _,
+            share,
         } = pass;
+        let None = share else { unreachable!() };
         let mut closed = table.close_with(seat);
         let home = closed.take(0);
         closed.free();

@@ -1,8 +1,8 @@
 //! What looks at the gate for a piece of work that a read runs.
-ghost use Rattle.std.specs.Prelude.{◌≡◌};
+ghost use Rattle.std.specs.Prelude.{◌≡◌, Some};
 ghost use Rattle.action_lock.specs.declared.view.Phase.TheVariants as phase;
 ghost use Rattle.action_lock.specs.Steps.{with_phase};
-ghost use Rattle.action_lock.specs.Passes.{view_of, IsSamePass, IsAt};
+ghost use Rattle.action_lock.specs.Passes.{view_of, IsSamePass, IsOut};
 ghost use Rattle.action_lock.specs.Readings.{IsReading, IsLooking};
 
 use crate::home::Home;
@@ -23,18 +23,19 @@ impl<'a, H: Home> Looking<'a, H> {
     pub fn together(self, share: H::Share) -> Reading<'a, H>
         requires looking { IsLooking self }
         requires share { H.share_stands share (view_of self.pass.now).seen }
-        ensures reading { IsReading result }
-        ensures share { result.share ≡ share }
-        ensures pass { (result.pass ≡ self.entry.pass) × (result.lock ≡ self.entry.lock) }
+        ensures reading { IsReading result × (result.lock ≡ self.entry.lock) }
+        ensures share { result.pass.now.share ≡ Some share }
+        ensures pass { (result.pass.ghost_name ≡ self.entry.pass.ghost_name) × (result.pass.now.seat ≡ self.entry.pass.now.seat) }
     {
         let Looking { lock, pass } = self;
-        Reading { lock, pass, share }
+        pass.keep(share);
+        Reading { lock, pass }
     }
 
-    /// Ends the read, once its share is gone.
+    /// Ends the read. Its share can go before or after.
     pub fn leave(self)
         requires { IsLooking self }
-        ensures out { IsAt self.entry.lock.now self.exit.1.0.now phase.Out }
+        ensures out { IsOut self.entry.lock.now self.exit.1.0.now }
         ensures same { IsSamePass self.entry.pass.now self.exit.1.0.now }
         ensures view { view_of self.exit.1.0.now ≡ with_phase phase.Out (view_of self.entry.pass.now) }
     {

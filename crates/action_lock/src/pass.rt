@@ -1,5 +1,5 @@
 //! The token by which one thread uses a lock.
-ghost use Rattle.std.specs.Prelude.{◌≡◌, ◌≤◌, Some, length};
+ghost use Rattle.std.specs.Prelude.{◌≡◌, ◌≤◌, Some, None, length};
 ghost use Rattle.std.proofs.Props.{props};
 
 use crate::home::Home;
@@ -15,6 +15,8 @@ pub struct Pass<H: Home> {
     // How many passes were met into it.
     pub(crate) met: u32,
     pub(crate) sights: u64,
+    // The share of the read that goes on, unless its work has it.
+    pub(crate) share: Option<H::Share>,
     ghost numbered: { seat.me.0.number ≡ Some number } by { Prim.hlevel props },
     ghost counts: { number ≡ 0 → seat.me.0.drawn ≡ drawn },
     ghost meets: { length seat.me.0.ended ≡ met },
@@ -23,7 +25,7 @@ pub struct Pass<H: Home> {
 }
 
 impl<H: Home> Pass<H> {
-    ghost use Rattle.action_lock.specs.Passes.{view_of};
+    ghost use Rattle.action_lock.specs.Passes.{view_of, IsSamePass};
 
     pub fn number(&self) -> u32
         ensures { (view_of self.now).number ≡ Some result }
@@ -36,5 +38,23 @@ impl<H: Home> Pass<H> {
         ensures { result ≡ (view_of self.now).sights }
     {
         self.sights
+    }
+
+    // Keeps the share of a read.
+    pub(crate) fn keep(&mut self, share: H::Share)
+        requires { self.old.share ≡ None }
+        ensures { (self.new.share ≡ Some share) × (self.new.seat ≡ self.old.seat) }
+    {
+        let None = self.share.replace(share) else {
+            unreachable!()
+        };
+    }
+
+    // Gives the share of a read out.
+    pub(crate) fn let_go(&mut self) -> H::Share
+        requires { (share : H.Share) × (self.old.share ≡ Some share) }
+        ensures { (self.old.share ≡ Some result) × (self.new.share ≡ None) × (self.new.seat ≡ self.old.seat) }
+    {
+        self.share.take().unwrap()
     }
 }

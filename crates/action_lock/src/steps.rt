@@ -1,8 +1,8 @@
 //! The steps on the gate word, one call each.
-ghost use Rattle.std.specs.Prelude.{◌≡◌, ◌≤◌, [], IfOk, IfErr, OnErr};
+ghost use Rattle.std.specs.Prelude.{◌≡◌, ◌≤◌, [], IfOk, IfErr, OnOk, OnErr};
 ghost use Rattle.action_lock.specs.declared.view.Phase.TheVariants.{Out, Backing, Reading};
 ghost use Rattle.action_lock.specs.Words.{has_turn, has_pending};
-ghost use Rattle.action_lock.specs.Passes.{view_of, IsSamePass, IsAt, IsEntering};
+ghost use Rattle.action_lock.specs.Passes.{view_of, IsSamePass, IsAt, IsOut, IsInside, IsEntering};
 ghost use Rattle.action_lock.specs.Reads.{HasRead, HasWaited, IsRefused};
 ghost use Rattle.action_lock.specs.Steps.{EntersAt, looked, with_phase};
 
@@ -21,6 +21,7 @@ impl<H: Home> ActionLock<H> {
     pub(crate) fn enter(&self, pass: &mut Pass<H>) -> u64
         requires { IsAt self.now pass.old Out }
         ensures same { IsSamePass pass.old pass.new }
+        ensures share { pass.new.share ≡ pass.old.share }
         ensures told { EntersAt H.stands (has_pending result) (has_turn result) pass.old.seat.me result pass.new.seat.me }
     {
         let shared = &self.table.shared;
@@ -33,6 +34,7 @@ impl<H: Home> ActionLock<H> {
     pub(crate) fn hold(&self, pass: &mut Pass<H>)
         requires { IsEntering self.now pass.old }
         ensures same { IsSamePass pass.old pass.new }
+        ensures share { pass.new.share ≡ pass.old.share }
         ensures view { pass.new.seat.me ≡ (with_phase Reading (view_of pass.old), []) }
     {
         let shared = &self.table.shared;
@@ -43,6 +45,7 @@ impl<H: Home> ActionLock<H> {
     pub(crate) fn exit(&self, pass: &mut Pass<H>)
         requires { IsAt self.now pass.old Reading }
         ensures same { IsSamePass pass.old pass.new }
+        ensures share { pass.new.share ≡ pass.old.share }
         ensures view { pass.new.seat.me ≡ (with_phase Out (view_of pass.old), []) }
     {
         let shared = &self.table.shared;
@@ -53,6 +56,7 @@ impl<H: Home> ActionLock<H> {
     pub(crate) fn back(&self, pass: &mut Pass<H>)
         requires { IsAt self.now pass.old Backing }
         ensures same { IsSamePass pass.old pass.new }
+        ensures share { pass.new.share ≡ pass.old.share }
         ensures view { pass.new.seat.me ≡ (with_phase Out (view_of pass.old), []) }
     {
         let shared = &self.table.shared;
@@ -62,6 +66,7 @@ impl<H: Home> ActionLock<H> {
     pub(crate) fn look_at_gate(&self, pass: &mut Pass<H>) -> u64
         requires { IsAt self.now pass.old Reading }
         ensures same { IsSamePass pass.old pass.new }
+        ensures share { pass.new.share ≡ pass.old.share }
         ensures view { pass.new.seat.me ≡ (looked result (view_of pass.old), []) }
         ensures kept { (view_of pass.old).sights ≤ (view_of pass.new).sights }
     {
@@ -77,6 +82,7 @@ impl<H: Home> ActionLock<H> {
         ensures same { IsSamePass pass.old pass.new }
         ensures view { view_of pass.new ≡ view_of pass.old }
         ensures entering { IsEntering self.now pass.new }
+        ensures kept { pass.new.share ≡ pass.old.share }
         ensures share { IfOk result (λ share. H.share_stands share (view_of pass.old).seen) }
     {
         let home = pass.seat.slot_mut(&self.table.shared, 0);
@@ -84,15 +90,11 @@ impl<H: Home> ActionLock<H> {
     }
 
     // One attempt to read, by any pass that is out.
-    pub(crate) fn try_enter(
-        &self,
-        alloc: Global,
-        pass: &mut Pass<H>,
-    ) -> Result<H::Share, ReadRefusal>
-        requires { IsAt self.now pass.old Out }
+    pub(crate) fn try_enter(&self, alloc: Global, pass: &mut Pass<H>) -> Result<(), ReadRefusal>
+        requires { IsOut self.now pass.old }
         ensures same { IsSamePass pass.old pass.new }
-        ensures ok { IfOk result (λ share. IsAt self.now pass.new Reading × HasRead Reading (view_of pass.old) (view_of pass.new) × H.share_stands share (view_of pass.new).seen) }
-        ensures err { IfErr result (λ refusal. IsAt self.now pass.new Out × IsRefused refusal (view_of pass.old) (view_of pass.new)) }
+        ensures ok { OnOk result (IsInside self.now pass.new × HasRead Reading (view_of pass.old) (view_of pass.new)) }
+        ensures err { IfErr result (λ refusal. IsOut self.now pass.new × IsRefused refusal (view_of pass.old) (view_of pass.new)) }
     {
         let found = self.enter(pass);
         if has_pending(found) {
@@ -110,7 +112,8 @@ impl<H: Home> ActionLock<H> {
             self.exit(pass);
             return Err(ReadRefusal::OutOfMemory);
         };
-        Ok(share)
+        pass.keep(share);
+        Ok(())
     }
 
     // Tries again until it is let in, or finds no memory.
@@ -119,15 +122,15 @@ impl<H: Home> ActionLock<H> {
         rt: &R,
         alloc: Global,
         pass: &mut Pass<H>,
-    ) -> Result<H::Share, AllocError>
-        requires { IsAt self.now pass.old Out }
+    ) -> Result<(), AllocError>
+        requires { IsOut self.now pass.old }
         ensures same { IsSamePass pass.old pass.new }
-        ensures ok { IfOk result (λ share. IsAt self.now pass.new Reading × HasWaited Reading (view_of pass.old) (view_of pass.new) × H.share_stands share (view_of pass.new).seen) }
-        ensures err { OnErr result (IsAt self.now pass.new Out × HasWaited Out (view_of pass.old) (view_of pass.new)) }
+        ensures ok { OnOk result (IsInside self.now pass.new × HasWaited Reading (view_of pass.old) (view_of pass.new)) }
+        ensures err { OnErr result (IsOut self.now pass.new × HasWaited Out (view_of pass.old) (view_of pass.new)) }
     {
         for _ in rt.forever() {
             match self.try_enter(alloc, pass) {
-                Ok(share) => return Ok(share),
+                Ok(()) => return Ok(()),
                 Err(ReadRefusal::OutOfMemory) => return Err(AllocError),
                 Err(ReadRefusal::Pending { word: _ }) => thread::yield_now(),
                 Err(ReadRefusal::Turn { word: _ }) => thread::yield_now(),

@@ -13,8 +13,8 @@ join_seat-requires g c = (
   search rules,
   search rules,
   search rules,
-  joins g.H.Home.number_of g.H.Home.stands _ _ _ _ _ _ c.args.pass.now.numbered c.requires.pass.out.phase c.args.other.numbered
-      (positive _ _ c.args.other.numbered c.requires.follows) c.requires.other.out.phase c.requires.other.no_intent,
+  joins g.H.Home.number_of g.H.Home.stands _ _ _ _ _ _ c.args.pass.now.numbered c.requires.pass.out.at.phase c.args.other.numbered
+      (positive _ _ c.args.other.numbered c.requires.follows) c.requires.other.out.at.phase c.requires.other.no_intent,
 )
 
 pub load-requires : goal.load-requires
