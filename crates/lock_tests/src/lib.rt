@@ -2,6 +2,8 @@
 #![tactic(auto)]
 
 mod board;
+pub mod drawing;
+pub mod side_by_side;
 #[cfg(test)]
 mod tests;
 
