@@ -3,6 +3,7 @@
 
 mod board;
 pub mod drawing;
+pub mod reads;
 pub mod side_by_side;
 #[cfg(test)]
 mod tests;
