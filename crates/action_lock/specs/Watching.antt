@@ -1,13 +1,13 @@
--- Looks, one after another: the laws of a looking.
+-- Looks, one after another: the laws of a read as a `Watch`.
 use Rattle.std.specs.Prelude.{◌≡◌, ℕ, zero, suc, ◌+◌}
 use Rattle.std.proofs.Common.{sym, refl, ap, ◌∙◌, le_refl, le_trans, zero-add, suc-add}
 use Rattle.action_lock.specs.declared.home.Home.{Ghosts}
-use Rattle.action_lock.specs.declared.looking.Looking.{Looking}
+use Rattle.action_lock.specs.declared.reading.Reading.{Reading}
 use Rattle.action_lock.specs.declared.view.View.{View}
 use Rattle.action_lock.specs.Counts.{counted, counted_times, HasCounted}
 use Rattle.action_lock.specs.Passes.{view_of}
 use Rattle.action_lock.specs.Reads.{HasLooked}
-use Rattle.action_lock.specs.Readings.{StaysLooking}
+use Rattle.action_lock.specs.Readings.{StaysReading}
 
 counted_twice : (m n a : ℕ) → counted_times m (counted_times n a) ≡ counted_times (m + n) a
 counted_twice zero n a = ap (λ (k : ℕ). counted_times k a) (sym (zero-add n))
@@ -28,13 +28,14 @@ module _ {E : Type 0} where
   }
 
 module _ {H E S : Type 0} {g : Ghosts H E S} where
-  pub stays_itself : (l : Looking H E S g) → StaysLooking l l
-  stays_itself l = record { same_reference = refl; lock = refl; pass = record { table = refl; seat = refl }; view = looked_not (view_of l.pass.now) }
+  pub stays_itself : (l : Reading H E S g) → StaysReading l l
+  stays_itself l = record { same_reference = refl; lock = refl; pass = record { table = refl; seat = refl }; share = refl; view = looked_not (view_of l.pass.now) }
 
-  pub stays_on : (a b c : Looking H E S g) → StaysLooking a b → StaysLooking b c → StaysLooking a c
+  pub stays_on : (a b c : Reading H E S g) → StaysReading a b → StaysReading b c → StaysReading a c
   stays_on a b c p q = record {
     same_reference = q.same_reference ∙ p.same_reference;
     lock = q.lock ∙ p.lock;
     pass = record { table = q.pass.table ∙ p.pass.table; seat = q.pass.seat ∙ p.pass.seat };
+    share = q.share ∙ p.share;
     view = looked_on (view_of a.pass.now) (view_of b.pass.now) (view_of c.pass.now) p.view q.view;
   }

@@ -3,7 +3,6 @@
 
 mod home;
 mod lock;
-mod looking;
 mod pass;
 mod plays;
 mod reading;
@@ -16,7 +15,6 @@ mod words;
 
 pub use home::Home;
 pub use lock::ActionLock;
-pub use looking::Looking;
 pub use pass::Pass;
 pub use reading::Reading;
 pub use refusal::{ReadRefusal, SplitRefusal};

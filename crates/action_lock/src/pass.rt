@@ -57,4 +57,11 @@ impl<H: Home> Pass<H> {
     {
         self.share.take().unwrap()
     }
+
+    // Lets the share of a read go, if it has one.
+    pub(crate) fn clear(&mut self)
+        ensures { (self.new.share ≡ None) × (self.new.seat ≡ self.old.seat) }
+    {
+        drop(self.share.take());
+    }
 }

@@ -1,18 +1,18 @@
 //! The guard of a read.
-ghost use Rattle.std.specs.Prelude.{◌≡◌, ◌≤◌, Some, IfOk};
+ghost use Rattle.std.specs.Prelude.{◌≡◌, ◌≤◌, Some, None, IfOk};
 ghost use Rattle.std.specs.Borrow.{sem};
 ghost use Rattle.action_lock.specs.declared.view.Phase.TheVariants as phase;
 ghost use Rattle.action_lock.specs.Words.{has_pending};
 ghost use Rattle.action_lock.specs.Steps.{looked, with_phase};
 ghost use Rattle.action_lock.specs.Passes.{view_of, IsSamePass, IsOut, IsPassOf};
 ghost use Rattle.action_lock.specs.Reads.{HasRead, HasWaited};
-ghost use Rattle.action_lock.specs.Readings.{IsReading, IsLooking, rests_if_refused, rests_if_no_memory};
+ghost use Rattle.action_lock.specs.Readings.{IsReading, GoesOn, rests_if_refused, rests_if_no_memory};
 
 use crate::home::Home;
 use crate::lock::ActionLock;
-use crate::looking::Looking;
 use crate::pass::Pass;
 use crate::refusal::ReadRefusal;
+use crate::watch::Watch;
 use crate::words::has_pending;
 use std::alloc::{AllocError, Global};
 use std::sync::Wait;
@@ -68,9 +68,9 @@ impl<'a, H: Home> Reading<'a, H> {
 
     /// Looks whether a write waits.
     pub fn check(&mut self) -> bool
-        requires { IsReading self.old }
+        requires { GoesOn self.old }
         ensures same_reference { self.new.pass.ghost_name ≡ self.old.pass.ghost_name }
-        ensures same { IsReading self.new × (self.new.lock ≡ self.old.lock) × IsSamePass self.old.pass.now self.new.pass.now }
+        ensures same { GoesOn self.new × (self.new.lock ≡ self.old.lock) × IsSamePass self.old.pass.now self.new.pass.now }
         ensures share { self.new.pass.now.share ≡ self.old.pass.now.share }
         ensures view { view_of self.new.pass.now ≡ looked (view_of self.new.pass.now).last (view_of self.old.pass.now) }
         ensures kept { (view_of self.old.pass.now).sights ≤ (view_of self.new.pass.now).sights }
@@ -80,28 +80,63 @@ impl<'a, H: Home> Reading<'a, H> {
         has_pending(found)
     }
 
-    /// The share, and what looks at the gate beside it. `together` undoes it.
-    pub fn apart(self) -> (H::Share, Looking<'a, H>)
-        requires { IsReading self }
-        ensures share { self.entry.pass.now.share ≡ Some result.0 }
-        ensures stands { H.share_stands result.0 (view_of result.1.pass.now).seen }
-        ensures looking { IsLooking result.1 × (result.1.lock ≡ self.entry.lock) }
-        ensures pass { (result.1.pass.ghost_name ≡ self.entry.pass.ghost_name) × (result.1.pass.now.seat ≡ self.entry.pass.now.seat) }
+    /// Takes the share out, so that a piece of work can be lent the share and this read, its watch, at the same time.
+    /// `together` puts it back.
+    pub fn apart(&mut self) -> H::Share
+        requires { IsReading self.old }
+        ensures same_reference { self.new.pass.ghost_name ≡ self.old.pass.ghost_name }
+        ensures same { GoesOn self.new × (self.new.lock ≡ self.old.lock) × (self.new.pass.now.seat ≡ self.old.pass.now.seat) }
+        ensures share { (self.old.pass.now.share ≡ Some result) × (self.new.pass.now.share ≡ None) }
+        ensures stands { H.share_stands result (view_of self.new.pass.now).seen }
     {
-        let Reading { lock, pass } = self;
-        let share = pass.let_go();
-        (share, Looking { lock, pass })
+        self.pass.let_go()
     }
 
-    /// Ends the read.
+    /// Puts back a share that stands for all that the pass has seen.
+    pub fn together(&mut self, share: H::Share)
+        requires goes_on { GoesOn self.old }
+        requires no_share { self.old.pass.now.share ≡ None }
+        requires stands { H.share_stands share (view_of self.old.pass.now).seen }
+        ensures same_reference { self.new.pass.ghost_name ≡ self.old.pass.ghost_name }
+        ensures same { IsReading self.new × (self.new.lock ≡ self.old.lock) × (self.new.pass.now.seat ≡ self.old.pass.now.seat) }
+        ensures share { self.new.pass.now.share ≡ Some share }
+    {
+        self.pass.keep(share);
+    }
+
+    /// Ends the read, and lets its share go if it is not taken out.
     pub fn leave(self)
-        requires { IsReading self }
+        requires { GoesOn self }
         ensures out { IsOut self.entry.lock.now self.exit.1.0.now }
         ensures same { IsSamePass self.entry.pass.now self.exit.1.0.now }
         ensures view { view_of self.exit.1.0.now ≡ with_phase phase.Out (view_of self.entry.pass.now) }
     {
         let Reading { lock, pass } = self;
         lock.exit(pass);
-        drop(pass.let_go());
+        pass.clear();
+    }
+}
+
+impl<'a, H: Home> Watch for Reading<'a, H> {
+    ghost use Rattle.std.specs.Prelude.{min};
+    ghost use Rattle.action_lock.specs.Passes.{view_of};
+    ghost use Rattle.action_lock.specs.Readings.{GoesOn, StaysReading};
+    ghost use Rattle.action_lock.specs.Watching.{stays_itself, stays_on};
+
+    // The looks of the view, which have no end, up to 2^64 - 1.
+    ghost looks = { λ r. min (view_of r.pass.now).looks 18446744073709551615 };
+
+    ghost sightings = { λ r. (view_of r.pass.now).sights };
+
+    ghost can_look = { GoesOn };
+
+    ghost stays = { StaysReading };
+
+    ghost stays_itself = { stays_itself };
+
+    ghost stays_on = { stays_on };
+
+    fn look(&mut self) -> bool {
+        self.check()
     }
 }
