@@ -1,12 +1,10 @@
 //! Callers of a read that waits and of a read that is taken apart.
-ghost use Rattle.std.specs.Prelude.{◌≡◌};
-ghost use Rattle.action_lock.specs.Passes.{IsOut, IsPassOf, view_of};
-ghost use Rattle.action_lock.specs.Readings.{IsReading, IsLooking};
+ghost use Rattle.action_lock.specs.Passes.{IsPassOf};
 
-use crate::board::Board;
-use action_lock::{ActionLock, Looking, Pass, Reading, Watch};
+use crate::board::{Board, Note};
+use action_lock::{ActionLock, Pass, Watch};
 use std::alloc::Global;
-use std::sync::Wait;
+use std::sync::{Arc, Wait};
 
 /// Waits until it is let in, and answers whether there are no notes.
 pub fn finds_nothing<R: Wait>(
@@ -28,38 +26,28 @@ pub fn finds_nothing<R: Wait>(
     }
 }
 
-// One look, as a `Watch`.
-fn looks(looking: &mut Looking<Board>) -> bool
-    requires { IsLooking looking.old }
-    ensures again { IsLooking looking.new × (looking.new.lock ≡ looking.old.lock) }
-    ensures pass { looking.new.pass.ghost_name ≡ looking.old.pass.ghost_name }
-    ensures intent { (view_of looking.new.pass.now).intent ≡ (view_of looking.old.pass.now).intent }
-    ensures current { (view_of looking.new.pass.now).current ≡ (view_of looking.old.pass.now).current }
+// Work that is lent a share and a watch at the same time.
+fn works<W: Watch>(share: &Arc<Vec<Note>>, watch: &mut W) -> bool
+    requires { W.can_look watch.old }
+    ensures again { W.can_look watch.new }
+    ensures stays { W.stays watch.old watch.new }
 {
-    looking.look()
+    share.is_empty() && watch.look()
 }
 
-// One look at a read that is taken apart, and its end.
-fn looks_apart(reading: Reading<Board>) -> bool
-    requires { IsReading reading }
-    ensures out { IsOut reading.entry.lock.now reading.exit.1.0.now }
-    ensures intent { (view_of reading.exit.1.0.now).intent ≡ (view_of reading.entry.pass.now).intent }
-    ensures current { (view_of reading.exit.1.0.now).current ≡ (view_of reading.entry.pass.now).current }
-{
-    let (share, mut looking) = reading.apart();
-    let found = looks(&mut looking);
-    drop(share);
-    looking.leave();
-    found
-}
-
-/// Looks between the beginning and the end of a read, and answers whether a write waited.
+/// Works with a share of the home value, and answers whether a write waited.
 pub fn sees_a_write(alloc: Global, lock: &ActionLock<Board>, pass: &mut Pass<Board>) -> bool
     requires { IsPassOf lock.now pass.old }
     ensures { IsPassOf lock.now pass.new }
 {
     match pass.try_read(alloc, lock) {
-        Ok(reading) => looks_apart(reading),
+        Ok(mut reading) => {
+            let share = reading.apart();
+            let found = works(&share, &mut reading);
+            reading.together(share);
+            reading.leave();
+            found
+        }
         Err(_) => true,
     }
 }
