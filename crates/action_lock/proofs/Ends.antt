@@ -1,14 +1,13 @@
 -- The rule at the beginning, and what it says at the end.
-use Rattle.std.proofs.Common.{◌≡◌, ◌≢◌, ℕ, zero, suc, ◌+◌, ◌*◌, ◌<◌, ◌≤◌, Bool, true, false, List, [], ◌∷◌, ◌++◌, length, get_or, set, refl, ap, ◌∙◌, sym, subst, arith, Some, None, Option, All, nat_lt, eqb}
+use Rattle.std.proofs.Common.{◌≡◌, ℕ, zero, suc, ◌+◌, List, [], ◌∷◌, length, refl, ap, ◌∙◌, sym, subst, arith, Some, None, Option, nat_lt, eqb}
 use mathlib.Core.Option.{some, none, some-injective, some-ne-none}
 use mathlib.Core.Option as maybe
 use lib.ListN.{get_elem?}
 use Rattle.std.proofs.lemmas.Bool.Decides.{nat_tests}
-use Rattle.atomic_table.specs.Table.{State, opening, Final, Seen}
-use Rattle.action_lock.specs.declared.view.Phase.{Phase}
+use Rattle.atomic_table.specs.Table.{opening, Final, Seen}
 use Rattle.action_lock.specs.declared.view.Phase.TheVariants.{Out}
 use Rattle.action_lock.specs.declared.view.View.{View}
-use Rattle.action_lock.specs.Views.{bit, number_count, phase_holding, turn, holding, numbers, times, first_view, spent_view}
+use Rattle.action_lock.specs.Views.{bit, number_count, phase_holding, holding, numbers, first_view}
 use Rattle.action_lock.specs.Rule.{IsSound}
 use Rattle.action_lock.specs.Steps.{IsTold}
 use Rattle.action_lock.proofs.Placing.{Rule}
@@ -71,6 +70,6 @@ module _ {H E : Type 0} (number_of : E → ℕ) (stands : H → List E → Type 
       let drawn : v.drawn ≡ r.drawn = (r.each id v at).counts leads in
       let all = r.in_all in
       let none_held : total holding s.views ≡ 0 =
-          total-only numbers holding s.views id v at (omega arith) (λ j w e none_left. no_home r.history r.drawn w w.number refl (r.each j w e) none_left) ∙ ap phase_holding is in
+      total-only numbers holding s.views id v at (omega arith) (λ j w e none_left. no_home r.history r.drawn w w.number refl (r.each j w e) none_left) ∙ ap phase_holding is in
       let home = r.at_home none_held in
       (r.history, home.0, there 0 home.0 (ap (λ (hs : List (maybe.Option H)). get_elem? hs 0) home.1), home.2, is_told number_of stands s r id v at)

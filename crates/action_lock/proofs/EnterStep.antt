@@ -1,5 +1,5 @@
 -- The one step that decides a read: TURN is set, and the seat is on its way in where the word had neither TURN nor the pending mark.
-use Rattle.std.proofs.Common.{◌≡◌, ℕ, ◌+◌, ◌*◌, ◌/◌, ◌%◌, ◌<◌, ◌≤◌, Bool, true, false, List, [], ◌∷◌, get_or, set, refl, ap, ◌∙◌, sym, subst, arith, Some, bit_or}
+use Rattle.std.proofs.Common.{◌≡◌, ℕ, ◌+◌, Bool, true, false, List, get_or, set, refl, ap, ◌∙◌, sym, subst, arith, Some, bit_or}
 use mathlib.Core.Option.{none, some}
 use mathlib.Core.Option as maybe
 use lib.ListN.{get_elem?}
@@ -7,10 +7,10 @@ use Rattle.atomic_table.specs.Table.{Me, State, step, Act, keeps, takes, stepped
 use Rattle.action_lock.specs.declared.view.Phase.TheVariants.{Out, Entering, Backing}
 use Rattle.action_lock.specs.declared.view.View.{View}
 use Rattle.action_lock.specs.Words.{has_turn, has_pending}
-use Rattle.action_lock.specs.Views.{turn, pending, reading, writing, inside, holding}
-use Rattle.action_lock.specs.Rule.{gate_word, SeesAll}
+use Rattle.action_lock.specs.Views.{turn}
+use Rattle.action_lock.specs.Rule.{gate_word}
 use Rattle.action_lock.specs.Steps.{looked, backing, entering, sights_after, EntersAt, Enters}
-use Rattle.action_lock.proofs.WordLemmas.{turn_set, turn_clear, pending_set, pending_clear, or_odd, or_even}
+use Rattle.action_lock.proofs.WordLemmas.{turn_set, turn_clear, or_odd, or_even}
 use Rattle.action_lock.proofs.Placing.{Rule, shift, Shifts, bounds, quiet, moved, gate_is}
 use Rattle.action_lock.proofs.Sound.{renewed, entered}
 use Rattle.list_laws.specs.Totals.{total}
@@ -41,8 +41,7 @@ module _ {H E : Type 0} (number_of : E → ℕ) (stands : H → List E → Type 
       let few = bounds number_of stands s r in
       let bt = b.turns in let bw = b.writers in let bp = b.pendings in let bd = b.readers in let bi = b.insides in let bh = b.holders in
       let ft = few.turns in let fw = few.writers in let fh = few.holders in
-      let no_turn : total turn s.views ≡ 0 = omega arith in
-      (
+      let no_turn : total turn s.views ≡ 0 = omega arith in (
         w,
         keeps,
         tt,
@@ -64,8 +63,7 @@ module _ {H E : Type 0} (number_of : E → ℕ) (stands : H → List E → Type 
       let bt = b.turns in let bw = b.writers in let bp = b.pendings in let bd = b.readers in let bi = b.insides in let bh = b.holders in
       let ft = few.turns in let fw = few.writers in let fh = few.holders in
       let no_turn : total turn s.views ≡ 0 = omega arith in
-      let home = r.at_home (omega arith) in
-      (
+      let home = r.at_home (omega arith) in (
         w,
         takes 0 home.0,
         ap (λ (hs : List (maybe.Option H)). get_elem? hs 0) home.1,

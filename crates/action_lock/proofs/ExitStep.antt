@@ -1,17 +1,16 @@
 -- A reader's leaving, and the giving back of a turn that was taken under the pending mark, keep the rule.
-use Rattle.std.proofs.Common.{◌≡◌, ℕ, ◌+◌, ◌-◌, ◌*◌, ◌%◌, ◌^◌, ◌<◌, ◌≤◌, List, get_or, set, refl, ap, ◌∙◌, sym, arith, Some, subst}
+use Rattle.std.proofs.Common.{◌≡◌, ℕ, ◌+◌, ◌-◌, ◌%◌, ◌^◌, List, get_or, set, refl, arith, Some}
 use mathlib.Core.Option.{none, some}
 use lib.ListN.{get_elem?}
 use Rattle.atomic_table.specs.Table.{Me, State, step, keeps, Allows}
 use Rattle.action_lock.specs.declared.view.Phase.{Phase}
 use Rattle.action_lock.specs.declared.view.Phase.TheVariants.{Out, Backing, Reading}
 use Rattle.action_lock.specs.declared.view.View.{View}
-use Rattle.action_lock.specs.Views.{turn, pending, reading, writing, inside, holding, phase_turn, phase_inside, phase_holding, phase_writing}
+use Rattle.action_lock.specs.Views.{phase_inside, phase_holding, phase_writing}
 use Rattle.action_lock.specs.Rule.{gate_word}
 use Rattle.action_lock.specs.Steps.{with_phase, Exits}
 use Rattle.action_lock.proofs.Placing.{Rule, shift, Shifts, bounds, moved, gate_is}
 use Rattle.action_lock.proofs.Sound.{renewed}
-use Rattle.list_laws.specs.Totals.{total}
 
 module _ {H E : Type 0} (number_of : E → ℕ) (stands : H → List E → Type 0) where
   -- from a phase that has no home value back to `Out`
@@ -37,8 +36,7 @@ module _ {H E : Type 0} (number_of : E → ℕ) (stands : H → List E → Type 
       let found : ℕ = get_or s.words 0 0 in let v : View E = me.0 in
       let gate : found ≡ gate_word s.views = gate_is number_of stands s r in
       let b : Shifts s.views (set s.views id (with_phase Out v)) Reading Out = shift s.views id v (with_phase Out v) Reading Out at is refl refl in
-      let few = bounds number_of stands s r in
-      (
+      let few = bounds number_of stands s r in (
         with_phase Out v,
         keeps,
         tt,
@@ -54,8 +52,7 @@ module _ {H E : Type 0} (number_of : E → ℕ) (stands : H → List E → Type 
       let found : ℕ = get_or s.words 0 0 in let v : View E = me.0 in
       let gate : found ≡ gate_word s.views = gate_is number_of stands s r in
       let b : Shifts s.views (set s.views id (with_phase Out v)) Backing Out = shift s.views id v (with_phase Out v) Backing Out at is refl refl in
-      let few = bounds number_of stands s r in
-      (
+      let few = bounds number_of stands s r in (
         with_phase Out v,
         keeps,
         tt,

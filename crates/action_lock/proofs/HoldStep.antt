@@ -1,17 +1,13 @@
 -- Giving the home value back and being counted as a reader keeps the rule.
-use Rattle.std.proofs.Common.{◌≡◌, ℕ, ◌+◌, ◌*◌, ◌%◌, ◌^◌, ◌<◌, ◌≤◌, List, [], ◌∷◌, get_or, set, refl, ap, ◌∙◌, sym, subst, arith, Some}
-use mathlib.Core.Option.{none, some}
-use mathlib.Core.Option as maybe
-use lib.ListN.{get_elem?}
-use Rattle.atomic_table.specs.Table.{Me, State, step, gives, put_back, rest, Allows}
+use Rattle.std.proofs.Common.{◌≡◌, ℕ, ◌+◌, ◌%◌, ◌^◌, List, [], ◌∷◌, get_or, set, refl, subst, arith, Some}
+use mathlib.Core.Option.{none}
+use Rattle.atomic_table.specs.Table.{Me, step, gives, put_back, rest, Allows}
 use Rattle.action_lock.specs.declared.view.Phase.TheVariants.{Entering, Reading}
 use Rattle.action_lock.specs.declared.view.View.{View}
-use Rattle.action_lock.specs.Views.{turn, pending, reading, writing, inside, holding}
 use Rattle.action_lock.specs.Rule.{gate_word, SeesAll}
 use Rattle.action_lock.specs.Steps.{with_phase, Holds}
 use Rattle.action_lock.proofs.Placing.{Rule, shift, Shifts, bounds, moved, gate_is}
 use Rattle.action_lock.proofs.Sound.{renewed}
-use Rattle.list_laws.specs.Totals.{total}
 
 module _ {H E : Type 0} (number_of : E → ℕ) (stands : H → List E → Type 0) where
   pub holds : (slots id n : ℕ) (me : Me H (View E)) (home : H) → me.0.number ≡ Some n → me.0.phase ≡ Entering → me.1 ≡ (0, home) ∷ [] → stands home me.0.seen
@@ -25,8 +21,7 @@ module _ {H E : Type 0} (number_of : E → ℕ) (stands : H → List E → Type 
       let few = bounds number_of stands s r in
       let t = b.turns in let wr = b.writers in let p = b.pendings in let d = b.readers in let i = b.insides in let h = b.holders in
       let ft = few.turns in let fw = few.writers in let fp = few.pendings in let fd = few.readers in let fh = few.holders in
-      let empty : s.homes ≡ none ∷ [] = r.away (omega arith) in
-      (
+      let empty : s.homes ≡ none ∷ [] = r.away (omega arith) in (
         w,
         gives,
         tt,

@@ -1,22 +1,21 @@
 -- Taking in the view of a pass that was met keeps the rule.
-use Rattle.std.proofs.Common.{◌≡◌, ◌≢◌, ℕ, zero, suc, ◌+◌, ◌*◌, ◌<◌, ◌≤◌, Bool, true, false, List, [], ◌∷◌, ◌++◌, length, get_or, set, refl, ap, ◌∙◌, sym, subst, ⊎_elim, arith, Some, None, Option, All, eqb, filter, ne_eqb, length-append}
+use Rattle.std.proofs.Common.{◌≡◌, ℕ, ◌+◌, ◌*◌, ◌<◌, ◌≤◌, Bool, false, List, [], ◌∷◌, ◌++◌, length, set, refl, ap, ◌∙◌, sym, subst, arith, Some, None, Option, All, eqb, ne_eqb, length-append}
 use mathlib.Core.Option.{some}
 use lib.ListN.{get_elem?}
 use Rattle.std.proofs.lemmas.List.Elements.{All-append}
-use Rattle.atomic_table.specs.Table.{State, Joins}
-use Rattle.atomic_table.proofs.Lists.{at_set, set_else}
-use Rattle.action_lock.specs.declared.view.Phase.{Phase}
+use Rattle.atomic_table.specs.Table.{Joins}
+use Rattle.atomic_table.proofs.Lists.{set_else}
 use Rattle.action_lock.specs.declared.view.Phase.TheVariants.{Out}
 use Rattle.action_lock.specs.declared.view.Ended.{Ended}
 use Rattle.action_lock.specs.declared.view.View.{View}
 use Rattle.action_lock.specs.Views.{phase_turn, phase_pending, phase_reading, phase_writing, phase_inside, phase_holding, bit, number_count, number_is, turn, pending, reading, writing, inside, holding, intending, leading, numbers, times, spent_view}
-use Rattle.action_lock.specs.Rule.{gate_word, intent_word, entries_of, IsSound, SeesAll}
+use Rattle.action_lock.specs.Rule.{entries_of, IsSound, SeesAll}
 use Rattle.action_lock.specs.Steps.{joined, end_of}
 use Rattle.action_lock.proofs.Placing.{Rule, each_set}
 use Rattle.list_laws.specs.Totals.{total}
 use Rattle.list_laws.specs.Fronts.{IsFront, longer}
 use Rattle.list_laws.proofs.TotalLemmas.{total-set, total-append}
-use Rattle.list_laws.proofs.FrontLemmas.{front_self, front_trans, front_filter, front_between, front_whole, front_length, longer_is, longer_front, front_longer_left, front_longer_right, All-weaken, All-cons}
+use Rattle.list_laws.proofs.FrontLemmas.{front_trans, front_filter, front_between, front_whole, longer_is, longer_front, front_longer_left, front_longer_right, All-weaken, All-cons}
 
 module _ {E : Type 0} where
   -- a total after two views have changed, where together they weigh the same

@@ -1,5 +1,5 @@
 -- What placing a view at a seat leaves of the rule: the totals that change, and the frame that stays.
-use Rattle.std.proofs.Common.{◌≡◌, ◌≢◌, ℕ, zero, suc, ◌+◌, ◌*◌, ◌<◌, ◌≤◌, Bool, true, false, List, [], ◌∷◌, length, get_or, set, sym, refl, ap, ◌∙◌, subst, ⊎_elim, arith, lit≤, Some, None, Option, nat_lt, eqb}
+use Rattle.std.proofs.Common.{◌≡◌, ◌≢◌, ℕ, ◌+◌, ◌*◌, ◌<◌, ◌≤◌, Bool, true, List, [], ◌∷◌, length, get_or, set, sym, refl, ap, ◌∙◌, subst, ⊎_elim, arith, lit≤, Some, None, Option, eqb}
 use mathlib.Core.Option.{some, none}
 use mathlib.Core.Option as maybe
 use lib.ListN.{get_elem?}
@@ -10,10 +10,10 @@ use Rattle.action_lock.specs.declared.view.Phase.{Phase}
 use Rattle.action_lock.specs.declared.view.Phase.TheVariants.{Out, Entering, Backing, Reading, Asking, Writing}
 use Rattle.action_lock.specs.declared.view.Ended.{Ended}
 use Rattle.action_lock.specs.declared.view.View.{View}
-use Rattle.action_lock.specs.Views.{phase_turn, phase_pending, phase_reading, phase_writing, phase_inside, phase_holding, bit, number_count, number_is, turn, pending, reading, writing, inside, holding, intending, leading, numbers, times, spent_view}
+use Rattle.action_lock.specs.Views.{phase_turn, phase_pending, phase_reading, phase_writing, phase_inside, phase_holding, bit, number_count, number_is, turn, pending, reading, writing, inside, holding, intending, leading, numbers, times}
 use Rattle.action_lock.specs.Rule.{gate_word, intent_word, IsSound, IsKept}
 use Rattle.list_laws.specs.Totals.{total}
-use Rattle.list_laws.proofs.TotalLemmas.{total-set, total-same, total-at, total-below}
+use Rattle.list_laws.proofs.TotalLemmas.{total-set, total-same, total-below}
 
 -- who holds the home value has the turn
 holding_has_turn : (p : Phase) → phase_holding p ≤ phase_turn p

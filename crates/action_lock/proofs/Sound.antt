@@ -1,7 +1,6 @@
 -- Which changes of a view keep it sound.
-use Rattle.std.proofs.Common.{◌≡◌, ℕ, ◌+◌, ◌<◌, Bool, true, false, List, [], ◌∷◌, ◌++◌, length, sym, refl, ap, ◌∙◌, subst, arith, Some, None, Option, All}
+use Rattle.std.proofs.Common.{◌≡◌, ℕ, ◌<◌, true, List, refl, arith, Some, None, Option}
 use Rattle.action_lock.specs.declared.view.Phase.{Phase}
-use Rattle.action_lock.specs.declared.view.Phase.TheVariants.{Out, Entering, Backing, Reading, Asking, Writing}
 use Rattle.action_lock.specs.declared.view.View.{View}
 use Rattle.action_lock.specs.Views.{phase_pending}
 use Rattle.action_lock.specs.Rule.{IsSound, SeesAll}

@@ -1,21 +1,16 @@
 -- Splitting off a pass with the next number keeps the rule.
-use Rattle.std.proofs.Common.{◌≡◌, ◌≢◌, ℕ, zero, suc, ◌+◌, ◌*◌, ◌<◌, ◌≤◌, Bool, true, false, List, [], ◌∷◌, ◌++◌, length, get_or, set, refl, ap, ◌∙◌, sym, subst, ⊎_elim, arith, Some, None, Option, All, nat_lt, eqb, filter, ne_eqb}
-use mathlib.Core.Logic.{dite}
+use Rattle.std.proofs.Common.{◌≡◌, ◌≢◌, ℕ, ◌+◌, ◌*◌, ◌<◌, ◌≤◌, false, List, [], ◌∷◌, ◌++◌, set, refl, ap, ◌∙◌, sym, subst, ⊎_elim, arith, Some, Option, All, nat_lt, eqb, ne_eqb}
 use mathlib.Core.Option.{some}
-use native.Mathlib.Decide.{ℕ_discrete}
 use lib.ListN.{get_elem?}
 use Rattle.std.proofs.lemmas.Bool.Decides.{nat_tests}
 use Rattle.atomic_table.specs.Table.{State, Splits}
 use Rattle.atomic_table.proofs.Lists.{at_set, at_snoc}
-use Rattle.action_lock.specs.declared.view.Phase.{Phase}
-use Rattle.action_lock.specs.declared.view.Phase.TheVariants.{Out}
 use Rattle.action_lock.specs.declared.view.View.{View}
-use Rattle.action_lock.specs.Views.{bit, number_count, number_is, turn, pending, reading, writing, inside, holding, intending, leading, numbers, times, fresh}
-use Rattle.action_lock.specs.Rule.{gate_word, intent_word, entries_of, IsSound}
+use Rattle.action_lock.specs.Views.{bit, number_count, number_is, turn, pending, reading, writing, inside, holding, intending, leading, numbers, times}
+use Rattle.action_lock.specs.Rule.{entries_of, IsSound}
 use Rattle.action_lock.specs.Steps.{splitting, split_off}
 use Rattle.action_lock.proofs.Placing.{Rule}
 use Rattle.list_laws.specs.Totals.{total}
-use Rattle.list_laws.specs.Fronts.{IsFront}
 use Rattle.list_laws.proofs.TotalLemmas.{total-same, total-at, total-two, total-append}
 use Rattle.list_laws.proofs.FrontLemmas.{front_all, filter_none, All-weaken}
 
@@ -122,7 +117,7 @@ module _ {H E : Type 0} (number_of : E → ℕ) (stands : H → List E → Type 
           let one : number_count v.number ≡ 1 = ap number_count leads in
           let none_made : entries_of number_of v.drawn r.history ≡ [] = subst (λ (d : ℕ). entries_of number_of d r.history ≡ []) (sym drawn) (no_entries r.drawn r.history r.known) in
           let none_seen : entries_of number_of v.drawn v.seen ≡ [] =
-              subst (λ (d : ℕ). entries_of number_of d v.seen ≡ []) (sym drawn) (no_entries r.drawn v.seen (front_all (λ e. number_of e < r.drawn) v.seen r.history sound.seen r.known)) in
+          subst (λ (d : ℕ). entries_of number_of d v.seen ≡ []) (sym drawn) (no_entries r.drawn v.seen (front_all (λ e. number_of e < r.drawn) v.seen r.history sound.seen r.known)) in
           record {
             spent = λ none_there. absurd (cc);
             counts = λ e. absurd (let z : v.drawn ≡ 0 = cc in let a = total-at numbers s.views id v at in let b = r.in_all in omega arith);

@@ -1,5 +1,5 @@
 -- A load that tells a seat what a join left, and which entries the history has, keeps the rule.
-use Rattle.std.proofs.Common.{◌≡◌, ◌≢◌, ℕ, zero, suc, ◌+◌, ◌<◌, ◌≤◌, Bool, true, List, [], ◌∷◌, length, get_or, refl, sym, ap, ◌∙◌, arith, Some, None, Option, All, nat_lt, eqb, lt-ltb}
+use Rattle.std.proofs.Common.{◌≡◌, ℕ, ◌+◌, ◌<◌, List, [], ◌∷◌, length, refl, sym, ap, ◌∙◌, arith, Some, None, Option, nat_lt, eqb, lt-ltb}
 use mathlib.Core.Option.{none, some}
 use lib.ListN.{get_elem?}
 use Rattle.atomic_table.specs.Table.{Me, State, step, keeps, Allows}

@@ -1,5 +1,5 @@
 -- The bits of the gate word.
-use Rattle.std.proofs.Common.{◌≡◌, ℕ, zero, suc, ◌+◌, ◌*◌, ◌/◌, ◌%◌, ◌<◌, ◌≤◌, not, nat_eq, Bool, true, false, eqb, sym, refl, ap, ◌∙◌, ⊎_elim, eqb-true, arith, bit_or, bit_and, max}
+use Rattle.std.proofs.Common.{◌≡◌, ℕ, zero, suc, ◌+◌, ◌*◌, ◌/◌, ◌%◌, ◌<◌, not, nat_eq, true, false, eqb, sym, refl, ap, ◌∙◌, ⊎_elim, eqb-true, arith, bit_or, bit_and}
 use Rattle.std.proofs.lemmas.Bool.{false≢true}
 use Rattle.std.proofs.lemmas.Bool.Decides.{eqb_tells}
 use Rattle.std.proofs.lemmas.Nat.Bits.{and_pow}

@@ -1,5 +1,5 @@
 -- What contracts see of a pass that reads.
-use Rattle.std.specs.Prelude.{◌≡◌, Result, IfErr, OnErr}
+use Rattle.std.specs.Prelude.{◌≡◌, Result, IfErr}
 use Rattle.std.specs.declared.alloc.AllocError.{AllocError}
 use Rattle.std.specs.Borrow.{Fml, RattleType, MutBor, RestsIfErr}
 use Rattle.action_lock.specs.declared.home.Home.{Ghosts}

@@ -1,5 +1,5 @@
 -- What an attempt to read leaves of the pass's view.
-use Rattle.std.specs.Prelude.{◌≡◌, ℕ, ◌≤◌, Bool, true, false, List}
+use Rattle.std.specs.Prelude.{◌≡◌, ℕ, ◌≤◌, true, false, List}
 use Rattle.action_lock.specs.declared.refusal.ReadRefusal.{ReadRefusal}
 use Rattle.action_lock.specs.declared.refusal.ReadRefusal.TheVariants.{Pending, Turn, OutOfMemory}
 use Rattle.action_lock.specs.declared.view.Phase.{Phase}

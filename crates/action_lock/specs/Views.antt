@@ -1,5 +1,5 @@
 -- Views: what they weigh in the words, and how the steps change them.
-use Rattle.std.specs.Prelude.{◌≡◌, ℕ, ◌+◌, ◌<◌, Bool, true, false, if◌then◌else◌, ◌==◌, List, [], ◌∷◌, ◌++◌, length, Option, Some, None}
+use Rattle.std.specs.Prelude.{ℕ, ◌+◌, Bool, true, false, ◌==◌, List, [], length, Option, Some, None}
 use Rattle.action_lock.specs.declared.view.Phase.{Phase}
 use Rattle.action_lock.specs.declared.view.Phase.TheVariants.{Out, Entering, Backing, Reading, Asking, Writing}
 use Rattle.action_lock.specs.declared.view.Ended.{Ended}

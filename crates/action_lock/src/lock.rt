@@ -47,9 +47,7 @@ impl<H: Home> ActionLock<H> {
                 };
                 Ok((ActionLock { table }, pass))
             }
-            Err(Refused { slots }) => Err(AllocFailed {
-                value: only(slots),
-            }),
+            Err(Refused { slots }) => Err(AllocFailed { value: only(slots) }),
         }
     }
 
