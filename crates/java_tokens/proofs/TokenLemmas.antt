@@ -1,13 +1,15 @@
 -- How the tokens of a text go on, one after another.
 use Rattle.std.proofs.Common.{◌≡◌, ℕ, zero, suc, ◌+◌, ◌-◌, ◌<◌, ◌≤◌, false, cond, List, [], ◌∷◌, length, get_or, drop, refl, sym, ap, ◌∙◌, subst, ⊎_elim, arith, length-drop}
-use Rattle.std.specs.List.{prefix_len}
+use Rattle.std.specs.Prelude.{All}
+use Rattle.std.specs.List.{AllByRecursion, prefix_len}
+use Rattle.std.proofs.lemmas.List.Elements.{All-from_recursion}
 use Rattle.std.proofs.lemmas.List.{drop-drop, get_or-drop}
 use Rattle.std.proofs.lemmas.List.Sums.{prefix_len_stops}
 use Rattle.std.proofs.Math.Seq.{drop-cons}
 use Rattle.std.proofs.Math.ListN.{drop_of_length-le}
 use Rattle.std.proofs.lemmas.Bool.{cases_Bool, cases_lt, cond-true}
 use Rattle.java_tokens.specs.Chars.{is_white_space}
-use Rattle.java_tokens.specs.Tokens.{token_len, token_at, tokens_past, tokens_of, AreTokensFrom}
+use Rattle.java_tokens.specs.Tokens.{token_len, token_at, tokens_past, tokens_of, IsInside, AreTokensFrom}
 use Rattle.java_tokens.proofs.KindLemmas.{length_of-le, length_of-positive}
 
 -- the rest of the token before may be left out
@@ -102,3 +104,20 @@ are_tokens_within (suc fuel) from text enough =
 -- the tokens of a text are its tokens as the relation says
 pub are_tokens_of : (text : List ℕ) → AreTokensFrom 0 text (tokens_of text)
 are_tokens_of text = are_tokens_within (length text) 0 text (omega arith)
+
+-- each token that is left is inside the text
+inside_within : (fuel from : ℕ) (text : List ℕ) → length text ≤ from + fuel → AllByRecursion (IsInside text) (tokens_past 0 from (drop from text))
+inside_within zero from text enough = subst (AllByRecursion (IsInside text)) (sym (tokens_past-none from _ text refl (omega arith))) tt
+inside_within (suc fuel) from text enough =
+    let at = from + prefix_len is_white_space (drop from text) in
+    ⊎_elim
+    (λ inside.
+    let sized = token_len-inside at text inside in
+    subst (AllByRecursion (IsInside text)) (sym (tokens_past-next from at text refl inside))
+    (sized, inside_within fuel (at + token_len (drop at text)) text (omega (arith, sized.0))))
+    (λ past. subst (AllByRecursion (IsInside text)) (sym (tokens_past-none from at text refl past)) tt)
+    (cases_lt at (length text))
+
+-- each token of a text is inside it
+pub inside_tokens_of : (text : List ℕ) → All (IsInside text) (tokens_of text)
+inside_tokens_of text = All-from_recursion (IsInside text) (tokens_of text) (inside_within (length text) 0 text (omega arith))

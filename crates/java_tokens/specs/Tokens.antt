@@ -1,5 +1,5 @@
 -- The tokens of a text.
-use Rattle.std.specs.Prelude.{◌≡◌, ◌≢◌, ℕ, zero, suc, ◌+◌, ◌-◌, if◌then◌else◌, List, [], ◌∷◌, take, drop}
+use Rattle.std.specs.Prelude.{◌≡◌, ◌≢◌, ℕ, zero, suc, ◌+◌, ◌-◌, ◌<◌, ◌≤◌, if◌then◌else◌, List, [], ◌∷◌, length, take, drop}
 use Rattle.std.specs.List.{prefix_len}
 use Rattle.java_tokens.specs.declared.token.Token.{Token}
 use Rattle.java_tokens.specs.Chars.{is_white_space}
@@ -28,6 +28,10 @@ tokens_of text = tokens_past 0 0 text
 -- the characters of a token
 abbrev pub characters_of : List ℕ → Token → List ℕ
 characters_of text t = take t.len (drop t.at text)
+
+-- the token has a character, and ends inside the text
+abbrev pub IsInside : List ℕ → Token → Type 0
+IsInside text t = (0 < t.len) × (t.at + t.len ≤ length text)
 
 -- The list is empty where only white space is left from a place on. Else its first token stands after the white
 -- space, is of the first kind that fits and has its whole length, and the others are the tokens of the rest.

@@ -1,5 +1,5 @@
 -- The words of a text: each with where it stands, in code, in comments or in strings.
-use Rattle.std.specs.Prelude.{◌≡◌, ℕ, Bool, not, ◌||◌, ◌==◌, if◌then◌else◌, List, [], ◌∷◌, map, filter, fold, bit_or, Option, Some, None, unwrap_or}
+use Rattle.std.specs.Prelude.{◌≡◌, ℕ, Bool, not, ◌&&◌, ◌||◌, ◌==◌, if◌then◌else◌, List, [], ◌∷◌, map, filter, fold, bit_or, Option, Some, None, unwrap_or}
 use Rattle.std.specs.List.{flat_map, slice_split}
 use Rattle.std.specs.Ordering.{nat_cmp}
 use Rattle.std.specs.declared.cmp.Ordering.{Ordering}
@@ -76,10 +76,14 @@ is_comment t = t.kind == code_of LineComment || t.kind == code_of BlockComment
 abbrev pub is_string : Token → Bool
 is_string t = t.kind == code_of Str || t.kind == code_of TextBlock
 
+-- Identifier, as a token
+abbrev pub is_identifier_token : List ℕ → Token → Bool
+is_identifier_token text t = t.kind == code_of Word && not (is_reserved (characters_of text t))
+
 -- the words of a token: an identifier itself, the words in a comment or a string, and none of any other
 unfoldable pub occurrences_at : List ℕ → Token → List WordRow
 occurrences_at text t =
-    if t.kind == code_of Word then (if is_reserved (characters_of text t) then [] else marked Code (characters_of text t ∷ []))
+    if is_identifier_token text t then marked Code (characters_of text t ∷ [])
     else if is_comment t then words_at Comment (characters_of text t)
     else if is_string t then words_at String (characters_of text t)
     else []

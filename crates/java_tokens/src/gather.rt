@@ -1,15 +1,14 @@
 //! The words of a text, gathered token by token.
 ghost use Rattle.std.specs.Prelude.{◌≡◌, ◌+◌, ◌-◌, ◌≤◌, OnOk, IfOk, length, take, drop, fold, [], ◌∷◌};
 ghost use Rattle.std.specs.List.{prefix_len};
-ghost use Rattle.ide_text.specs.Text.{max_chars};
 ghost use Rattle.java_tokens.specs.Chars.{continues_word};
 ghost use Rattle.java_tokens.specs.Words.{AreInOrder, HasMasksOf, bit_of, gap_at, words_among, words_at, marked, occurrences_at, occurrences_of, with_occurrence, words_of};
 
 use crate::chars::Class;
+use crate::identifier::is_identifier_at;
 use crate::kind::Kind;
 use crate::piece::Piece;
 use crate::place::Place;
-use crate::reserved::is_reserved;
 use crate::scan::run_end;
 use crate::token::Token;
 use crate::tokenizer::{begins_word_at, next_token};
@@ -48,20 +47,13 @@ fn masks_of(alloc: Global, text: &Text) -> Result<Masks, AllocError>
 /// Adds the words of a token.
 #[tactic(auto, unfolding(crate::specs::Words::occurrences_at))]
 fn add_token(alloc: Global, masks: &mut Masks, text: &Text, token: &Token) -> Result<(), AllocError>
-    requires inside { token.now.at + token.now.len ≤ length text.now }
-    requires few { length text.now ≤ max_chars }
-    ensures { OnOk result (masks.new.entries ≡ fold with_occurrence masks.old.entries (occurrences_at text.now token.now)) }
+    requires { token.now.at + token.now.len ≤ length text.now }
+    ensures { OnOk result (masks.new.entries
+        ≡ fold with_occurrence masks.old.entries (occurrences_at text.now token.now)) }
 {
-    let end = token.at + token.len;
-    let piece = Piece::part(text, token.at, end);
-    if token.is(Kind::Word) {
-        if !is_reserved(&piece) {
-            add(
-                masks,
-                Name::of_text(alloc, text, token.at, end)?,
-                Place::Code,
-            )?;
-        }
+    let piece = Piece::part(text, token.at, token.len);
+    if is_identifier_at(text, token) {
+        add(masks, piece.name(alloc, 0, token.len)?, Place::Code)?;
     } else if token.is(Kind::LineComment) || token.is(Kind::BlockComment) {
         add_words(alloc, masks, &piece, Place::Comment)?;
     } else if token.is(Kind::Str) || token.is(Kind::TextBlock) {
@@ -77,7 +69,8 @@ fn add_words(
     piece: &Piece,
     place: Place,
 ) -> Result<(), AllocError>
-    ensures { OnOk result (masks.new.entries ≡ fold with_occurrence masks.old.entries (words_at place piece.now)) }
+    ensures { OnOk result (masks.new.entries
+        ≡ fold with_occurrence masks.old.entries (words_at place piece.now)) }
 {
     let mut at = 0;
     loop {
@@ -112,8 +105,8 @@ fn add_run(
     place: Place,
 ) -> Result<(), AllocError>
     requires { end ≡ at + prefix_len continues_word (drop at piece.now) }
-    ensures { OnOk result (masks.new.entries
-        ≡ fold with_occurrence masks.old.entries (marked place (words_among (take (end - at) (drop at piece.now) ∷ [])))) }
+    ensures { OnOk result (let run = take (end - at) (drop at piece.now) in
+        masks.new.entries ≡ fold with_occurrence masks.old.entries (marked place (words_among (run ∷ [])))) }
 {
     if begins_word_at(piece, at) {
         add(masks, piece.name(alloc, at, end)?, place)?;

@@ -1,11 +1,16 @@
 //! Whether a text is a word or an identifier.
-ghost use Rattle.std.specs.Prelude.{◌≡◌};
+ghost use Rattle.std.specs.Prelude.{◌≡◌, ◌+◌, ◌≤◌, length};
 ghost use Rattle.std.specs.Str.{chars};
 ghost use Rattle.java_tokens.specs.Chars.{begins_word, first_passes};
 ghost use Rattle.java_tokens.specs.Identifier.{is_word, is_identifier};
+ghost use Rattle.java_tokens.specs.Words.{is_identifier_token};
 
 use crate::chars::{begins_word, continues_word};
-use crate::reserved::is_reserved_text;
+use crate::kind::Kind;
+use crate::piece::Piece;
+use crate::reserved::{is_reserved, is_reserved_text};
+use crate::token::Token;
+use ide_text::Text;
 
 /// Whether a text is one whole word (Java Language Specification, 3.8: a JavaLetter and JavaLettersOrDigits). Reserved
 /// words, `true`, `false` and `null` are words too.
@@ -20,6 +25,14 @@ pub fn is_identifier(text: &str) -> bool
     ensures { result ≡ is_identifier (chars text.now) }
 {
     is_word(text) && !is_reserved_text(text)
+}
+
+/// Whether a token of a text is an identifier.
+pub fn is_identifier_at(text: &Text, token: &Token) -> bool
+    requires { token.now.at + token.now.len ≤ length text.now }
+    ensures { result ≡ is_identifier_token text.now token.now }
+{
+    token.is(Kind::Word) && !is_reserved(&Piece::part(text, token.at, token.len))
 }
 
 /// Whether the first character of a text may begin a word.

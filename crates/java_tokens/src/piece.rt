@@ -7,23 +7,23 @@ use ide_text::{Name, Text};
 use std::alloc::{AllocError, Global};
 use std::marker::Model;
 
-/// The characters of a text from one place up to another.
+/// Some characters of a text that follow one another.
 #[derive(Drop)]
 pub struct Piece<'a> {
     text: &'a Text,
     from: u32,
-    to: u32,
+    len: u32,
 }
 
 impl<'a> Model for Piece<'a> {
-    ghost use Rattle.std.specs.Prelude.{List, ℕ, ◌-◌, ◌≤◌, length, take, drop};
+    ghost use Rattle.std.specs.Prelude.{List, ℕ, ◌+◌, ◌≤◌, length, take, drop};
     ghost use Rattle.ide_text.specs.Text.{max_chars};
 
     ghost Value = { List ℕ };
 
-    ghost view = { λ p. take (p.to - p.from) (drop p.from p.text.now) };
+    ghost view = { λ p. take p.len (drop p.from p.text.now) };
 
-    ghost invariant = { λ p. (p.from ≤ p.to) × (p.to ≤ length p.text.now) × (length p.text.now ≤ max_chars) };
+    ghost invariant = { λ p. (p.from + p.len ≤ length p.text.now) × (length p.text.now ≤ max_chars) };
 }
 
 impl<'a> Piece<'a> {
@@ -34,18 +34,17 @@ impl<'a> Piece<'a> {
         Piece {
             text,
             from: 0,
-            to: text.len(),
+            len: text.len(),
         }
     }
 
-    /// The characters from one place up to another.
-    pub fn part(text: &'a Text, from: u32, to: u32) -> Piece<'a>
-        requires ordered { from ≤ to }
-        requires inside { to ≤ length text.now }
-        ensures { result ≡ take (to - from) (drop from text.now) }
+    /// So many characters from a place on.
+    pub fn part(text: &'a Text, from: u32, len: u32) -> Piece<'a>
+        requires { from + len ≤ length text.now }
+        ensures { result ≡ take len (drop from text.now) }
     {
-        prove!(to <= text.len());
-        Piece { text, from, to }
+        prove!(text.len() >= from + len);
+        Piece { text, from, len }
     }
 
     /// The number of characters.
@@ -53,7 +52,7 @@ impl<'a> Piece<'a> {
         ensures len { result ≡ length self.now }
         ensures few { result ≤ max_chars }
     {
-        self.to - self.from
+        self.len
     }
 
     /// The character at a place, if the place is inside.
@@ -63,7 +62,7 @@ impl<'a> Piece<'a> {
         ensures none { IfNone result (drop at self.now ≡ []) }
         ensures few { length self.now ≤ max_chars }
     {
-        if at < self.to - self.from {
+        if at < self.len {
             Some(self.text.char_at(self.from + at))
         } else {
             None

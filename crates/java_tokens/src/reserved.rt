@@ -1,5 +1,5 @@
-//! The words that are no identifiers.
-ghost use Rattle.std.specs.Prelude.{◌≡◌, IsTrue};
+//! The words that are no identifiers: the reserved words, `true`, `false` and `null`.
+ghost use Rattle.std.specs.Prelude.{◌≡◌, ℕ, List, ◌∷◌, IsTrue};
 ghost use Rattle.std.specs.Char.{is_ascii};
 ghost use Rattle.std.specs.List.{list_all, list_any};
 ghost use Rattle.std.specs.Str.{bytes_eq, chars};
@@ -7,70 +7,57 @@ ghost use Rattle.java_tokens.specs.Identifier.{is_reserved};
 
 use crate::piece::Piece;
 
-/// The reserved words, `true`, `false` and `null`.
-static RESERVED: [&str; 54] = [
-    "abstract",
-    "assert",
-    "boolean",
-    "break",
-    "byte",
-    "case",
-    "catch",
-    "char",
-    "class",
-    "const",
-    "continue",
-    "default",
-    "do",
-    "double",
-    "else",
-    "enum",
-    "extends",
-    "final",
-    "finally",
-    "float",
-    "for",
-    "goto",
-    "if",
-    "implements",
-    "import",
-    "instanceof",
-    "int",
-    "interface",
-    "long",
-    "native",
-    "new",
-    "package",
-    "private",
-    "protected",
-    "public",
-    "return",
-    "short",
-    "static",
-    "strictfp",
-    "super",
-    "switch",
-    "synchronized",
-    "this",
-    "throw",
-    "throws",
-    "transient",
-    "try",
-    "void",
-    "volatile",
-    "while",
-    "_",
-    "true",
-    "false",
-    "null",
-];
-
 /// Whether the characters are those of a word that is no identifier.
 #[tactic(auto, unfolding(crate::specs::Identifier::is_reserved))]
 pub fn is_reserved(piece: &Piece) -> bool
     ensures { result ≡ is_reserved piece.now }
 {
-    spells_any(piece, &RESERVED)
+    match piece.get(0) {
+        Some(first) => spells_any(piece, reserved_from(first)),
+        None => false,
+    }
+}
+
+/// The words that are no identifiers and begin with a character.
+#[tactic(auto, unfolding(crate::specs::Identifier::is_reserved))]
+fn reserved_from(first: char) -> &'static [&'static str]
+    ensures words { (rest : List ℕ) → list_any (λ word. bytes_eq word.now (first ∷ rest)) result.now ≡ is_reserved (first ∷ rest) }
+    ensures ascii { IsTrue (list_all (λ word. list_all is_ascii word.now) result.now) }
+{
+    match first {
+        'a' => &["abstract", "assert"],
+        'b' => &["boolean", "break", "byte"],
+        'c' => &["case", "catch", "char", "class", "const", "continue"],
+        'd' => &["default", "do", "double"],
+        'e' => &["else", "enum", "extends"],
+        'f' => &["final", "finally", "float", "for", "false"],
+        'g' => &["goto"],
+        'i' => &[
+            "if",
+            "implements",
+            "import",
+            "instanceof",
+            "int",
+            "interface",
+        ],
+        'l' => &["long"],
+        'n' => &["native", "new", "null"],
+        'p' => &["package", "private", "protected", "public"],
+        'r' => &["return"],
+        's' => &[
+            "short",
+            "static",
+            "strictfp",
+            "super",
+            "switch",
+            "synchronized",
+        ],
+        't' => &["this", "throw", "throws", "transient", "try", "true"],
+        'v' => &["void", "volatile"],
+        'w' => &["while"],
+        '_' => &["_"],
+        _ => &[],
+    }
 }
 
 /// Whether the characters are those of one of these ASCII words.
@@ -104,7 +91,10 @@ fn spells(piece: &Piece, word: &str) -> bool
 pub fn is_reserved_text(text: &str) -> bool
     ensures { result ≡ is_reserved (chars text.now) }
 {
-    is_one_of(text, &RESERVED)
+    match text.chars().next() {
+        Some(first) => is_one_of(text, reserved_from(first)),
+        None => false,
+    }
 }
 
 /// Whether a text is one of these ASCII words.

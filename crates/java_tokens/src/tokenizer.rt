@@ -1,10 +1,10 @@
 //! The tokens of a text.
-ghost use Rattle.std.specs.Prelude.{◌≡◌, ◌+◌, ◌<◌, ◌≤◌, [], ◌∷◌, IfSome, IfNone, IfOk, length, drop};
+ghost use Rattle.std.specs.Prelude.{◌≡◌, ◌+◌, ◌<◌, ◌≤◌, [], ◌∷◌, IfSome, IfNone, IfOk, All, length, drop};
 ghost use Rattle.std.specs.Char.{is_ascii_digit};
 ghost use Rattle.ide_text.specs.Text.{max_chars};
 ghost use Rattle.java_tokens.specs.Chars.{begins_word, first_passes};
 ghost use Rattle.java_tokens.specs.Kind.{begins_number, kind_at, length_of};
-ghost use Rattle.java_tokens.specs.Tokens.{AreTokensFrom, tokens_past, tokens_of};
+ghost use Rattle.java_tokens.specs.Tokens.{AreTokensFrom, IsInside, tokens_past, tokens_of};
 
 use crate::chars::{Class, begins_word};
 use crate::kind::Kind;
@@ -20,6 +20,7 @@ pub fn tokens(alloc: Global, text: &Text) -> Result<Vec<Token>, AllocError>
 
     // So each stands behind white space, is of the first kind that fits, and has its whole length.
     ensures cut { IfOk result (λ list. AreTokensFrom 0 text.now list.items) }
+    ensures inside { IfOk result (λ list. All (IsInside text.now) list.items) }
 {
     let piece = Piece::whole(text);
     let mut list = Vec::new(alloc);

@@ -8,7 +8,7 @@ use std::collections::BTreeMap;
 use std::marker::Model;
 
 /// Words and their masks, while they are gathered.
-pub type Masks = BTreeMap<Name, u8>;
+pub(crate) type Masks = BTreeMap<Name, u8>;
 
 /// Names with masks: the names in order, each once, and the mask of each the union of the bits of the places where
 /// it stands (`Place`).
@@ -31,7 +31,7 @@ impl Model for WordList {
 
 impl WordList {
     /// The words that were gathered.
-    pub fn from_masks(alloc: Global, masks: Masks) -> Result<WordList, AllocError>
+    pub(crate) fn from_masks(alloc: Global, masks: Masks) -> Result<WordList, AllocError>
         requires { AreInOrder masks.entries }
         ensures { IfOk result (λ list. list ≡ masks.entries) }
     {
