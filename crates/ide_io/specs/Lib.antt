@@ -3,5 +3,5 @@ pub mod Failing
 pub mod Fault
 pub mod Files
 pub mod Known
+pub mod Memory
 pub mod Plan
-pub mod Room

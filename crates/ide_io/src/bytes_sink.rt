@@ -1,10 +1,10 @@
 //! A sink in memory.
 
-ghost use Rattle.std.specs.Prelude.{◌≡◌, ◌↔◌, ◌<◌, ◌≤◌, ◌+◌, ℕ, List, [], Some, IsErr, IfOk, OnOk, OnErr, length, vec_len, vec_capacity};
+ghost use Rattle.std.specs.Prelude.{◌≡◌, ◌↔◌, ◌<◌, ◌≤◌, ◌+◌, [], Some, IsErr, IfOk, OnOk, OnErr, length, min, vec_len, vec_capacity};
 ghost use Rattle.std.specs.Io.{WritesAtMost};
 ghost use Rattle.ide_io.specs.Fault.{HasFault, next_count};
 ghost use Rattle.ide_io.specs.Known.{WriteTakes};
-ghost use Rattle.ide_io.specs.Room.{Filled};
+ghost use Rattle.ide_io.specs.Memory.{Filled};
 
 use crate::failed::Failed;
 use crate::fault_count::FaultCount;
@@ -26,7 +26,7 @@ pub struct BytesSink {
 impl Model for BytesSink {
     ghost Value = { Filled };
 
-    ghost view = { λ sink. record { taken = sink.taken.items; room = sink.room; faults = sink.faults } };
+    ghost view = { λ sink. record { taken = sink.taken.items; room = sink.room; most = sink.most; faults = sink.faults } };
 
     ghost invariant = { λ sink. (0 < sink.most) × (vec_len sink.taken + sink.room ≤ vec_capacity sink.taken) };
 }
@@ -34,7 +34,7 @@ impl Model for BytesSink {
 impl BytesSink {
     /// An empty sink that takes `room` bytes and no more. A write takes as many as it is given.
     pub fn with_room(alloc: Global, room: usize) -> Result<BytesSink, AllocError>
-        ensures { IfOk result (λ sink. sink ≡ record { taken = []; room = room; faults = 0 }) }
+        ensures { IfOk result (λ sink. sink ≡ record { taken = []; room = room; most = usize.MAX; faults = 0 }) }
     {
         Ok(BytesSink {
             taken: Vec::with_capacity(alloc, room)?,
@@ -47,7 +47,7 @@ impl BytesSink {
     /// The same sink, of which one write takes at most `most` bytes.
     pub fn in_pieces(self, most: usize) -> BytesSink
         requires { 0 < most }
-        ensures { result ≡ self }
+        ensures { result ≡ record self { most = most } }
     {
         let BytesSink {
             taken,
@@ -84,6 +84,9 @@ impl Sink for BytesSink {
     ghost faults = { λ sink. sink.faults };
 
     fn write(&mut self, piece: &[u8]) -> Result<usize, Failed>
+        ensures ok { IfOk result
+            (λ n. n ≡ min (min (length piece.now) self.old.room) self.old.most) }
+        ensures most { self.new.most ≡ self.old.most }
         ensures full { IsErr result ↔ ((0 < length piece.now) × (self.old.room ≡ 0)) }
         ensures count { WritesAtMost result piece.now }
         ensures some { IfOk result (λ n. 0 < length piece.now → 0 < n) }

@@ -48,19 +48,25 @@ pub fn read_all<S: Source>(
     source: &mut S,
     limit: usize,
 ) -> Result<Vec<u8>, ReadAllError>
+    // All that was left, and the end after it.
     ensures whole { IfOk result (λ v. IfSome (S.left source.old) (λ all. v.items ≡ all)) }
     ensures bytes { IfOk result (λ v. S.left source.old ≡ prepend_known v.items (S.left source.new)) }
     ensures end { OnOk result (IsAtEnd (S.left source.new)) }
     ensures limit { IfOk result (λ v. vec_len v ≤ limit) }
+
+    // The byte past the limit was read.
     ensures too_long { IsErrOf result ReadAllError.TooLong
         → IfSome (S.left source.old) (λ all. limit < length all) }
     ensures over { IsErrOf result ReadAllError.TooLong
         → TakesOver limit (S.left source.old) (S.left source.new) }
+
+    // Whatever the answer, nothing but the front is taken.
+    ensures front { TakesSome (S.left source.old) (S.left source.new) }
+
     ensures fault { IsErrOf result ReadAllError.Failed
         → HasFault (S.faults source.old) (S.faults source.new) }
-    ensures never_falls { S.faults source.old ≤ S.faults source.new }
     ensures no_fault { result ≢ Err ReadAllError.Failed → S.faults source.new ≡ S.faults source.old }
-    ensures front { TakesSome (S.left source.old) (S.left source.new) }
+    ensures never_falls { S.faults source.old ≤ S.faults source.new }
 {
     let mut bytes = Vec::new(alloc);
     let mut chunk = [0u8; CHUNK_LEN];

@@ -13,6 +13,7 @@ use crate::sink::Sink;
 /// Costs one write for each piece that the sink takes.
 pub fn write_all<K: Sink>(sink: &mut K, bytes: &[u8]) -> Result<(), Failed>
     ensures ok { OnOk result (K.taken sink.new ≡ append_known (K.taken sink.old) bytes.now) }
+    // The bytes before the fault.
     ensures front { OnErr result (TakesPrefix (K.taken sink.old) (K.taken sink.new) bytes.now) }
     ensures never_falls { K.faults sink.old ≤ K.faults sink.new }
     ensures no_fault { OnOk result (K.faults sink.new ≡ K.faults sink.old) }

@@ -68,6 +68,13 @@ impl Name {
         self.chars[at]
     }
 
+    /// The characters.
+    pub fn as_slice(&self) -> &[char]
+        ensures { result.now ≡ self.now }
+    {
+        &self.chars
+    }
+
     /// The same name once more.
     pub fn copy(&self) -> Result<Name, AllocError>
         ensures { IfOk result (λ copy. copy ≡ self.now) }

@@ -1,4 +1,4 @@
-use Rattle.std.proofs.Common.{◌≡◌, ◌-◌, ◌≤◌, vec_len}
+use Rattle.std.proofs.Common.{◌≡◌, ◌+◌, ◌-◌, ◌≤◌, vec_len}
 use Rattle.std.specs.Io.KnownBytes.{prepend_known}
 use Rattle.ide_io.proofs.reading.read_all.Given as goal
 
@@ -11,4 +11,4 @@ invariant-reads g l = record {
 }
 
 abbrev pub decreases-reads : goal.decreases-reads
-decreases-reads g l = l.limit - vec_len l.bytes
+decreases-reads g l = l.limit + 1 - vec_len l.bytes

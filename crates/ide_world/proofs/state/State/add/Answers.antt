@@ -1,0 +1,33 @@
+use Rattle.std.proofs.Common.{◌+◌, ◌∷◌, [], ◌++◌, length, length-append, ap, ◌∙◌, arith, subst, sym, None, refl}
+use Rattle.std.specs.Prelude.{All}
+use Rattle.std.proofs.lemmas.List.Elements.{All-push}
+use Rattle.write_history.specs.declared.change.Change.TheVariants.{Create}
+use Rattle.write_history.specs.Fold.{effect_of}
+use Rattle.ide_world.specs.declared.rows.FileRow.{FileRow}
+use Rattle.ide_world.specs.Rows.{IsRight, files_from, file_of}
+use Rattle.ide_world.proofs.RowLemmas.{files_from-append, length-files_from}
+use Rattle.ide_world.proofs.StateLemmas.{rows_later, same_world, new_row_right}
+use Rattle.ide_world.proofs.state.State.add.Goals as goal
+
+pub invariant_of-self : goal.invariant_of-self
+invariant_of-self c =
+    let inside = c.self.inside in
+    let rows = inside.files.items in
+    let row : FileRow = record { path = c.args.path; content = c.args.text; stamp = inside.next_stamp; indexed = None; words = None } in
+    let grown = c.in-Ok.ensures.items in record {
+      rows = subst (All (IsRight (inside.next_stamp + 1))) (sym grown) (All-push (IsRight (inside.next_stamp + 1)) rows row (rows_later inside.next_stamp rows c.self.invariant.rows) (new_row_right row inside.next_stamp refl refl));
+      few_files = omega (arith, ap length grown, length-append rows (row ∷ []), length-files_from 1 rows, ap (λ h. length h.world.files) c.self.view_is, c.requires.files);
+      few_entries = omega (arith, ap (λ h. h.world.entries) c.self.view_is, c.requires.entries);
+      stamps = omega (arith, c.self.invariant.stamps);
+    }
+
+pub returns : goal.returns
+returns c =
+    let inside = c.self.inside in
+    let rows = inside.files.items in
+    let row : FileRow = record { path = c.args.path; content = c.args.text; stamp = inside.next_stamp; indexed = None; words = None } in
+    let grown = c.in-Ok.ensures.items in
+    same_world (inside.next_stamp + 1) (inside.entries + 1)
+    (ap (files_from 1) grown ∙ files_from-append 1 rows row ∙ ap (λ id. files_from 1 rows ++ file_of id row ∷ []) (omega arith))
+    (omega (arith, ap length grown, length-append rows (row ∷ [])))
+    ∙ ap (λ h. effect_of h.world (Create c.args.path c.args.text.value)) c.self.view_is

@@ -1,0 +1,7 @@
+-- What callers may rest on
+pub mod Held
+pub mod Prepared
+pub mod Reply
+-- How a state is kept
+pub mod Rows
+pub mod Parts

@@ -1,0 +1,62 @@
+-- Changes that are ready to go in.
+use Rattle.std.specs.Prelude.{ℕ, ◌≡◌, ◌<◌, ◌&&◌, List, ◌==◌, find, Option, Some, None, option_map}
+use Rattle.write_history.specs.declared.change.Change.{Change}
+use Rattle.write_history.specs.declared.change.Change.TheVariants.{Create, Write, Intake}
+use Rattle.write_history.specs.declared.refusal.Refusal.{Refusal}
+use Rattle.write_history.specs.declared.refusal.Refusal.TheVariants.{OutOfMemory}
+use Rattle.write_history.specs.World.{World, File, file_with_id, is_unready}
+use Rattle.write_history.specs.Effect.{refusal_of}
+use Rattle.ide_world.specs.Held.{Held}
+
+-- a change with the content that it speaks of: the new one, or that from which index data were made
+pub record Prepared : Type 0 where
+  pub change : Change
+  pub content : List ℕ
+
+-- an intake speaks of the content that its file has
+abbrev pub SpeaksOfContent : World → Change → List ℕ → Type 0
+SpeaksOfContent world (Intake file stamp) content = (f : File) → file_with_id world file ≡ Some f → f.content ≡ content
+SpeaksOfContent world (Create path text) content = text ≡ content
+SpeaksOfContent world (Write path text) content = text ≡ content
+
+-- the change is accepted in this world
+pub record IsReadyFor (world : World) (prepared : Prepared) : Type 0 where
+  pub accepted : refusal_of world prepared.change ≡ None
+  pub content : SpeaksOfContent world prepared.change prepared.content
+
+-- there is room for what the change adds
+abbrev pub HasRoomFor : ℕ → Change → Type 0
+HasRoomFor spare (Create path text) = 0 < spare
+HasRoomFor spare (Write path text) = Unit {0}
+HasRoomFor spare (Intake file stamp) = Unit {0}
+
+abbrev pub HasRoom : Held → Prepared → Type 0
+HasRoom held prepared = HasRoomFor held.spare prepared.change
+
+-- an answer other than want of memory is the reason to refuse
+abbrev pub IsRefusalOf : Option Refusal → Refusal → Type 0
+IsRefusalOf expected OutOfMemory = Unit {0}
+IsRefusalOf expected refusal = expected ≡ Some refusal
+
+-- the change is no intake
+abbrev pub IsEdit : Change → Type 0
+IsEdit (Create path text) = Unit {0}
+IsEdit (Write path text) = Unit {0}
+IsEdit (Intake file stamp) = ⊥
+
+-- the work of indexing a file: its id, its stamp and its content
+pub record Task : Type 0 where
+  pub file : ℕ
+  pub stamp : ℕ
+  pub content : List ℕ
+
+abbrev pub task_of : File → Task
+task_of file = record { file = file.id; stamp = file.stamp; content = file.content }
+
+-- the task of a file, where it is unready
+abbrev pub task_with_id : World → ℕ → Option Task
+task_with_id world id = option_map task_of (find (λ file. file.id == id && is_unready world file) world.files)
+
+-- where the file is live at the stamp of the task, it has the content of the task
+abbrev pub IsOfWorld : World → Task → Type 0
+IsOfWorld world task = (file : File) → file_with_id world task.file ≡ Some file → file.stamp ≡ task.stamp → file.content ≡ task.content

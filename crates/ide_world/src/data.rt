@@ -1,0 +1,25 @@
+//! The work of indexing a file, before and after it is done.
+ghost use Rattle.std.specs.Prelude.{◌≡◌};
+ghost use Rattle.java_tokens.specs.Words.{words_of};
+
+use ide_text::Text;
+use java_tokens::WordList;
+use std::sync::Arc;
+
+/// An unready file as it was when its index data are to be made.
+#[derive(Drop)]
+pub struct Job {
+    pub file: u32,
+    pub stamp: u64,
+    pub text: Arc<Text>,
+}
+
+/// The index data of a file, made from its text at a stamp.
+#[derive(Drop)]
+pub struct Made {
+    pub file: u32,
+    pub stamp: u64,
+    pub text: Arc<Text>,
+    pub words: WordList,
+    ghost of_text: { words ≡ words_of text.value },
+}

@@ -1,0 +1,16 @@
+//! The state of a workspace: its files, kept so that a change and a question find what they speak of.
+#![tactic(auto)]
+
+mod change;
+mod data;
+mod index;
+mod path;
+mod reply;
+mod rows;
+mod state;
+
+pub use change::{Ready, install, prepare, prepare_intake, reserve};
+pub use data::{Job, Made};
+pub use index::{job, lowest_unready, make};
+pub use reply::{WordRefusal, WordRow, WordRows, ask_word};
+pub use state::{State, empty};

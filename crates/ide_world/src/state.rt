@@ -1,0 +1,179 @@
+//! The files of a workspace with their index data, and the counters.
+ghost use Rattle.std.specs.Prelude.{◌≡◌, ◌≤◌, ◌<◌, ℕ, All, None, IfOk, IfSome, IsSome, is_some, option_map, length};
+ghost use Rattle.std.specs.Option.{option_copied};
+ghost use Rattle.write_history.specs.declared.change.Change.TheVariants.{Create, Write, Intake};
+ghost use Rattle.write_history.specs.World.{empty_world, file_at, file_with_id, is_live_at, is_unready, lowest_unready};
+ghost use Rattle.write_history.specs.Effect.{max_files, max_entries};
+ghost use Rattle.write_history.specs.Fold.{effect_of};
+
+use crate::data::Made;
+use crate::reply::WordRow;
+use crate::rows::{FileRow, is_unready, place_of_path, place_of_unready, rows_with_word};
+use ide_text::{Name, Text};
+use std::alloc::{AllocError, Global};
+use std::marker::Model;
+use std::sync::Arc;
+
+/// The most files that are ever made.
+pub(crate) const MAX_FILES: usize = 65_536;
+
+/// The state of a workspace, seen by contracts as the world that it stands for.
+#[derive(Drop)]
+pub struct State {
+    pub(crate) files: Vec<FileRow>,
+    pub(crate) next_stamp: u64,
+    pub(crate) entries: u64,
+}
+
+impl Model for State {
+    ghost use Rattle.ide_world.specs.Held.{Held};
+
+    ghost Value = { Held };
+
+    ghost use Rattle.ide_world.specs.Rows.{held, IsSound};
+
+    ghost view = { held };
+
+    ghost invariant = { IsSound };
+}
+
+/// The state without a file.
+pub fn empty(alloc: Global) -> Result<State, AllocError>
+    ensures { IfOk result (λ state. state.world ≡ empty_world) }
+{
+    Ok(State {
+        files: Vec::new(alloc),
+        next_stamp: 1,
+        entries: 0,
+    })
+}
+
+impl State {
+    ghost use Rattle.ide_world.specs.Prepared.{task_with_id};
+    ghost use Rattle.ide_world.specs.Reply.{word_rows};
+    ghost use Rattle.ide_world.specs.Rows.{file_of};
+
+    /// Whether a live file has the path.
+    pub(crate) fn has_file_at(&self, path: &Name) -> bool
+        ensures { result ≡ is_some (file_at self.now.world path.now) }
+    {
+        place_of_path(&self.files, path).is_some()
+    }
+
+    /// The row of a live file.
+    fn row_with_id(&self, id: u32) -> Option<&FileRow>
+        ensures { option_map (λ row. file_of id row.now) result ≡ file_with_id self.now.world id }
+    {
+        let rows = &self.files;
+        if id == 0 {
+            return None;
+        }
+        rows.get(id as usize - 1)
+    }
+
+    /// The stamp of a live file.
+    pub(crate) fn stamp_of(&self, id: u32) -> Option<u64>
+        ensures { result ≡ option_map (λ file. file.stamp) (file_with_id self.now.world id) }
+    {
+        Some(self.row_with_id(id)?.stamp)
+    }
+
+    /// How many files were ever made.
+    pub(crate) fn files_made(&self) -> usize
+        ensures { result ≡ length self.now.world.files }
+    {
+        self.files.len()
+    }
+
+    /// How many changes were accepted.
+    pub(crate) fn entries(&self) -> u64
+        ensures { result ≡ self.now.world.entries }
+    {
+        self.entries
+    }
+
+    /// The unready file with the lowest id.
+    pub(crate) fn lowest_unready(&self) -> Option<u32>
+        ensures { result ≡ option_map (λ file. file.id) (lowest_unready self.now.world) }
+    {
+        let place = place_of_unready(&self.files)?;
+        Some(place as u32 + 1)
+    }
+
+    /// The path of the unready file with the lowest id.
+    pub(crate) fn lowest_unready_path(&self) -> Option<&Name>
+        ensures { option_copied result ≡ option_map (λ file. file.path) (lowest_unready self.now.world) }
+    {
+        let place = place_of_unready(&self.files)?;
+        Some(&self.files[place].path)
+    }
+
+    /// The row of a file, where it is unready.
+    pub(crate) fn unready_row(&self, id: u32) -> Option<&FileRow>
+        ensures task { option_map (λ row. record { file = id; stamp = row.now.stamp; content = row.now.content.value }) result ≡ task_with_id self.now.world id }
+        ensures live { IfSome result (λ row. file_with_id self.now.world id ≡ Some (file_of id row.now)) }
+    {
+        let _ = &self.files;
+        let row = self.row_with_id(id)?;
+        if is_unready(row) { Some(row) } else { None }
+    }
+
+    /// The rows of the files that have a word, where none is unready.
+    pub(crate) fn word_rows(&self, alloc: Global, name: &Name) -> Result<Vec<WordRow>, AllocError>
+        requires { lowest_unready self.now.world ≡ None }
+        ensures { IfOk result (λ rows. rows.items ≡ word_rows self.now.world name.now) }
+    {
+        rows_with_word(alloc, &self.files, name)
+    }
+
+    /// Adds a file.
+    pub(crate) fn add(&mut self, path: Name, text: Arc<Text>)
+        requires room { 0 < self.old.spare }
+        requires files { length self.old.world.files < max_files }
+        requires entries { self.old.world.entries < max_entries }
+        ensures { self.new.world ≡ effect_of self.old.world (Create path text.value) }
+    {
+        let row = FileRow {
+            path,
+            content: text,
+            stamp: self.next_stamp,
+            indexed: None,
+            words: None,
+        };
+        let Ok(()) = self.files.push(row) else {
+            unreachable!()
+        };
+        self.next_stamp += 1;
+        self.entries += 1;
+    }
+
+    /// Gives a live file new content.
+    pub(crate) fn write(&mut self, path: &Name, text: Arc<Text>)
+        requires file { IsSome (file_at self.old.world path.now) }
+        requires entries { self.old.world.entries < max_entries }
+        ensures { self.new.world ≡ effect_of self.old.world (Write path.now text.value) }
+    {
+        let Some(place) = place_of_path(&self.files, path) else {
+            unreachable!()
+        };
+        let row = &mut self.files[place];
+        row.content = text;
+        row.stamp = self.next_stamp;
+        self.next_stamp += 1;
+        self.entries += 1;
+    }
+
+    /// Takes in the index data of a live file, made from its content.
+    pub(crate) fn take_in(&mut self, made: Made)
+        requires file { IsSome (file_with_id self.old.world made.file) }
+        requires stamp { IfSome (file_with_id self.old.world made.file) (λ file. file.stamp ≡ made.stamp) }
+        requires content { IfSome (file_with_id self.old.world made.file) (λ file. file.content ≡ made.text.value) }
+        requires entries { self.old.world.entries < max_entries }
+        ensures { self.new.world ≡ effect_of self.old.world (Intake made.file made.stamp) }
+    {
+        let row = &mut self.files[made.file as usize - 1];
+        row.indexed = Some(made.stamp);
+        row.words = Some(made.words);
+        self.entries += 1;
+    }
+}
