@@ -4,6 +4,7 @@ pub mod World
 pub mod Effect
 pub mod Fold
 pub mod Numbered
+pub mod Apart
 -- The kept history and its print
 pub mod Kept
 pub mod Print

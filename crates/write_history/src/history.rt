@@ -1,5 +1,5 @@
 //! The list of the accepted changes, with room for the next one.
-ghost use Rattle.std.specs.Prelude.{◌≡◌, ◌≤◌, ◌<◌, ◌+◌, ◌-◌, ◌∷◌, [], ◌++◌, length, slice_get, Some, OnOk};
+ghost use Rattle.std.specs.Prelude.{◌≡◌, ◌≤◌, ◌<◌, ◌+◌, ◌-◌, ◌∷◌, [], ◌++◌, length, slice_get, Some, OnOk, OnErr, IsOk};
 
 use crate::Entry;
 use std::alloc::{AllocError, Global};
@@ -26,17 +26,21 @@ impl Model for History {
 impl History {
     /// The empty history.
     pub fn new(alloc: Global) -> History
-        ensures { result.entries ≡ [] }
+        ensures entries { result.entries ≡ [] }
+        ensures spare { result.spare ≡ 0 }
     {
         History {
             entries: Vec::new(alloc),
         }
     }
 
-    /// Makes room for one entry more.
+    /// Makes room for one entry more. It takes no memory where there is room.
     pub fn reserve(&mut self) -> Result<(), AllocError>
         ensures room { OnOk result (0 < self.new.spare) }
         ensures same { self.new.entries ≡ self.old.entries }
+        ensures kept { self.old.spare ≤ self.new.spare }
+        ensures succeeds { 0 < self.old.spare → IsOk result }
+        ensures err { OnErr result (self.new.spare ≡ self.old.spare) }
     {
         self.entries.reserve(1)
     }

@@ -1,14 +1,27 @@
 //! Laws of the world that callers rest on: functions that do nothing, whose contracts are the laws.
-ghost use Rattle.std.specs.Prelude.{◌≡◌, ◌∷◌, List};
+ghost use Rattle.std.specs.Prelude.{◌≡◌, ◌<◌, ◌∷◌, List, bytes_eq, eqb};
+ghost use Rattle.std.specs.List.{All, IsDistinct};
 ghost use Rattle.write_history.specs.declared.change.Entry.{Entry};
 ghost use Rattle.write_history.specs.declared.change.Change.TheVariants.{Intake};
 ghost use Rattle.write_history.specs.World.{File, unready_files};
-ghost use Rattle.write_history.specs.Fold.{fold, effect_of};
+ghost use Rattle.write_history.specs.Fold.{fold, effect_of, IsLegal};
 ghost use Rattle.write_history.specs.Numbered.{AreNumbered};
+ghost use Rattle.write_history.specs.Apart.{stamps_of, live_paths};
 
 /// After any history the ids of the files are 1, 2, .. in the order in which they were made.
 pub fn ids_are_places()
     ensures { (entries : List Entry) → AreNumbered 1 (fold entries).files }
+{}
+
+/// After any history the stamps of the files are below the next one, and no two are equal. So none is given twice.
+pub fn stamps_are_given_once()
+    ensures below { (entries : List Entry) → All (λ stamp. stamp < (fold entries).next_stamp) (stamps_of (fold entries).files) }
+    ensures apart { (entries : List Entry) → IsDistinct eqb (stamps_of (fold entries).files) }
+{}
+
+/// After any legal history no two live files have the same path.
+pub fn live_files_have_paths_of_their_own()
+    ensures { (entries : List Entry) → IsLegal entries → IsDistinct bytes_eq (live_paths (fold entries).files) }
 {}
 
 /// An intake of the first unready file at its stamp makes that file ready, and no other.
