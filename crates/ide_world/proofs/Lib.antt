@@ -1,3 +1,4 @@
+pub mod PathIdLemmas
 pub mod PathLemmas
 pub mod RowLemmas
 pub mod StateLemmas

@@ -1,17 +1,19 @@
 -- The world of a state, and the soundness of its rows.
 use Rattle.std.proofs.Common.{◌≡◌, cond, ℕ, ◌+◌, ◌-◌, ◌<◌, ◌≤◌, Bool, true, false, List, [], length, get_or, Some, None, refl, sym, ap, ◌∙◌, subst, arith, not, ◌&&◌}
-use Rattle.std.specs.Prelude.{option_map, is_some, IsSome, ◌==◌, All, Option, IfSome, position}
+use Rattle.std.specs.Prelude.{bytes_eq, option_map, is_some, IsSome, ◌==◌, All, Option, IfSome, position}
 use Rattle.std.specs.Option.{option_map_or}
 use Rattle.std.proofs.lemmas.Bool.{false≢true, not-false, eqb-true}
 use Rattle.std.proofs.lemmas.Option.{IfSome_then, none-some}
 use Rattle.std.proofs.lemmas.List.Elements.{All-weaker}
-use Rattle.write_history.specs.World.{World, File, is_live_id, is_unready, lowest_unready, file_with_id}
+use Rattle.write_history.specs.World.{World, File, is_live_id, is_unready, lowest_unready, file_at, file_with_id}
 use Rattle.ide_world.specs.declared.rows.FileRow.{FileRow}
 use Rattle.ide_world.specs.declared.state.State.TheInside.{Inside}
 use Rattle.ide_world.specs.Held.{Held}
+use Rattle.ide_world.specs.Paths.{id_at}
+use Rattle.ide_world.proofs.PathIdLemmas.{id_of_live, place_of_id}
 use Rattle.ide_world.specs.Prepared.{task_of, task_with_id}
 use Rattle.ide_world.specs.Rows.{file_of, is_unready_row, held, world_of, IsRight, IsSearchable, IsSound}
-use Rattle.ide_world.proofs.RowLemmas.{none_from_position, IsFirst-from_position, find-files_from, none-files_from, find-id_and, find-id_and_none, id_inside, IsFirst-id}
+use Rattle.ide_world.proofs.RowLemmas.{position_inside, none_from_position, IsFirst-from_position, find-files_from, none-files_from, find-id_and, find-id_and_none, id_inside, IsFirst-id}
 
 abbrev world_with : ℕ → ℕ → List File → ℕ → World
 world_with next_stamp entries files next_id = record { files = files; documents = []; next_id = next_id; next_stamp = next_stamp; entries = entries }
@@ -100,3 +102,17 @@ rewritten_row_right old new next_stamp right s i =
       indexed = IfSome_then new.indexed below (λ stamp b. omega (arith, b));
       words = λ e. absurd (below_itself next_stamp (subst (λ n. n < next_stamp) s (subst (λ o. IfSome o (λ stamp. stamp < next_stamp)) e below)));
     }
+
+-- the place of a live file by the id that is kept for its path
+pub record IsIdOf (rows : List FileRow) (path : List ℕ) (id : ℕ) : Type 0 where
+  pub above : 0 < id
+  pub at : position (λ row. bytes_eq row.path path) rows ≡ Some (id - 1)
+  pub inside : id - 1 < length rows
+
+pub place_of_live : (inside : Inside) → IsSound inside → (seen : Held) → held inside ≡ seen → (path : List ℕ) (id : ℕ) → id ≡ id_at inside.paths path → IsSome (file_at seen.world path) → IsIdOf inside.files.items path id
+place_of_live inside sound seen view path id kept live =
+    let rows = inside.files.items in
+    let same = kept ∙ sound.paths path in
+    let above : 0 < id = omega (arith, same, id_of_live path rows (ap (λ h. is_some (file_at h.world path)) view ∙ live)) in
+    let at = place_of_id path rows id same above in
+    record { above = above; at = at; inside = position_inside (λ row. bytes_eq row.path path) rows (id - 1) at }

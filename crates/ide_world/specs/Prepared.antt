@@ -1,5 +1,6 @@
 -- Changes that are ready to go in.
-use Rattle.std.specs.Prelude.{ℕ, ◌≡◌, ◌<◌, ◌&&◌, List, ◌==◌, find, Option, Some, None, option_map}
+use Rattle.std.specs.Prelude.{ℕ, ◌≡◌, ◌<◌, ◌&&◌, List, ◌==◌, Bool, IsTrue, bytes_eq, find, Option, Some, None, option_map}
+use Rattle.std.specs.List.{list_any}
 use Rattle.write_history.specs.declared.change.Change.{Change}
 use Rattle.write_history.specs.declared.change.Change.TheVariants.{Create, Write, Intake}
 use Rattle.write_history.specs.declared.refusal.Refusal.{Refusal}
@@ -24,14 +25,18 @@ pub record IsReadyFor (world : World) (prepared : Prepared) : Type 0 where
   pub accepted : refusal_of world prepared.change ≡ None
   pub content : SpeaksOfContent world prepared.change prepared.content
 
+-- whether a path is among the kept ones
+abbrev pub has_name : List (List ℕ) → List ℕ → Bool
+has_name names path = list_any (bytes_eq path) names
+
 -- there is room for what the change adds
-abbrev pub HasRoomFor : ℕ → Change → Type 0
-HasRoomFor spare (Create path text) = 0 < spare
-HasRoomFor spare (Write path text) = Unit {0}
-HasRoomFor spare (Intake file stamp) = Unit {0}
+abbrev pub HasRoomFor : Held → Change → Type 0
+HasRoomFor held (Create path text) = (0 < held.spare) × IsTrue (has_name held.names path)
+HasRoomFor held (Write path text) = Unit {0}
+HasRoomFor held (Intake file stamp) = Unit {0}
 
 abbrev pub HasRoom : Held → Prepared → Type 0
-HasRoom held prepared = HasRoomFor held.spare prepared.change
+HasRoom held prepared = HasRoomFor held prepared.change
 
 -- an answer other than want of memory is the reason to refuse
 abbrev pub IsRefusalOf : Option Refusal → Refusal → Type 0

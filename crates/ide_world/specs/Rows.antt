@@ -1,5 +1,6 @@
 -- The rows by which a state keeps its files.
 use Rattle.std.specs.Prelude.{ℕ, ◌≡◌, ◌≤◌, ◌<◌, ◌+◌, ◌-◌, true, Bool, List, [], ◌∷◌, length, All, Some, IfSome, vec_len, vec_capacity}
+use Rattle.std.specs.BTreeMap.{keys}
 use Rattle.java_tokens.specs.Words.{words_of}
 use Rattle.write_history.specs.Path.{is_java}
 use Rattle.write_history.specs.World.{World, File, empty_world, is_unready}
@@ -8,6 +9,7 @@ use Rattle.ide_world.specs.declared.rows.FileRow.{FileRow}
 use Rattle.ide_world.specs.declared.state.State.TheInside.{Inside}
 use Rattle.ide_world.specs.declared.reply.WordRow.{WordRow}
 use Rattle.ide_world.specs.Held.{Held}
+use Rattle.ide_world.specs.Paths.{id_at, id_of}
 use Rattle.ide_world.specs.Reply.{word_row}
 
 -- the file of a row
@@ -37,7 +39,7 @@ world_of inside = record {
 }
 
 abbrev pub held : Inside → Held
-held inside = record { world = world_of inside; spare = vec_capacity inside.files - vec_len inside.files }
+held inside = record { world = world_of inside; spare = vec_capacity inside.files - vec_len inside.files; names = keys inside.paths }
 
 -- of a row below the next stamp: the words are those of the content where it is indexed at its stamp
 pub record IsRight (next_stamp : ℕ) (row : FileRow) : Type 0 where
@@ -49,9 +51,10 @@ pub record IsRight (next_stamp : ℕ) (row : FileRow) : Type 0 where
 abbrev pub IsSearchable : FileRow → Type 0
 IsSearchable row = is_java row.path ≡ true → row.words ≡ Some (words_of row.content.value)
 
--- the rows are right, and the counters within their limits
+-- the rows are right, each path has the id of its row, and the counters are within their limits
 pub record IsSound (inside : Inside) : Type 0 where
   pub rows : All (IsRight inside.next_stamp) inside.files.items
+  pub paths : (path : List ℕ) → id_at inside.paths path ≡ id_of path inside.files.items
   pub few_files : length inside.files.items ≤ max_files
   pub few_entries : inside.entries ≤ max_entries
   pub stamps : inside.next_stamp ≤ inside.entries + 1

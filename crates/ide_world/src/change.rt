@@ -77,7 +77,7 @@ pub fn reserve(state: &mut State, ready: &Ready) -> Result<(), AllocError>
     ensures same { state.new.world ≡ state.old.world }
 {
     match &ready.parts {
-        Parts::Create { .. } => state.files.reserve(1),
+        Parts::Create { path, .. } => state.make_room(path),
         Parts::Write { .. } | Parts::Intake { .. } => Ok(()),
     }
 }

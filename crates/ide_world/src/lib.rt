@@ -5,6 +5,7 @@ mod change;
 mod data;
 mod index;
 mod path;
+mod paths;
 mod reply;
 mod rows;
 mod state;

@@ -1,5 +1,5 @@
 //! The files of a workspace with their index data, and the counters.
-ghost use Rattle.std.specs.Prelude.{◌≡◌, ◌≤◌, ◌<◌, ℕ, All, None, IfOk, IfSome, IsSome, is_some, option_map, length};
+ghost use Rattle.std.specs.Prelude.{◌≡◌, ◌≤◌, ◌<◌, ℕ, All, None, IfOk, IfSome, OnOk, IsTrue, IsNone, IsSome, is_some, option_map, length};
 ghost use Rattle.std.specs.Option.{option_copied};
 ghost use Rattle.write_history.specs.declared.change.Change.TheVariants.{Create, Write, Intake};
 ghost use Rattle.write_history.specs.World.{empty_world, file_at, file_with_id, is_live_at, is_unready, lowest_unready};
@@ -7,10 +7,12 @@ ghost use Rattle.write_history.specs.Effect.{max_files, max_entries};
 ghost use Rattle.write_history.specs.Fold.{effect_of};
 
 use crate::data::Made;
+use crate::paths::{id_at, make_room, set_id};
 use crate::reply::WordRow;
-use crate::rows::{FileRow, is_unready, place_of_path, place_of_unready, rows_with_word};
+use crate::rows::{FileRow, is_unready, place_of_unready, rows_with_word};
 use ide_text::{Name, Text};
 use std::alloc::{AllocError, Global};
+use std::collections::BTreeMap;
 use std::marker::Model;
 use std::sync::Arc;
 
@@ -21,6 +23,8 @@ pub(crate) const MAX_FILES: usize = 65_536;
 #[derive(Drop)]
 pub struct State {
     pub(crate) files: Vec<FileRow>,
+    /// The id of each file by its path.
+    pub(crate) paths: BTreeMap<Name, u32>,
     pub(crate) next_stamp: u64,
     pub(crate) entries: u64,
 }
@@ -43,13 +47,14 @@ pub fn empty(alloc: Global) -> Result<State, AllocError>
 {
     Ok(State {
         files: Vec::new(alloc),
+        paths: BTreeMap::new(alloc),
         next_stamp: 1,
         entries: 0,
     })
 }
 
 impl State {
-    ghost use Rattle.ide_world.specs.Prepared.{task_with_id};
+    ghost use Rattle.ide_world.specs.Prepared.{task_with_id, has_name};
     ghost use Rattle.ide_world.specs.Reply.{word_rows};
     ghost use Rattle.ide_world.specs.Rows.{file_of};
 
@@ -57,7 +62,7 @@ impl State {
     pub(crate) fn has_file_at(&self, path: &Name) -> bool
         ensures { result ≡ is_some (file_at self.now.world path.now) }
     {
-        place_of_path(&self.files, path).is_some()
+        id_at(&self.paths, path) != 0
     }
 
     /// The row of a live file.
@@ -126,13 +131,26 @@ impl State {
         rows_with_word(alloc, &self.files, name)
     }
 
+    /// Makes room for one file more, at a path.
+    pub(crate) fn make_room(&mut self, path: &Name) -> Result<(), AllocError>
+        ensures spare { OnOk result (0 < self.new.spare) }
+        ensures name { OnOk result (IsTrue (has_name self.new.names path.now)) }
+        ensures same { self.new.world ≡ self.old.world }
+    {
+        self.files.reserve(1)?;
+        make_room(&mut self.paths, path)
+    }
+
     /// Adds a file.
     pub(crate) fn add(&mut self, path: Name, text: Arc<Text>)
         requires room { 0 < self.old.spare }
+        requires name { IsTrue (has_name self.old.names path) }
+        requires path { IsNone (file_at self.old.world path) }
         requires files { length self.old.world.files < max_files }
         requires entries { self.old.world.entries < max_entries }
         ensures { self.new.world ≡ effect_of self.old.world (Create path text.value) }
     {
+        set_id(&mut self.paths, &path, self.files.len() as u32 + 1);
         let row = FileRow {
             path,
             content: text,
@@ -153,10 +171,8 @@ impl State {
         requires entries { self.old.world.entries < max_entries }
         ensures { self.new.world ≡ effect_of self.old.world (Write path.now text.value) }
     {
-        let Some(place) = place_of_path(&self.files, path) else {
-            unreachable!()
-        };
-        let row = &mut self.files[place];
+        let id = id_at(&self.paths, path);
+        let row = &mut self.files[id as usize - 1];
         row.content = text;
         row.stamp = self.next_stamp;
         self.next_stamp += 1;

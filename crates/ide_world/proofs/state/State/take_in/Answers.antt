@@ -9,6 +9,7 @@ use Rattle.write_history.specs.Fold.{effect_of}
 use Rattle.java_tokens.specs.Words.{words_of}
 use Rattle.ide_world.specs.declared.rows.FileRow.{FileRow}
 use Rattle.ide_world.specs.Rows.{IsRight}
+use Rattle.ide_world.proofs.PathIdLemmas.{id_of-set}
 use Rattle.ide_world.proofs.RowLemmas.{with_first-files_from, IsFirst-id}
 use Rattle.ide_world.proofs.StateLemmas.{id_of_row, file_of_row, same_world}
 use Rattle.ide_world.proofs.state.State.take_in.Goals as goal
@@ -33,6 +34,7 @@ invariant_of-self c =
     let content : row.content.value ≡ made.text.value = subst (λ o. IfSome o (λ file. file.content ≡ made.text.value)) found c.requires.content in
     let was : IsRight inside.next_stamp row = subst (IsRight inside.next_stamp) (sym at) (c.self.invariant.rows (made.file - 1) row (omega (arith, within))) in record {
       rows = All-set (IsRight inside.next_stamp) rows (made.file - 1) new (record { stamp = was.stamp; indexed = omega (arith, stamp, was.stamp); words = λ e. ap Some (made.of_text ∙ ap words_of (sym content)) }) c.self.invariant.rows;
+      paths = λ path. c.self.invariant.paths path ∙ id_of-set rows (made.file - 1) row new (omega (arith, within)) at refl path;
       few_files = omega (arith, length-set rows (made.file - 1) new, c.self.invariant.few_files);
       few_entries = omega (arith, ap (λ h. h.world.entries) c.self.view_is, c.requires.entries);
       stamps = omega (arith, c.self.invariant.stamps);
