@@ -5,4 +5,6 @@ pub mod Reply
 -- How a state is kept
 pub mod Paths
 pub mod Rows
+pub mod Unready
+pub mod State
 pub mod Parts

@@ -9,6 +9,7 @@ mod paths;
 mod reply;
 mod rows;
 mod state;
+mod unready;
 
 pub use change::{Ready, install, prepare, prepare_intake, reserve};
 pub use data::{Job, Made};

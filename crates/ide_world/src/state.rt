@@ -7,9 +7,10 @@ ghost use Rattle.write_history.specs.Effect.{max_files, max_entries};
 ghost use Rattle.write_history.specs.Fold.{effect_of};
 
 use crate::data::Made;
-use crate::paths::{id_at, make_room, set_id};
+use crate::path::is_java_source;
 use crate::reply::WordRow;
-use crate::rows::{FileRow, is_unready, place_of_unready, rows_with_word};
+use crate::rows::{FileRow, is_unready, rows_with_word};
+use crate::{paths, unready};
 use ide_text::{Name, Text};
 use std::alloc::{AllocError, Global};
 use std::collections::BTreeMap;
@@ -25,6 +26,8 @@ pub struct State {
     pub(crate) files: Vec<FileRow>,
     /// The id of each file by its path.
     pub(crate) paths: BTreeMap<Name, u32>,
+    /// The ids of the unready files are on.
+    pub(crate) unready: BTreeMap<u32, bool>,
     pub(crate) next_stamp: u64,
     pub(crate) entries: u64,
 }
@@ -34,7 +37,7 @@ impl Model for State {
 
     ghost Value = { Held };
 
-    ghost use Rattle.ide_world.specs.Rows.{held, IsSound};
+    ghost use Rattle.ide_world.specs.State.{held, IsSound};
 
     ghost view = { held };
 
@@ -48,13 +51,14 @@ pub fn empty(alloc: Global) -> Result<State, AllocError>
     Ok(State {
         files: Vec::new(alloc),
         paths: BTreeMap::new(alloc),
+        unready: BTreeMap::new(alloc),
         next_stamp: 1,
         entries: 0,
     })
 }
 
 impl State {
-    ghost use Rattle.ide_world.specs.Prepared.{task_with_id, has_name};
+    ghost use Rattle.ide_world.specs.Prepared.{task_with_id, HasRoomForFile, HasRoomForText};
     ghost use Rattle.ide_world.specs.Reply.{word_rows};
     ghost use Rattle.ide_world.specs.Rows.{file_of};
 
@@ -62,7 +66,7 @@ impl State {
     pub(crate) fn has_file_at(&self, path: &Name) -> bool
         ensures { result ≡ is_some (file_at self.now.world path.now) }
     {
-        id_at(&self.paths, path) != 0
+        paths::id_at(&self.paths, path) != 0
     }
 
     /// The row of a live file.
@@ -101,16 +105,15 @@ impl State {
     pub(crate) fn lowest_unready(&self) -> Option<u32>
         ensures { result ≡ option_map (λ file. file.id) (lowest_unready self.now.world) }
     {
-        let place = place_of_unready(&self.files)?;
-        Some(place as u32 + 1)
+        unready::lowest(&self.unready)
     }
 
     /// The path of the unready file with the lowest id.
     pub(crate) fn lowest_unready_path(&self) -> Option<&Name>
         ensures { option_copied result ≡ option_map (λ file. file.path) (lowest_unready self.now.world) }
     {
-        let place = place_of_unready(&self.files)?;
-        Some(&self.files[place].path)
+        let id = unready::lowest(&self.unready)?;
+        Some(&self.files[id as usize - 1].path)
     }
 
     /// The row of a file, where it is unready.
@@ -132,25 +135,36 @@ impl State {
     }
 
     /// Makes room for one file more, at a path.
-    pub(crate) fn make_room(&mut self, path: &Name) -> Result<(), AllocError>
-        ensures spare { OnOk result (0 < self.new.spare) }
-        ensures name { OnOk result (IsTrue (has_name self.new.names path.now)) }
+    pub(crate) fn make_room_for_file(&mut self, path: &Name) -> Result<(), AllocError>
+        ensures room { OnOk result (HasRoomForFile self.new path.now) }
         ensures same { self.new.world ≡ self.old.world }
     {
+        let id = self.files.len() as u32 + 1;
         self.files.reserve(1)?;
-        make_room(&mut self.paths, path)
+        paths::make_room(&mut self.paths, path)?;
+        unready::make_room(&mut self.unready, id, is_java_source(path))
+    }
+
+    /// Makes room for new content of the file at a path.
+    pub(crate) fn make_room_for_text(&mut self, path: &Name) -> Result<(), AllocError>
+        ensures room { OnOk result (HasRoomForText self.new path.now) }
+        ensures same { self.new.world ≡ self.old.world }
+    {
+        let id = paths::id_at(&self.paths, path);
+        unready::make_room(&mut self.unready, id, id != 0 && is_java_source(path))
     }
 
     /// Adds a file.
     pub(crate) fn add(&mut self, path: Name, text: Arc<Text>)
-        requires room { 0 < self.old.spare }
-        requires name { IsTrue (has_name self.old.names path) }
+        requires room { HasRoomForFile self.old path }
         requires path { IsNone (file_at self.old.world path) }
         requires files { length self.old.world.files < max_files }
         requires entries { self.old.world.entries < max_entries }
         ensures { self.new.world ≡ effect_of self.old.world (Create path text.value) }
     {
-        set_id(&mut self.paths, &path, self.files.len() as u32 + 1);
+        let id = self.files.len() as u32 + 1;
+        paths::set_id(&mut self.paths, &path, id);
+        unready::turn_on(&mut self.unready, id, is_java_source(&path));
         let row = FileRow {
             path,
             content: text,
@@ -167,11 +181,13 @@ impl State {
 
     /// Gives a live file new content.
     pub(crate) fn write(&mut self, path: &Name, text: Arc<Text>)
+        requires room { HasRoomForText self.old path.now }
         requires file { IsSome (file_at self.old.world path.now) }
         requires entries { self.old.world.entries < max_entries }
         ensures { self.new.world ≡ effect_of self.old.world (Write path.now text.value) }
     {
-        let id = id_at(&self.paths, path);
+        let id = paths::id_at(&self.paths, path);
+        unready::turn_on(&mut self.unready, id, is_java_source(path));
         let row = &mut self.files[id as usize - 1];
         row.content = text;
         row.stamp = self.next_stamp;
@@ -187,6 +203,7 @@ impl State {
         requires entries { self.old.world.entries < max_entries }
         ensures { self.new.world ≡ effect_of self.old.world (Intake made.file made.stamp) }
     {
+        unready::turn_off(&mut self.unready, made.file);
         let row = &mut self.files[made.file as usize - 1];
         row.indexed = Some(made.stamp);
         row.words = Some(made.words);
