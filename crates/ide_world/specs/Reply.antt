@@ -16,7 +16,7 @@ row_with_mask path (Some mask) = record { path = path; mask = mask } ∷ []
 -- a live Java file whose shown text has the word gives a row, and no other file does
 abbrev pub word_row : World → List ℕ → File → List WordRow
 word_row world name file =
-    if file.live && is_java file.path then row_with_mask file.path (mask_in name (words_of (shown_text world file))) else []
+    if file.live && is_java file.path then row_with_mask file.path (mask_in (words_of (shown_text world file)) name) else []
 
 -- the rows of a word, in order of ids
 abbrev pub word_rows : World → List ℕ → List WordRow

@@ -1,42 +1,22 @@
-//! Stand-in.
+//! The tokens and the words of a Java text (Java Language Specification, chapter 3).
 #![tactic(auto)]
-ghost use Rattle.std.specs.Prelude.{◌≡◌, IfOk, []};
-ghost use Rattle.java_tokens.specs.Words.{words_of, mask_in};
 
-use ide_text::{Name, Text};
-use std::alloc::{AllocError, Global};
-use std::marker::Model;
+mod chars;
+mod gather;
+mod identifier;
+mod kind;
+mod piece;
+mod place;
+mod reserved;
+mod scan;
+mod token;
+mod tokenizer;
+mod word_list;
 
-#[derive(Drop)]
-pub struct WordList {
-    items: Vec<(Name, u8)>,
-}
-
-impl Model for WordList {
-    ghost use Rattle.std.specs.Prelude.{List, ℕ, []};
-
-    ghost Value = { List (List ℕ × ℕ) };
-
-    ghost view = { λ w. [] };
-}
-
-impl WordList {
-    pub fn new(alloc: Global) -> WordList
-        ensures { result ≡ [] }
-    {
-        WordList { items: Vec::new(alloc) }
-    }
-
-    pub fn mask_of(&self, _name: &Name) -> Option<u8>
-        ensures { result ≡ mask_in _name.now self.now }
-    {
-        let _ = &self.items;
-        None
-    }
-}
-
-pub fn words(alloc: Global, _text: &Text) -> Result<WordList, AllocError>
-    ensures { IfOk result (λ w. w ≡ words_of _text.now) }
-{
-    Ok(WordList { items: Vec::new(alloc) })
-}
+pub use gather::words;
+pub use identifier::{is_identifier, is_word};
+pub use kind::Kind;
+pub use place::Place;
+pub use token::Token;
+pub use tokenizer::tokens;
+pub use word_list::WordList;

@@ -1,5 +1,5 @@
 -- The world: the files that were ever made, the open documents, and the counters.
-use Rattle.std.specs.Prelude.{ℕ, Bool, false, not, ◌&&◌, List, [], ◌∷◌, filter, find, ◌==◌, bytes_eq, Option, Some, None, is_some}
+use Rattle.std.specs.Prelude.{ℕ, Bool, false, not, ◌&&◌, List, [], filter, find, ◌==◌, bytes_eq, Option, is_some}
 use Rattle.std.specs.Option.{option_map_or}
 use Rattle.write_history.specs.Path.{is_java}
 

@@ -3,6 +3,7 @@
 
 mod change;
 mod history;
+pub mod laws;
 mod print;
 mod refusal;
 

@@ -1,0 +1,91 @@
+#!/usr/bin/env python3
+"""Times the built program `ide` on scripts that this file makes.
+
+    bench/bench.py            all measures
+    bench/bench.py creates    N files, a settle and some words, at N, 2N and 4N
+    bench/bench.py edits      the cost of write, settle and word of one small file in workspaces of three sizes
+    bench/bench.py one        one file of 1,000,000 characters, of ordinary code and of hostile texts
+
+Run `./ide < examples/first.ide` once before, so that the program is built. Times on shared machines say
+little by themselves: read the ratios between the rows of one run.
+"""
+import pathlib
+import subprocess
+import sys
+import time
+
+TOP = pathlib.Path(__file__).resolve().parent.parent
+PROGRAM = TOP / "crates/ide/out/ide"
+
+
+def text(i, size):
+    """A Java text of about `size` characters without a quote or a backslash."""
+    head = f"class C{i} {{ int field{i}; "
+    line = f"void method{i}(int a, int b) {{ return a + b * field{i}; }} "
+    body = head + line * max(0, (size - len(head)) // len(line))
+    return (body + "/" + "/" + "x" * max(0, size - len(body) - 3) + "}")[:size]
+
+
+def run(script):
+    """Seconds that the program takes on a script; the least of three runs."""
+    data = script.encode()
+    best = None
+    for _ in range(3):
+        start = time.perf_counter()
+        done = subprocess.run([PROGRAM], input=data, stdout=subprocess.PIPE, stderr=subprocess.PIPE)
+        took = time.perf_counter() - start
+        if done.returncode != 0:
+            sys.exit(f"the program ended with {done.returncode}: {done.stderr.decode()}")
+        best = took if best is None else min(best, took)
+    return best
+
+
+def workspace(files, size):
+    """Creates of so many files, and a settle."""
+    lines = [f'create f{i}.java "{text(i, size)}"' for i in range(files)]
+    return "\n".join(lines + ["settle", ""])
+
+
+def creates(files=500, size=5000, words=100):
+    print(f"files of {size} characters, a settle and {words} words")
+    for n in (files, 2 * files, 4 * files):
+        script = workspace(n, size) + "".join(f"word method{i}\n" for i in range(words))
+        seconds = run(script)
+        print(f"  {n:6} files  {len(script) / 1e6:7.2f} MB  {seconds:7.3f} s  {len(script) / 1e6 / seconds:7.1f} MB/s")
+
+
+def edits(turns=400, size=500):
+    print(f"write, settle and word of one small file, among files of {size} characters")
+    for n in (200, 2000, 20000):
+        base = workspace(n, size)
+        turn = "".join(f'write f7.java "class D{i} {{}}"\nsettle\nword D{i}\n' for i in range(turns))
+        alone, more = run(base), run(base + turn)
+        rate = len(base) / 1e6 / alone
+        print(f"  {n:6} files  {len(base) / 1e6:7.2f} MB  {alone:7.3f} s  {rate:6.1f} MB/s  {(more - alone) / turns * 1e6:9.1f} us a turn")
+
+
+def one(size=1_000_000):
+    print(f"one file of {size} characters")
+    texts = {
+        "code": text(1, size),
+        "/*/*/*": ("/*" * size)[:size],
+        "slashes": "/" * size,
+        "spaces": " " * size,
+        "quotes": ('\\"' * size)[: 2 * size],
+        "backslashes": ("\\\\" * size)[: 2 * size],
+        "a b a b": ("a b " * size)[:size],
+    }
+    for name, body in texts.items():
+        script = f'create A.java "{body}"\nsettle\nword a\n'
+        seconds = run(script)
+        print(f"  {name:14} {len(script) / 1e6:7.2f} MB  {seconds:7.3f} s  {len(script) / 1e6 / seconds:7.1f} MB/s")
+
+
+def main():
+    measures = {"creates": creates, "edits": edits, "one": one}
+    for name in sys.argv[1:] or measures:
+        measures[name]()
+
+
+if __name__ == "__main__":
+    main()

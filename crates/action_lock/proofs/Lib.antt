@@ -1,0 +1,12 @@
+pub mod WordLemmas
+pub mod Placing
+pub mod Sound
+pub mod LookStep
+pub mod EnterStep
+pub mod HoldStep
+pub mod ExitStep
+pub mod TellStep
+pub mod SplitStep
+pub mod JoinStep
+pub mod Ends
+pub mod ReadLemmas

@@ -1,0 +1,23 @@
+//! A lock with three kinds of hold: read, intent and write. Reads run side by side, and a read can see that a write waits.
+#![tactic(auto)]
+
+mod home;
+mod lock;
+mod pass;
+mod plays;
+mod reading;
+mod refusal;
+mod rule;
+mod steps;
+mod view;
+mod watch;
+mod words;
+
+pub use home::Home;
+pub use lock::ActionLock;
+pub use pass::Pass;
+pub use reading::Reading;
+pub use refusal::{ReadRefusal, SplitRefusal};
+pub use rule::GateRule;
+pub use view::{Ended, Phase, View};
+pub use watch::Watch;

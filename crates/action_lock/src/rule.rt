@@ -1,0 +1,18 @@
+//! The rule that holds of the lock's words, home value and views between any two steps.
+use crate::home::Home;
+use crate::view::View;
+use atomic_table::TableRule;
+use std::marker::PhantomData;
+
+pub struct GateRule<H> {
+    home: PhantomData<H>,
+}
+
+impl<H: Home> TableRule<H, View<H::Entry>, ()> for GateRule<H> {
+    ghost use Rattle.action_lock.specs.Rule.{IsKept};
+    ghost use Rattle.action_lock.specs.Views.{first_view};
+
+    ghost holds = { λ _. IsKept H.number_of H.stands };
+
+    ghost first = { λ _. first_view };
+}

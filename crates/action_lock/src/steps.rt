@@ -1,0 +1,141 @@
+//! The steps on the gate word, one call each.
+ghost use Rattle.std.specs.Prelude.{◌≡◌, ◌≤◌, [], IfOk, IfErr, OnOk, OnErr};
+ghost use Rattle.action_lock.specs.declared.view.Phase.TheVariants.{Out, Backing, Reading};
+ghost use Rattle.action_lock.specs.Words.{has_turn, has_pending};
+ghost use Rattle.action_lock.specs.Passes.{view_of, IsSamePass, IsAt, IsOut, IsInside, IsEntering};
+ghost use Rattle.action_lock.specs.Reads.{HasRead, HasWaited, IsRefused};
+ghost use Rattle.action_lock.specs.Steps.{EntersAt, looked, with_phase};
+
+use crate::home::Home;
+use crate::lock::ActionLock;
+use crate::pass::Pass;
+use crate::plays::{Enter, Exit, Hold, Look};
+use crate::refusal::ReadRefusal;
+use crate::words::{READER, TURN, has_pending, has_turn, sights_after};
+use std::alloc::{AllocError, Global};
+use std::sync::Wait;
+use std::thread;
+
+impl<H: Home> ActionLock<H> {
+    // The one step that decides a read.
+    pub(crate) fn enter(&self, pass: &mut Pass<H>) -> u64
+        requires { IsAt self.now pass.old Out }
+        ensures same { IsSamePass pass.old pass.new }
+        ensures share { pass.new.share ≡ pass.old.share }
+        ensures told { EntersAt H.stands (has_pending result) (has_turn result) pass.old.seat.me result pass.new.seat.me }
+    {
+        let shared = &self.table.shared;
+        let found = shared.fetch_or::<Enter<H>>(&mut pass.seat, 0, TURN);
+        pass.sights = sights_after(pass.sights, found);
+        found
+    }
+
+    // The home value is given back, and the pass is counted as a reader.
+    pub(crate) fn hold(&self, pass: &mut Pass<H>)
+        requires { IsEntering self.now pass.old }
+        ensures same { IsSamePass pass.old pass.new }
+        ensures share { pass.new.share ≡ pass.old.share }
+        ensures view { pass.new.seat.me ≡ (with_phase Reading (view_of pass.old), []) }
+    {
+        let shared = &self.table.shared;
+        shared.fetch_add::<Hold>(&mut pass.seat, 0, READER - TURN);
+    }
+
+    // A reader leaves.
+    pub(crate) fn exit(&self, pass: &mut Pass<H>)
+        requires { IsAt self.now pass.old Reading }
+        ensures same { IsSamePass pass.old pass.new }
+        ensures share { pass.new.share ≡ pass.old.share }
+        ensures view { pass.new.seat.me ≡ (with_phase Out (view_of pass.old), []) }
+    {
+        let shared = &self.table.shared;
+        shared.fetch_sub::<Exit>(&mut pass.seat, 0, READER);
+    }
+
+    // The turn is given back, with nothing done.
+    pub(crate) fn back(&self, pass: &mut Pass<H>)
+        requires { IsAt self.now pass.old Backing }
+        ensures same { IsSamePass pass.old pass.new }
+        ensures share { pass.new.share ≡ pass.old.share }
+        ensures view { pass.new.seat.me ≡ (with_phase Out (view_of pass.old), []) }
+    {
+        let shared = &self.table.shared;
+        shared.fetch_sub::<Exit>(&mut pass.seat, 0, TURN);
+    }
+
+    pub(crate) fn look_at_gate(&self, pass: &mut Pass<H>) -> u64
+        requires { IsAt self.now pass.old Reading }
+        ensures same { IsSamePass pass.old pass.new }
+        ensures share { pass.new.share ≡ pass.old.share }
+        ensures view { pass.new.seat.me ≡ (looked result (view_of pass.old), []) }
+        ensures kept { (view_of pass.old).sights ≤ (view_of pass.new).sights }
+    {
+        let shared = &self.table.shared;
+        let found = shared.load::<Look>(&mut pass.seat, 0);
+        pass.sights = sights_after(pass.sights, found);
+        found
+    }
+
+    // A share of the home value that the pass has in hand.
+    fn share_in_hand(&self, alloc: Global, pass: &mut Pass<H>) -> Result<H::Share, AllocError>
+        requires { IsEntering self.now pass.old }
+        ensures same { IsSamePass pass.old pass.new }
+        ensures view { view_of pass.new ≡ view_of pass.old }
+        ensures entering { IsEntering self.now pass.new }
+        ensures kept { pass.new.share ≡ pass.old.share }
+        ensures share { IfOk result (λ share. H.share_stands share (view_of pass.old).seen) }
+    {
+        let home = pass.seat.slot_mut(&self.table.shared, 0);
+        home.share(alloc)
+    }
+
+    // One attempt to read, by any pass that is out.
+    pub(crate) fn try_enter(&self, alloc: Global, pass: &mut Pass<H>) -> Result<(), ReadRefusal>
+        requires { IsOut self.now pass.old }
+        ensures same { IsSamePass pass.old pass.new }
+        ensures ok { OnOk result (IsInside self.now pass.new × HasRead Reading (view_of pass.old) (view_of pass.new)) }
+        ensures err { IfErr result (λ refusal. IsOut self.now pass.new × IsRefused refusal (view_of pass.old) (view_of pass.new)) }
+    {
+        let found = self.enter(pass);
+        if has_pending(found) {
+            if !has_turn(found) {
+                self.back(pass);
+            }
+            return Err(ReadRefusal::Pending { word: found });
+        }
+        if has_turn(found) {
+            return Err(ReadRefusal::Turn { word: found });
+        }
+        let share = self.share_in_hand(alloc, pass);
+        self.hold(pass);
+        let Ok(share) = share else {
+            self.exit(pass);
+            return Err(ReadRefusal::OutOfMemory);
+        };
+        pass.keep(share);
+        Ok(())
+    }
+
+    // Tries again until it is let in, or finds no memory.
+    pub(crate) fn enter_waiting<R: Wait>(
+        &self,
+        rt: &R,
+        alloc: Global,
+        pass: &mut Pass<H>,
+    ) -> Result<(), AllocError>
+        requires { IsOut self.now pass.old }
+        ensures same { IsSamePass pass.old pass.new }
+        ensures ok { OnOk result (IsInside self.now pass.new × HasWaited Reading (view_of pass.old) (view_of pass.new)) }
+        ensures err { OnErr result (IsOut self.now pass.new × HasWaited Out (view_of pass.old) (view_of pass.new)) }
+    {
+        for _ in rt.forever() {
+            match self.try_enter(alloc, pass) {
+                Ok(()) => return Ok(()),
+                Err(ReadRefusal::OutOfMemory) => return Err(AllocError),
+                Err(ReadRefusal::Pending { word: _ }) => thread::yield_now(),
+                Err(ReadRefusal::Turn { word: _ }) => thread::yield_now(),
+            }
+        }
+        unreachable!()
+    }
+}

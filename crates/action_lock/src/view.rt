@@ -1,0 +1,49 @@
+//! What the lock's rule knows of one seat. No value of these types is made.
+use std::collections::LinkedList;
+
+/// What the seat does.
+pub enum Phase {
+    Out,
+    /// It has the turn and the home value, to read.
+    Entering,
+    /// It has the turn, and gives it back.
+    Backing,
+    Reading,
+    /// It has set the pending mark, and waits for the readers to leave.
+    Asking,
+    /// It has the turn and the home value, to write.
+    Writing,
+}
+
+/// What a pass that was met has left.
+pub struct Ended<E> {
+    pub number: u32,
+    pub entries: LinkedList<E>,
+    pub sights: u64,
+}
+
+pub struct View<E> {
+    pub number: Option<u32>,
+    /// Of number 0: how many numbers were given, its own included.
+    pub drawn: u64,
+    pub phase: Phase,
+    pub intent: bool,
+    /// What it has seen is the whole history until it releases its intent.
+    pub current: bool,
+    pub seen: LinkedList<E>,
+    /// The entries that it made.
+    pub mine: LinkedList<E>,
+    /// What a join has left to be told.
+    pub olds: LinkedList<LinkedList<E>>,
+    pub ended: LinkedList<Ended<E>>,
+    /// How often it found the pending mark.
+    pub sights: u64,
+    /// How long what it has seen was at each step that let it in.
+    pub reads: LinkedList<u64>,
+    /// How often it looked at the gate or tried to enter.
+    pub looks: u64,
+    /// How often it found the intent taken.
+    pub held: u64,
+    /// The gate word that it found last.
+    pub last: u64,
+}

@@ -1,0 +1,15 @@
+-- Sources and sinks in memory, as contracts see them.
+use Rattle.std.specs.Prelude.{ℕ, List}
+
+-- the bytes that are left, and how many one read gives at most
+pub record Unread : Type 0 where
+  pub left : List ℕ
+  pub most : ℕ
+
+-- the bytes that were taken, how many more there is room for, how many one write takes at most, and
+-- how many faults there were
+pub record Filled : Type 0 where
+  pub taken : List ℕ
+  pub room : ℕ
+  pub most : ℕ
+  pub faults : ℕ

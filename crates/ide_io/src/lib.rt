@@ -1,0 +1,38 @@
+//! The outside world as three traits: a source of bytes, a tree of files and a sink of bytes.
+//!
+//! Each object counts its faults, and a call that answers `Failed` has raised that count. Objects
+//! in memory tell the bytes that they hold, so that contracts speak of them; the adapters over
+//! the system tell none.
+#![tactic(auto)]
+
+mod bytes_sink;
+mod bytes_source;
+mod failed;
+mod failing;
+mod fault_count;
+mod fault_plan;
+mod folder_tree;
+mod memory_tree;
+mod reader_source;
+mod reading;
+mod sink;
+mod source;
+mod tree;
+mod writer_sink;
+mod writing;
+
+pub use crate::bytes_sink::BytesSink;
+pub use crate::bytes_source::BytesSource;
+pub use crate::failed::Failed;
+pub use crate::failing::Failing;
+pub use crate::fault_count::FaultCount;
+pub use crate::fault_plan::FaultPlan;
+pub use crate::folder_tree::FolderTree;
+pub use crate::memory_tree::MemoryTree;
+pub use crate::reader_source::{ReaderSource, StdinSource};
+pub use crate::reading::{ReadAllError, read_all};
+pub use crate::sink::Sink;
+pub use crate::source::Source;
+pub use crate::tree::{MAX_FILE_LEN, ReadFileError, Tree};
+pub use crate::writer_sink::{StdoutSink, WriterSink};
+pub use crate::writing::write_all;

@@ -1,0 +1,57 @@
+//! Where files are read.
+
+ghost use Rattle.std.specs.Prelude.{◌≡◌, ◌≢◌, ◌≤◌, ℕ, Option, Some, Err, vec_len, IfOk, IfSome, IsErrOf};
+ghost use Rattle.ide_io.specs.Fault.{HasFault};
+ghost use Rattle.ide_io.specs.Files.{Files};
+ghost use Rattle.ide_io.specs.declared.tree.ReadFileError.TheVariants as variant;
+
+use crate::failed::Failed;
+use ide_text::Name;
+use std::alloc::{AllocError, Global};
+
+/// The most bytes that a file may have.
+pub const MAX_FILE_LEN: usize = 16_777_216;
+
+/// Why a file wasn't read.
+#[derive(Clone, Copy, Debug, PartialEq, Eq)]
+pub enum ReadFileError {
+    /// There is no such file, it's too long, or the tree met another fault.
+    Failed,
+    OutOfMemory,
+}
+
+impl From<Failed> for ReadFileError {
+    ghost from_gives = { λ _ e. e ≡ variant.Failed };
+
+    fn from(_failed: Failed) -> ReadFileError {
+        ReadFileError::Failed
+    }
+}
+
+impl From<AllocError> for ReadFileError {
+    ghost from_gives = { λ _ e. e ≡ variant.OutOfMemory };
+
+    fn from(_error: AllocError) -> ReadFileError {
+        ReadFileError::OutOfMemory
+    }
+}
+
+/// Files by their paths.
+pub trait Tree {
+    // The files, where the tree tells them; `None` tells nothing.
+    ghost files: { Self → Option Files };
+
+    // How many faults the tree has met. The count stands still at 2^64 - 1.
+    ghost faults: { Self → ℕ };
+
+    /// The bytes of the file at a path. An absent path is a fault, and so is a file of more than
+    /// `MAX_FILE_LEN` bytes.
+    fn read_file(&mut self, alloc: Global, path: &Name) -> Result<Vec<u8>, ReadFileError>
+        ensures bytes { IfOk result (λ v. IfSome (files self.old) (λ at. at path.now ≡ Some v.items)) }
+        ensures limit { IfOk result (λ v. vec_len v ≤ MAX_FILE_LEN) }
+        ensures files { files self.new ≡ files self.old }
+        ensures never_falls { faults self.old ≤ faults self.new }
+        ensures no_fault { result ≢ Err ReadFileError.Failed → faults self.new ≡ faults self.old }
+        ensures fault { IsErrOf result ReadFileError.Failed
+            → HasFault (faults self.old) (faults self.new) };
+}

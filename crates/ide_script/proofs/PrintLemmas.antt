@@ -1,0 +1,18 @@
+-- Printing the entries of a history, one after another.
+use Rattle.std.proofs.Common.{ℕ, ◌≡◌, ◌+◌, ◌-◌, List, ◌∷◌, ◌++◌, drop, ap, sym, ◌∙◌, subst, arith, append_assoc, slice_get, Some}
+use Rattle.write_history.specs.declared.change.Entry.{Entry}
+use Rattle.write_history.specs.Print.{entry_line}
+use Rattle.ide_script.specs.Transcript.{entry_lines}
+use Rattle.ide_script.proofs.SerialLemmas.{drop_at}
+
+before_position : (n : ℕ) → n + 1 - 1 ≡ n
+before_position n = omega arith
+
+-- one turn: the line of the entry at a position goes last, and the lines of the rest follow it
+pub entries_turn : (out new line all : List ℕ) (entries : List Entry) (n : ℕ) (entry : Entry) → slice_get entries (n + 1 - 1) ≡ Some entry → new ≡ out ++ line → line ≡ entry_line (n + 1) entry
+    → out ++ entry_lines (n + 1) (drop n entries) ≡ all → new ++ entry_lines (n + 1 + 1) (drop (n + 1) entries) ≡ all
+entries_turn out new line all entries n entry is grown printed rest =
+    let here : drop n entries ≡ entry ∷ drop (n + 1) entries = drop_at entries n entry (subst (λ i. slice_get entries i ≡ Some entry) (before_position n) is) in
+    ap (λ bs. bs ++ entry_lines (n + 1 + 1) (drop (n + 1) entries)) (grown ∙ ap (λ l. out ++ l) printed)
+    ∙ append_assoc out (entry_line (n + 1) entry) (entry_lines (n + 1 + 1) (drop (n + 1) entries))
+    ∙ sym (ap (λ es. out ++ entry_lines (n + 1) es) here) ∙ rest

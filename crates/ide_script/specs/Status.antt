@@ -1,0 +1,27 @@
+-- The numbers and the words of the ways in which a run ends.
+use Rattle.std.specs.Prelude.{ℕ, List, ◌++◌, codes}
+use Rattle.std.specs.Fmt.{decimal}
+use Rattle.ide_script.specs.declared.status.Status.{Status}
+use Rattle.ide_script.specs.declared.status.Status.TheVariants.{Done, Usage, BadScript, SourceFault, TreeFault, SinkFault, OutOfMemory, ScriptTooLong}
+
+-- the status of the process
+abbrev pub number_of : Status → ℕ
+number_of Done = 0
+number_of Usage = 1
+number_of (BadScript line) = 2
+number_of SourceFault = 3
+number_of TreeFault = 4
+number_of SinkFault = 5
+number_of OutOfMemory = 6
+number_of ScriptTooLong = 7
+
+-- what the line on standard error says behind the program's name; a run that is done prints none
+abbrev pub fault_text : Status → List ℕ
+fault_text Done = codes "done"
+fault_text Usage = codes "usage"
+fault_text (BadScript line) = codes "bad script line " ++ decimal line
+fault_text SourceFault = codes "source fault"
+fault_text TreeFault = codes "tree fault"
+fault_text SinkFault = codes "sink fault"
+fault_text OutOfMemory = codes "out of memory"
+fault_text ScriptTooLong = codes "script too long"

@@ -1,0 +1,130 @@
+//! Printing the transcript of a run.
+ghost use Rattle.std.specs.Prelude.{◌≡◌, ◌++◌, ℕ, List, IfOk, OnOk, string_bytes};
+ghost use Rattle.std.specs.List.{flat_map};
+ghost use Rattle.ide_script.specs.Transcript.{transcript_of, history_text, entry_lines, record_text, row_line, rows_text, mask_text};
+
+use crate::{Answer, Played, Record};
+use ide_world::WordRow;
+use std::alloc::{AllocError, Global};
+use std::fmt;
+use write_history::{History, line_of};
+
+/// The transcript: the history, then one record for each command, in UTF-8.
+pub fn transcript(alloc: Global, played: &Played) -> Result<Vec<u8>, AllocError>
+    ensures { IfOk result (λ bytes. bytes.items ≡ transcript_of (record { history = played.now.history.entries; records = played.now.records })) }
+{
+    let mut out = Vec::new(alloc);
+    push_history(alloc, &mut out, &played.history)?;
+    push_records(alloc, &mut out, played.records.as_slice())?;
+    Ok(out)
+}
+
+/// Adds the history: its length, then a line for each entry.
+fn push_history(alloc: Global, out: &mut Vec<u8>, history: &History) -> Result<(), AllocError>
+    ensures { OnOk result (out.new.items ≡ out.old.items ++ history_text history.now.entries) }
+{
+    let len = history.len();
+    push_text(out, &format!(in alloc; "history {len}\n")?)?;
+    push_entries(alloc, out, history)
+}
+
+/// Adds a line for each entry.
+fn push_entries(alloc: Global, out: &mut Vec<u8>, history: &History) -> Result<(), AllocError>
+    ensures { OnOk result (out.new.items ≡ out.old.items ++ entry_lines 1 history.now.entries) }
+{
+    for before in 0..history.len() {
+        let position = before + 1;
+        let line = line_of(alloc, position, history.get(position))?;
+        out.extend_from_slice(&line)?;
+    }
+    Ok(())
+}
+
+/// Adds the records.
+fn push_records(alloc: Global, out: &mut Vec<u8>, replies: &[Record]) -> Result<(), AllocError>
+    ensures { OnOk result (out.new.items ≡ out.old.items ++ flat_map record_text replies.now) }
+{
+    for reply in replies {
+        push_record(alloc, out, reply)?;
+    }
+    Ok(())
+}
+
+/// Adds a record with its rows.
+fn push_record(alloc: Global, out: &mut Vec<u8>, reply: &Record) -> Result<(), AllocError>
+    ensures { OnOk result (out.new.items ≡ out.old.items ++ record_text reply.now) }
+{
+    let line = reply.line;
+    let answer = &reply.answer;
+    push_text(out, &format!(in alloc; "{line} at {answer}\n")?)?;
+    push_answer_rows(alloc, out, answer)
+}
+
+/// Adds the rows of an answer.
+fn push_answer_rows(alloc: Global, out: &mut Vec<u8>, answer: &Answer) -> Result<(), AllocError>
+    ensures { OnOk result (out.new.items ≡ out.old.items ++ rows_text answer.now) }
+{
+    match answer {
+        Answer::Words { at: _, rows } => push_rows(alloc, out, rows.as_slice()),
+        _ => Ok(()),
+    }
+}
+
+/// Adds the lines of files that have a word.
+fn push_rows(alloc: Global, out: &mut Vec<u8>, rows: &[WordRow]) -> Result<(), AllocError>
+    ensures { OnOk result (out.new.items ≡ out.old.items ++ flat_map row_line rows.now) }
+{
+    for row in rows {
+        push_row(alloc, out, row)?;
+    }
+    Ok(())
+}
+
+/// Adds the line of a file that has a word.
+fn push_row(alloc: Global, out: &mut Vec<u8>, row: &WordRow) -> Result<(), AllocError>
+    ensures { OnOk result (out.new.items ≡ out.old.items ++ row_line row.now) }
+{
+    let path = &row.path;
+    let places = places(row.mask);
+    push_text(out, &format!(in alloc; "  {path} {places}\n")?)
+}
+
+/// Adds a text.
+fn push_text(out: &mut Vec<u8>, text: &String) -> Result<(), AllocError>
+    ensures { OnOk result (out.new.items ≡ out.old.items ++ string_bytes text.now) }
+{
+    out.extend_from_slice(text.as_bytes())
+}
+
+/// The places of a mask, as the transcript names them.
+fn places(mask: u8) -> &'static str
+    ensures { result.now ≡ mask_text mask }
+{
+    match (mask & 1 != 0, mask & 2 != 0, mask & 4 != 0) {
+        (false, false, false) => "",
+        (true, false, false) => "code",
+        (false, true, false) => "comment",
+        (true, true, false) => "code+comment",
+        (false, false, true) => "string",
+        (true, false, true) => "code+string",
+        (false, true, true) => "comment+string",
+        (true, true, true) => "code+comment+string",
+    }
+}
+
+impl fmt::Display for Answer {
+    ghost use Rattle.std.specs.Prelude.{Some};
+    ghost use Rattle.ide_script.specs.Transcript.{head_text};
+
+    ghost output = { λ answer. Some (head_text answer) };
+
+    fn fmt<W: fmt::Write>(&self, f: &mut fmt::Formatter<W>) -> fmt::Result {
+        match self {
+            Answer::Accepted { at } => write!(f, "{at} accepted"),
+            Answer::Refused { at, why } => write!(f, "{at} refused {why}"),
+            Answer::Smart { at } => write!(f, "{at} smart"),
+            Answer::NotReady { at, path } => write!(f, "{at} not-ready {path}"),
+            Answer::Words { at, rows } => write!(f, "{at} rows {}", rows.len()),
+        }
+    }
+}

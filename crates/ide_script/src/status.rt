@@ -1,0 +1,60 @@
+//! How a run of the program ends.
+ghost use Rattle.std.specs.Prelude.{◌≡◌};
+ghost use Rattle.ide_script.specs.Status.{number_of};
+
+use std::fmt;
+
+/// How a run of the program ends. `main` ends with its number.
+#[derive(Clone, Copy, Debug, PartialEq, Eq)]
+pub enum Status {
+    /// The script was read to its end and the whole transcript written.
+    Done,
+    /// The words are outside the grammar of the command line.
+    Usage,
+    /// The first line outside the grammar of scripts.
+    BadScript { line: u32 },
+    SourceFault,
+    TreeFault,
+    SinkFault,
+    OutOfMemory,
+    /// The script has more bytes than a script may have.
+    ScriptTooLong,
+}
+
+impl Status {
+    /// The status with which the process ends.
+    pub fn number(self) -> u8
+        ensures { result ≡ number_of self }
+    {
+        match self {
+            Status::Done => 0,
+            Status::Usage => 1,
+            Status::BadScript { .. } => 2,
+            Status::SourceFault => 3,
+            Status::TreeFault => 4,
+            Status::SinkFault => 5,
+            Status::OutOfMemory => 6,
+            Status::ScriptTooLong => 7,
+        }
+    }
+}
+
+impl fmt::Display for Status {
+    ghost use Rattle.std.specs.Prelude.{Some};
+    ghost use Rattle.ide_script.specs.Status.{fault_text};
+
+    ghost output = { λ status. Some (fault_text status) };
+
+    fn fmt<W: fmt::Write>(&self, f: &mut fmt::Formatter<W>) -> fmt::Result {
+        match self {
+            Status::Done => write!(f, "done"),
+            Status::Usage => write!(f, "usage"),
+            Status::BadScript { line } => write!(f, "bad script line {line}"),
+            Status::SourceFault => write!(f, "source fault"),
+            Status::TreeFault => write!(f, "tree fault"),
+            Status::SinkFault => write!(f, "sink fault"),
+            Status::OutOfMemory => write!(f, "out of memory"),
+            Status::ScriptTooLong => write!(f, "script too long"),
+        }
+    }
+}

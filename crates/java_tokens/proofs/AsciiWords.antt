@@ -1,0 +1,36 @@
+-- ASCII words against a text, by its bytes or by its characters.
+use Rattle.std.proofs.Common.{◌≡◌, ℕ, zero, suc, ◌<◌, Bool, true, false, ◌&&◌, ◌||◌, List, [], ◌∷◌, get_or, ltb, IsUtf8, refl, sym, ap, ◌∙◌, subst, arith}
+use Rattle.std.specs.Borrow.{Bor}
+use Rattle.std.specs.List.{list_any, list_all}
+use Rattle.std.specs.Char.{is_ascii}
+use Rattle.std.specs.Str.{bytes_eq, chars, IsAscii}
+use Rattle.std.proofs.lemmas.Bool.{ltb-true, and_parts}
+use Rattle.std.proofs.lemmas.Bool.Decides.{same_from_decides}
+use Rattle.std.proofs.lemmas.Slice.Eq.{bytes_eq-Decides}
+use Rattle.std.proofs.lemmas.Str.{chars-IsAscii, encodes-IsAscii, encodes-chars}
+use lib.Utf8.{encodes}
+
+ascii_at : (word : List ℕ) → list_all is_ascii word ≡ true → IsAscii word
+ascii_at [] ascii i = omega arith
+ascii_at (b ∷ word) ascii zero = ltb-true b 128 (and_parts _ _ ascii).0
+ascii_at (b ∷ word) ascii (suc i) = ascii_at word (and_parts _ _ ascii).1 i
+
+-- an ASCII word has the bytes of a text exactly if it has its characters
+bytes_eq-chars : (word bytes : List ℕ) → list_all is_ascii word ≡ true → IsUtf8 bytes → bytes_eq word bytes ≡ bytes_eq word (chars bytes)
+bytes_eq-chars word bytes ascii utf8 =
+    let plain = ascii_at word ascii in
+    let by_bytes = bytes_eq-Decides word bytes in
+    let by_chars = bytes_eq-Decides word (chars bytes) in
+    same_from_decides (bytes_eq word bytes) (bytes_eq word (chars bytes)) by_bytes (
+      (λ same. sym (encodes-IsAscii word plain) ∙ ap encodes (by_chars.0 same) ∙ encodes-chars bytes utf8),
+      (λ same. by_chars.1 (sym (chars-IsAscii word plain) ∙ ap chars same)),
+    )
+
+-- one of some ASCII words has the bytes of a text exactly if one has its characters
+pub any_word-chars : (words : List (Bor (List ℕ))) (bytes : List ℕ) → list_all (λ word. list_all is_ascii word.now) words ≡ true → IsUtf8 bytes
+    → list_any (λ word. bytes_eq word.now bytes) words ≡ list_any (λ word. bytes_eq word.now (chars bytes)) words
+any_word-chars [] bytes ascii utf8 = refl
+any_word-chars (word ∷ words) bytes ascii utf8 =
+    let parts = and_parts (list_all is_ascii word.now) (list_all (λ w. list_all is_ascii w.now) words) ascii in
+    ap (λ b. b || list_any (λ w. bytes_eq w.now bytes) words) (bytes_eq-chars word.now bytes parts.0 utf8)
+    ∙ ap (λ b. bytes_eq word.now (chars bytes) || b) (any_word-chars words bytes parts.1 utf8)

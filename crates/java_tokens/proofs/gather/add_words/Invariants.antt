@@ -1,0 +1,13 @@
+use Rattle.std.proofs.Common.{◌≡◌, ◌+◌, ◌-◌, length, drop}
+use Rattle.std.specs.Prelude.{fold}
+use Rattle.java_tokens.specs.Words.{with_occurrence, words_at}
+use Rattle.java_tokens.proofs.gather.add_words.Given as goal
+
+-- the words so far with those of the rest are those of the piece
+abbrev pub invariant-loop-c : goal.invariant-loop-c
+invariant-loop-c l =
+    fold with_occurrence l.masks.entries (words_at l.place (drop l.at l.piece))
+    ≡ fold with_occurrence l.initial.masks.entries (words_at l.place l.piece)
+
+abbrev pub decreases-loop-c : goal.decreases-loop-c
+decreases-loop-c l = length l.piece + 2 - l.at

@@ -1,0 +1,13 @@
+use Rattle.std.proofs.Common.{◌≡◌, ℕ, ◌-◌, ◌≤◌, IfOk, length, take, drop, List, ap, ◌∙◌, subst, arith, length-take}
+use Rattle.java_tokens.proofs.Pieces.{part-part}
+use Rattle.java_tokens.proofs.piece.Piece.name.Goals as goal
+
+-- the text's part is the piece's
+pub returns : goal.returns
+returns c =
+    let p = c.self.inside in
+    let inside : c.args.to ≤ p.to - p.from = omega (arith, ap length c.self.view_is, length-take (p.to - p.from) (drop p.from p.text.now)) in
+    subst (λ (cs : List ℕ). IfOk c.of_text.result (λ name. name ≡ cs))
+    (part-part p.text.now p.from (p.to - p.from) c.args.from c.args.to c.requires.ordered inside
+    ∙ ap (λ cs. take (c.args.to - c.args.from) (drop c.args.from cs)) c.self.view_is)
+    c.of_text.ensures

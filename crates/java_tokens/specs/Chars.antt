@@ -1,0 +1,73 @@
+-- The characters that the lexical grammar tells apart (Java Language Specification, chapter 3).
+use Rattle.std.specs.Prelude.{ℕ, Bool, true, false, not, ◌&&◌, ◌||◌, ◌==◌, List, [], ◌∷◌}
+use Rattle.unicode_ident.specs.Ident.{is_xid_start, is_xid_continue}
+
+abbrev pub tab : ℕ
+tab = 9
+
+abbrev pub line_feed : ℕ
+line_feed = 10
+
+abbrev pub form_feed : ℕ
+form_feed = 12
+
+abbrev pub space : ℕ
+space = 32
+
+abbrev pub double_quote : ℕ
+double_quote = 34
+
+abbrev pub dollar : ℕ
+dollar = 36
+
+abbrev pub single_quote : ℕ
+single_quote = 39
+
+abbrev pub asterisk : ℕ
+asterisk = 42
+
+abbrev pub dot : ℕ
+dot = 46
+
+abbrev pub slash : ℕ
+slash = 47
+
+abbrev pub digit_zero : ℕ
+digit_zero = 48
+
+abbrev pub backslash : ℕ
+backslash = 92
+
+abbrev pub underscore : ℕ
+underscore = 95
+
+-- WhiteSpace and LineTerminator; a text has no other line break than a line feed
+abbrev pub is_white_space : ℕ → Bool
+is_white_space c = c == space || c == tab || c == form_feed || c == line_feed
+
+-- InputCharacter: what may stand in a line
+abbrev pub is_in_line : ℕ → Bool
+is_in_line c = not (c == line_feed)
+
+-- JavaLetter: what may begin a word
+abbrev pub begins_word : ℕ → Bool
+begins_word c = is_xid_start c || c == underscore || c == dollar
+
+-- JavaLetterOrDigit: what may go on in a word
+abbrev pub continues_word : ℕ → Bool
+continues_word c = is_xid_continue c || c == dollar
+
+-- what may go on in a number, which is cut without a grammar of its own
+abbrev pub continues_number : ℕ → Bool
+continues_number c = continues_word c || c == dot
+
+-- the characters begin with this mark
+abbrev pub begins_with : List ℕ → List ℕ → Bool
+begins_with [] cs = true
+begins_with (m ∷ mark) [] = false
+begins_with (m ∷ mark) (c ∷ cs) = c == m && begins_with mark cs
+
+-- the characters have a first one, which passes the test
+abbrev pub first_passes : (ℕ → Bool) → List ℕ → Bool
+first_passes test [] = false
+first_passes test (c ∷ cs) = test c

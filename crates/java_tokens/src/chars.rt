@@ -1,0 +1,47 @@
+//! The classes of characters that the lexical grammar tells apart.
+ghost use Rattle.std.specs.Prelude.{◌≡◌};
+ghost use Rattle.java_tokens.specs.Chars.{begins_word, continues_word};
+ghost use Rattle.java_tokens.specs.Class.{is_in};
+
+use unicode_ident::{is_xid_continue, is_xid_start};
+
+/// A class of characters.
+#[derive(Clone, Copy)]
+pub enum Class {
+    /// Space, tab, form feed and line feed.
+    WhiteSpace,
+    /// All but the line feed.
+    InLine,
+    /// What may go on in a word.
+    Word,
+    /// What may go on in a number.
+    Number,
+}
+
+impl Class {
+    /// Whether the character belongs to the class.
+    pub fn contains(self, c: char) -> bool
+        ensures { result ≡ is_in self c }
+    {
+        match self {
+            Class::WhiteSpace => matches!(c, ' ' | '\t' | '\x0c' | '\n'),
+            Class::InLine => c != '\n',
+            Class::Word => continues_word(c),
+            Class::Number => continues_word(c) || c == '.',
+        }
+    }
+}
+
+/// Whether a word may begin with the character.
+pub fn begins_word(c: char) -> bool
+    ensures { result ≡ begins_word c }
+{
+    is_xid_start(c) || c == '_' || c == '$'
+}
+
+/// Whether a word may go on with the character.
+pub fn continues_word(c: char) -> bool
+    ensures { result ≡ continues_word c }
+{
+    is_xid_continue(c) || c == '$'
+}

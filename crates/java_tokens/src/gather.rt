@@ -1,0 +1,131 @@
+//! The words of a text, gathered token by token.
+ghost use Rattle.std.specs.Prelude.{◌≡◌, ◌+◌, ◌-◌, ◌≤◌, OnOk, IfOk, length, take, drop, fold, [], ◌∷◌};
+ghost use Rattle.std.specs.List.{prefix_len};
+ghost use Rattle.ide_text.specs.Text.{max_chars};
+ghost use Rattle.java_tokens.specs.Chars.{continues_word};
+ghost use Rattle.java_tokens.specs.Words.{AreInOrder, HasMasksOf, bit_of, gap_at, words_among, words_at, marked, occurrences_at, occurrences_of, with_occurrence, words_of};
+
+use crate::chars::Class;
+use crate::kind::Kind;
+use crate::piece::Piece;
+use crate::place::Place;
+use crate::reserved::is_reserved;
+use crate::scan::run_end;
+use crate::token::Token;
+use crate::tokenizer::{begins_word_at, next_token};
+use crate::word_list::{Masks, WordList};
+use ide_text::{Name, Text};
+use std::alloc::{AllocError, Global};
+use std::collections::BTreeMap;
+
+/// The words of a text: its identifiers, and the words in its comments and strings. Linear in the text, but for
+/// the look-up of each word among those so far.
+pub fn words(alloc: Global, text: &Text) -> Result<WordList, AllocError>
+    ensures value { IfOk result (λ list. list ≡ words_of text.now) }
+
+    // So the names rise, and each has the union of the bits of the places where it stands.
+    ensures in_order { IfOk result AreInOrder }
+    ensures masks { IfOk result (λ list. HasMasksOf list (occurrences_of text.now)) }
+{
+    WordList::from_masks(alloc, masks_of(alloc, text)?)
+}
+
+/// The words of a text, each with the places where it stands.
+#[tactic(auto, unfolding(crate::specs::Words::words_of))]
+fn masks_of(alloc: Global, text: &Text) -> Result<Masks, AllocError>
+    ensures { IfOk result (λ masks. masks.entries ≡ words_of text.now) }
+{
+    let piece = Piece::whole(text);
+    let mut masks = BTreeMap::new(alloc);
+    let mut at = 0;
+    while let Some(token) = next_token(&piece, at) {
+        add_token(alloc, &mut masks, text, &token)?;
+        at = token.at + token.len;
+    }
+    Ok(masks)
+}
+
+/// Adds the words of a token.
+#[tactic(auto, unfolding(crate::specs::Words::occurrences_at))]
+fn add_token(alloc: Global, masks: &mut Masks, text: &Text, token: &Token) -> Result<(), AllocError>
+    requires inside { token.now.at + token.now.len ≤ length text.now }
+    requires few { length text.now ≤ max_chars }
+    ensures { OnOk result (masks.new.entries ≡ fold with_occurrence masks.old.entries (occurrences_at text.now token.now)) }
+{
+    let end = token.at + token.len;
+    let piece = Piece::part(text, token.at, end);
+    if token.is(Kind::Word) {
+        if !is_reserved(&piece) {
+            add(
+                masks,
+                Name::of_text(alloc, text, token.at, end)?,
+                Place::Code,
+            )?;
+        }
+    } else if token.is(Kind::LineComment) || token.is(Kind::BlockComment) {
+        add_words(alloc, masks, &piece, Place::Comment)?;
+    } else if token.is(Kind::Str) || token.is(Kind::TextBlock) {
+        add_words(alloc, masks, &piece, Place::String)?;
+    }
+    Ok(())
+}
+
+/// Adds the words in a comment or a string.
+fn add_words(
+    alloc: Global,
+    masks: &mut Masks,
+    piece: &Piece,
+    place: Place,
+) -> Result<(), AllocError>
+    ensures { OnOk result (masks.new.entries ≡ fold with_occurrence masks.old.entries (words_at place piece.now)) }
+{
+    let mut at = 0;
+    loop {
+        let end = run_end(piece, at, Class::Word);
+        add_run(alloc, masks, piece, at, end, place)?;
+        let Some(c) = piece.get(end) else {
+            return Ok(());
+        };
+        at = end + gap_at(place, c);
+    }
+}
+
+/// How many characters part a run from the next, `c` the first of them.
+fn gap_at(place: Place, c: char) -> u32
+    ensures value { result ≡ gap_at place c }
+    ensures few { result ≤ 2 }
+    ensures some { 1 ≤ result }
+{
+    match place {
+        Place::String if c == '\\' => 2,
+        _ => 1,
+    }
+}
+
+/// Adds a longest run of what may go on in a word, if it begins as a word does.
+fn add_run(
+    alloc: Global,
+    masks: &mut Masks,
+    piece: &Piece,
+    at: u32,
+    end: u32,
+    place: Place,
+) -> Result<(), AllocError>
+    requires { end ≡ at + prefix_len continues_word (drop at piece.now) }
+    ensures { OnOk result (masks.new.entries
+        ≡ fold with_occurrence masks.old.entries (marked place (words_among (take (end - at) (drop at piece.now) ∷ [])))) }
+{
+    if begins_word_at(piece, at) {
+        add(masks, piece.name(alloc, at, end)?, place)?;
+    }
+    Ok(())
+}
+
+/// Adds one occurrence of a word.
+fn add(masks: &mut Masks, name: Name, place: Place) -> Result<(), AllocError>
+    ensures { OnOk result (masks.new.entries ≡ with_occurrence masks.old.entries (name, bit_of place)) }
+{
+    let before = masks.get(&name).copied().unwrap_or(0);
+    masks.insert(name, before | place.bit())?;
+    Ok(())
+}

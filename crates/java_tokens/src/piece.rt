@@ -1,0 +1,97 @@
+//! A part of a text, read by places of its own.
+ghost use Rattle.std.specs.Prelude.{◌≡◌, ◌+◌, ◌-◌, ◌<◌, ◌≤◌, suc, [], ◌∷◌, IsTrue, IfSome, IfNone, OnSome, IfOk, length, take, drop};
+ghost use Rattle.ide_text.specs.Text.{max_chars};
+ghost use Rattle.java_tokens.specs.Chars.{begins_with};
+
+use ide_text::{Name, Text};
+use std::alloc::{AllocError, Global};
+use std::marker::Model;
+
+/// The characters of a text from one place up to another.
+#[derive(Drop)]
+pub struct Piece<'a> {
+    text: &'a Text,
+    from: u32,
+    to: u32,
+}
+
+impl<'a> Model for Piece<'a> {
+    ghost use Rattle.std.specs.Prelude.{List, ℕ, ◌-◌, ◌≤◌, length, take, drop};
+    ghost use Rattle.ide_text.specs.Text.{max_chars};
+
+    ghost Value = { List ℕ };
+
+    ghost view = { λ p. take (p.to - p.from) (drop p.from p.text.now) };
+
+    ghost invariant = { λ p. (p.from ≤ p.to) × (p.to ≤ length p.text.now) × (length p.text.now ≤ max_chars) };
+}
+
+impl<'a> Piece<'a> {
+    /// All of a text.
+    pub fn whole(text: &'a Text) -> Piece<'a>
+        ensures { result ≡ text.now }
+    {
+        Piece {
+            text,
+            from: 0,
+            to: text.len(),
+        }
+    }
+
+    /// The characters from one place up to another.
+    pub fn part(text: &'a Text, from: u32, to: u32) -> Piece<'a>
+        requires ordered { from ≤ to }
+        requires inside { to ≤ length text.now }
+        ensures { result ≡ take (to - from) (drop from text.now) }
+    {
+        prove!(to <= text.len());
+        Piece { text, from, to }
+    }
+
+    /// The number of characters.
+    pub fn len(&self) -> u32
+        ensures len { result ≡ length self.now }
+        ensures few { result ≤ max_chars }
+    {
+        self.to - self.from
+    }
+
+    /// The character at a place, if the place is inside.
+    pub fn get(&self, at: u32) -> Option<char>
+        ensures some { IfSome result (λ c. drop at self.now ≡ c ∷ drop (suc at) self.now) }
+        ensures inside { OnSome result (at < length self.now) }
+        ensures none { IfNone result (drop at self.now ≡ []) }
+        ensures few { length self.now ≤ max_chars }
+    {
+        if at < self.to - self.from {
+            Some(self.text.char_at(self.from + at))
+        } else {
+            None
+        }
+    }
+
+    /// Whether the characters from a place on begin with a mark.
+    pub fn has(&self, at: u32, mark: &[char]) -> bool
+        requires inside { at ≤ max_chars }
+        requires short { length mark.now ≤ 3 }
+        ensures { result ≡ begins_with mark.now (drop at self.now) }
+    {
+        let mut place = at;
+        for wanted in mark {
+            if self.get(place) != Some(*wanted) {
+                return false;
+            }
+            place += 1;
+        }
+        true
+    }
+
+    /// A name of the characters from one place up to another.
+    pub fn name(&self, alloc: Global, from: u32, to: u32) -> Result<Name, AllocError>
+        requires ordered { from ≤ to }
+        requires inside { to ≤ length self.now }
+        ensures { IfOk result (λ name. name ≡ take (to - from) (drop from self.now)) }
+    {
+        Name::of_text(alloc, self.text, self.from + from, self.from + to)
+    }
+}

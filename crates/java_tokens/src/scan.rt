@@ -1,0 +1,102 @@
+//! How far a run, a comment or a literal goes on.
+ghost use Rattle.std.specs.Prelude.{◌≡◌, ℕ, ◌+◌, ◌≤◌, drop};
+ghost use Rattle.std.specs.List.{prefix_len};
+ghost use Rattle.java_tokens.specs.Class.{is_in};
+ghost use Rattle.java_tokens.specs.Kind.{comment_rest, literal_rest, literal_escape, text_block_rest, text_block_escape};
+
+use crate::chars::Class;
+use crate::piece::Piece;
+
+/// Where the longest run of a class that begins at a place ends.
+pub fn run_end(piece: &Piece, from: u32, class: Class) -> u32
+    ensures { result ≡ from + prefix_len (is_in class) (drop from piece.now) }
+{
+    let mut at = from;
+    while let Some(c) = piece.get(at) {
+        if !class.contains(c) {
+            break;
+        }
+        at += 1;
+    }
+    at
+}
+
+/// Where a comment ends whose inside begins at a place.
+#[tactic(auto, unfolding(crate::specs::Kind::comment_rest))]
+pub fn comment_end(piece: &Piece, from: u32) -> u32
+    ensures { result ≡ from + comment_rest (drop from piece.now) }
+{
+    let mut at = from;
+    while let Some(_) = piece.get(at) {
+        if piece.has(at, &['*', '/']) {
+            return at + 2;
+        }
+        at += 1;
+    }
+    at
+}
+
+/// Where a string or a character ends whose inside begins at a place.
+#[tactic(auto, unfolding(crate::specs::Kind::literal_rest))]
+pub fn literal_end(piece: &Piece, from: u32, quote: char) -> u32
+    ensures { result ≡ from + literal_rest quote (drop from piece.now) }
+{
+    let mut at = from;
+    while let Some(c) = piece.get(at) {
+        if c == '\n' {
+            break;
+        }
+        at += 1;
+        if c == quote {
+            break;
+        }
+        if c == '\\' {
+            at = literal_escape_end(piece, at);
+        }
+    }
+    at
+}
+
+/// Where the character ends that a backslash right before it takes, in a string or a character.
+#[tactic(auto, unfolding(crate::specs::Kind::literal_rest, crate::specs::Kind::literal_escape))]
+fn literal_escape_end(piece: &Piece, at: u32) -> u32
+    ensures rest { (quote : ℕ) → result + literal_rest quote (drop result piece.now)
+        ≡ at + literal_escape quote (drop at piece.now) }
+    ensures forward { at ≤ result }
+{
+    match piece.get(at) {
+        Some(c) if c != '\n' => at + 1,
+        _ => at,
+    }
+}
+
+/// Where a text block ends whose inside begins at a place.
+#[tactic(auto, unfolding(crate::specs::Kind::text_block_rest))]
+pub fn text_block_end(piece: &Piece, from: u32) -> u32
+    ensures { result ≡ from + text_block_rest (drop from piece.now) }
+{
+    let mut at = from;
+    while let Some(c) = piece.get(at) {
+        if c == '\\' {
+            at = text_block_escape_end(piece, at + 1);
+        } else if piece.has(at, &['"', '"', '"']) {
+            return at + 3;
+        } else {
+            at += 1;
+        }
+    }
+    at
+}
+
+/// Where the character ends that a backslash right before it takes, in a text block.
+#[tactic(auto, unfolding(crate::specs::Kind::text_block_rest, crate::specs::Kind::text_block_escape))]
+fn text_block_escape_end(piece: &Piece, at: u32) -> u32
+    ensures rest { result + text_block_rest (drop result piece.now)
+        ≡ at + text_block_escape (drop at piece.now) }
+    ensures forward { at ≤ result }
+{
+    match piece.get(at) {
+        Some(_) => at + 1,
+        None => at,
+    }
+}

@@ -1,0 +1,125 @@
+//! The tokens of a text.
+ghost use Rattle.std.specs.Prelude.{◌≡◌, ◌+◌, ◌<◌, ◌≤◌, [], ◌∷◌, IfSome, IfNone, IfOk, length, drop};
+ghost use Rattle.std.specs.Char.{is_ascii_digit};
+ghost use Rattle.ide_text.specs.Text.{max_chars};
+ghost use Rattle.java_tokens.specs.Chars.{begins_word, first_passes};
+ghost use Rattle.java_tokens.specs.Kind.{begins_number, kind_at, length_of};
+ghost use Rattle.java_tokens.specs.Tokens.{AreTokensFrom, tokens_past, tokens_of};
+
+use crate::chars::{Class, begins_word};
+use crate::kind::Kind;
+use crate::piece::Piece;
+use crate::scan::{comment_end, literal_end, run_end, text_block_end};
+use crate::token::Token;
+use ide_text::Text;
+use std::alloc::{AllocError, Global};
+
+/// The tokens of a text, in order. Linear in the text.
+pub fn tokens(alloc: Global, text: &Text) -> Result<Vec<Token>, AllocError>
+    ensures value { IfOk result (λ list. list.items ≡ tokens_of text.now) }
+
+    // So each stands behind white space, is of the first kind that fits, and has its whole length.
+    ensures cut { IfOk result (λ list. AreTokensFrom 0 text.now list.items) }
+{
+    let piece = Piece::whole(text);
+    let mut list = Vec::new(alloc);
+    let mut at = 0;
+    while let Some(token) = next_token(&piece, at) {
+        list.push(token)?;
+        at = token.at + token.len;
+    }
+    Ok(list)
+}
+
+/// The first token that begins at a place or after it, if there is one.
+pub fn next_token(piece: &Piece, from: u32) -> Option<Token>
+    requires { from ≤ length piece.now }
+    ensures some { IfSome result (λ t. tokens_past 0 from (drop from piece.now)
+        ≡ t ∷ tokens_past 0 (t.at + t.len) (drop (t.at + t.len) piece.now)) }
+    ensures goes_on { IfSome result (λ t. (from < t.at + t.len) × (t.at + t.len ≤ length piece.now)) }
+    ensures few { length piece.now ≤ max_chars }
+    ensures none { IfNone result (tokens_past 0 from (drop from piece.now) ≡ []) }
+{
+    let at = run_end(piece, from, Class::WhiteSpace);
+    if at >= piece.len() {
+        return None;
+    }
+    let kind = kind_at(piece, at);
+    let end = token_end(piece, at, kind);
+    Some(Token {
+        kind: kind.code(),
+        at,
+        len: end - at,
+    })
+}
+
+/// The kind of the token that begins at a place.
+#[tactic(auto, unfolding(crate::specs::Kind::kind_at))]
+fn kind_at(piece: &Piece, at: u32) -> Kind
+    requires { at ≤ max_chars }
+    ensures { result ≡ kind_at (drop at piece.now) }
+{
+    if piece.has(at, &['/', '/']) {
+        Kind::LineComment
+    } else if piece.has(at, &['/', '*']) {
+        Kind::BlockComment
+    } else if piece.has(at, &['"', '"', '"']) {
+        Kind::TextBlock
+    } else if piece.has(at, &['"']) {
+        Kind::Str
+    } else if piece.has(at, &['\'']) {
+        Kind::Char
+    } else if begins_word_at(piece, at) {
+        Kind::Word
+    } else if begins_number_at(piece, at) {
+        Kind::Number
+    } else {
+        Kind::Punct
+    }
+}
+
+/// Whether a word begins at a place.
+pub fn begins_word_at(piece: &Piece, at: u32) -> bool
+    ensures { result ≡ first_passes begins_word (drop at piece.now) }
+{
+    match piece.get(at) {
+        Some(c) => begins_word(c),
+        None => false,
+    }
+}
+
+/// Whether a digit stands at a place.
+fn digit_at(piece: &Piece, at: u32) -> bool
+    ensures { result ≡ first_passes is_ascii_digit (drop at piece.now) }
+{
+    match piece.get(at) {
+        Some(c) => c.is_ascii_digit(),
+        None => false,
+    }
+}
+
+/// Whether a number begins at a place.
+fn begins_number_at(piece: &Piece, at: u32) -> bool
+    requires { at ≤ max_chars }
+    ensures { result ≡ begins_number (drop at piece.now) }
+{
+    digit_at(piece, at) || (piece.has(at, &['.']) && digit_at(piece, at + 1))
+}
+
+/// Where the token of a kind that begins at a place ends.
+#[tactic(auto, unfolding(crate::specs::Kind::length_of))]
+fn token_end(piece: &Piece, at: u32, kind: Kind) -> u32
+    requires { at ≤ max_chars }
+    ensures { result ≡ at + length_of kind (drop at piece.now) }
+{
+    match kind {
+        Kind::LineComment => run_end(piece, at, Class::InLine),
+        Kind::BlockComment => comment_end(piece, at + 2),
+        Kind::TextBlock => text_block_end(piece, at + 3),
+        Kind::Str => literal_end(piece, at + 1, '"'),
+        Kind::Char => literal_end(piece, at + 1, '\''),
+        Kind::Word => run_end(piece, at, Class::Word),
+        Kind::Number => run_end(piece, at, Class::Number),
+        Kind::Punct => at + 1,
+    }
+}

@@ -1,0 +1,95 @@
+//! The words of a text, in the order of their names.
+ghost use Rattle.std.specs.Prelude.{◌≡◌, ◌<◌, ◌==◌, Some, IfOk, length, slice_get, option_map};
+ghost use Rattle.java_tokens.specs.Words.{AreInOrder, mask_in};
+
+use ide_text::Name;
+use std::alloc::{AllocError, Global};
+use std::collections::BTreeMap;
+use std::marker::Model;
+
+/// Words and their masks, while they are gathered.
+pub type Masks = BTreeMap<Name, u8>;
+
+/// Names with masks: the names in order, each once, and the mask of each the union of the bits of the places where
+/// it stands (`Place`).
+#[derive(Drop)]
+pub struct WordList {
+    rows: Vec<(Name, u8)>,
+}
+
+impl Model for WordList {
+    ghost use Rattle.std.specs.Prelude.{List, ℕ};
+
+    ghost Value = { List (List ℕ × ℕ) };
+
+    ghost use Rattle.java_tokens.specs.Words.{AreInOrder};
+
+    ghost view = { λ l. l.rows.items };
+
+    ghost invariant = { λ l. AreInOrder l.rows.items };
+}
+
+impl WordList {
+    /// The words that were gathered.
+    pub fn from_masks(alloc: Global, masks: Masks) -> Result<WordList, AllocError>
+        requires { AreInOrder masks.entries }
+        ensures { IfOk result (λ list. list ≡ masks.entries) }
+    {
+        let mut rows = Vec::new(alloc);
+        for row in masks {
+            rows.push(row)?;
+        }
+        Ok(WordList { rows })
+    }
+
+    /// The number of words.
+    pub fn len(&self) -> usize
+        ensures { result ≡ length self.now }
+    {
+        self.rows.len()
+    }
+
+    /// Whether there is no word.
+    pub fn is_empty(&self) -> bool
+        ensures { result ≡ (length self.now == 0) }
+    {
+        self.rows.is_empty()
+    }
+
+    /// The name at a place.
+    pub fn name(&self, at: usize) -> &Name
+        requires { at < length self.now }
+        ensures { option_map (λ row. row.0) (slice_get self.now at) ≡ Some result.now }
+    {
+        &self.rows[at].0
+    }
+
+    /// The mask at a place.
+    pub fn mask(&self, at: usize) -> u8
+        requires { at < length self.now }
+        ensures { option_map (λ row. row.1) (slice_get self.now at) ≡ Some result }
+    {
+        self.rows[at].1
+    }
+
+    /// The mask of a name, if it is among the words. The time is the logarithm of their number.
+    pub fn mask_of(&self, name: &Name) -> Option<u8>
+        ensures { result ≡ mask_in self.now name.now }
+    {
+        match self.rows.binary_search_by(|row| row.0.cmp(name)) {
+            Ok(at) => Some(self.rows[at].1),
+            Err(_) => None,
+        }
+    }
+
+    /// The same words once more.
+    pub fn copy(&self) -> Result<WordList, AllocError>
+        ensures { IfOk result (λ copy. copy ≡ self.now) }
+    {
+        let mut rows = Vec::new(*self.rows.allocator());
+        for (name, mask) in &self.rows {
+            rows.push((name.copy()?, *mask))?;
+        }
+        Ok(WordList { rows })
+    }
+}

@@ -1,0 +1,22 @@
+//! Every number of a lock, drawn and met again.
+ghost use Rattle.std.specs.Prelude.{◌≡◌, ◌<◌, Some};
+ghost use Rattle.action_lock.specs.Passes.{IsPassOf, view_of};
+
+use crate::board::Board;
+use action_lock::{ActionLock, Pass, SplitRefusal};
+
+/// Splits off a pass and meets it at once, `times` times, or until there is no number left.
+pub fn draw(lock: &ActionLock<Board>, first: &mut Pass<Board>, times: u32) -> Option<SplitRefusal>
+    requires pass { IsPassOf lock.now first.old }
+    requires leads { ((view_of first.old).number ≡ Some 0) × (0 < (view_of first.old).drawn) }
+    ensures pass { IsPassOf lock.now first.new }
+    ensures leads { ((view_of first.new).number ≡ Some 0) × (0 < (view_of first.new).drawn) }
+{
+    for _ in 0..times {
+        match lock.split(first) {
+            Ok(pass) => lock.meet(pass, first),
+            Err(refusal) => return Some(refusal),
+        }
+    }
+    None
+}

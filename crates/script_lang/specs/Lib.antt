@@ -1,0 +1,8 @@
+-- What a script is: `Grammar` says it by the pieces of each line, `Script` computes it.
+pub mod Grammar
+pub mod Script
+-- The parts that these two are made of.
+pub mod Lines
+pub mod Fields
+pub mod Quotes
+pub mod Commands

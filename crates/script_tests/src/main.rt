@@ -1,0 +1,19 @@
+//! Reads scripts, one a line, and prints after each what it holds or its first bad line; then tries the limits.
+#![tactic(auto)]
+
+mod limits;
+mod marks;
+mod printed;
+
+use printed::shown;
+use std::io;
+
+fn main(rt: HostRuntime) -> io::Result<()> {
+    for line in rt.lines(rt.alloc()) {
+        let line = line?;
+        let script = marks::script(rt.alloc(), &line)?;
+        let held = shown(rt.alloc(), &script)?;
+        println!(rt; "{line} => {held}")?;
+    }
+    limits::run(&rt)
+}

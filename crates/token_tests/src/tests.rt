@@ -1,0 +1,269 @@
+//! Tables of texts with what they give.
+use ide_text::{Text, TextRefusal};
+use java_tokens::{is_identifier, is_word, tokens, words};
+use std::alloc::Global;
+use std::test::Fail;
+
+/// A text, its tokens as kind, place and length, and its words with their masks.
+struct Case {
+    text: &'static str,
+    tokens: &'static str,
+    words: &'static str,
+}
+
+static CASES: [Case; 35] = [
+    Case {
+        text: "",
+        tokens: "",
+        words: "",
+    },
+    Case {
+        text: " \t\x0c\n",
+        tokens: "",
+        words: "",
+    },
+    // One of each kind, and the escapes of a string and a character.
+    Case {
+        text: "a/*b*/\"c\\\"d\"'\\''1.5e+3",
+        tokens: "1 0 1; 7 1 5; 3 6 6; 4 12 4; 2 16 4; 8 20 1; 2 21 1; ",
+        words: "a 1, b 2, c 4, d 4, ",
+    },
+    Case {
+        text: "\"a\nb",
+        tokens: "3 0 2; 1 3 1; ",
+        words: "a 4, b 1, ",
+    },
+    Case {
+        text: "/*/",
+        tokens: "7 0 3; ",
+        words: "",
+    },
+    Case {
+        text: "/*/*/a",
+        tokens: "7 0 5; 1 5 1; ",
+        words: "a 1, ",
+    },
+    Case {
+        text: "/**/a",
+        tokens: "7 0 4; 1 4 1; ",
+        words: "a 1, ",
+    },
+    Case {
+        text: "/* a",
+        tokens: "7 0 4; ",
+        words: "a 2, ",
+    },
+    Case {
+        text: "\"\"",
+        tokens: "3 0 2; ",
+        words: "",
+    },
+    Case {
+        text: "\"\"\"\"\"\"",
+        tokens: "5 0 6; ",
+        words: "",
+    },
+    // A text block that isn't closed goes on to the end.
+    Case {
+        text: "\"\"\"\" a\n",
+        tokens: "5 0 7; ",
+        words: "a 4, ",
+    },
+    Case {
+        text: "\"\"\"a\\\"\"\"b\"\"\"c",
+        tokens: "5 0 12; 1 12 1; ",
+        words: "a 4, b 4, c 1, ",
+    },
+    Case {
+        text: "\"\"\"\\\n\"\"\"a",
+        tokens: "5 0 8; 1 8 1; ",
+        words: "a 1, ",
+    },
+    Case {
+        text: "\"\"\"\\",
+        tokens: "5 0 4; ",
+        words: "",
+    },
+    // A backslash takes no line break in a string, and stands at the end of a text for itself.
+    Case {
+        text: "\"a\\\nb\"",
+        tokens: "3 0 3; 1 4 1; 3 5 1; ",
+        words: "a 4, b 1, ",
+    },
+    Case {
+        text: "\"\\",
+        tokens: "3 0 2; ",
+        words: "",
+    },
+    Case {
+        text: "'a",
+        tokens: "4 0 2; ",
+        words: "",
+    },
+    Case {
+        text: "'\\'",
+        tokens: "4 0 3; ",
+        words: "",
+    },
+    // A line comment ends before the line break.
+    Case {
+        text: "// a\nb",
+        tokens: "6 0 4; 1 5 1; ",
+        words: "a 2, b 1, ",
+    },
+    Case {
+        text: "a//",
+        tokens: "1 0 1; 6 1 2; ",
+        words: "a 1, ",
+    },
+    // Braces in strings and comments are no tokens.
+    Case {
+        text: "{\"{\"/*{*/}//}",
+        tokens: "8 0 1; 3 1 3; 7 4 5; 8 9 1; 6 10 3; ",
+        words: "",
+    },
+    // Numbers are cut without a grammar.
+    Case {
+        text: "1..2",
+        tokens: "2 0 4; ",
+        words: "",
+    },
+    Case {
+        text: "1.foo",
+        tokens: "2 0 5; ",
+        words: "",
+    },
+    Case {
+        text: "0x1F_$.e",
+        tokens: "2 0 8; ",
+        words: "",
+    },
+    Case {
+        text: ".5",
+        tokens: "2 0 2; ",
+        words: "",
+    },
+    Case {
+        text: "a.5",
+        tokens: "1 0 1; 2 1 2; ",
+        words: "a 1, ",
+    },
+    Case {
+        text: "a.b",
+        tokens: "1 0 1; 8 1 1; 1 2 1; ",
+        words: "a 1, b 1, ",
+    },
+    // A run that begins as no word gives none, and reserved words are words outside code.
+    Case {
+        text: "// 1a if _ true",
+        tokens: "6 0 15; ",
+        words: "_ 2, if 2, true 2, ",
+    },
+    Case {
+        text: "if _ true var",
+        tokens: "1 0 2; 1 3 1; 1 5 4; 1 10 3; ",
+        words: "var 1, ",
+    },
+    // An escape stands outside each word of a string, and a backslash is no escape in a comment.
+    Case {
+        text: "\"\\tax\"",
+        tokens: "3 0 6; ",
+        words: "ax 4, ",
+    },
+    Case {
+        text: "\"\\u0041x\"",
+        tokens: "3 0 9; ",
+        words: "",
+    },
+    Case {
+        text: "//\\tax",
+        tokens: "6 0 6; ",
+        words: "tax 2, ",
+    },
+    Case {
+        text: "class A { int foo; } // foo \"bar\"",
+        tokens: "1 0 5; 1 6 1; 8 8 1; 1 10 3; 1 14 3; 8 17 1; 8 19 1; 6 21 12; ",
+        words: "A 1, bar 2, foo 3, ",
+    },
+    // The masks of one name are united, and names are ordered by their characters.
+    Case {
+        text: "b a//a\n\"a b\"",
+        tokens: "1 0 1; 1 2 1; 6 3 3; 3 7 5; ",
+        words: "a 7, b 5, ",
+    },
+    // White space of Unicode, and its digits, are single tokens.
+    Case {
+        text: "\u{a0}\u{661}\u{feff}é#\\",
+        tokens: "8 0 1; 8 1 1; 8 2 1; 1 3 1; 8 4 1; 8 5 1; ",
+        words: "é 1, ",
+    },
+];
+
+fn text_of(alloc: Global, bytes: &str) -> Result<Text, TextRefusal> {
+    Text::from_utf8(alloc, bytes.as_bytes())
+}
+
+#[test]
+fn tokens_of_texts(rt: HostRuntime) -> Result<(), Fail> {
+    for case in &CASES {
+        let text = text_of(rt.alloc(), case.text)?;
+        let mut shown = String::new(rt.alloc());
+        for token in &tokens(rt.alloc(), &text)? {
+            let kind = token.kind;
+            let at = token.at;
+            let len = token.len;
+            write!(shown, "{kind} {at} {len}; ")?;
+        }
+        let wanted = case.tokens;
+        assert_eq!(rt; shown.as_str(), wanted);
+    }
+    Ok(())
+}
+
+#[test]
+fn words_of_texts(rt: HostRuntime) -> Result<(), Fail> {
+    for case in &CASES {
+        let text = text_of(rt.alloc(), case.text)?;
+        let list = words(rt.alloc(), &text)?;
+        let mut shown = String::new(rt.alloc());
+        for at in 0..list.len() {
+            let name = list.name(at);
+            let mask = list.mask(at);
+            assert_eq!(rt; list.mask_of(name), Some(mask));
+            write!(shown, "{name} {mask}, ")?;
+        }
+        let wanted = case.words;
+        assert_eq!(rt; shown.as_str(), wanted);
+    }
+    Ok(())
+}
+
+#[test]
+fn words_and_identifiers(rt: HostRuntime) {
+    for word in [
+        "a",
+        "Ab1",
+        "$",
+        "_a",
+        "é",
+        "var",
+        "record",
+        "yield",
+        "sealed",
+        "permits",
+        "abstracts",
+    ] {
+        assert!(rt; is_word(word));
+        assert!(rt; is_identifier(word));
+    }
+    for word in [
+        "_", "class", "abstract", "goto", "true", "false", "null", "while",
+    ] {
+        assert!(rt; is_word(word));
+        assert!(rt; !is_identifier(word));
+    }
+    for text in ["", " ", "1a", "a b", "a-", ".", "a.b", "-"] {
+        assert!(rt; !is_word(text));
+        assert!(rt; !is_identifier(text));
+    }
+}
