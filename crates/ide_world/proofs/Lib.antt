@@ -1,3 +1,6 @@
+pub mod PathIdLemmas
 pub mod PathLemmas
 pub mod RowLemmas
 pub mod StateLemmas
+pub mod FlagLemmas
+pub mod UnreadyLemmas

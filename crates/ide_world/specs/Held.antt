@@ -1,8 +1,11 @@
 -- What contracts see of a state.
-use Rattle.std.specs.Prelude.{ℕ}
+use Rattle.std.specs.Prelude.{ℕ, List}
 use Rattle.write_history.specs.World.{World}
 
--- the world that it stands for, and for how many files more there is room
+-- the world that it stands for, and what there is room for: so many files more, an id for each of these paths,
+-- and each of these ids among the unready
 pub record Held : Type 0 where
   pub world : World
   pub spare : ℕ
+  pub names : List (List ℕ)
+  pub ids : List ℕ

@@ -1,10 +1,12 @@
 -- Changes that are ready to go in.
-use Rattle.std.specs.Prelude.{ℕ, ◌≡◌, ◌<◌, ◌&&◌, List, ◌==◌, find, Option, Some, None, option_map}
+use Rattle.std.specs.Prelude.{ℕ, ◌≡◌, ◌<◌, ◌&&◌, List, ◌==◌, Bool, IsTrue, bytes_eq, IfSome, find, Option, Some, None, option_map}
+use Rattle.std.specs.List.{list_any}
 use Rattle.write_history.specs.declared.change.Change.{Change}
 use Rattle.write_history.specs.declared.change.Change.TheVariants.{Create, Write, Intake}
 use Rattle.write_history.specs.declared.refusal.Refusal.{Refusal}
 use Rattle.write_history.specs.declared.refusal.Refusal.TheVariants.{OutOfMemory}
-use Rattle.write_history.specs.World.{World, File, file_with_id, is_unready}
+use Rattle.write_history.specs.Path.{is_java}
+use Rattle.write_history.specs.World.{World, File, file_at, file_with_id, is_unready}
 use Rattle.write_history.specs.Effect.{refusal_of}
 use Rattle.ide_world.specs.Held.{Held}
 
@@ -24,14 +26,32 @@ pub record IsReadyFor (world : World) (prepared : Prepared) : Type 0 where
   pub accepted : refusal_of world prepared.change ≡ None
   pub content : SpeaksOfContent world prepared.change prepared.content
 
+-- whether a path is among the kept ones
+abbrev pub has_name : List (List ℕ) → List ℕ → Bool
+has_name names path = list_any (bytes_eq path) names
+
+-- whether an id is among the kept ones
+abbrev pub has_id : List ℕ → ℕ → Bool
+has_id ids id = list_any (λ kept. id == kept) ids
+
+-- there is room for a file more, for the id of its path, and for its own among the unready where it is a Java file
+pub record HasRoomForFile (held : Held) (path : List ℕ) : Type 0 where
+  pub spare : 0 < held.spare
+  pub name : IsTrue (has_name held.names path)
+  pub id : IsTrue (is_java path) → IsTrue (has_id held.ids held.world.next_id)
+
+-- there is room for the id of a file among the unready, where it is a Java file
+abbrev pub HasRoomForText : Held → List ℕ → Type 0
+HasRoomForText held path = IsTrue (is_java path) → IfSome (file_at held.world path) (λ file. IsTrue (has_id held.ids file.id))
+
 -- there is room for what the change adds
-abbrev pub HasRoomFor : ℕ → Change → Type 0
-HasRoomFor spare (Create path text) = 0 < spare
-HasRoomFor spare (Write path text) = Unit {0}
-HasRoomFor spare (Intake file stamp) = Unit {0}
+abbrev pub HasRoomFor : Held → Change → Type 0
+HasRoomFor held (Create path text) = HasRoomForFile held path
+HasRoomFor held (Write path text) = HasRoomForText held path
+HasRoomFor held (Intake file stamp) = Unit {0}
 
 abbrev pub HasRoom : Held → Prepared → Type 0
-HasRoom held prepared = HasRoomFor held.spare prepared.change
+HasRoom held prepared = HasRoomFor held prepared.change
 
 -- an answer other than want of memory is the reason to refuse
 abbrev pub IsRefusalOf : Option Refusal → Refusal → Type 0

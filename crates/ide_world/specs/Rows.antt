@@ -1,13 +1,10 @@
 -- The rows by which a state keeps its files.
-use Rattle.std.specs.Prelude.{ℕ, ◌≡◌, ◌≤◌, ◌<◌, ◌+◌, ◌-◌, true, Bool, List, [], ◌∷◌, length, All, Some, IfSome, vec_len, vec_capacity}
+use Rattle.std.specs.Prelude.{ℕ, ◌≡◌, ◌<◌, ◌+◌, true, Bool, List, [], ◌∷◌, Some, IfSome}
 use Rattle.java_tokens.specs.Words.{words_of}
 use Rattle.write_history.specs.Path.{is_java}
-use Rattle.write_history.specs.World.{World, File, empty_world, is_unready}
-use Rattle.write_history.specs.Effect.{max_files, max_entries}
+use Rattle.write_history.specs.World.{File, empty_world, is_unready}
 use Rattle.ide_world.specs.declared.rows.FileRow.{FileRow}
-use Rattle.ide_world.specs.declared.state.State.TheInside.{Inside}
 use Rattle.ide_world.specs.declared.reply.WordRow.{WordRow}
-use Rattle.ide_world.specs.Held.{Held}
 use Rattle.ide_world.specs.Reply.{word_row}
 
 -- the file of a row
@@ -26,19 +23,6 @@ is_unready_row row = is_unready empty_world (file_of 0 row)
 abbrev pub row_of_word : List ℕ → FileRow → List WordRow
 row_of_word name row = word_row empty_world name (file_of 0 row)
 
--- the world of a state
-abbrev pub world_of : Inside → World
-world_of inside = record {
-  files = files_from 1 inside.files.items;
-  documents = [];
-  next_id = length inside.files.items + 1;
-  next_stamp = inside.next_stamp;
-  entries = inside.entries;
-}
-
-abbrev pub held : Inside → Held
-held inside = record { world = world_of inside; spare = vec_capacity inside.files - vec_len inside.files }
-
 -- of a row below the next stamp: the words are those of the content where it is indexed at its stamp
 pub record IsRight (next_stamp : ℕ) (row : FileRow) : Type 0 where
   pub stamp : row.stamp < next_stamp
@@ -48,10 +32,3 @@ pub record IsRight (next_stamp : ℕ) (row : FileRow) : Type 0 where
 -- a row whose words are told where it is a Java file
 abbrev pub IsSearchable : FileRow → Type 0
 IsSearchable row = is_java row.path ≡ true → row.words ≡ Some (words_of row.content.value)
-
--- the rows are right, and the counters within their limits
-pub record IsSound (inside : Inside) : Type 0 where
-  pub rows : All (IsRight inside.next_stamp) inside.files.items
-  pub few_files : length inside.files.items ≤ max_files
-  pub few_entries : inside.entries ≤ max_entries
-  pub stamps : inside.next_stamp ≤ inside.entries + 1

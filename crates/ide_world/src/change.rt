@@ -77,8 +77,9 @@ pub fn reserve(state: &mut State, ready: &Ready) -> Result<(), AllocError>
     ensures same { state.new.world ≡ state.old.world }
 {
     match &ready.parts {
-        Parts::Create { .. } => state.files.reserve(1),
-        Parts::Write { .. } | Parts::Intake { .. } => Ok(()),
+        Parts::Create { path, .. } => state.make_room_for_file(path),
+        Parts::Write { path, .. } => state.make_room_for_text(path),
+        Parts::Intake { .. } => Ok(()),
     }
 }
 

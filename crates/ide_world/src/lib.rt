@@ -5,9 +5,11 @@ mod change;
 mod data;
 mod index;
 mod path;
+mod paths;
 mod reply;
 mod rows;
 mod state;
+mod unready;
 
 pub use change::{Ready, install, prepare, prepare_intake, reserve};
 pub use data::{Job, Made};

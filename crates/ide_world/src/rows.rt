@@ -1,5 +1,5 @@
 //! The rows of files, and what is sought among them.
-ghost use Rattle.std.specs.Prelude.{◌≡◌, ◌<◌, All, IfOk, IfSome, bytes_eq, length, position};
+ghost use Rattle.std.specs.Prelude.{◌≡◌, All, IfOk};
 ghost use Rattle.std.specs.List.{flat_map};
 ghost use Rattle.ide_world.specs.Reply.{row_with_mask};
 ghost use Rattle.ide_world.specs.Rows.{is_unready_row, row_of_word, IsSearchable};
@@ -20,22 +20,6 @@ pub(crate) struct FileRow {
     /// The stamp of the content from which `words` were made.
     pub(crate) indexed: Option<u64>,
     pub(crate) words: Option<WordList>,
-}
-
-/// The place of the row of the live file at a path.
-pub(crate) fn place_of_path(rows: &[FileRow], path: &Name) -> Option<usize>
-    ensures place { result ≡ position (λ row. bytes_eq row.path path.now) rows.now }
-    ensures inside { IfSome result (λ place. place < length rows.now) }
-{
-    rows.iter().position(|row| row.path == *path)
-}
-
-/// The place of the first row whose file is unready.
-pub(crate) fn place_of_unready(rows: &[FileRow]) -> Option<usize>
-    ensures place { result ≡ position is_unready_row rows.now }
-    ensures inside { IfSome result (λ place. place < length rows.now) }
-{
-    rows.iter().position(is_unready)
 }
 
 /// Whether the file of a row isn't indexed at its stamp and is to be.

@@ -1,5 +1,5 @@
 //! The files of a workspace with their index data, and the counters.
-ghost use Rattle.std.specs.Prelude.{◌≡◌, ◌≤◌, ◌<◌, ℕ, All, None, IfOk, IfSome, IsSome, is_some, option_map, length};
+ghost use Rattle.std.specs.Prelude.{◌≡◌, ◌≤◌, ◌<◌, ℕ, All, None, IfOk, IfSome, OnOk, IsTrue, IsNone, IsSome, is_some, option_map, length};
 ghost use Rattle.std.specs.Option.{option_copied};
 ghost use Rattle.write_history.specs.declared.change.Change.TheVariants.{Create, Write, Intake};
 ghost use Rattle.write_history.specs.World.{empty_world, file_at, file_with_id, is_live_at, is_unready, lowest_unready};
@@ -7,10 +7,13 @@ ghost use Rattle.write_history.specs.Effect.{max_files, max_entries};
 ghost use Rattle.write_history.specs.Fold.{effect_of};
 
 use crate::data::Made;
+use crate::path::is_java_source;
 use crate::reply::WordRow;
-use crate::rows::{FileRow, is_unready, place_of_path, place_of_unready, rows_with_word};
+use crate::rows::{FileRow, is_unready, rows_with_word};
+use crate::{paths, unready};
 use ide_text::{Name, Text};
 use std::alloc::{AllocError, Global};
+use std::collections::BTreeMap;
 use std::marker::Model;
 use std::sync::Arc;
 
@@ -21,6 +24,10 @@ pub(crate) const MAX_FILES: usize = 65_536;
 #[derive(Drop)]
 pub struct State {
     pub(crate) files: Vec<FileRow>,
+    /// The id of each file by its path.
+    pub(crate) paths: BTreeMap<Name, u32>,
+    /// The ids of the unready files are on.
+    pub(crate) unready: BTreeMap<u32, bool>,
     pub(crate) next_stamp: u64,
     pub(crate) entries: u64,
 }
@@ -30,7 +37,7 @@ impl Model for State {
 
     ghost Value = { Held };
 
-    ghost use Rattle.ide_world.specs.Rows.{held, IsSound};
+    ghost use Rattle.ide_world.specs.State.{held, IsSound};
 
     ghost view = { held };
 
@@ -43,13 +50,15 @@ pub fn empty(alloc: Global) -> Result<State, AllocError>
 {
     Ok(State {
         files: Vec::new(alloc),
+        paths: BTreeMap::new(alloc),
+        unready: BTreeMap::new(alloc),
         next_stamp: 1,
         entries: 0,
     })
 }
 
 impl State {
-    ghost use Rattle.ide_world.specs.Prepared.{task_with_id};
+    ghost use Rattle.ide_world.specs.Prepared.{task_with_id, HasRoomForFile, HasRoomForText};
     ghost use Rattle.ide_world.specs.Reply.{word_rows};
     ghost use Rattle.ide_world.specs.Rows.{file_of};
 
@@ -57,7 +66,7 @@ impl State {
     pub(crate) fn has_file_at(&self, path: &Name) -> bool
         ensures { result ≡ is_some (file_at self.now.world path.now) }
     {
-        place_of_path(&self.files, path).is_some()
+        paths::id_at(&self.paths, path) != 0
     }
 
     /// The row of a live file.
@@ -96,16 +105,15 @@ impl State {
     pub(crate) fn lowest_unready(&self) -> Option<u32>
         ensures { result ≡ option_map (λ file. file.id) (lowest_unready self.now.world) }
     {
-        let place = place_of_unready(&self.files)?;
-        Some(place as u32 + 1)
+        unready::lowest(&self.unready)
     }
 
     /// The path of the unready file with the lowest id.
     pub(crate) fn lowest_unready_path(&self) -> Option<&Name>
         ensures { option_copied result ≡ option_map (λ file. file.path) (lowest_unready self.now.world) }
     {
-        let place = place_of_unready(&self.files)?;
-        Some(&self.files[place].path)
+        let id = unready::lowest(&self.unready)?;
+        Some(&self.files[id as usize - 1].path)
     }
 
     /// The row of a file, where it is unready.
@@ -126,13 +134,37 @@ impl State {
         rows_with_word(alloc, &self.files, name)
     }
 
+    /// Makes room for one file more, at a path.
+    pub(crate) fn make_room_for_file(&mut self, path: &Name) -> Result<(), AllocError>
+        ensures room { OnOk result (HasRoomForFile self.new path.now) }
+        ensures same { self.new.world ≡ self.old.world }
+    {
+        let id = self.files.len() as u32 + 1;
+        self.files.reserve(1)?;
+        paths::make_room(&mut self.paths, path)?;
+        unready::make_room(&mut self.unready, id, is_java_source(path))
+    }
+
+    /// Makes room for new content of the file at a path.
+    pub(crate) fn make_room_for_text(&mut self, path: &Name) -> Result<(), AllocError>
+        ensures room { OnOk result (HasRoomForText self.new path.now) }
+        ensures same { self.new.world ≡ self.old.world }
+    {
+        let id = paths::id_at(&self.paths, path);
+        unready::make_room(&mut self.unready, id, id != 0 && is_java_source(path))
+    }
+
     /// Adds a file.
     pub(crate) fn add(&mut self, path: Name, text: Arc<Text>)
-        requires room { 0 < self.old.spare }
+        requires room { HasRoomForFile self.old path }
+        requires path { IsNone (file_at self.old.world path) }
         requires files { length self.old.world.files < max_files }
         requires entries { self.old.world.entries < max_entries }
         ensures { self.new.world ≡ effect_of self.old.world (Create path text.value) }
     {
+        let id = self.files.len() as u32 + 1;
+        paths::set_id(&mut self.paths, &path, id);
+        unready::turn_on(&mut self.unready, id, is_java_source(&path));
         let row = FileRow {
             path,
             content: text,
@@ -149,14 +181,14 @@ impl State {
 
     /// Gives a live file new content.
     pub(crate) fn write(&mut self, path: &Name, text: Arc<Text>)
+        requires room { HasRoomForText self.old path.now }
         requires file { IsSome (file_at self.old.world path.now) }
         requires entries { self.old.world.entries < max_entries }
         ensures { self.new.world ≡ effect_of self.old.world (Write path.now text.value) }
     {
-        let Some(place) = place_of_path(&self.files, path) else {
-            unreachable!()
-        };
-        let row = &mut self.files[place];
+        let id = paths::id_at(&self.paths, path);
+        unready::turn_on(&mut self.unready, id, is_java_source(path));
+        let row = &mut self.files[id as usize - 1];
         row.content = text;
         row.stamp = self.next_stamp;
         self.next_stamp += 1;
@@ -171,6 +203,7 @@ impl State {
         requires entries { self.old.world.entries < max_entries }
         ensures { self.new.world ≡ effect_of self.old.world (Intake made.file made.stamp) }
     {
+        unready::turn_off(&mut self.unready, made.file);
         let row = &mut self.files[made.file as usize - 1];
         row.indexed = Some(made.stamp);
         row.words = Some(made.words);
