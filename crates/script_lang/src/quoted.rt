@@ -29,6 +29,7 @@ pub(crate) fn text_of_field(alloc: Global, field: &str) -> Result<Option<Text>, 
     match Text::from_utf8(alloc, unquoted.as_bytes()) {
         Ok(text) => Ok(Some(text)),
         Err(TextRefusal::OutOfMemory) => Err(AllocError),
+        // A `String` is UTF-8, so a text that is refused is too long.
         Err(TextRefusal::TooLong { .. }) => Ok(None),
         Err(TextRefusal::NotText { .. }) => Ok(None),
     }
