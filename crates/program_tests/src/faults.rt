@@ -1,0 +1,207 @@
+//! A table of calls on the source and on the sink that fail, and the longest script.
+use crate::running::run;
+use ide_io::{BytesSink, BytesSource, Failing, FaultPlan};
+use std::test::Fail;
+
+/// The source gives 4 bytes at a time.
+const PIECE_READ: usize = 4;
+
+/// The sink takes 5 bytes at a time.
+const PIECE_WRITTEN: usize = 5;
+
+const IDE: &[&str] = &["ide"];
+
+/// A command line and a script, the call on the source and the call on the sink that fail, counted from 1, how
+/// the run ends, and what the sink holds then. Call 0 is never made.
+struct Case {
+    words: &'static [&'static str],
+    script: &'static str,
+    read: u64,
+    write: u64,
+    status: &'static str,
+    written: &'static str,
+}
+
+static CASES: [Case; 16] = [
+    // The script takes three reads, the last of which is the end.
+    Case {
+        words: IDE,
+        script: "settle\n",
+        read: 1,
+        write: 0,
+        status: "3 source fault",
+        written: "",
+    },
+    Case {
+        words: IDE,
+        script: "settle\n",
+        read: 2,
+        write: 0,
+        status: "3 source fault",
+        written: "",
+    },
+    Case {
+        words: IDE,
+        script: "settle\n",
+        read: 3,
+        write: 0,
+        status: "3 source fault",
+        written: "",
+    },
+    Case {
+        words: IDE,
+        script: "settle\n",
+        read: 4,
+        write: 0,
+        status: "0 done",
+        written: "history 0\n1 at 0 smart\n",
+    },
+    // The transcript takes five writes.
+    Case {
+        words: IDE,
+        script: "settle\n",
+        read: 0,
+        write: 1,
+        status: "5 sink fault",
+        written: "",
+    },
+    Case {
+        words: IDE,
+        script: "settle\n",
+        read: 0,
+        write: 2,
+        status: "5 sink fault",
+        written: "histo",
+    },
+    Case {
+        words: IDE,
+        script: "settle\n",
+        read: 0,
+        write: 3,
+        status: "5 sink fault",
+        written: "history 0\n",
+    },
+    Case {
+        words: IDE,
+        script: "settle\n",
+        read: 0,
+        write: 4,
+        status: "5 sink fault",
+        written: "history 0\n1 at ",
+    },
+    Case {
+        words: IDE,
+        script: "settle\n",
+        read: 0,
+        write: 5,
+        status: "5 sink fault",
+        written: "history 0\n1 at 0 sma",
+    },
+    Case {
+        words: IDE,
+        script: "settle\n",
+        read: 0,
+        write: 6,
+        status: "0 done",
+        written: "history 0\n1 at 0 smart\n",
+    },
+    Case {
+        words: IDE,
+        script: "",
+        read: 0,
+        write: 2,
+        status: "5 sink fault",
+        written: "histo",
+    },
+    // Whichever comes first: the words, the reading, the grammar, the writing.
+    Case {
+        words: &["ide", "demo"],
+        script: "settle\n",
+        read: 1,
+        write: 1,
+        status: "1 usage",
+        written: "",
+    },
+    Case {
+        words: IDE,
+        script: "settle\n",
+        read: 1,
+        write: 1,
+        status: "3 source fault",
+        written: "",
+    },
+    Case {
+        words: IDE,
+        script: "x\nsettle\n",
+        read: 2,
+        write: 0,
+        status: "3 source fault",
+        written: "",
+    },
+    Case {
+        words: IDE,
+        script: "x\nsettle\n",
+        read: 0,
+        write: 1,
+        status: "2 bad script line 1",
+        written: "",
+    },
+    Case {
+        words: IDE,
+        script: "settle\nx\n",
+        read: 4,
+        write: 1,
+        status: "3 source fault",
+        written: "",
+    },
+];
+
+#[test]
+fn faults_of_source_and_sink(rt: HostRuntime) -> Result<(), Fail> {
+    for case in &CASES {
+        let mut source = Failing {
+            inner: BytesSource::new(case.script.as_bytes()).in_pieces(PIECE_READ),
+            plan: FaultPlan::new(vec![in rt.alloc(); case.read]?),
+        };
+        let mut sink = Failing {
+            inner: BytesSink::with_room(rt.alloc(), 1_000)?.in_pieces(PIECE_WRITTEN),
+            plan: FaultPlan::new(vec![in rt.alloc(); case.write]?),
+        };
+        let status = run(&rt, case.words, &mut source, &mut sink)?;
+        let (read, write) = (case.read, case.write);
+        assert_eq!(rt;
+            status.as_str(),
+            case.status,
+            "at read {read} and write {write}"
+        );
+        assert_eq!(rt;
+            str::from_utf8(sink.inner.bytes())?,
+            case.written,
+            "at read {read} and write {write}"
+        );
+    }
+    Ok(())
+}
+
+// A sink with room for 5 bytes fails at the second write.
+#[test]
+fn longest_script_and_least_room(rt: HostRuntime) -> Result<(), Fail> {
+    for (len, room, wanted, written) in [
+        (0, 5, "5 sink fault", "histo"),
+        (0, 10, "0 done", "history 0\n"),
+        (16_777_216, 10, "0 done", "history 0\n"),
+        (16_777_217, 10, "7 script too long", ""),
+    ] {
+        let script = vec![in rt.alloc(); b'\n'; len]?;
+        let mut source = BytesSource::new(&script);
+        let mut sink = BytesSink::with_room(rt.alloc(), room)?;
+        let status = run(&rt, IDE, &mut source, &mut sink)?;
+        assert_eq!(rt; status.as_str(), wanted, "of {len} line ends");
+        assert_eq!(rt;
+            str::from_utf8(sink.bytes())?,
+            written,
+            "of {len} line ends"
+        );
+    }
+    Ok(())
+}

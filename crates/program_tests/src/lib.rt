@@ -1,0 +1,9 @@
+//! Tests of the program: scripts with all that they print, and calls on the outside that fail.
+#![tactic(auto)]
+
+#[cfg(test)]
+mod faults;
+#[cfg(test)]
+mod running;
+#[cfg(test)]
+mod scripts;
