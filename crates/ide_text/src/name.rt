@@ -88,7 +88,7 @@ impl Name {
     pub fn same(&self, other: &Name) -> bool
         ensures { IsTrue result ↔ (self.now ≡ other.now) }
     {
-        self.chars.as_slice() == other.chars.as_slice()
+        self == other
     }
 }
 

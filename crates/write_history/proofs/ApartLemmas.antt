@@ -19,33 +19,28 @@ use Rattle.write_history.specs.Apart.{stamps_of, live_paths}
 -- ---- stamps
 
 -- all numbers are below a bound
-AreBelow : ℕ → List ℕ → Type 0
+abbrev pub AreBelow : ℕ → List ℕ → Type 0
 AreBelow n xs = AllByRecursion (λ x. x < n) xs
 
 AreBelow-next : (n : ℕ) (xs : List ℕ) → AreBelow n xs → AreBelow (n + 1) xs
-unfolding AreBelow
 AreBelow-next n [] h = tt
 AreBelow-next n (x ∷ xs) h = (omega (arith, h.0), AreBelow-next n xs h.1)
 
 AreBelow-append : (n : ℕ) (xs : List ℕ) → AreBelow n xs → AreBelow (n + 1) (xs ++ n ∷ [])
-unfolding AreBelow
 AreBelow-append n [] h = (omega arith, tt)
 AreBelow-append n (x ∷ xs) h = (omega (arith, h.0), AreBelow-append n xs h.1)
 
 -- the bound is none of them
 is_none_of : (n : ℕ) (xs : List ℕ) → AreBelow n xs → list_any (eqb n) xs ≡ false
-unfolding AreBelow
 is_none_of n [] h = refl
 is_none_of n (x ∷ xs) h = ap (λ b. b || list_any (eqb n) xs) (ne_eqb n x (omega (arith, h.0))) ∙ is_none_of n xs h.1
 
 differs_from_all : (n : ℕ) (xs : List ℕ) → AreBelow n xs → AllByRecursion (λ x. eqb n x ≡ false) xs
-unfolding AreBelow
 differs_from_all n [] h = tt
 differs_from_all n (x ∷ xs) h = (ne_eqb n x (omega (arith, h.0)), differs_from_all n xs h.1)
 
 -- a file that is given the next stamp
 AreBelow-rewritten : (is_meant : File → Bool) (text : List ℕ) (n : ℕ) (files : List File) → AreBelow n (stamps_of files) → AreBelow (n + 1) (stamps_of (with_first is_meant (rewritten text n) files))
-unfolding AreBelow
 AreBelow-rewritten is_meant text n [] h = tt
 AreBelow-rewritten is_meant text n (f ∷ files) h = elim (is_meant f) as (λ b. AllByRecursion (λ x. x < n + 1) (stamps_of (if b then rewritten text n f ∷ files else f ∷ with_first is_meant (rewritten text n) files))) [
   | true ↦ (omega arith, AreBelow-next n (stamps_of files) h.1)
@@ -61,7 +56,7 @@ differs_from_rewritten stamp is_meant text n (f ∷ files) l h = elim (is_meant 
 ]
 
 IsDistinct-rewritten : (is_meant : File → Bool) (text : List ℕ) (n : ℕ) (files : List File) → AreBelow n (stamps_of files) → IsDistinct eqb (stamps_of files) → IsDistinct eqb (stamps_of (with_first is_meant (rewritten text n) files))
-unfolding IsDistinct AreBelow
+unfolding IsDistinct
 IsDistinct-rewritten is_meant text n [] h d = tt
 IsDistinct-rewritten is_meant text n (f ∷ files) h d = elim (is_meant f) as (λ b. IsDistinct eqb (stamps_of (if b then rewritten text n f ∷ files else f ∷ with_first is_meant (rewritten text n) files))) [
   | true ↦ (differs_from_all n (stamps_of files) h.1, d.1)
@@ -102,13 +97,16 @@ HasStampsApart-fold_from [] world h = h
 HasStampsApart-fold_from (entry ∷ entries) world h = HasStampsApart-fold_from entries (effect_of world entry.change) (HasStampsApart-effect_of world entry.change h)
 
 HasStampsApart-fold : (entries : List Entry) → HasStampsApart (fold entries)
-unfolding AreBelow IsDistinct
+unfolding IsDistinct
 HasStampsApart-fold entries = HasStampsApart-fold_from entries empty_world (record { below = tt; apart = tt })
 
 -- after any history the stamps of the files are below the next one
+pub AreBelow-fold : (entries : List Entry) → AreBelow (fold entries).next_stamp (stamps_of (fold entries).files)
+AreBelow-fold entries = (HasStampsApart-fold entries).below
+
+-- the same at each place
 pub stamps_below-fold : (entries : List Entry) → All (λ stamp. stamp < (fold entries).next_stamp) (stamps_of (fold entries).files)
-unfolding AreBelow
-stamps_below-fold entries = All-from_recursion (λ stamp. stamp < (fold entries).next_stamp) (stamps_of (fold entries).files) (HasStampsApart-fold entries).below
+stamps_below-fold entries = All-from_recursion (λ stamp. stamp < (fold entries).next_stamp) (stamps_of (fold entries).files) (AreBelow-fold entries)
 
 -- after any history no two files have the same stamp
 pub stamps_apart-fold : (entries : List Entry) → IsDistinct eqb (stamps_of (fold entries).files)

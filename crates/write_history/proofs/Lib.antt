@@ -1,3 +1,4 @@
 pub mod ApartLemmas
+pub mod ContentLemmas
 pub mod NumberedLemmas
 pub mod UnreadyLemmas

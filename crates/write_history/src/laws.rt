@@ -1,9 +1,9 @@
 //! Laws of the world that callers rest on: functions that do nothing, whose contracts are the laws.
-ghost use Rattle.std.specs.Prelude.{◌≡◌, ◌<◌, ◌∷◌, List, bytes_eq, eqb};
+ghost use Rattle.std.specs.Prelude.{◌≡◌, ◌<◌, ◌∷◌, ◌++◌, ℕ, List, Some, bytes_eq, eqb};
 ghost use Rattle.std.specs.List.{All, IsDistinct};
 ghost use Rattle.write_history.specs.declared.change.Entry.{Entry};
 ghost use Rattle.write_history.specs.declared.change.Change.TheVariants.{Intake};
-ghost use Rattle.write_history.specs.World.{File, unready_files};
+ghost use Rattle.write_history.specs.World.{File, file_with_id, unready_files};
 ghost use Rattle.write_history.specs.Fold.{fold, effect_of, IsLegal};
 ghost use Rattle.write_history.specs.Numbered.{AreNumbered};
 ghost use Rattle.write_history.specs.Apart.{stamps_of, live_paths};
@@ -17,6 +17,13 @@ pub fn ids_are_places()
 pub fn stamps_are_given_once()
     ensures below { (entries : List Entry) → All (λ stamp. stamp < (fold entries).next_stamp) (stamps_of (fold entries).files) }
     ensures apart { (entries : List Entry) → IsDistinct eqb (stamps_of (fold entries).files) }
+{}
+
+/// A live file that has the stamp of an earlier place of the history has the content of that place: what was made
+/// from its content there is of its content now.
+pub fn same_stamp_is_same_content()
+    ensures { (earlier : List Entry) (later : List Entry) (id : ℕ) (old : File) (new : File) → file_with_id (fold earlier) id ≡ Some old
+        → file_with_id (fold (earlier ++ later)) id ≡ Some new → old.stamp ≡ new.stamp → old.content ≡ new.content }
 {}
 
 /// After any legal history no two live files have the same path.
