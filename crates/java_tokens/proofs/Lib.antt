@@ -5,3 +5,4 @@ pub mod WordLemmas
 pub mod WordListLemmas
 pub mod MaskLemmas
 pub mod AsciiWords
+pub mod IdentifierLemmas

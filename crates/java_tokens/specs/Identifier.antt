@@ -1,12 +1,13 @@
 -- Words and identifiers.
-use Rattle.std.specs.Prelude.{ℕ, Bool, not, ◌&&◌, List, [], ◌∷◌, ◌++◌, codes}
+use Rattle.std.specs.Prelude.{ℕ, Bool, false, not, ◌&&◌, List, [], ◌∷◌, ◌++◌, codes}
 use Rattle.std.specs.List.{list_any, list_all}
 use Rattle.std.specs.Str.{bytes_eq}
-use Rattle.java_tokens.specs.Chars.{begins_word, continues_word, first_passes}
+use Rattle.java_tokens.specs.Chars.{begins_word, continues_word}
 
--- the characters are one whole word
+-- the characters are one whole word: a JavaLetter, and then JavaLetterOrDigit
 abbrev pub is_word : List ℕ → Bool
-is_word cs = first_passes begins_word cs && list_all continues_word cs
+is_word [] = false
+is_word (c ∷ cs) = begins_word c && list_all continues_word cs
 
 -- ReservedKeyword
 abbrev pub reserved_words : List (List ℕ)

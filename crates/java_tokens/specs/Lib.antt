@@ -1,7 +1,8 @@
--- What callers may rest on: characters, kinds, tokens, identifiers and words.
+-- What callers may rest on: the classes of characters, the kinds of tokens, tokens, identifiers and words.
 pub mod Chars
 pub mod Kind
-pub mod Class
 pub mod Tokens
 pub mod Identifier
 pub mod Words
+-- Internal: the names that the code gives to some of these classes.
+pub mod Class
