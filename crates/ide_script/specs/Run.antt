@@ -1,5 +1,5 @@
 -- How a run of the program ends.
-use Rattle.std.specs.Prelude.{ℕ, ◌≡◌, ◌≢◌, ◌≤◌, List, length, Option, Some, None, IfSome, Result, Ok, Err}
+use Rattle.std.specs.Prelude.{ℕ, ◌≡◌, ◌≤◌, List, length, Option, IfSome, Ok, Err}
 use Rattle.std.specs.Io.KnownBytes.{append_known}
 use Rattle.ide_io.specs.Known.{TakesPrefix, TakesOver}
 use Rattle.ide_io.specs.Fault.{HasFault}

@@ -41,6 +41,12 @@ pub fn run_ide<R: Threads + Wait, S: Source, T: Tree, K: Sink>(
     // What the sink holds then.
     ensures prefix { result ≡ Status.SinkFault → WritesPrefix (S.left script.old) (K.taken out.old) (K.taken out.new) }
     ensures silent { result ≢ Status.Done → result ≢ Status.SinkFault → K.taken out.new ≡ K.taken out.old }
+
+    // What stays the same: no fault is met but that which is told, the tree isn't asked, and a faulty command line reads nothing.
+    ensures source_quiet { result ≢ Status.SourceFault → S.faults script.new ≡ S.faults script.old }
+    ensures sink_quiet { result ≢ Status.SinkFault → K.faults out.new ≡ K.faults out.old }
+    ensures tree_quiet { T.faults tree.new ≡ T.faults tree.old }
+    ensures unread { result ≡ Status.Usage → S.left script.new ≡ S.left script.old }
 {
     if !is_play(words) {
         return Status::Usage;
@@ -66,6 +72,7 @@ fn is_play(words: &[String]) -> bool
 fn read_script<S: Source>(alloc: Global, source: &mut S) -> Result<Script, Status>
     ensures ok { IfOk result (λ script. IfSome (S.left source.old) (λ bytes. script_of bytes ≡ Ok script)) }
     ensures err { IfErr result (ReadStops S.left S.faults source.old source.new) }
+    ensures quiet { result ≢ Err Status.SourceFault → S.faults source.new ≡ S.faults source.old }
 {
     let bytes = match read_all(alloc, source, MAX_BYTES) {
         Ok(bytes) => bytes,
@@ -82,7 +89,8 @@ fn read_script<S: Source>(alloc: Global, source: &mut S) -> Result<Script, Statu
 
 /// Plays the script and writes its transcript.
 fn write_transcript<K: Sink>(alloc: Global, script: &Script, out: &mut K) -> Status
-    ensures { WriteEnds K.taken K.faults out.old out.new (serial script.now) result }
+    ensures ends { WriteEnds K.taken K.faults out.old out.new (serial script.now) result }
+    ensures quiet { result ≢ Status.SinkFault → K.faults out.new ≡ K.faults out.old }
 {
     let Ok(bytes) = serial_transcript(alloc, script) else {
         return Status::OutOfMemory;

@@ -1,5 +1,4 @@
 use Rattle.std.proofs.Common.{◌++◌, ap, ◌∙◌}
-use Rattle.ide_script.specs.Transcript.{entry_lines}
 use Rattle.ide_script.proofs.PrintLemmas.{entries_turn}
 use Rattle.ide_script.proofs.print.push_entries.Goals as goal
 

@@ -1,4 +1,4 @@
-use Rattle.std.proofs.Common.{◌≡◌, ◌++◌, ◌∷◌, [], List, None, ap, sym, ◌∙◌, subst}
+use Rattle.std.proofs.Common.{◌≡◌, ◌++◌, ◌∷◌, [], None, ap, sym, ◌∙◌, subst}
 use Rattle.write_history.specs.declared.change.Entry.{Entry}
 use Rattle.write_history.specs.Effect.{refusal_of}
 use Rattle.write_history.specs.Fold.{fold, effect_of, IsLegal}

@@ -1,5 +1,4 @@
-use Rattle.std.proofs.Common.{ap, ◌∙◌, sym}
-use Rattle.std.specs.Prelude.{option_map}
+use Rattle.std.proofs.Common.{ap, ◌∙◌}
 use Rattle.write_history.specs.Fold.{fold}
 use Rattle.ide_script.proofs.SerialLemmas.{task_of_lowest, no_task, made_of_lowest}
 use Rattle.ide_script.proofs.session.Session.make_lowest.Goals as goal

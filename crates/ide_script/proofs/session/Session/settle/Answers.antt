@@ -1,4 +1,4 @@
-use Rattle.std.proofs.Common.{ℕ, ◌≡◌, ◌<◌, ◌++◌, ◌∷◌, [], List, length, Some, None, ap, sym, ◌∙◌, subst, append_assoc, append-nil}
+use Rattle.std.proofs.Common.{◌≡◌, ◌<◌, ◌++◌, ◌∷◌, [], List, length, None, ap, sym, ◌∙◌, subst, append_assoc, append-nil}
 use Rattle.write_history.specs.declared.change.Entry.{Entry}
 use Rattle.write_history.specs.World.{unready_files, lowest_unready}
 use Rattle.write_history.specs.Fold.{fold}
