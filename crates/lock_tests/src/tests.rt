@@ -66,7 +66,15 @@ fn three_threads_read_side_by_side(rt: HostRuntime) -> Result<(), Fail> {
         panic!(rt; "no number is left")
     };
     let room = Room::new(3);
-    let met = read_three(&rt, alloc, &lock, &mut first, &mut second, &mut third, &room);
+    let met = read_three(
+        &rt,
+        alloc,
+        &lock,
+        &mut first,
+        &mut second,
+        &mut third,
+        &room,
+    );
     assert!(rt; met);
     lock.meet(second, &mut first);
     lock.meet(third, &mut first);
