@@ -1,5 +1,5 @@
 -- The one step that decides a read: TURN is set, and the seat is on its way in where the word had neither TURN nor the pending mark.
-use Rattle.std.proofs.Common.{◌≡◌, ℕ, ◌+◌, Bool, true, false, List, get_or, set, refl, ap, ◌∙◌, sym, subst, arith, Some, bit_or}
+use Rattle.std.proofs.Common.{◌≡◌, ℕ, ◌+◌, Bool, true, false, List, [], ◌∷◌, get_or, set, refl, ap, ◌∙◌, sym, subst, arith, Some, bit_or}
 use mathlib.Core.Option.{none, some}
 use mathlib.Core.Option as maybe
 use lib.ListN.{get_elem?}
@@ -14,6 +14,14 @@ use Rattle.action_lock.proofs.WordLemmas.{turn_set, turn_clear, or_odd, or_even}
 use Rattle.action_lock.proofs.Placing.{Rule, shift, Shifts, bounds, quiet, moved, gate_is}
 use Rattle.action_lock.proofs.Sound.{renewed, entered}
 use Rattle.list_laws.specs.Totals.{total}
+
+-- the home value at home, and taken out
+module _ {H : Type 0} (homes : List (maybe.Option H)) (home : H) (is : homes ≡ some home ∷ []) where
+  there : get_elem? homes 0 ≡ some (some home)
+  there = ap (λ (hs : List (maybe.Option H)). get_elem? hs 0) is
+
+  taken : set homes 0 none ≡ none ∷ []
+  taken = ap (λ (hs : List (maybe.Option H)). set hs 0 none) is
 
 module _ {H E : Type 0} (number_of : E → ℕ) (stands : H → List E → Type 0) where
   -- what the step leaves where the word had the pending mark or not, and the turn or not
@@ -66,14 +74,14 @@ module _ {H E : Type 0} (number_of : E → ℕ) (stands : H → List E → Type 
       let home = r.at_home (omega arith) in (
         w,
         takes 0 home.0,
-        ap (λ (hs : List (maybe.Option H)). get_elem? hs 0) home.1,
+        there s.homes home.0 home.1,
         moved number_of stands s r id v w (bit_or found 1) (set s.homes 0 none) at refl refl refl
             (entered number_of r.history r.drawn v n found has sound)
             (or_even found free ∙ omega arith)
             (omega arith)
             (λ some_write. absurd (omega arith))
             (λ none_holds. absurd (omega arith))
-            (λ some_holds. ap (λ (hs : List (maybe.Option H)). set hs 0 none) home.1),
+            (λ some_holds. taken s.homes home.0 home.1),
         (r.history, home.0, sound.seen, home.2, refl),
       )
 
