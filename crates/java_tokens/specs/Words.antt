@@ -70,9 +70,11 @@ marked place names = map (λ name. (name, bit_of place)) names
 abbrev pub words_at : Place → List ℕ → List WordRow
 words_at place cs = marked place (words_in (shown_at place cs))
 
+-- a comment of either kind
 abbrev pub is_comment : Token → Bool
 is_comment t = t.kind == code_of LineComment || t.kind == code_of BlockComment
 
+-- a string literal or a text block
 abbrev pub is_string : Token → Bool
 is_string t = t.kind == code_of Str || t.kind == code_of TextBlock
 

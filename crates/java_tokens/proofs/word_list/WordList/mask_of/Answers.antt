@@ -1,4 +1,4 @@
-use Rattle.std.proofs.Common.{◌≡◌, sym, ap, ◌∙◌, subst, rules, get_or, Ok, Err, Some}
+use Rattle.std.proofs.Common.{sym, ap, ◌∙◌, subst, rules, get_or, Ok, Err, Some}
 use Rattle.std.proofs.lemmas.Fn.{always_returns_same}
 use Rattle.java_tokens.specs.Words.{WordRow, name_cmp, mask_in, AreInOrder}
 use Rattle.java_tokens.proofs.WordListLemmas.{searched}
