@@ -29,6 +29,7 @@ module _ {E : Type 0} where
   entering found seen v =
       record v { phase = Entering; looks = v.looks + 1; last = found; seen = seen; reads = v.reads ++ length seen ∷ []; current = v.intent }
 
+  -- only the phase changed
   abbrev pub with_phase : Phase → View E → View E
   with_phase phase v = record v { phase = phase }
 
@@ -68,15 +69,19 @@ module _ {E : Type 0} where
       pub no_others : v.number ≡ Some 0 → v.drawn ≡ length v.ended + 1 → All (λ e. times (number_of e) v ≡ 1) history
 
   module _ {H : Type 0} where
+    -- a load of the gate word
     abbrev pub Looks : Step H → Me H (View E) → ℕ → Me H (View E) → Type 0
     Looks st m found m' = m' ≡ (looked found m.0, m.1)
 
+    -- a reader leaves, or a turn is given back
     abbrev pub Exits : Step H → Me H (View E) → ℕ → Me H (View E) → Type 0
     Exits st m found m' = m' ≡ (with_phase Out m.0, m.1)
 
+    -- the home value is given back, and the seat is counted as a reader
     abbrev pub Holds : Step H → Me H (View E) → ℕ → Me H (View E) → Type 0
     Holds st m found m' = m' ≡ (with_phase Reading m.0, [])
 
+    -- a load that tells what a join left, and which entries the history has
     abbrev pub Tells : (E → ℕ) → Step H → Me H (View E) → ℕ → Me H (View E) → Type 0
     Tells number_of st m found m' =
         (m' ≡ (told m.0, m.1)) × All (λ old. IsFront old m.0.seen) m.0.olds × ((history : List E) × IsTold number_of m.0 history)
@@ -89,5 +94,6 @@ module _ {E : Type 0} where
     EntersAt stands false false m found m' =
         (seen : List E) × (home : H) × IsFront m.0.seen seen × stands home seen × (m' ≡ (entering found seen m.0, (0, home) ∷ m.1))
 
+    -- the step that decides a read
     abbrev pub Enters : (H → List E → Type 0) → Step H → Me H (View E) → ℕ → Me H (View E) → Type 0
     Enters stands st m found m' = EntersAt stands (has_pending found) (has_turn found) m found m'

@@ -60,6 +60,7 @@ phase_holding Reading = 0
 phase_holding Asking = 0
 phase_holding Writing = 1
 
+-- 1 for yes, 0 for no
 abbrev pub bit : Bool → ℕ
 bit true = 1
 bit false = 0
@@ -75,24 +76,31 @@ number_is n (Some m) = bit (m == n)
 number_is n None = 0
 
 module _ {E : Type 0} where
+  -- 1 where the view has the turn
   abbrev pub turn : View E → ℕ
   turn v = phase_turn v.phase
 
+  -- 1 where it has set the pending mark
   abbrev pub pending : View E → ℕ
   pending v = phase_pending v.phase
 
+  -- 1 where it reads
   abbrev pub reading : View E → ℕ
   reading v = phase_reading v.phase
 
+  -- 1 where it writes
   abbrev pub writing : View E → ℕ
   writing v = phase_writing v.phase
 
+  -- 1 where it is in, or on its way in or back
   abbrev pub inside : View E → ℕ
   inside v = phase_inside v.phase
 
+  -- 1 where it has the home value
   abbrev pub holding : View E → ℕ
   holding v = phase_holding v.phase
 
+  -- 1 where it has the intent
   abbrev pub intending : View E → ℕ
   intending v = bit v.intent
 

@@ -2,7 +2,7 @@
 ghost use Rattle.action_lock.specs.Passes.{IsPassOf};
 
 use crate::board::{Board, Note};
-use action_lock::{ActionLock, Pass, Watch};
+use action_lock::{ActionLock, Home, Pass, Watch};
 use std::alloc::Global;
 use std::sync::{Arc, Wait};
 
@@ -49,5 +49,22 @@ pub fn sees_a_write(alloc: Global, lock: &ActionLock<Board>, pass: &mut Pass<Boa
             found
         }
         Err(_) => true,
+    }
+}
+
+/// One attempt on a lock over any home value, with a look in between.
+pub fn is_let_in<H: Home>(alloc: Global, lock: &ActionLock<H>, pass: &mut Pass<H>) -> bool
+    requires { IsPassOf lock.now pass.old }
+    ensures { IsPassOf lock.now pass.new }
+{
+    match pass.try_read(alloc, lock) {
+        Ok(mut reading) => {
+            let share = reading.apart();
+            let found = reading.look();
+            reading.together(share);
+            reading.leave();
+            !found
+        }
+        Err(_) => false,
     }
 }

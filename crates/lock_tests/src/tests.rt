@@ -1,7 +1,7 @@
 //! What a clause cannot say: that the calls succeed, and that readers are in side by side.
 use crate::board::Board;
 use crate::drawing::draw;
-use crate::reads::{finds_nothing, sees_a_write};
+use crate::reads::{finds_nothing, is_let_in, sees_a_write};
 use crate::side_by_side::{Room, read_three};
 use action_lock::{ActionLock, SplitRefusal};
 use std::test::Fail;
@@ -92,8 +92,10 @@ fn a_read_waits_and_is_taken_apart(rt: HostRuntime) -> Result<(), Fail> {
     };
     let empty = finds_nothing(&rt, alloc, &lock, &mut first);
     let written = sees_a_write(alloc, &lock, &mut first);
+    let let_in = is_let_in(alloc, &lock, &mut first);
     assert!(rt; empty);
     assert!(rt; !written);
+    assert!(rt; let_in);
     assert!(rt; lock.is_last(&mut first));
     let _board = lock.close(first);
     Ok(())
