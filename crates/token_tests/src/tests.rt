@@ -224,7 +224,7 @@ fn tokens_of_texts(rt: HostRuntime) -> Result<(), Fail> {
 fn words_of_texts(rt: HostRuntime) -> Result<(), Fail> {
     for case in &CASES {
         let text = text_of(rt.alloc(), case.text)?;
-        let list = words(rt.alloc(), &text)?;
+        let list = words(rt.alloc(), &text)?.copy()?;
         let mut shown = String::new(rt.alloc());
         for at in 0..list.len() {
             let name = list.name(at);

@@ -1,0 +1,22 @@
+//! A script that is parsed, played and printed call by call.
+
+use ide_script::{play, transcript};
+use script_lang::parse;
+use std::test::Fail;
+
+const SCRIPT: &[u8] = b"create A.java \"class A {}\"\nsettle\nword A\n";
+
+const TRANSCRIPT: &[u8] =
+    b"history 2\n1 0 1 create A.java 10\n2 0 2 intake 1 1\n1 at 1 accepted\n2 at 2 smart\n3 at 2 rows 1\n  A.java code\n";
+
+#[test]
+fn parsed_played_and_printed(rt: HostRuntime) -> Result<(), Fail> {
+    let script = parse(rt.alloc(), SCRIPT)?;
+    assert_eq!(rt; script.len(), 3);
+    let played = play(rt.alloc(), &script)?;
+    assert_eq!(rt; played.history.len(), 2);
+    assert_eq!(rt; played.records.as_slice().len(), 3);
+    let printed = transcript(rt.alloc(), &played)?;
+    assert_eq!(rt; printed.as_slice(), TRANSCRIPT);
+    Ok(())
+}
