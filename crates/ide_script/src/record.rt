@@ -1,5 +1,5 @@
 //! The records of a run: what each command was answered.
-ghost use Rattle.std.specs.Prelude.{◌≡◌, [], ◌∷◌, ◌++◌, OnOk, length};
+ghost use Rattle.std.specs.Prelude.{◌≡◌, [], ◌∷◌, ◌++◌, OnOk, OnErr, length};
 
 use ide_text::Name;
 use ide_world::WordRows;
@@ -54,9 +54,10 @@ impl Records {
         }
     }
 
-    /// Adds a record.
+    /// Adds a record, or changes nothing where there is no memory.
     pub fn push(&mut self, record: Record) -> Result<(), AllocError>
-        ensures { OnOk result (self.new ≡ self.old ++ «record» ∷ []) }
+        ensures ok { OnOk result (self.new ≡ self.old ++ «record» ∷ []) }
+        ensures err { OnErr result (self.new ≡ self.old) }
     {
         self.records.push(record)?;
         Ok(())
