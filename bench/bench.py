@@ -54,8 +54,8 @@ def creates(files=500, size=5000, words=100):
         print(f"  {n:6} files  {len(script) / 1e6:7.2f} MB  {seconds:7.3f} s  {len(script) / 1e6 / seconds:7.1f} MB/s")
 
 
-def edits(turns=400, size=500):
-    print(f"write, settle and word of one small file, among files of {size} characters")
+def edits(turns=20000, size=500):
+    print(f"{turns} turns of write, settle and word of one small file, among files of {size} characters")
     for n in (200, 2000, 20000):
         base = workspace(n, size)
         turn = "".join(f'write f7.java "class D{i} {{}}"\nsettle\nword D{i}\n' for i in range(turns))

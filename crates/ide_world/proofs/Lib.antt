@@ -1,6 +1,9 @@
+pub mod ByIdLemmas
+pub mod EntryLemmas
 pub mod PathIdLemmas
 pub mod PathLemmas
+pub mod PostingLemmas
+pub mod PostingRowLemmas
 pub mod RowLemmas
 pub mod StateLemmas
-pub mod FlagLemmas
 pub mod UnreadyLemmas

@@ -1,58 +1,29 @@
 -- Which ids are on, and the first of them.
-use Rattle.std.proofs.Common.{◌≡◌, ℕ, ◌<◌, ◌≤◌, Bool, true, false, cond, ◌||◌, eqb, ltb, List, [], ◌∷◌, Some, None, refl, sym, ap, ◌∙◌, subst, arith, ⊎_elim, nat_cmp}
+use Rattle.std.proofs.Common.{◌≡◌, ℕ, ◌<◌, ◌≤◌, Bool, true, false, ◌||◌, eqb, List, [], ◌∷◌, Some, None, refl, sym, ap, ◌∙◌, subst, arith, ⊎_elim, nat_cmp}
 use Rattle.std.specs.Prelude.{find, is_some, unwrap_or}
-use Rattle.std.specs.List.{list_any, AllByRecursion}
+use Rattle.std.specs.List.{list_any}
 use Rattle.std.specs.List.Sorted.{IsStrictlySortedBy}
 use Rattle.std.specs.BTreeMap.{BTreeMap, get, keys, is_at}
 use Rattle.std.specs.Map.{lookup, keys_of}
-use Rattle.std.specs.Ordering.{is_eq}
-use Rattle.std.specs.declared.cmp.Ordering.TheVariants.{Less, Equal, Greater}
-use Rattle.std.proofs.lemmas.Bool.{cases_Bool, cases_lt, cases_eq, cond-true, cond-false, eq-eqb, ne_eqb, ltb-true}
-use Rattle.std.proofs.lemmas.Bool.Decides.{nat_tests}
+use Rattle.std.proofs.lemmas.Bool.{cases_Bool, cases_lt, cases_eq, cond-true, cond-false}
 use Rattle.std.proofs.lemmas.Option.{none-some, same_Some}
 use Rattle.std.proofs.lemmas.Map.Keys.{sorted_head, sorted_tail}
 use Rattle.std.proofs.lemmas.Map.Made.{is_some-lookup}
 use Rattle.ide_world.specs.Prepared.{has_id}
-
-is_eq-nat_cmp : (a b : ℕ) → is_eq (nat_cmp a b) ≡ eqb a b
-is_eq-nat_cmp a b = ⊎_elim
-    (λ (below : ltb a b ≡ true). ap (λ t. is_eq (cond t Less (cond (eqb a b) Equal Greater))) below ∙ sym (ne_eqb a b (λ e. omega (arith, ltb-true a b below, e))))
-    (λ (above : ltb a b ≡ false). ap (λ t. is_eq (cond t Less (cond (eqb a b) Equal Greater))) above ∙ by (eqb a b))
-    (cases_Bool (ltb a b))
-  where
-    by : (t : Bool) → is_eq (cond t Equal Greater) ≡ t
-    by true = refl
-    by false = refl
-
-less_below : (a b : ℕ) → nat_cmp a b ≡ Less → a < b
-less_below a b h = grind (arith, nat_tests)
+use Rattle.ide_world.proofs.EntryLemmas.{is_eq-nat_cmp, below_all, past, here}
 
 ids_by_order : (id : ℕ) (ids : List ℕ) → list_any (is_at (nat_cmp id)) ids ≡ has_id ids id
 ids_by_order id [] = refl
 ids_by_order id (kept ∷ ids) = ap (λ b. b || list_any (is_at (nat_cmp id)) ids) (is_eq-nat_cmp id kept) ∙ ap (λ b. eqb id kept || b) (ids_by_order id ids)
 
 -- an id is among the keys where something is kept for it
-pub has_id-keys : (ids : BTreeMap ℕ Bool) (id : ℕ) → is_some (get nat_cmp ids id) ≡ has_id (keys ids) id
+pub has_id-keys : {X : Type 0} (ids : BTreeMap ℕ X) (id : ℕ) → is_some (get nat_cmp ids id) ≡ has_id (keys ids) id
 has_id-keys ids id = is_some-lookup (is_at (nat_cmp id)) ids.entries ∙ ids_by_order id (keys ids)
-
--- no entry above a key is at one that isn't above it
-below_all : (es : List (ℕ × Bool)) (k other : ℕ) → AllByRecursion (λ y. nat_cmp k y ≡ Less) (keys_of es) → other ≤ k → lookup (is_at (nat_cmp other)) es ≡ None
-below_all [] k other above h = refl
-below_all (e ∷ es) k other above h =
-    let apart : eqb other e.0 ≡ false = ne_eqb other e.0 (λ s. omega (arith, less_below k e.0 above.0, h, s)) in
-    ap (λ t. cond t (Some e.1) (lookup (is_at (nat_cmp other)) es)) (is_eq-nat_cmp other e.0 ∙ apart) ∙ below_all es k other above.1 h
 
 -- an entry that is found first is on, and no id before it is
 pub record IsFirstOn (es : List (ℕ × Bool)) (id : ℕ) : Type 0 where
   pub on : lookup (is_at (nat_cmp id)) es ≡ Some true
   pub before : (other : ℕ) → other < id → unwrap_or (lookup (is_at (nat_cmp other)) es) false ≡ false
-
--- nothing is at another key than the first entry's but what is at it in the rest
-past : (e : ℕ × Bool) (es : List (ℕ × Bool)) (other : ℕ) → (other ≡ e.0 → ⊥) → lookup (is_at (nat_cmp other)) (e ∷ es) ≡ lookup (is_at (nat_cmp other)) es
-past e es other apart = ap (λ t. cond t (Some e.1) (lookup (is_at (nat_cmp other)) es)) (is_eq-nat_cmp other e.0 ∙ ne_eqb other e.0 apart)
-
-here : (e : ℕ × Bool) (es : List (ℕ × Bool)) (other : ℕ) → other ≡ e.0 → lookup (is_at (nat_cmp other)) (e ∷ es) ≡ Some e.1
-here e es other same = ap (λ t. cond t (Some e.1) (lookup (is_at (nat_cmp other)) es)) (is_eq-nat_cmp other e.0 ∙ eq-eqb other e.0 same)
 
 first_entry_on : (e : ℕ × Bool) (es : List (ℕ × Bool)) → IsStrictlySortedBy nat_cmp (keys_of (e ∷ es)) → e.1 ≡ true → IsFirstOn (e ∷ es) e.0
 first_entry_on e es sorted on = record {

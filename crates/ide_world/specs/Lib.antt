@@ -4,6 +4,7 @@ pub mod Prepared
 pub mod Reply
 -- How a state is kept
 pub mod Paths
+pub mod Postings
 pub mod Rows
 pub mod Unready
 pub mod State

@@ -1,6 +1,9 @@
 -- Changes that are ready to go in.
-use Rattle.std.specs.Prelude.{ℕ, ◌≡◌, ◌<◌, ◌&&◌, List, ◌==◌, Bool, IsTrue, bytes_eq, IfSome, find, Option, Some, None, option_map}
+use Rattle.std.specs.Prelude.{ℕ, ◌≡◌, ◌<◌, ◌&&◌, List, ◌==◌, Bool, false, IsTrue, All, bytes_eq, IfSome, find, Option, Some, None, option_map}
 use Rattle.std.specs.List.{list_any}
+use Rattle.std.specs.Option.{option_map_or}
+use Rattle.std.specs.Map.{lookup}
+use Rattle.java_tokens.specs.Words.{words_of}
 use Rattle.write_history.specs.declared.change.Change.{Change}
 use Rattle.write_history.specs.declared.change.Change.TheVariants.{Create, Write, Intake}
 use Rattle.write_history.specs.declared.refusal.Refusal.{Refusal}
@@ -44,14 +47,26 @@ pub record HasRoomForFile (held : Held) (path : List ℕ) : Type 0 where
 abbrev pub HasRoomForText : Held → List ℕ → Type 0
 HasRoomForText held path = IsTrue (is_java path) → IfSome (file_at held.world path) (λ file. IsTrue (has_id held.ids file.id))
 
--- there is room for what the change adds
-abbrev pub HasRoomFor : Held → Change → Type 0
-HasRoomFor held (Create path text) = HasRoomForFile held path
-HasRoomFor held (Write path text) = HasRoomForText held path
-HasRoomFor held (Intake file stamp) = Unit {0}
+-- whether the file with an id is among those of a word
+abbrev pub has_word : List (List ℕ × List ℕ) → List ℕ → ℕ → Bool
+has_word words name id = option_map_or (λ ids. has_id ids id) (lookup (bytes_eq name) words) false
+
+-- whether a live file with the id is a Java file
+abbrev pub is_java_file : World → ℕ → Bool
+is_java_file world id = option_map_or (λ file. is_java file.path) (file_with_id world id) false
+
+-- there is room for the words of this content of a file, where it is a Java file
+abbrev pub HasRoomForWords : Held → ℕ → List ℕ → Type 0
+HasRoomForWords held id content = IsTrue (is_java_file held.world id) → All (λ word. IsTrue (has_word held.words word.0 id)) (words_of content)
+
+-- there is room for what the change adds, with the content that it speaks of
+abbrev pub HasRoomFor : Held → Change → List ℕ → Type 0
+HasRoomFor held (Create path text) content = HasRoomForFile held path
+HasRoomFor held (Write path text) content = HasRoomForText held path
+HasRoomFor held (Intake file stamp) content = HasRoomForWords held file content
 
 abbrev pub HasRoom : Held → Prepared → Type 0
-HasRoom held prepared = HasRoomFor held prepared.change
+HasRoom held prepared = HasRoomFor held prepared.change prepared.content
 
 -- an answer other than want of memory is the reason to refuse
 abbrev pub IsRefusalOf : Option Refusal → Refusal → Type 0

@@ -79,7 +79,7 @@ pub fn reserve(state: &mut State, ready: &Ready) -> Result<(), AllocError>
     match &ready.parts {
         Parts::Create { path, .. } => state.make_room_for_file(path),
         Parts::Write { path, .. } => state.make_room_for_text(path),
-        Parts::Intake { .. } => Ok(()),
+        Parts::Intake { made } => state.make_room_for_words(made),
     }
 }
 

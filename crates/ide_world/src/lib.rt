@@ -6,6 +6,7 @@ mod data;
 mod index;
 mod path;
 mod paths;
+mod postings;
 mod reply;
 mod rows;
 mod state;

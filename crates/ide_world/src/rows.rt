@@ -1,10 +1,13 @@
 //! The rows of files, and what is sought among them.
-ghost use Rattle.std.specs.Prelude.{◌≡◌, All, IfOk};
+ghost use Rattle.std.specs.Prelude.{◌≡◌, IfOk};
+ghost use Rattle.std.specs.BTreeMap.{IsOrdered};
 ghost use Rattle.std.specs.List.{flat_map};
-ghost use Rattle.ide_world.specs.Reply.{row_with_mask};
-ghost use Rattle.ide_world.specs.Rows.{is_unready_row, row_of_word, IsSearchable};
+ghost use Rattle.std.specs.Ordering.{nat_cmp};
+ghost use Rattle.ide_world.specs.Postings.{posted_row, AreOfFiles};
+ghost use Rattle.ide_world.specs.Rows.{is_unready_row};
 
 use crate::path::is_java_source;
+use crate::postings::Posting;
 use crate::reply::WordRow;
 use ide_text::{Name, Text};
 use java_tokens::WordList;
@@ -17,8 +20,9 @@ pub(crate) struct FileRow {
     pub(crate) path: Name,
     pub(crate) content: Arc<Text>,
     pub(crate) stamp: u64,
-    /// The stamp of the content from which `words` were made.
+    /// The stamp of the content that was indexed last.
     pub(crate) indexed: Option<u64>,
+    /// The words of that content, of a Java file.
     pub(crate) words: Option<WordList>,
 }
 
@@ -29,34 +33,24 @@ pub(crate) fn is_unready(row: &FileRow) -> bool
     is_java_source(&row.path) && row.indexed != Some(row.stamp)
 }
 
-/// The rows of the files that have a word.
-pub(crate) fn rows_with_word(
+/// The rows of the files that a posting names, in order of ids.
+pub(crate) fn rows_of_posting(
     alloc: Global,
     files: &[FileRow],
-    name: &Name,
+    posting: &Posting,
 ) -> Result<Vec<WordRow>, AllocError>
-    requires { All IsSearchable files.now }
-    ensures { IfOk result (λ rows. rows.items ≡ flat_map (row_of_word name.now) files.now) }
+    requires { AreOfFiles files.now posting.now }
+    ensures rows { IfOk result (λ rows. rows.items ≡ flat_map (posted_row files.now) posting.now.entries) }
+    ensures ordered { IsOrdered nat_cmp posting.now }
 {
     let mut rows = Vec::new(alloc);
-    for row in files {
-        if let Some(mask) = mask_of(row, name) {
+    for (id, mask) in posting {
+        if let Some(mask) = mask {
             rows.push(WordRow {
-                path: row.path.copy()?,
-                mask,
+                path: files[*id as usize - 1].path.copy()?,
+                mask: *mask,
             })?;
         }
     }
     Ok(rows)
-}
-
-/// In which places a Java file has a word.
-pub(crate) fn mask_of(row: &FileRow, name: &Name) -> Option<u8>
-    requires { IsSearchable row.now }
-    ensures { row_with_mask row.now.path result ≡ row_of_word name.now row.now }
-{
-    if !is_java_source(&row.path) {
-        return None;
-    }
-    row.words.as_ref()?.mask_of(name)
 }

@@ -8,9 +8,10 @@ ghost use Rattle.write_history.specs.Fold.{effect_of};
 
 use crate::data::Made;
 use crate::path::is_java_source;
+use crate::postings::Postings;
 use crate::reply::WordRow;
-use crate::rows::{FileRow, is_unready, rows_with_word};
-use crate::{paths, unready};
+use crate::rows::{FileRow, is_unready, rows_of_posting};
+use crate::{paths, postings, unready};
 use ide_text::{Name, Text};
 use std::alloc::{AllocError, Global};
 use std::collections::BTreeMap;
@@ -28,6 +29,8 @@ pub struct State {
     pub(crate) paths: BTreeMap<Name, u32>,
     /// The ids of the unready files are on.
     pub(crate) unready: BTreeMap<u32, bool>,
+    /// The files of each word that is kept in a row.
+    pub(crate) postings: Postings,
     pub(crate) next_stamp: u64,
     pub(crate) entries: u64,
 }
@@ -52,13 +55,14 @@ pub fn empty(alloc: Global) -> Result<State, AllocError>
         files: Vec::new(alloc),
         paths: BTreeMap::new(alloc),
         unready: BTreeMap::new(alloc),
+        postings: BTreeMap::new(alloc),
         next_stamp: 1,
         entries: 0,
     })
 }
 
 impl State {
-    ghost use Rattle.ide_world.specs.Prepared.{task_with_id, HasRoomForFile, HasRoomForText};
+    ghost use Rattle.ide_world.specs.Prepared.{task_with_id, is_java_file, HasRoomForFile, HasRoomForText, HasRoomForWords};
     ghost use Rattle.ide_world.specs.Reply.{word_rows};
     ghost use Rattle.ide_world.specs.Rows.{file_of};
 
@@ -131,7 +135,20 @@ impl State {
         requires { lowest_unready self.now.world ≡ None }
         ensures { IfOk result (λ rows. rows.items ≡ word_rows self.now.world name.now) }
     {
-        rows_with_word(alloc, &self.files, name)
+        match self.postings.get(name) {
+            Some(posting) => rows_of_posting(alloc, &self.files, posting),
+            None => Ok(Vec::new(alloc)),
+        }
+    }
+
+    /// Whether a live file with the id is a Java file.
+    fn is_java_file(&self, id: u32) -> bool
+        ensures { result ≡ is_java_file self.now.world id }
+    {
+        match self.row_with_id(id) {
+            Some(row) => is_java_source(&row.path),
+            None => false,
+        }
     }
 
     /// Makes room for one file more, at a path.
@@ -152,6 +169,18 @@ impl State {
     {
         let id = paths::id_at(&self.paths, path);
         unready::make_room(&mut self.unready, id, id != 0 && is_java_source(path))
+    }
+
+    /// Makes room for the words of a live file.
+    pub(crate) fn make_room_for_words(&mut self, made: &Made) -> Result<(), AllocError>
+        ensures room { OnOk result (HasRoomForWords self.new made.now.file made.now.text.value) }
+        ensures same { self.new.world ≡ self.old.world }
+    {
+        if !self.is_java_file(made.file) {
+            return Ok(());
+        }
+        let alloc = *self.files.allocator();
+        postings::make_room(alloc, &mut self.postings, made.file, &made.words)
     }
 
     /// Adds a file.
@@ -197,6 +226,7 @@ impl State {
 
     /// Takes in the index data of a live file, made from its content.
     pub(crate) fn take_in(&mut self, made: Made)
+        requires room { HasRoomForWords self.old made.file made.text.value }
         requires file { IsSome (file_with_id self.old.world made.file) }
         requires stamp { IfSome (file_with_id self.old.world made.file) (λ file. file.stamp ≡ made.stamp) }
         requires content { IfSome (file_with_id self.old.world made.file) (λ file. file.content ≡ made.text.value) }
@@ -206,7 +236,7 @@ impl State {
         unready::turn_off(&mut self.unready, made.file);
         let row = &mut self.files[made.file as usize - 1];
         row.indexed = Some(made.stamp);
-        row.words = Some(made.words);
+        postings::take_words(&mut self.postings, made.file, row, made.words);
         self.entries += 1;
     }
 }

@@ -56,6 +56,14 @@ impl WordList {
         self.rows.is_empty()
     }
 
+    /// The names with their masks.
+    pub fn as_slice(&self) -> &[(Name, u8)]
+        ensures rows { result.now ≡ self.now }
+        ensures in_order { AreInOrder self.now }
+    {
+        &self.rows
+    }
+
     /// The name at a place.
     pub fn name(&self, at: usize) -> &Name
         requires { at < length self.now }

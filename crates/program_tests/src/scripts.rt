@@ -13,7 +13,7 @@ struct Case {
 
 const IDE: &[&str] = &["ide"];
 
-static CASES: [Case; 28] = [
+static CASES: [Case; 29] = [
     Case {
         words: IDE,
         script: "",
@@ -154,6 +154,70 @@ word B
 7 at 6 accepted
 8 at 6 smart
 9 at 6 rows 0
+"#,
+    },
+    // A word that leaves one file stays in the others, in order of their ids whichever was indexed last.
+    Case {
+        words: IDE,
+        script: r#"create A.java "x y"
+create B.java "x"
+create C.java "y // x"
+settle
+word x
+word y
+write A.java "y z"
+settle
+word x
+word z
+write C.java "z x"
+write A.java "x"
+settle
+word x
+word y
+word z
+"#,
+        status: "0 done",
+        written: r#"history 12
+1 0 1 create A.java 3
+2 0 2 create B.java 1
+3 0 3 create C.java 6
+4 0 4 intake 1 1
+5 0 4 intake 2 2
+6 0 4 intake 3 3
+7 0 7 write A.java 3
+8 0 8 intake 1 4
+9 0 11 write C.java 3
+10 0 12 write A.java 1
+11 0 13 intake 1 6
+12 0 13 intake 3 5
+1 at 1 accepted
+2 at 2 accepted
+3 at 3 accepted
+4 at 6 smart
+5 at 6 rows 3
+  A.java code
+  B.java code
+  C.java comment
+6 at 6 rows 2
+  A.java code
+  C.java code
+7 at 7 accepted
+8 at 8 smart
+9 at 8 rows 2
+  B.java code
+  C.java comment
+10 at 8 rows 1
+  A.java code
+11 at 9 accepted
+12 at 10 accepted
+13 at 12 smart
+14 at 12 rows 3
+  A.java code
+  B.java code
+  C.java code
+15 at 12 rows 0
+16 at 12 rows 1
+  C.java code
 "#,
     },
     // The places of a word: code, comments and strings.

@@ -17,5 +17,5 @@ returns-clause-room c =
       | else-id-ne0 w ↦ w.make_room-is ∙ ap not (eq-eqb id 0 w.if-id-ne0.false) ∙ sym (ap (λ b. not b && is_java path) (eq-eqb id 0 w.if-id-ne0.false))
     ] in
     let inside = c.self.inside in
-    let new : Inside = record { files = inside.files; paths = inside.paths; unready = c.make_room.new.ids; next_stamp = inside.next_stamp; entries = inside.entries } in
+    let new : Inside = record { files = inside.files; paths = inside.paths; unready = c.make_room.new.ids; postings = inside.postings; next_stamp = inside.next_stamp; entries = inside.entries } in
     on_ok_weaker c.make_room.result (λ room. room_made new c.self.invariant.paths path id c.id_at-id.ensures (λ w. room (wanted ∙ w))) c.make_room.ensures.room

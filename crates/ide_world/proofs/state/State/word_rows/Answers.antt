@@ -1,22 +1,31 @@
-use Rattle.std.proofs.Common.{◌≡◌, ap, sym, refl, ◌∙◌, subst}
-use Rattle.std.specs.Prelude.{All}
+use Rattle.std.proofs.Common.{◌≡◌, ap, sym, ◌∙◌, subst}
 use Rattle.std.proofs.lemmas.Result.{IfOk-weaker}
 use Rattle.std.specs.List.{flat_map}
-use Rattle.write_history.specs.World.{lowest_unready, empty_world}
-use Rattle.ide_world.specs.Reply.{word_rows, word_row}
-use Rattle.ide_world.specs.Rows.{IsSearchable, row_of_word}
-use Rattle.ide_world.proofs.RowLemmas.{flat_map-files_from}
-use Rattle.ide_world.proofs.StateLemmas.{all_searchable}
+use Rattle.ide_world.specs.Postings.{posted_row, AreOfFiles}
+use Rattle.ide_world.specs.Reply.{word_rows}
+use Rattle.ide_world.proofs.PostingRowLemmas.{rows_of_posting, rows_of_none, of_files}
+use Rattle.ide_world.proofs.StateLemmas.{word_rows_by_words}
 use Rattle.ide_world.proofs.state.State.word_rows.Goals as goal
 
-pub rows_with_word-requires : goal.rows_with_word-requires
-rows_with_word-requires c = subst (All IsSearchable) (sym c.deref.ensures.value) (all_searchable c.self.inside c.self.invariant (ap (λ h. lowest_unready h.world) c.self.view_is ∙ c.requires))
+pub rows_of_posting-requires : goal.rows_of_posting-requires
+rows_of_posting-requires c = subst (λ rows. AreOfFiles rows c.in-Some.posting.now) (sym c.deref.ensures.value)
+    (of_files c.self.inside.postings c.self.inside.files.items c.self.invariant.postings c.args.name.now c.in-Some.posting.now c.in-Some.ensures.value)
 
-pub returns : goal.returns
-returns c =
+pub returns-in-Some : goal.returns-in-Some
+returns-in-Some c =
+    let inside = c.self.inside in
     let name = c.args.name.now in
-    IfOk-weaker c.rows_with_word.result (λ rows. rows.items ≡ flat_map (row_of_word name) c.deref.result.now) (λ rows. rows.items ≡ word_rows c.args.self.now.world name) (λ rows e.
-    e ∙ ap (flat_map (row_of_word name)) c.deref.ensures.value
-    ∙ sym (flat_map-files_from (word_row empty_world name) (row_of_word name) 1 c.self.inside.files.items (λ id row. refl))
-    ∙ ap (λ h. word_rows h.world name) c.self.view_is)
-    c.rows_with_word.ensures
+    let posting = c.in-Some.posting.now in
+    IfOk-weaker c.rows_of_posting.result (λ rows. rows.items ≡ flat_map (posted_row c.deref.result.now) posting.entries) (λ rows. rows.items ≡ word_rows c.args.self.now.world name) (λ rows e.
+    e ∙ ap (λ files. flat_map (posted_row files) posting.entries) c.deref.ensures.value
+    ∙ rows_of_posting inside.postings inside.files.items c.self.invariant.postings name posting c.in-Some.ensures.value c.rows_of_posting.ensures.ordered
+    ∙ word_rows_by_words inside c.self.invariant c.args.self.now c.self.view_is name c.requires)
+    c.rows_of_posting.ensures.rows
+
+pub returns-in-None : goal.returns-in-None
+returns-in-None c =
+    let inside = c.self.inside in
+    let name = c.args.name.now in
+    c.new.ensures.items
+    ∙ rows_of_none inside.postings inside.files.items c.self.invariant.postings name c.in-None.ensures.value
+    ∙ word_rows_by_words inside c.self.invariant c.args.self.now c.self.view_is name c.requires

@@ -1,5 +1,5 @@
 use Rattle.std.specs.Prelude.{◌==◌, if◌then◌else◌}
-use Rattle.std.proofs.Common.{length, ◌≡◌, get_or, true, false, ◌≤◌, ◌&&◌, ◌-◌, ◌+◌, bytes_eq, ap, ◌∙◌, arith, subst, sym, refl}
+use Rattle.std.proofs.Common.{length, ◌≡◌, get_or, true, false, None, ◌≤◌, ◌&&◌, ◌-◌, ◌+◌, bytes_eq, ap, ◌∙◌, arith, subst, sym, refl}
 use Rattle.std.proofs.Math.ListN.{length-set}
 use Rattle.std.proofs.lemmas.List.Elements.{All-set}
 use Rattle.write_history.specs.declared.change.Change.TheVariants.{Write}
@@ -11,9 +11,9 @@ use Rattle.ide_world.specs.Rows.{IsRight}
 use Rattle.ide_world.proofs.PathIdLemmas.{id_of-set}
 use Rattle.std.proofs.lemmas.Bool.{eqb-true}
 use Rattle.write_history.specs.Path.{is_java}
-use Rattle.ide_world.specs.Rows.{is_unready_row}
+use Rattle.ide_world.specs.Rows.{is_unready_row, mask_among}
 use Rattle.ide_world.specs.Unready.{unready_flags}
-use Rattle.ide_world.proofs.FlagLemmas.{flag_of_id, flags-set, turned_on}
+use Rattle.ide_world.proofs.ByIdLemmas.{by_id-at, by_id-set, by_id-set_same, turned_on}
 use Rattle.ide_world.proofs.RowLemmas.{with_first-files_from, IsFirst-from_position}
 use Rattle.ide_world.proofs.StateLemmas.{room_for_id, other_row, unready_rewritten, place_of_live, rows_later, same_world, rewritten_row_right}
 use Rattle.ide_world.proofs.state.State.write.Goals as goal
@@ -36,7 +36,7 @@ invariant_of-self c =
     let new : FileRow = record { path = row.path; content = c.args.text; stamp = inside.next_stamp; indexed = row.indexed; words = row.words } in
     let place = place_of_live inside c.self.invariant c.args.self.now c.self.view_is c.args.path.now c.id_at-id.result c.id_at-id.ensures c.requires.file in
     let was : IsRight inside.next_stamp row = subst (IsRight inside.next_stamp) (sym c.index_mut-row.ensures.value) (c.self.invariant.rows (c.id_at-id.result - 1) row place.inside) in record {
-      rows = All-set (IsRight (inside.next_stamp + 1)) inside.files.items (c.id_at-id.result - 1) new (rewritten_row_right row new inside.next_stamp was refl refl) (rows_later inside.next_stamp inside.files.items c.self.invariant.rows);
+      rows = All-set (IsRight (inside.next_stamp + 1)) inside.files.items (c.id_at-id.result - 1) new (rewritten_row_right row new inside.next_stamp was refl refl refl refl) (rows_later inside.next_stamp inside.files.items c.self.invariant.rows);
       paths = λ path. c.self.invariant.paths path ∙ id_of-set inside.files.items (c.id_at-id.result - 1) row new place.inside c.index_mut-row.ensures.value refl path;
       unready = λ other.
           let path = c.args.path.now in
@@ -47,13 +47,16 @@ invariant_of-self c =
           let within : id ≤ length inside.files.items = omega (arith, place.inside, place.above) in
           let off : (id == other) ≡ true → wanted ≡ false → old ≡ false = λ same unwanted.
           ap (λ i. get_or (unready_flags inside.files.items) i false) (sym (eqb-true id other same))
-          ∙ flag_of_id inside.files.items id row place.above within
+          ∙ by_id-at is_unready_row false inside.files.items id row place.above within
           ∙ ap is_unready_row (sym c.index_mut-row.ensures.value) ∙ other_row row (java ∙ unwanted) in
           c.turn_on.ensures other
           ∙ ap (λ flag. if wanted && id == other then true else flag) (c.self.invariant.unready other)
           ∙ turned_on wanted (id == other) old off
           ∙ ap (λ flag. if id == other then flag else old) (sym java ∙ sym (unready_rewritten new was.indexed))
-          ∙ sym (flags-set inside.files.items id new other place.above within);
+          ∙ sym (by_id-set is_unready_row false inside.files.items id new other place.above within);
+      postings = λ name other.
+          c.self.invariant.postings name other
+          ∙ ap (λ words. mask_among words name) (by_id-set_same (λ r. r.words) None inside.files.items c.id_at-id.result row new other place.above (omega (arith, place.inside, place.above)) c.index_mut-row.ensures.value refl);
       few_files = omega (arith, length-set inside.files.items (c.id_at-id.result - 1) new, c.self.invariant.few_files);
       few_entries = omega (arith, ap (λ h. h.world.entries) c.self.view_is, c.requires.entries);
       stamps = omega (arith, c.self.invariant.stamps);
