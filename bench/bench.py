@@ -46,22 +46,25 @@ def workspace(files, size):
     return "\n".join(lines + ["settle", ""])
 
 
+def row(name, script, seconds, rest=""):
+    size = len(script.encode()) / 1e6
+    print(f"  {name:14} {size:7.2f} MB  {seconds:7.3f} s  {size / seconds:6.1f} MB/s{rest}")
+
+
 def creates(files=500, size=5000, words=100):
     print(f"files of {size} characters, a settle and {words} words")
     for n in (files, 2 * files, 4 * files):
         script = workspace(n, size) + "".join(f"word method{i}\n" for i in range(words))
-        seconds = run(script)
-        print(f"  {n:6} files  {len(script) / 1e6:7.2f} MB  {seconds:7.3f} s  {len(script) / 1e6 / seconds:7.1f} MB/s")
+        row(f"{n} files", script, run(script))
 
 
 def edits(turns=20000, size=500):
-    print(f"{turns} turns of write, settle and word of one small file, among files of {size} characters")
+    print(f"files of {size} characters and a settle; then {turns} turns of write, settle and word of one small file")
     for n in (200, 2000, 20000):
         base = workspace(n, size)
         turn = "".join(f'write f7.java "class D{i} {{}}"\nsettle\nword D{i}\n' for i in range(turns))
         alone, more = run(base), run(base + turn)
-        rate = len(base) / 1e6 / alone
-        print(f"  {n:6} files  {len(base) / 1e6:7.2f} MB  {alone:7.3f} s  {rate:6.1f} MB/s  {(more - alone) / turns * 1e6:9.1f} us a turn")
+        row(f"{n} files", base, alone, f"  {(more - alone) / turns * 1e6:6.1f} us a turn")
 
 
 def one(size=1_000_000):
@@ -74,11 +77,11 @@ def one(size=1_000_000):
         "quotes": ('\\"' * size)[: 2 * size],
         "backslashes": ("\\\\" * size)[: 2 * size],
         "a b a b": ("a b " * size)[:size],
+        "é": "é" * size,
     }
     for name, body in texts.items():
         script = f'create A.java "{body}"\nsettle\nword a\n'
-        seconds = run(script)
-        print(f"  {name:14} {len(script) / 1e6:7.2f} MB  {seconds:7.3f} s  {len(script) / 1e6 / seconds:7.1f} MB/s")
+        row(name, script, run(script))
 
 
 def main():

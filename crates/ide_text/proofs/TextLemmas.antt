@@ -1,11 +1,12 @@
 -- The column that follows a list of characters, and the text that bytes spell.
-use Rattle.std.proofs.Common.{ℕ, ◌≡◌, ◌≢◌, ◌+◌, ◌<◌, ◌≤◌, Bool, true, false, List, [], ◌∷◌, ◌++◌, length, take, get_or, encode_utf8_all, encode_utf8, refl, ap, sym, ◌∙◌, Ok, Err, eq-eqb, append-nil}
+use Rattle.std.proofs.Common.{ℕ, ◌≡◌, ◌≢◌, ◌+◌, ◌<◌, ◌≤◌, Bool, true, false, List, [], ◌∷◌, ◌++◌, length, take, get_or, encode_utf8_all, encode_utf8, refl, ap, sym, ◌∙◌, ◌||◌, Ok, Err, eq-eqb, append-nil}
 use Rattle.std.specs.Prelude.{◌==◌, ◌&&◌, if◌then◌else◌}
+use Rattle.std.specs.List.{list_any}
 use Rattle.std.specs.Str.{chars, IsUtf8}
 use Rattle.std.specs.Str.Lossy.{utf8_valid_len}
 use Rattle.std.proofs.lemmas.Str.{is_utf8-from_IsUtf8, IsUtf8-from_is_utf8, encodes-append}
 use Rattle.std.proofs.lemmas.List.{take_more}
-use Rattle.std.proofs.lemmas.Bool.{le-leb, lt-leb, ne_eqb}
+use Rattle.std.proofs.lemmas.Bool.{false≢true, le-leb, lt-leb, ne_eqb}
 use Rattle.ide_text.specs.declared.text.TextRefusal.TheVariants.{NotText, TooLong}
 use Rattle.ide_text.specs.Text.{line_feed, carriage_return, max_chars, repaired, repaired_after, repaired_char, sized_text, text_of, HasNoReturn}
 use Rattle.ide_text.specs.Place.{since_break}
@@ -72,3 +73,14 @@ HasNoReturn-repaired_char after_return c = bool_cases (c == carriage_return) (λ
 pub HasNoReturn-repaired_after : (after_return : Bool) (cs : List ℕ) → HasNoReturn (repaired_after after_return cs)
 HasNoReturn-repaired_after after_return [] = tt
 HasNoReturn-repaired_after after_return (c ∷ cs) = HasNoReturn-append (repaired_char after_return c) (repaired_after (c == carriage_return) cs) (HasNoReturn-repaired_char after_return c) (HasNoReturn-repaired_after (c == carriage_return) cs)
+
+-- characters among which no carriage return stands need no repair
+pub repaired-none : (cs : List ℕ) → list_any (λ c. c == carriage_return) cs ≡ false → repaired cs ≡ cs
+repaired-none [] none = refl
+repaired-none (c ∷ cs) none =
+    let both = or_false (c == carriage_return) (list_any (λ d. d == carriage_return) cs) none in
+    ap (λ b. (if b then line_feed ∷ [] else c ∷ []) ++ repaired_after b cs) both.0 ∙ ap (λ ds. c ∷ ds) (repaired-none cs both.1)
+  where
+    or_false : (a b : Bool) → (a || b) ≡ false → (a ≡ false) × (b ≡ false)
+    or_false true b h = absurd (false≢true (sym h))
+    or_false false b h = (refl, h)

@@ -1,2 +1,4 @@
 pub mod Text
 pub mod Place
+-- How a text lies in memory
+pub mod Chars

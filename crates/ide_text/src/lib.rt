@@ -1,6 +1,7 @@
 //! Texts and names: the characters that every layer above works on.
 #![tactic(auto)]
 
+mod chars;
 mod name;
 mod text;
 

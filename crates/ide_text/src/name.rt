@@ -42,7 +42,7 @@ impl Name {
         ensures { IfOk result (λ name. name ≡ take (to - from) (drop from text.now)) }
     {
         Ok(Name {
-            chars: Vec::from_slice(alloc, &text.as_slice()[from as usize..to as usize])?,
+            chars: text.part(alloc, from, to)?,
         })
     }
 

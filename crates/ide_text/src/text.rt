@@ -1,41 +1,46 @@
 //! A text: a list of at most `MAX_CHARS` characters, with `\n` as its only line break.
-ghost use Rattle.std.specs.Prelude.{◌≡◌, ◌≤◌, ◌<◌, ℕ, IfOk, IfErr, OnOk, length, slice_get, Some, ◌==◌, ◌+◌, ◌++◌, count_by};
-ghost use Rattle.std.specs.Str.{chars};
-ghost use Rattle.ide_text.specs.Text.{IsText, max_chars, repaired, repaired_char, line_feed};
-ghost use Rattle.ide_text.specs.Place.{line_at, column_at, since_break};
+ghost use Rattle.std.specs.Prelude.{◌≡◌, ◌≤◌, ◌<◌, ◌-◌, IfOk, IfErr, length, slice_get, take, drop, Some, ◌==◌};
+ghost use Rattle.ide_text.specs.Text.{IsText};
+ghost use Rattle.ide_text.specs.Place.{line_at, column_at};
 
+use crate::chars::Chars;
 use std::alloc::{AllocError, Global};
 use std::marker::Model;
+use thiserror::Error;
 
 /// The most characters that a text may have.
 pub const MAX_CHARS: usize = 1_048_576;
 
 /// Why bytes are no text.
-#[derive(Clone, Copy, Debug, PartialEq, Eq)]
+#[derive(Clone, Copy, Debug, PartialEq, Eq, Error)]
 pub enum TextRefusal {
     /// The bytes aren't UTF-8; `at` is the length of their longest front that is.
+    #[error("no UTF-8 from byte {at} on")]
     NotText { at: usize },
     /// There are `count` characters, line breaks repaired: more than `MAX_CHARS`.
+    #[error("{count} characters are too many for a text")]
     TooLong { count: usize },
     /// Memory ran out.
+    #[error("out of memory")]
     OutOfMemory,
 }
 
 /// A list of Unicode scalar values, seen by contracts as their codes. Offsets count characters from 0.
 #[derive(Drop)]
 pub struct Text {
-    chars: Vec<char>,
+    chars: Chars,
 }
 
 impl Model for Text {
     ghost use Rattle.std.specs.Prelude.{List, ℕ};
+    ghost use Rattle.ide_text.specs.Chars.{chars_of};
     ghost use Rattle.ide_text.specs.Text.{IsText};
 
     ghost Value = { List ℕ };
 
-    ghost view = { λ t. t.chars.items };
+    ghost view = { λ t. chars_of t.chars };
 
-    ghost invariant = { λ t. IsText t.chars.items };
+    ghost invariant = { λ t. IsText (chars_of t.chars) };
 }
 
 impl Text {
@@ -55,7 +60,7 @@ impl Text {
                 });
             }
         };
-        match repaired_chars(alloc, text) {
+        match Chars::repaired(alloc, text) {
             Ok(chars) if chars.len() > MAX_CHARS => Err(TextRefusal::TooLong {
                 count: chars.len(),
             }),
@@ -76,7 +81,7 @@ impl Text {
     pub fn is_empty(&self) -> bool
         ensures { result ≡ (length self.now == 0) }
     {
-        self.chars.is_empty()
+        self.chars.len() == 0
     }
 
     /// The character at an offset. Constant time.
@@ -84,7 +89,7 @@ impl Text {
         requires { at < length self.now }
         ensures { slice_get self.now at ≡ Some result }
     {
-        self.chars[at as usize]
+        self.chars.char_at(at as usize)
     }
 
     /// The line and the column of an offset, both from 1. Linear in the offset.
@@ -93,14 +98,26 @@ impl Text {
         ensures line { result.0 ≡ line_at self.now at }
         ensures column { result.1 ≡ column_at self.now at }
     {
-        line_col_after(&self.chars[..at as usize])
+        let mut line = 1;
+        let mut column = 1;
+        for place in 0..at {
+            if self.chars.char_at(place as usize) == '\n' {
+                line += 1;
+                column = 1;
+            } else {
+                column += 1;
+            }
+        }
+        (line, column)
     }
 
-    /// The characters, as they lie.
-    pub(crate) fn as_slice(&self) -> &[char]
-        ensures { result.now ≡ self.now }
+    /// The characters from one offset up to another.
+    pub(crate) fn part(&self, alloc: Global, from: u32, to: u32) -> Result<Vec<char>, AllocError>
+        requires ordered { from ≤ to }
+        requires inside { to ≤ length self.now }
+        ensures { IfOk result (λ part. part.items ≡ take (to - from) (drop from self.now)) }
     {
-        &self.chars
+        self.chars.part(alloc, from as usize, to as usize)
     }
 
     /// The same text once more.
@@ -108,59 +125,7 @@ impl Text {
         ensures { IfOk result (λ copy. copy ≡ self.now) }
     {
         Ok(Text {
-            chars: self.chars.clone()?,
+            chars: self.chars.copy()?,
         })
     }
-}
-
-/// The line and the column that follow these characters.
-fn line_col_after(before: &[char]) -> (u32, u32)
-    requires { length before.now ≤ max_chars }
-    ensures line { result.0 ≡ count_by (λ c. c == line_feed) before.now + 1 }
-    ensures column { result.1 ≡ since_break 0 before.now + 1 }
-{
-    let mut line = 1;
-    let mut column = 1;
-    for c in before {
-        if *c == '\n' {
-            line += 1;
-            column = 1;
-        } else {
-            column += 1;
-        }
-    }
-    (line, column)
-}
-
-/// The characters of a text, line breaks repaired.
-fn repaired_chars(alloc: Global, text: &str) -> Result<Vec<char>, AllocError>
-    ensures { IfOk result (λ cs. cs.items ≡ repaired (chars text.now)) }
-{
-    let chars: Vec<char> = text.chars().collect(alloc)?;
-    with_breaks_repaired(alloc, &chars)
-}
-
-/// The characters with CR LF and a lone CR as `\n`.
-fn with_breaks_repaired(alloc: Global, chars: &[char]) -> Result<Vec<char>, AllocError>
-    ensures { IfOk result (λ cs. cs.items ≡ repaired chars.now) }
-{
-    let mut out = Vec::new(alloc);
-    let mut after_return = false;
-    for c in chars {
-        push_repaired(&mut out, after_return, *c)?;
-        after_return = *c == '\r';
-    }
-    Ok(out)
-}
-
-/// Adds what one character gives.
-fn push_repaired(out: &mut Vec<char>, after_return: bool, c: char) -> Result<(), AllocError>
-    ensures { OnOk result (out.new.items ≡ out.old.items ++ repaired_char after_return c) }
-{
-    if c == '\r' {
-        out.push('\n')?;
-    } else if !(after_return && c == '\n') {
-        out.push(c)?;
-    }
-    Ok(())
 }

@@ -117,8 +117,8 @@ rows_posted name all (row ∷ rows) n at es masks =
 abbrev pub HasMasksOfRows : BTreeMap (List ℕ) Posting → List FileRow → Type 0
 HasMasksOfRows postings rows = (name : List ℕ) (id : ℕ) → mask_posted postings name id ≡ mask_among (get_or (words_by_id rows) id None) name
 
-rows_of_entries : (rows : List FileRow) (name : List ℕ) (es : List (ℕ × Option ℕ)) → IsStrictlySortedBy nat_cmp (keys_of es) → ((id : ℕ) → value_at es id ≡ mask_among (get_or (words_by_id rows) id None) name) → flat_map (posted_row rows) es ≡ flat_map (row_by_words name) rows
-rows_of_entries rows name es sorted masks =
+flat_map-entries : (rows : List FileRow) (name : List ℕ) (es : List (ℕ × Option ℕ)) → IsStrictlySortedBy nat_cmp (keys_of es) → ((id : ℕ) → value_at es id ≡ mask_among (get_or (words_by_id rows) id None) name) → flat_map (posted_row rows) es ≡ flat_map (row_by_words name) rows
+flat_map-entries rows name es sorted masks =
     let at : (k : ℕ) → 0 + k ≡ k = λ k. omega arith in
     let id : (k : ℕ) → 0 + 1 + k ≡ suc k = λ k. omega arith in
     rows_posted name rows rows 0 (λ k. ap (slice_get rows) (at k)) es (record {
@@ -128,15 +128,15 @@ rows_of_entries rows name es sorted masks =
     })
 
 -- the posting of a word names the rows of the files that have it
-pub rows_of_posting : (postings : BTreeMap (List ℕ) Posting) (rows : List FileRow) → HasMasksOfRows postings rows → (name : List ℕ) (posting : Posting) → Some posting ≡ get (slice_cmp nat_cmp) postings name → IsOrdered nat_cmp posting → flat_map (posted_row rows) posting.entries ≡ flat_map (row_by_words name) rows
-rows_of_posting postings rows masks name posting found ordered =
-    rows_of_entries rows name posting.entries ordered (λ id. ap (λ o. option_map_or (λ p. mask_at p id) o None) found ∙ masks name id)
+pub flat_map-posting : (postings : BTreeMap (List ℕ) Posting) (rows : List FileRow) → HasMasksOfRows postings rows → (name : List ℕ) (posting : Posting) → Some posting ≡ get (slice_cmp nat_cmp) postings name → IsOrdered nat_cmp posting → flat_map (posted_row rows) posting.entries ≡ flat_map (row_by_words name) rows
+flat_map-posting postings rows masks name posting found ordered =
+    flat_map-entries rows name posting.entries ordered (λ id. ap (λ o. option_map_or (λ p. mask_at p id) o None) found ∙ masks name id)
 
 -- without a posting no file has the word
-pub rows_of_none : (postings : BTreeMap (List ℕ) Posting) (rows : List FileRow) → HasMasksOfRows postings rows → (name : List ℕ) → None ≡ get (slice_cmp nat_cmp) postings name → [] ≡ flat_map (row_by_words name) rows
+pub flat_map-no_posting : (postings : BTreeMap (List ℕ) Posting) (rows : List FileRow) → HasMasksOfRows postings rows → (name : List ℕ) → None ≡ get (slice_cmp nat_cmp) postings name → [] ≡ flat_map (row_by_words name) rows
 unfolding IsStrictlySortedBy
-rows_of_none postings rows masks name none =
-    rows_of_entries rows name [] tt (λ id. ap (λ o. option_map_or (λ p. mask_at p id) o None) none ∙ masks name id)
+flat_map-no_posting postings rows masks name none =
+    flat_map-entries rows name [] tt (λ id. ap (λ o. option_map_or (λ p. mask_at p id) o None) none ∙ masks name id)
 
 -- and its masks are of files
 pub of_files : (postings : BTreeMap (List ℕ) Posting) (rows : List FileRow) → HasMasksOfRows postings rows → (name : List ℕ) (posting : Posting) → Some posting ≡ get (slice_cmp nat_cmp) postings name → AreOfFiles rows posting

@@ -3,7 +3,7 @@ use Rattle.std.proofs.lemmas.Result.{IfOk-weaker}
 use Rattle.std.specs.List.{flat_map}
 use Rattle.ide_world.specs.Postings.{posted_row, AreOfFiles}
 use Rattle.ide_world.specs.Reply.{word_rows}
-use Rattle.ide_world.proofs.PostingRowLemmas.{rows_of_posting, rows_of_none, of_files}
+use Rattle.ide_world.proofs.PostingRowLemmas.{flat_map-posting, flat_map-no_posting, of_files}
 use Rattle.ide_world.proofs.StateLemmas.{word_rows_by_words}
 use Rattle.ide_world.proofs.state.State.word_rows.Goals as goal
 
@@ -18,7 +18,7 @@ returns-in-Some c =
     let posting = c.in-Some.posting.now in
     IfOk-weaker c.rows_of_posting.result (λ rows. rows.items ≡ flat_map (posted_row c.deref.result.now) posting.entries) (λ rows. rows.items ≡ word_rows c.args.self.now.world name) (λ rows e.
     e ∙ ap (λ files. flat_map (posted_row files) posting.entries) c.deref.ensures.value
-    ∙ rows_of_posting inside.postings inside.files.items c.self.invariant.postings name posting c.in-Some.ensures.value c.rows_of_posting.ensures.ordered
+    ∙ flat_map-posting inside.postings inside.files.items c.self.invariant.postings name posting c.in-Some.ensures.value c.rows_of_posting.ensures.ordered
     ∙ word_rows_by_words inside c.self.invariant c.args.self.now c.self.view_is name c.requires)
     c.rows_of_posting.ensures.rows
 
@@ -27,5 +27,5 @@ returns-in-None c =
     let inside = c.self.inside in
     let name = c.args.name.now in
     c.new.ensures.items
-    ∙ rows_of_none inside.postings inside.files.items c.self.invariant.postings name c.in-None.ensures.value
+    ∙ flat_map-no_posting inside.postings inside.files.items c.self.invariant.postings name c.in-None.ensures.value
     ∙ word_rows_by_words inside c.self.invariant c.args.self.now c.self.view_is name c.requires

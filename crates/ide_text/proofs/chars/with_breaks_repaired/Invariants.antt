@@ -1,6 +1,6 @@
 use Rattle.std.proofs.Common.{◌≡◌, ◌++◌, drop}
 use Rattle.ide_text.specs.Text.{repaired, repaired_after}
-use Rattle.ide_text.proofs.text.with_breaks_repaired.Given as goal
+use Rattle.ide_text.proofs.chars.with_breaks_repaired.Given as goal
 
 -- what is there and what the rest gives are what all gives
 abbrev pub invariant-loop-c : goal.invariant-loop-c
