@@ -8,3 +8,11 @@ pub mod Run
 -- How a run keeps its place
 pub mod Progress
 pub mod Settle
+-- What these cite from below: scripts, answers, the history, and the outside
+pub use Rattle.script_lang.specs.Script
+pub use Rattle.ide_world.specs.Reply
+pub use Rattle.write_history.specs.World
+pub use Rattle.write_history.specs.Effect
+pub use Rattle.write_history.specs.Fold
+pub use Rattle.ide_io.specs.Fault
+pub use Rattle.ide_io.specs.Known

@@ -6,4 +6,5 @@ pub mod PostingLemmas
 pub mod PostingRowLemmas
 pub mod RowLemmas
 pub mod StateLemmas
+pub mod TakenLemmas
 pub mod UnreadyLemmas

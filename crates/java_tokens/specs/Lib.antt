@@ -6,3 +6,5 @@ pub mod Identifier
 pub mod Words
 -- Internal: the names that the code gives to some of these classes.
 pub mod Class
+-- What they cite from below: texts.
+pub use Rattle.ide_text.specs.Text
