@@ -1,15 +1,15 @@
 -- What one occurrence more makes of a list of words, and so what all make of the empty one.
 use Rattle.std.proofs.Common.{◌≡◌, ℕ, Bool, true, false, cond, List, [], ◌∷◌, Option, Some, None, Ordering, Less, Equal, Greater, refl, sym, ap, ◌∙◌, ⊎_elim}
-use Rattle.std.specs.Prelude.{fold, filter, map, bit_or, unwrap_or}
+use Rattle.std.specs.Prelude.{fold, filter, map, bit_or, is_some, unwrap_or}
 use Rattle.std.specs.List.{AllByRecursion}
 use Rattle.std.specs.List.Sorted.{IsStrictlySortedBy}
 use Rattle.std.specs.Ordering.{is_eq, match_ordering}
 use Rattle.std.specs.Str.{bytes_eq}
 use Rattle.std.specs.Cmp.Lexicographic.{nat_list_cmp_total, texts_ties}
-use Rattle.std.specs.Map.{keys_of}
-use Rattle.std.specs.BTreeMap.{insert_entry}
+use Rattle.std.specs.Map.{keys_of, set_value}
+use Rattle.std.specs.BTreeMap.{insert_entry, is_at}
 use Rattle.std.specs.Int.Bits.{or_zero_l}
-use Rattle.std.proofs.lemmas.Bool.{cases_Bool, cond-true, cond-false}
+use Rattle.std.proofs.lemmas.Bool.{false≢true, cases_Bool, cond-true, cond-false}
 use Rattle.std.proofs.lemmas.Slice.Eq.{bytes_eq-Decides}
 use Rattle.std.proofs.lemmas.Map.Lookups.{exact_bytes}
 use Rattle.java_tokens.specs.Words.{WordRow, name_cmp, mask_in, AreInOrder, with_occurrence, occurrences_of, words_of, bits_of, union_of, HasMasksOf}
@@ -41,6 +41,23 @@ in_order-insert (w ∷ ws) name mask ordered =
       | Equal ↦ λ _. ordered
       | Greater ↦ λ above. (names_after (λ other. name_cmp w.0 other ≡ Less) ws name mask ordered.0 (reversed name w.0 Greater above), in_order-insert ws name mask ordered.1)
     ]) refl
+
+-- a name below all others isn't among them
+mask_in-below : (ws : List WordRow) (name : List ℕ) → AllByRecursion (λ other. name_cmp name other ≡ Less) (keys_of ws) → mask_in ws name ≡ None
+mask_in-below [] name below = refl
+mask_in-below (w ∷ ws) name below = ap (λ r. cond (is_eq r) (Some w.1) (mask_in ws name)) below.0 ∙ mask_in-below ws name below.1
+
+-- a mask written over that of a name is put in for it
+pub set_value-mask : (ws : List WordRow) (name : List ℕ) (mask : ℕ) → AreInOrder ws → is_some (mask_in ws name) ≡ true → set_value (is_at (name_cmp name)) ws mask ≡ insert_entry name_cmp ws name mask
+unfolding IsStrictlySortedBy
+set_value-mask [] name mask ordered found = absurd (false≢true found)
+set_value-mask (w ∷ ws) name mask ordered found =
+    let P : Ordering → Type 0 = λ r. name_cmp name w.0 ≡ r → is_some (cond (is_eq r) (Some w.1) (mask_in ws name)) ≡ true → cond (is_eq r) ((w.0, mask) ∷ ws) (w ∷ set_value (is_at (name_cmp name)) ws mask) ≡ match_ordering r ((name, mask) ∷ w ∷ ws) ((w.0, mask) ∷ ws) (w ∷ insert_entry name_cmp ws name mask) in
+    (elim (name_cmp name w.0) as P [
+      | Less ↦ λ below here. absurd (false≢true (ap is_some (sym (mask_in-below ws name (all_above name w.0 ws below ordered.0))) ∙ here))
+      | Equal ↦ λ _ _. refl
+      | Greater ↦ λ _ here. ap (λ xs. w ∷ xs) (set_value-mask ws name mask ordered.1 here)
+    ]) refl found
 
 in_order-fold : (os ws : List WordRow) → AreInOrder ws → AreInOrder (fold with_occurrence ws os)
 in_order-fold [] ws ordered = ordered

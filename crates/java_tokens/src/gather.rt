@@ -118,7 +118,10 @@ fn add_run(
 fn add(masks: &mut Masks, name: Name, place: Place) -> Result<(), AllocError>
     ensures { OnOk result (masks.new.entries ≡ with_occurrence masks.old.entries (name, bit_of place)) }
 {
-    let before = masks.get(&name).copied().unwrap_or(0);
-    masks.insert(name, before | place.bit())?;
+    if let Some(mask) = masks.get_mut(&name) {
+        *mask |= place.bit();
+        return Ok(());
+    }
+    masks.insert(name, place.bit())?;
     Ok(())
 }

@@ -1,5 +1,5 @@
 //! The words of a text, in the order of their names.
-ghost use Rattle.std.specs.Prelude.{◌≡◌, ◌<◌, ◌==◌, Some, IfOk, length, slice_get, option_map};
+ghost use Rattle.std.specs.Prelude.{◌≡◌, ◌==◌, IfOk, length};
 ghost use Rattle.java_tokens.specs.Words.{AreInOrder, mask_in};
 
 use ide_text::Name;
@@ -62,22 +62,6 @@ impl WordList {
         ensures in_order { AreInOrder self.now }
     {
         &self.rows
-    }
-
-    /// The name at a place.
-    pub fn name(&self, at: usize) -> &Name
-        requires { at < length self.now }
-        ensures { option_map (λ row. row.0) (slice_get self.now at) ≡ Some result.now }
-    {
-        &self.rows[at].0
-    }
-
-    /// The mask at a place.
-    pub fn mask(&self, at: usize) -> u8
-        requires { at < length self.now }
-        ensures { option_map (λ row. row.1) (slice_get self.now at) ≡ Some result }
-    {
-        self.rows[at].1
     }
 
     /// The mask of a name, if it is among the words. The time is the logarithm of their number.

@@ -152,45 +152,49 @@ fn the_longest_texts(rt: HostRuntime) {
     assert_eq!(rt; length_of(rt.alloc(), full + 1, b"\xff"), refusal);
 }
 
+// In a text of ASCII characters and in another.
 #[test]
 fn places_of_a_text(rt: HostRuntime) -> Result<(), Fail> {
-    let text = Text::from_utf8(rt.alloc(), b"ab\r\n\r\xc3\xa9x")?;
-    assert_eq!(rt; text.len(), 6);
-    for (at, line, column) in [
-        (0, 1, 1),
-        (1, 1, 2),
-        (2, 1, 3),
-        (3, 2, 1),
-        (4, 3, 1),
-        (5, 3, 2),
-        (6, 3, 3),
-    ] {
-        assert!(rt; at <= text.len());
-        assert_eq!(rt; text.line_col(at), (line, column));
+    for bytes in [b"ab\r\n\r\xc3\xa9x".as_slice(), b"ab\r\n\rcx", b"ab\n\ncx"] {
+        let text = Text::from_utf8(rt.alloc(), bytes)?;
+        assert_eq!(rt; text.len(), 6);
+        for (at, line, column) in [
+            (0, 1, 1),
+            (1, 1, 2),
+            (2, 1, 3),
+            (3, 2, 1),
+            (4, 3, 1),
+            (5, 3, 2),
+            (6, 3, 3),
+        ] {
+            assert!(rt; at <= text.len());
+            assert_eq!(rt; text.line_col(at), (line, column));
+        }
     }
     Ok(())
 }
 
+// In a text of ASCII characters and in another.
 #[test]
 fn names_of_a_text(rt: HostRuntime) -> Result<(), Fail> {
-    let text = Text::from_utf8(rt.alloc(), b"int \xc3\xa9t\xc3\xa9;")?;
-    assert_eq!(rt; text.len(), 8);
-    for (from, to, wanted) in [
-        (0, 3, "int"),
-        (4, 7, "\u{e9}t\u{e9}"),
-        (8, 8, ""),
-        (0, 0, ""),
+    for (bytes, second) in [
+        (b"int \xc3\xa9t\xc3\xa9;".as_slice(), "\u{e9}t\u{e9}"),
+        (b"int ete;", "ete"),
     ] {
-        assert!(rt; from <= to && to <= text.len());
-        let name = Name::of_text(rt.alloc(), &text, from, to)?;
-        let same = Name::of(rt.alloc(), wanted)?;
-        assert!(rt; name.same(&same));
-        assert!(rt; name.copy()?.same(&same));
-        assert_eq!(rt; name.len(), (to - from) as usize);
-        assert_eq!(rt; name.is_empty(), wanted.is_empty());
-        assert_eq!(rt; name.as_slice(), same.as_slice());
-        assert_eq!(rt; format!(in rt.alloc(); "{name}")?.as_str(), wanted);
-        assert_eq!(rt; format!(in rt.alloc(); "{name:?}")?.as_str(), wanted);
+        let text = Text::from_utf8(rt.alloc(), bytes)?;
+        assert_eq!(rt; text.len(), 8);
+        for (from, to, wanted) in [(0, 3, "int"), (4, 7, second), (8, 8, ""), (0, 0, "")] {
+            assert!(rt; from <= to && to <= text.len());
+            let name = Name::of_text(rt.alloc(), &text, from, to)?;
+            let same = Name::of(rt.alloc(), wanted)?;
+            assert!(rt; name.same(&same));
+            assert!(rt; name.copy()?.same(&same));
+            assert_eq!(rt; name.len(), (to - from) as usize);
+            assert_eq!(rt; name.is_empty(), wanted.is_empty());
+            assert_eq!(rt; name.as_slice(), same.as_slice());
+            assert_eq!(rt; format!(in rt.alloc(); "{name}")?.as_str(), wanted);
+            assert_eq!(rt; format!(in rt.alloc(); "{name:?}")?.as_str(), wanted);
+        }
     }
     Ok(())
 }

@@ -226,12 +226,11 @@ fn words_of_texts(rt: HostRuntime) -> Result<(), Fail> {
         let text = text_of(rt.alloc(), case.text)?;
         let list = words(rt.alloc(), &text)?.copy()?;
         let mut shown = String::new(rt.alloc());
-        for at in 0..list.len() {
-            let name = list.name(at);
-            let mask = list.mask(at);
-            assert_eq!(rt; list.mask_of(name), Some(mask));
+        for (name, mask) in list.as_slice() {
+            assert_eq!(rt; list.mask_of(name), Some(*mask));
             write!(shown, "{name} {mask}, ")?;
         }
+        assert_eq!(rt; list.is_empty(), list.len() == 0);
         let wanted = case.words;
         assert_eq!(rt; shown.as_str(), wanted);
     }
