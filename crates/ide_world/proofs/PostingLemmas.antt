@@ -6,7 +6,7 @@ use Rattle.std.specs.BTreeMap.{BTreeMap, get, keys, is_at}
 use Rattle.std.specs.Map.{lookup, keys_of, update_all}
 use Rattle.std.specs.Cmp.Lexicographic.{slice_cmp, same_text}
 use Rattle.std.specs.Ordering.{nat_cmp}
-use Rattle.std.proofs.lemmas.Bool.{false≢true, false_from_ne_true}
+use Rattle.std.proofs.lemmas.Bool.{false_from_ne_true}
 use Rattle.std.proofs.lemmas.Cmp.{eq_by_cmp_equiv, nat_list_cmp_total}
 use Rattle.std.proofs.lemmas.List.{drop_more}
 use Rattle.std.proofs.lemmas.Map.Keys.{IsDistinct-from_sorted}
@@ -94,11 +94,6 @@ posted_all rows order f word =
     by : (o : Option ℕ) → option_or o (f word) ≡ cond (is_some o) o (f word)
     by None = refl
     by (Some mask) = refl
-
--- no word has a mask where only those that are left have one and none is left
-pub none_left : (o p : Option ℕ) → p ≡ None → (is_some o ≡ true → is_some p ≡ true) → o ≡ None
-none_left None p none h = refl
-none_left (Some mask) p none h = absurd (false≢true (ap is_some (sym none) ∙ h refl))
 
 -- the room for a word of a file as callers see it
 pub has_word-room : (postings : BTreeMap (List ℕ) Posting) (name : List ℕ) (id : ℕ) → has_word (map (λ entry. (entry.0, keys entry.1)) postings.entries) name id ≡ has_room postings name id
