@@ -7,6 +7,7 @@
 
 mod bytes_sink;
 mod bytes_source;
+mod end_count;
 mod failed;
 mod failing;
 mod fault_count;
@@ -23,6 +24,7 @@ mod writing;
 
 pub use crate::bytes_sink::BytesSink;
 pub use crate::bytes_source::BytesSource;
+pub use crate::end_count::EndCount;
 pub use crate::failed::Failed;
 pub use crate::failing::Failing;
 pub use crate::fault_count::FaultCount;
