@@ -9,7 +9,7 @@ use Rattle.std.proofs.lemmas.List.Elements.{All-nil, All-cons}
 use Rattle.script_lang.specs.Held.{IsOfLine}
 use Rattle.script_lang.specs.Lines.{max_bytes, lines_of, without_return, is_passed_by, number_sign}
 use Rattle.script_lang.specs.Script.{content_of, content_of_bytes, content_from, line_before, script_from, script_of, IsRefusalOf}
-use Rattle.script_lang.specs.Grammar.{DropsReturn, IsPassedBy, HoldsCommand, AreLines, HoldScript, IsScript, BeginScript, IsFirstBadLine, IsRefused}
+use Rattle.script_lang.specs.Grammar.{DropsReturn, IsPassedBy, HoldsCommand, AreLines, HoldScript, IsScript, BeginScript, IsFirstBadLine, IsCommandLine, IsRefused}
 use Rattle.script_lang.specs.declared.command.Command.{Command}
 use Rattle.script_lang.specs.declared.command.Command.TheVariants.{Change, Settle, Ask}
 use Rattle.script_lang.specs.declared.command.Query.TheVariants as query

@@ -5,7 +5,7 @@ ghost use Rattle.script_lang.specs.Commands.{command_of, command_with, keyword_o
 
 use crate::field::parts_at_space;
 use crate::quoted::text_of_field;
-use ide_text::{Name, Text};
+use ide_text::{Name, SharedText};
 use java_tokens::is_word;
 use std::alloc::{AllocError, Global};
 use write_history::Change;
@@ -102,7 +102,7 @@ fn word_command(alloc: Global, field: &str) -> Result<Option<Command>, AllocErro
 }
 
 /// The path and the text that stand in two fields.
-fn path_and_text(alloc: Global, fields: &str) -> Result<Option<(Name, Text)>, AllocError>
+fn path_and_text(alloc: Global, fields: &str) -> Result<Option<(Name, SharedText)>, AllocError>
     ensures { IfOk result (λ found. found ≡ path_and_text (chars fields.now)) }
 {
     let Some((path, text)) = parts_at_space(fields) else {
