@@ -121,17 +121,17 @@ no_task view job world value id task same told is none = let seen : Some task �
 -- what was made of that task is of the lowest unready file
 pub made_of_lowest : {E : Type 0} (world value : World) (id : ℕ) (job : Task) (file : File) (result : Result Made E) → world ≡ value → Some job ≡ task_with_id world id → lowest_unready value ≡ Some file
     → task_with_id value id ≡ Some (task_of file) → IsOfWorld world job → IfOk result (λ made. made.file ≡ job.file) → IfOk result (λ made. made.stamp ≡ job.stamp)
-    → IfOk result (λ made. made.text.value ≡ job.content) → IfOk result (λ made. IsOfLowest value made.file made.stamp made.text.value)
+    → IfOk result (λ made. made.text ≡ job.content) → IfOk result (λ made. IsOfLowest value made.file made.stamp made.text)
 made_of_lowest world value id job file (Ok made) same told lowest is of_world files stamps texts =
     let seen : Some job ≡ Some (task_of file) = told ∙ ap (λ w. task_with_id w id) same ∙ is in
     let task : job ≡ task_of file = cc in
-    let made_task : job ≡ record { file = made.file; stamp = made.stamp; content = made.text.value } = cc in
+    let made_task : job ≡ record { file = made.file; stamp = made.stamp; content = made.text } = cc in
     record {
       file = file;
       lowest = lowest;
       same_id = files ∙ ap (λ (t : Task). t.file) task;
       same_stamp = stamps ∙ ap (λ (t : Task). t.stamp) task;
-      of_world = subst (λ w. IsOfWorld w (record { file = made.file; stamp = made.stamp; content = made.text.value })) same (subst (IsOfWorld world) made_task of_world);
+      of_world = subst (λ w. IsOfWorld w (record { file = made.file; stamp = made.stamp; content = made.text })) same (subst (IsOfWorld world) made_task of_world);
     }
 made_of_lowest world value id job file (Err e) same told lowest is of_world files stamps texts = tt
 

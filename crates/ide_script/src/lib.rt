@@ -1,6 +1,7 @@
 //! The program `ide`: from the words of the command line and a script's bytes to the bytes of the transcript.
 #![tactic(auto)]
 
+mod entry;
 mod playing;
 mod print;
 mod record;
@@ -8,6 +9,7 @@ mod run;
 mod session;
 mod status;
 
+pub use entry::{finish, run_main};
 pub use playing::{Played, play};
 pub use print::transcript;
 pub use record::{Answer, Record, Records};
