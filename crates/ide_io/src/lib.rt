@@ -36,5 +36,5 @@ pub use crate::reading::{ReadAllError, read_all};
 pub use crate::sink::Sink;
 pub use crate::source::Source;
 pub use crate::tree::{MAX_FILE_LEN, ReadFileError, Tree};
-pub use crate::writer_sink::{StdoutSink, WriterSink};
+pub use crate::writer_sink::{StderrSink, StdoutSink, WriterSink};
 pub use crate::writing::write_all;

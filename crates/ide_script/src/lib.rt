@@ -8,6 +8,7 @@ mod record;
 mod run;
 mod session;
 mod status;
+mod system;
 
 pub use entry::{finish, run_main};
 pub use playing::{Played, play};
@@ -15,3 +16,4 @@ pub use print::transcript;
 pub use record::{Answer, Record, Records};
 pub use run::run_ide;
 pub use status::Status;
+pub use system::start;
