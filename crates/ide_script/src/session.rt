@@ -98,7 +98,7 @@ impl Session {
         ensures answer { IfOk result (λ answer. answer ≡ (change_step self.old line change).answer) }
         ensures history { OnOk result (self.new ≡ self.old ++ (change_step self.old line change).added) }
     {
-        match prepare(self.alloc, &self.state, &change) {
+        match prepare(&self.state, &change) {
             Ok(ready) => {
                 let at = self.accept(ready, line, change)?;
                 Ok(Answer::Accepted { at })

@@ -3,7 +3,9 @@
 
 mod chars;
 mod name;
+mod shared;
 mod text;
 
 pub use name::Name;
+pub use shared::SharedText;
 pub use text::{MAX_CHARS, Text, TextRefusal};
