@@ -36,6 +36,7 @@ abbrev pub step_unless : Option Refusal → List Entry → Entry → Step
 step_unless None history entry = record { added = entry ∷ []; answer = Accepted (length history + 1) }
 step_unless (Some why) history entry = record { added = []; answer = Refused (length history) why }
 
+-- what a change of a line adds and is answered
 abbrev pub change_step : List Entry → ℕ → Change → Step
 change_step history line change = step_unless (refusal_of (fold history) change) history (entry_of line change)
 
@@ -68,10 +69,11 @@ abbrev pub answer_of : ℕ → Result (List WordRow) (List ℕ) → Answer
 answer_of at (Ok rows) = Words at rows
 answer_of at (Err path) = NotReady at path
 
--- a question adds nothing
+-- a question for a word adds nothing
 abbrev pub word_step : List Entry → List ℕ → Step
 word_step history name = record { added = []; answer = answer_of (length history) (word_reply (fold history) name) }
 
+-- a question is answered by what it asks for
 abbrev pub query_step : List Entry → Query → Step
 query_step history (query.Word name) = word_step history name
 

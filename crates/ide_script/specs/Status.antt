@@ -15,17 +15,6 @@ number_of SinkFault = 5
 number_of OutOfMemory = 6
 number_of ScriptTooLong = 7
 
--- what a status says
-abbrev pub fault_text : Status → List ℕ
-fault_text Done = codes "done"
-fault_text Usage = codes "usage"
-fault_text (BadScript line) = codes "bad script line " ++ decimal line
-fault_text SourceFault = codes "source fault"
-fault_text TreeFault = codes "tree fault"
-fault_text SinkFault = codes "sink fault"
-fault_text OutOfMemory = codes "out of memory"
-fault_text ScriptTooLong = codes "script too long"
-
 -- the line on standard error; a run that is done writes none
 abbrev pub fault_line : Status → List ℕ
 fault_line Done = []

@@ -16,7 +16,7 @@ use ide_world::{
 use script_lang::{Command, Line, Query};
 use std::alloc::{AllocError, Global};
 use std::marker::Model;
-use write_history::laws::intake_readies_one;
+use write_history::laws::{histories_go_on, intake_readies_one};
 use write_history::{Change, Entry, History, Refusal};
 
 /// The seat of the prelude.
@@ -108,6 +108,7 @@ impl Session {
         ensures answer { IfOk result (λ answer. answer ≡ (settle_step self.old line).answer) }
         ensures history { OnOk result (self.new ≡ self.old ++ (settle_step self.old line).added) }
     {
+        histories_go_on();
         intake_readies_one();
         while let Some(id) = lowest_unready(&self.state) {
             if let Some(why) = self.take_in(line, id)? {
@@ -180,6 +181,7 @@ impl Session {
         ensures position { IfOk result (λ position. position ≡ length self.old + 1) }
         ensures history { OnOk result (self.new ≡ self.old ++ entry_of line change ∷ []) }
     {
+        histories_go_on();
         reserve(&mut self.state, &ready)?;
         self.history.reserve()?;
         install(&mut self.state, ready);

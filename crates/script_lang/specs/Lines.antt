@@ -5,13 +5,15 @@ use Rattle.std.specs.Prelude.{ℕ, ◌-◌, ◌==◌, Bool, true, false, List, [
 abbrev pub max_bytes : ℕ
 max_bytes = 16777216
 
--- U+000A ends a line, U+000D may stand before its end, `#` begins a line that is passed by
+-- U+000A ends a line
 abbrev pub line_feed : ℕ
 line_feed = 10
 
+-- U+000D may stand before a line's end
 abbrev pub carriage_return : ℕ
 carriage_return = 13
 
+-- `#` begins a line that is passed by
 abbrev pub number_sign : ℕ
 number_sign = 35
 
