@@ -26,7 +26,7 @@ pub(crate) fn text_of_field(alloc: Global, field: &str) -> Result<Option<SharedT
     let Some(unquoted) = unquoted(alloc, field)? else {
         return Ok(None);
     };
-    match Text::from_utf8(alloc, unquoted.as_bytes()) {
+    match Text::from_string(alloc, unquoted) {
         Ok(text) => Ok(Some(SharedText::new(alloc, text)?)),
         Err(TextRefusal::OutOfMemory) => Err(AllocError),
         // A `String` is UTF-8, so a text that is refused is too long.
@@ -40,7 +40,7 @@ fn unquoted(alloc: Global, field: &str) -> Result<Option<String>, AllocError>
     ensures { IfOk result (λ text. option_map (λ s. chars (string_bytes s)) text
         ≡ unquoted_from Place.Outside (chars field.now)) }
 {
-    let mut text = String::new(alloc);
+    let mut text = String::with_capacity(alloc, field.len())?;
     let mut place = Place::Outside;
     for c in field.chars() {
         let Some((next, meant)) = step(place, c) else {
