@@ -1,0 +1,3 @@
+pub mod Role
+pub mod Forest
+pub mod Known
