@@ -35,6 +35,14 @@ impl StubList {
         }
     }
 
+    /// The stubs of a vector.
+    pub fn from_vec(stubs: Vec<Stub>) -> StubList
+        requires { IsLawfulList stubs.items }
+        ensures { result ≡ stubs.items }
+    {
+        StubList { stubs }
+    }
+
     /// Puts a stub at the end. On an error the list is as before.
     pub fn push(&mut self, stub: Stub) -> Result<(), AllocError>
         requires { IsLawfulList (self.old ++ stub ∷ []) }
