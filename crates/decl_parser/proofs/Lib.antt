@@ -1,0 +1,4 @@
+pub mod ForestLemmas
+pub mod UnitLemmas
+pub mod HeaderLemmas
+pub mod ListingLemmas
