@@ -4,6 +4,7 @@ use Rattle.write_history.specs.declared.change.Change.{Change}
 use Rattle.write_history.specs.declared.change.Change.TheVariants as change
 use Rattle.write_history.specs.declared.change.Entry.{Entry}
 use Rattle.write_history.specs.declared.refusal.Refusal.{Refusal}
+use Rattle.write_history.specs.declared.refusal.Refusal.TheVariants.{NoSuchFile}
 use Rattle.write_history.specs.World.{File, unready_files}
 use Rattle.write_history.specs.Effect.{refusal_of}
 use Rattle.write_history.specs.Fold.{fold}
@@ -14,8 +15,10 @@ use Rattle.script_lang.specs.declared.command.Query.TheVariants as query
 use Rattle.script_lang.specs.declared.line.Line.{Line}
 use Rattle.ide_world.specs.declared.reply.WordRow.{WordRow}
 use Rattle.ide_world.specs.Reply.{word_reply}
+use Rattle.ide_world.specs.declared.outline.OutlineRow.{OutlineRow}
+use Rattle.ide_world.specs.Outline.{outline_reply}
 use Rattle.ide_script.specs.declared.record.Answer.{Answer}
-use Rattle.ide_script.specs.declared.record.Answer.TheVariants.{Accepted, Refused, Smart, NotReady, Words}
+use Rattle.ide_script.specs.declared.record.Answer.TheVariants.{Accepted, Refused, Smart, NotReady, Words, Outline}
 use Rattle.ide_script.specs.declared.record.Record.{Record}
 
 -- what a command adds to the history, and what it is answered
@@ -73,9 +76,19 @@ answer_of at (Err path) = NotReady at path
 abbrev pub word_step : List Entry → List ℕ → Step
 word_step history name = record { added = []; answer = answer_of (length history) (word_reply (fold history) name) }
 
+-- the answer to the question for the declarations of a file
+abbrev pub outline_answer : ℕ → List ℕ → Option (List OutlineRow) → Answer
+outline_answer at path None = Refused at NoSuchFile
+outline_answer at path (Some rows) = Outline at path rows
+
+-- a question for declarations adds nothing
+abbrev pub outline_step : List Entry → List ℕ → Step
+outline_step history path = record { added = []; answer = outline_answer (length history) path (outline_reply (fold history) path) }
+
 -- a question is answered by what it asks for
 abbrev pub query_step : List Entry → Query → Step
 query_step history (query.Word name) = word_step history name
+query_step history (query.Outline path) = outline_step history path
 
 -- what a command of a line does
 abbrev pub step_of : List Entry → ℕ → Command → Step

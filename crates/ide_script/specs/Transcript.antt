@@ -1,13 +1,16 @@
 -- The transcript: the history, then one record for each command.
-use Rattle.std.specs.Prelude.{ℕ, ◌+◌, List, [], ◌∷◌, ◌++◌, length, codes, encode_utf8_all, bit_and, ◌==◌, if◌then◌else◌}
+use Rattle.std.specs.Prelude.{ℕ, zero, suc, ◌+◌, List, [], ◌∷◌, ◌++◌, length, codes, encode_utf8_all, bit_and, ◌==◌, if◌then◌else◌}
 use Rattle.std.specs.List.{flat_map}
 use Rattle.std.specs.Fmt.{decimal}
 use Rattle.write_history.specs.declared.change.Entry.{Entry}
 use Rattle.write_history.specs.Print.{entry_line, why_text}
 use Rattle.script_lang.specs.declared.line.Line.{Line}
 use Rattle.ide_world.specs.declared.reply.WordRow.{WordRow}
+use Rattle.ide_world.specs.declared.outline.OutlineRow.{OutlineRow}
+use Rattle.stub_tree.specs.declared.stub_kind.StubKind.TheVariants.{Class, Interface, Enum, Record, Annotation, Method, Constructor, Field}
+use Rattle.stub_tree.specs.Stub.{code_of}
 use Rattle.ide_script.specs.declared.record.Answer.{Answer}
-use Rattle.ide_script.specs.declared.record.Answer.TheVariants.{Accepted, Refused, Smart, NotReady, Words}
+use Rattle.ide_script.specs.declared.record.Answer.TheVariants.{Accepted, Refused, Smart, NotReady, Words, Outline}
 use Rattle.ide_script.specs.declared.record.Record.{Record}
 use Rattle.ide_script.specs.Serial.{Done, run_of}
 
@@ -33,6 +36,39 @@ mask_text mask = joined (places_of mask)
 abbrev pub row_line : WordRow → List ℕ
 row_line row = codes "  " ++ encode_utf8_all row.path ++ codes " " ++ mask_text row.mask ++ codes "\n"
 
+-- the word for a kind of declaration
+abbrev pub kind_text : ℕ → List ℕ
+kind_text kind =
+    if kind == code_of Class then codes "class"
+    else if kind == code_of Interface then codes "interface"
+    else if kind == code_of Enum then codes "enum"
+    else if kind == code_of Record then codes "record"
+    else if kind == code_of Annotation then codes "annotation"
+    else if kind == code_of Method then codes "method"
+    else if kind == code_of Constructor then codes "constructor"
+    else if kind == code_of Field then codes "field"
+    else codes "constant"
+
+-- two spaces for each depth
+abbrev pub indent : ℕ → List ℕ
+indent zero = []
+indent (suc depth) = codes "  " ++ indent depth
+
+-- a super after a space
+abbrev pub super_text : List ℕ → List ℕ
+super_text name = codes " " ++ encode_utf8_all name
+
+-- the supers of a type after a colon, where there are any
+abbrev pub supers_text : List (List ℕ) → List ℕ
+supers_text [] = []
+supers_text (name ∷ names) = codes " :" ++ flat_map super_text (name ∷ names)
+
+-- the line of a declaration, indented by its depth: where its name stands, its kind, its name and its supers
+abbrev pub outline_line : List ℕ → OutlineRow → List ℕ
+outline_line path row =
+    indent row.stub.depth ++ codes "  " ++ encode_utf8_all path ++ codes ":" ++ decimal row.line ++ codes ":" ++ decimal row.column
+    ++ codes " " ++ kind_text row.stub.kind ++ codes " " ++ encode_utf8_all row.stub.name ++ supers_text row.stub.supers ++ codes "\n"
+
 -- an answer from its prefix on, without the rows
 abbrev pub head_text : Answer → List ℕ
 head_text (Accepted at) = decimal at ++ codes " accepted"
@@ -40,6 +76,7 @@ head_text (Refused at why) = decimal at ++ codes " refused " ++ why_text why
 head_text (Smart at) = decimal at ++ codes " smart"
 head_text (NotReady at path) = decimal at ++ codes " not-ready " ++ encode_utf8_all path
 head_text (Words at rows) = decimal at ++ codes " rows " ++ decimal (length rows)
+head_text (Outline at path rows) = decimal at ++ codes " rows " ++ decimal (length rows)
 
 -- the rows of an answer
 abbrev pub rows_text : Answer → List ℕ
@@ -48,6 +85,7 @@ rows_text (Refused at why) = []
 rows_text (Smart at) = []
 rows_text (NotReady at path) = []
 rows_text (Words at rows) = flat_map row_line rows
+rows_text (Outline at path rows) = flat_map (outline_line path) rows
 
 -- the record of a command: its line, then the rows
 abbrev pub record_text : Record → List ℕ

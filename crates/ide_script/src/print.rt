@@ -1,10 +1,11 @@
 //! Printing the transcript of a run.
 ghost use Rattle.std.specs.Prelude.{◌≡◌, ◌++◌, ℕ, List, IfOk, OnOk, string_bytes};
 ghost use Rattle.std.specs.List.{flat_map};
-ghost use Rattle.ide_script.specs.Transcript.{transcript_of, history_text, entry_lines, record_text, row_line, rows_text, mask_text};
+ghost use Rattle.ide_script.specs.Transcript.{transcript_of, history_text, entry_lines, record_text, row_line, rows_text, mask_text, outline_line, indent, supers_text, super_text, kind_text};
 
 use crate::{Answer, Played, Record};
-use ide_world::WordRow;
+use ide_text::Name;
+use ide_world::{OutlineRow, WordRow};
 use std::alloc::{AllocError, Global};
 use std::fmt;
 use write_history::{History, line_of};
@@ -66,6 +67,7 @@ fn push_answer_rows(alloc: Global, out: &mut Vec<u8>, answer: &Answer) -> Result
 {
     match answer {
         Answer::Words { at: _, rows } => push_rows(alloc, out, rows.as_slice()),
+        Answer::Outline { at: _, path, rows } => push_outline(alloc, out, path, rows.as_slice()),
         _ => Ok(()),
     }
 }
@@ -87,6 +89,89 @@ fn push_row(alloc: Global, out: &mut Vec<u8>, row: &WordRow) -> Result<(), Alloc
     let path = &row.path;
     let places = places(row.mask);
     push_text(out, &format!(in alloc; "  {path} {places}\n")?)
+}
+
+/// Adds the lines of a file's declarations.
+fn push_outline(
+    alloc: Global,
+    out: &mut Vec<u8>,
+    path: &Name,
+    rows: &[OutlineRow],
+) -> Result<(), AllocError>
+    ensures { OnOk result (out.new.items ≡ out.old.items ++ flat_map (outline_line path.now) rows.now) }
+{
+    for row in rows {
+        push_declaration(alloc, out, path, row)?;
+    }
+    Ok(())
+}
+
+/// Adds the line of a declaration.
+fn push_declaration(
+    alloc: Global,
+    out: &mut Vec<u8>,
+    path: &Name,
+    row: &OutlineRow,
+) -> Result<(), AllocError>
+    ensures { OnOk result (out.new.items ≡ out.old.items ++ outline_line path.now row.now) }
+{
+    let line = row.line;
+    let column = row.column;
+    let kind = kind_name(row.stub.kind);
+    let name = &row.stub.name;
+    push_indent(out, row.stub.depth)?;
+    push_text(out, &format!(in alloc; "  {path}:{line}:{column} {kind} {name}")?)?;
+    push_supers(alloc, out, row.stub.supers.as_slice())?;
+    out.push(b'\n')?;
+    Ok(())
+}
+
+/// Adds two spaces for each depth.
+fn push_indent(out: &mut Vec<u8>, depth: u8) -> Result<(), AllocError>
+    ensures { OnOk result (out.new.items ≡ out.old.items ++ indent depth) }
+{
+    for _ in 0..depth {
+        out.extend_from_slice(b"  ")?;
+    }
+    Ok(())
+}
+
+/// Adds the supers of a type after a colon, where there are any.
+fn push_supers(alloc: Global, out: &mut Vec<u8>, supers: &[Name]) -> Result<(), AllocError>
+    ensures { OnOk result (out.new.items ≡ out.old.items ++ supers_text supers.now) }
+{
+    if supers.is_empty() {
+        return Ok(());
+    }
+    out.extend_from_slice(b" :")?;
+    push_names(alloc, out, supers)
+}
+
+/// Adds names, each after a space.
+fn push_names(alloc: Global, out: &mut Vec<u8>, names: &[Name]) -> Result<(), AllocError>
+    ensures { OnOk result (out.new.items ≡ out.old.items ++ flat_map super_text names.now) }
+{
+    for name in names {
+        push_text(out, &format!(in alloc; " {name}")?)?;
+    }
+    Ok(())
+}
+
+/// The word for a kind of declaration.
+fn kind_name(kind: u8) -> &'static str
+    ensures { result.now ≡ kind_text kind }
+{
+    match kind {
+        1 => "class",
+        2 => "interface",
+        3 => "enum",
+        4 => "record",
+        5 => "annotation",
+        6 => "method",
+        7 => "constructor",
+        8 => "field",
+        _ => "constant",
+    }
 }
 
 /// Adds a text.
@@ -125,6 +210,7 @@ impl fmt::Display for Answer {
             Answer::Smart { at } => write!(f, "{at} smart"),
             Answer::NotReady { at, path } => write!(f, "{at} not-ready {path}"),
             Answer::Words { at, rows } => write!(f, "{at} rows {}", rows.len()),
+            Answer::Outline { at, path: _, rows } => write!(f, "{at} rows {}", rows.len()),
         }
     }
 }

@@ -2,7 +2,7 @@
 ghost use Rattle.std.specs.Prelude.{◌≡◌, [], ◌∷◌, ◌++◌, OnOk, OnErr, length};
 
 use ide_text::Name;
-use ide_world::WordRows;
+use ide_world::{OutlineRows, WordRows};
 use std::alloc::{AllocError, Global};
 use std::marker::Model;
 use write_history::Refusal;
@@ -19,6 +19,12 @@ pub enum Answer {
     NotReady { at: u64, path: Name },
     /// The files that have a word.
     Words { at: u64, rows: WordRows },
+    /// The declarations of the file at this path.
+    Outline {
+        at: u64,
+        path: Name,
+        rows: OutlineRows,
+    },
 }
 
 /// The answer to the command on a line of the script.

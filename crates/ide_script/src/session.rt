@@ -4,13 +4,13 @@ ghost use Rattle.write_history.specs.World.{lowest_unready};
 ghost use Rattle.write_history.specs.Fold.{fold, IsLegal};
 ghost use Rattle.ide_world.specs.Prepared.{IsEdit, IsReadyFor};
 ghost use Rattle.script_lang.specs.Held.{IsOfLine};
-ghost use Rattle.ide_script.specs.Serial.{change_step, settle_step, word_step, query_step, step_of, entry_of};
+ghost use Rattle.ide_script.specs.Serial.{change_step, settle_step, word_step, outline_step, query_step, step_of, entry_of};
 ghost use Rattle.ide_script.specs.Settle.{IsOfLowest, TakesIn};
 
 use crate::Answer;
 use ide_text::Name;
 use ide_world::{
-    Made, Ready, State, WordRefusal, ask_word, install, job, lowest_unready, make, prepare,
+    Made, OutlineRefusal, Ready, State, WordRefusal, ask_outline, ask_word, install, job, lowest_unready, make, prepare,
     prepare_intake, reserve,
 };
 use script_lang::{Command, Line, Query};
@@ -129,6 +129,7 @@ impl Session {
     {
         match query {
             Query::Word { name } => self.word(name),
+            Query::Outline { path } => self.outline(path),
         }
     }
 
@@ -141,6 +142,25 @@ impl Session {
             Ok(rows) => Ok(Answer::Words { at, rows }),
             Err(WordRefusal::NotReady { path }) => Ok(Answer::NotReady { at, path }),
             Err(WordRefusal::OutOfMemory) => Err(AllocError),
+        }
+    }
+
+    /// The declarations of a file.
+    fn outline(&self, path: &Name) -> Result<Answer, AllocError>
+        ensures { IfOk result (λ answer. answer ≡ (outline_step self.now path.now).answer) }
+    {
+        let at = self.history.len();
+        match ask_outline(self.alloc, &self.state, path) {
+            Ok(rows) => Ok(Answer::Outline {
+                at,
+                path: path.copy()?,
+                rows,
+            }),
+            Err(OutlineRefusal::NoSuchFile) => Ok(Answer::Refused {
+                at,
+                why: Refusal::NoSuchFile,
+            }),
+            Err(OutlineRefusal::OutOfMemory) => Err(AllocError),
         }
     }
 

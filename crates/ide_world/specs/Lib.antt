@@ -2,6 +2,7 @@
 pub mod Held
 pub mod Prepared
 pub mod Reply
+pub mod Outline
 -- How a state is kept
 pub mod Paths
 pub mod Postings
@@ -15,3 +16,4 @@ pub use Rattle.write_history.specs.Path
 pub use Rattle.write_history.specs.Effect
 pub use Rattle.write_history.specs.Fold
 pub use Rattle.java_tokens.specs.Words
+pub use Rattle.decl_parser.specs.Listing

@@ -4,6 +4,7 @@
 mod change;
 mod data;
 mod index;
+mod outline;
 mod path;
 mod paths;
 mod postings;
@@ -15,5 +16,6 @@ mod unready;
 pub use change::{Ready, install, prepare, prepare_intake, reserve};
 pub use data::{Job, Made};
 pub use index::{job, lowest_unready, make};
+pub use outline::{OutlineRefusal, OutlineRow, OutlineRows, ask_outline};
 pub use reply::{WordRefusal, WordRow, WordRows, ask_word};
 pub use state::{State, empty};

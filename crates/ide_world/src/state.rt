@@ -2,7 +2,7 @@
 ghost use Rattle.std.specs.Prelude.{◌≡◌, ◌≤◌, ◌<◌, ℕ, All, None, IfOk, IfSome, OnOk, IsTrue, IsNone, IsSome, is_some, option_map, length};
 ghost use Rattle.std.specs.Option.{option_copied};
 ghost use Rattle.write_history.specs.declared.change.Change.TheVariants.{Create, Write, Intake};
-ghost use Rattle.write_history.specs.World.{empty_world, file_at, file_with_id, is_live_at, is_unready, lowest_unready};
+ghost use Rattle.write_history.specs.World.{empty_world, file_at, file_with_id, is_live_at, is_unready, lowest_unready, shown_text};
 ghost use Rattle.write_history.specs.Effect.{max_files, max_entries};
 ghost use Rattle.write_history.specs.Fold.{effect_of};
 
@@ -12,7 +12,7 @@ use crate::postings::Postings;
 use crate::reply::WordRow;
 use crate::rows::{FileRow, is_unready, rows_of_posting};
 use crate::{paths, postings, unready};
-use ide_text::{Name, SharedText};
+use ide_text::{Name, SharedText, Text};
 use std::alloc::{AllocError, Global};
 use std::collections::BTreeMap;
 use std::marker::Model;
@@ -81,6 +81,17 @@ impl State {
             return None;
         }
         rows.get(id as usize - 1)
+    }
+
+    /// What a search sees of the live file at a path.
+    pub(crate) fn text_at(&self, path: &Name) -> Option<&Text>
+        ensures { option_copied result ≡ option_map (shown_text self.now.world) (file_at self.now.world path.now) }
+    {
+        let id = paths::id_at(&self.paths, path);
+        if id == 0 {
+            return None;
+        }
+        Some(self.files[id as usize - 1].content.as_text())
     }
 
     /// The stamp of a live file.

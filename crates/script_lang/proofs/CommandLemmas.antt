@@ -16,7 +16,7 @@ bytes_eq-false w k other = false_from_ne_true (bytes_eq w k) (λ e. other ((byte
 pub keyword_of-chars : (w : List ℕ) → IsUtf8 w → keyword_of (chars w) ≡ keyword_of w
 unfolding encode
 keyword_of-chars w text =
-    rw (bytes_eq-chars w (codes "create") text refl refl, bytes_eq-chars w (codes "write") text refl refl, bytes_eq-chars w (codes "word") text refl refl) refl
+    rw (bytes_eq-chars w (codes "create") text refl refl, bytes_eq-chars w (codes "write") text refl refl, bytes_eq-chars w (codes "word") text refl refl, bytes_eq-chars w (codes "outline") text refl refl) refl
 
 -- the same of a command that stands alone
 pub lone_command-chars : (w : List ℕ) → IsUtf8 w → lone_command (chars w) ≡ lone_command w

@@ -3,14 +3,14 @@ use Rattle.std.proofs.Common.{◌≡◌, ◌≢◌, ◌⊎◌, inl, inr, ℕ, tr
 use Rattle.std.specs.Option.{option_zip}
 use Rattle.std.specs.Str.{bytes_eq}
 use Rattle.std.specs.List.{All}
-use Rattle.std.proofs.lemmas.Bool.{cases_Bool, eqb-true, eqb-false}
-use Rattle.std.proofs.lemmas.List.Elements.{All-nil, All-cons}
+use Rattle.std.proofs.lemmas.Bool.{cases_Bool, ne_eqb, eqb-true, eqb-false}
+use Rattle.std.proofs.lemmas.List.Elements.{All-nil, All-cons, All-head, All-tail}
 use Rattle.std.proofs.lemmas.Option.{none-some, same_Some, cond_some}
 use Rattle.std.proofs.lemmas.Slice.Eq.{bytes_eq-Decides}
 use Rattle.java_tokens.specs.Identifier.{is_word}
 use Rattle.script_lang.specs.Fields.{space, parts_at_space, before_first_part}
 use Rattle.script_lang.specs.Quotes.{text_of_field}
-use Rattle.script_lang.specs.Commands.{path_of, path_and_text, keyword_of, command_with, command_of_parts, command_of}
+use Rattle.script_lang.specs.Commands.{path_of, path_unless_parts, last_path, path_and_text, keyword_of, command_with, command_of_parts, command_of}
 use Rattle.script_lang.specs.Grammar.{IsQuoted, HasPathAndText, IsCommandLine}
 use Rattle.script_lang.specs.declared.command.Command.{Command}
 use Rattle.script_lang.specs.declared.command.Command.TheVariants.{Change, Settle, Ask}
@@ -51,6 +51,7 @@ abbrev spelled : Keyword → List ℕ
 spelled key.Create = codes "create"
 spelled key.Write = codes "write"
 spelled key.Word = codes "word"
+spelled key.Outline = codes "outline"
 
 keyword_of-step : (word k : List ℕ) (one keyword : Keyword) (other : Option Keyword) → spelled one ≡ k → (other ≡ Some keyword → word ≡ spelled keyword)
     → cond (bytes_eq word k) (Some one) other ≡ Some keyword → (bytes_eq word k ≡ true) ⊎ (bytes_eq word k ≡ false) → word ≡ spelled keyword
@@ -63,7 +64,29 @@ spelled-keyword_of : (word : List ℕ) (keyword : Keyword) → keyword_of word �
 spelled-keyword_of word keyword e =
     keyword_of-step word (codes "create") key.Create keyword _ refl
     (λ f. keyword_of-step word (codes "write") key.Write keyword _ refl
-    (λ g. keyword_of-step word (codes "word") key.Word keyword None refl (λ h. absurd (none-some keyword h)) g (cases_Bool _)) f (cases_Bool _)) e (cases_Bool _)
+    (λ g. keyword_of-step word (codes "word") key.Word keyword _ refl
+    (λ h. keyword_of-step word (codes "outline") key.Outline keyword None refl (λ k. absurd (none-some keyword k)) h (cases_Bool _)) g (cases_Bool _)) f (cases_Bool _)) e (cases_Bool _)
+
+-- no parts are found where no space stands
+parts_at_space-none : (cs : List ℕ) → All (λ c. c ≢ space) cs → parts_at_space cs ≡ None
+parts_at_space-none [] none = refl
+parts_at_space-none (c ∷ cs) none =
+    rw (ne_eqb c space (All-head (λ c. c ≢ space) c cs none), parts_at_space-none cs (All-tail (λ c. c ≢ space) c cs none)) refl
+
+-- and no space stands where none are found
+option_map-none : {A B : Type 0} (f : A → B) (o : Option A) → option_map f o ≡ None → o ≡ None
+option_map-none f None e = refl
+option_map-none f (Some x) e = absurd (none-some (f x) (sym e))
+
+no_space-step : (c : ℕ) (cs : List ℕ) → (parts_at_space cs ≡ None → All (λ d. d ≢ space) cs)
+    → cond (eqb c space) (Some ([], cs)) (option_map (before_first_part c) (parts_at_space cs)) ≡ None → (eqb c space ≡ true) ⊎ (eqb c space ≡ false) → All (λ d. d ≢ space) (c ∷ cs)
+no_space-step c cs more e (inl is_space) = absurd (none-some ([], cs) (sym (rw is_space at e)))
+no_space-step c cs more e (inr other) =
+    All-cons (λ d. d ≢ space) c cs (eqb-false c space other) (more (option_map-none (before_first_part c) (parts_at_space cs) (rw other at e)))
+
+no_space-parts_at_space : (cs : List ℕ) → parts_at_space cs ≡ None → All (λ c. c ≢ space) cs
+no_space-parts_at_space [] e = All-nil (λ c. c ≢ space)
+no_space-parts_at_space (c ∷ cs) e = no_space-step c cs (no_space-parts_at_space cs) e (cases_Bool _)
 
 -- what a path is
 path_of-some : (field path : List ℕ) → path_of field ≡ Some path → (field ≡ path) × (path ≢ [])
@@ -75,6 +98,13 @@ path_of-some (c ∷ cs) path e =
 path_of-filled : (path : List ℕ) → path ≢ [] → path_of path ≡ Some path
 path_of-filled [] filled = absurd (filled refl)
 path_of-filled (c ∷ cs) filled = refl
+
+last_path-some : (field path : List ℕ) → last_path field ≡ Some path → (field ≡ path) × (path ≢ []) × All (λ c. c ≢ space) field
+last_path-some field path read = by_parts (parts_at_space field) refl read
+  where
+    by_parts : (parts : Option (List ℕ × List ℕ)) → parts_at_space field ≡ parts → path_unless_parts parts field ≡ Some path → (field ≡ path) × (path ≢ []) × All (λ c. c ≢ space) field
+    by_parts None e r = let is = path_of-some field path r in (is.0, is.1, no_space-parts_at_space field e)
+    by_parts (Some p) e r = absurd (none-some path r)
 
 option_zip-some : {A B : Type 0} (o : Option A) (r : Option B) (q : A × B) → option_zip o r ≡ Some q → (o ≡ Some q.0) × (r ≡ Some q.1)
 option_zip-some None r q e = absurd (none-some q e)
@@ -114,6 +144,11 @@ IsCommandLine-with key.Word line rest command e read =
     let made = cond_some (is_word rest) (Ask (query.Word rest)) command read in
     subst (IsCommandLine line) made.1 (e, made.0)
 
+IsCommandLine-with key.Outline line rest command e read =
+    let made = option_map-some (λ path. Ask (query.Outline path)) (last_path rest) command read in
+    let found = last_path-some rest made.0 made.1 in
+    subst (IsCommandLine line) made.2 (e ∙ ap (λ p. codes "outline" ++ space ∷ p) found.0, found.1, subst (λ (p : List ℕ). All (λ c. c ≢ space) p) found.0 found.2)
+
 IsCommandLine-parts : (line : List ℕ) (parts : Option (List ℕ × List ℕ)) (command : Command) → parts_at_space line ≡ parts → command_of_parts line parts ≡ Some command → IsCommandLine line command
 IsCommandLine-parts line None command e read =
     let made = cond_some (bytes_eq line (codes "settle")) Settle command read in
@@ -139,3 +174,4 @@ command_of-IsCommandLine line (Change (change.Write path text)) is =
 command_of-IsCommandLine line (Change (change.Intake file stamp)) is = absurd is
 command_of-IsCommandLine line Settle e = ap command_of e
 command_of-IsCommandLine line (Ask (query.Word name)) (e, whole) = ap command_of e ∙ (rw whole refl)
+command_of-IsCommandLine line (Ask (query.Outline path)) (e, filled, none) = ap command_of e ∙ (rw (parts_at_space-none path none, path_of-filled path filled) refl)

@@ -37,6 +37,7 @@ not_passed_by bytes (Change (change.Write path field)) (text, is) = is_passed_by
 not_passed_by bytes (Change (change.Intake file stamp)) (text, is) = absurd is
 not_passed_by bytes Settle (text, is) = is_passed_by-char bytes 115 _ text is (lit< tt) refl
 not_passed_by bytes (Ask (query.Word name)) (text, is) = is_passed_by-char bytes 119 _ text is.0 (lit< tt) refl
+not_passed_by bytes (Ask (query.Outline path)) (text, is) = is_passed_by-char bytes 111 _ text is.0 (lit< tt) refl
 
 -- what a line is, from the grammar
 content_of_bytes-IsPassedBy : (bytes : List ℕ) → IsPassedBy bytes → content_of_bytes bytes ≡ PassedBy

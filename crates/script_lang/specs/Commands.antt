@@ -24,12 +24,26 @@ path_and_text fields = option_and_then (λ p. option_zip (path_of p.0) (text_of_
 abbrev pub word_command : List ℕ → Option Command
 word_command field = if is_word field then Some (Ask (query.Word field)) else None
 
+-- the path that a field is, unless it has parts
+abbrev pub path_unless_parts : Option (List ℕ × List ℕ) → List ℕ → Option (List ℕ)
+path_unless_parts None field = path_of field
+path_unless_parts (Some parts) field = None
+
+-- the path that the last field of a line is: no field follows
+abbrev pub last_path : List ℕ → Option (List ℕ)
+last_path field = path_unless_parts (parts_at_space field) field
+
+-- the question for the declarations of a file, where the field is a path
+abbrev pub outline_command : List ℕ → Option Command
+outline_command field = option_map (λ path. Ask (query.Outline path)) (last_path field)
+
 -- the keyword that the characters spell
 abbrev pub keyword_of : List ℕ → Option Keyword
 keyword_of word =
     if bytes_eq word (codes "create") then Some key.Create
     else if bytes_eq word (codes "write") then Some key.Write
     else if bytes_eq word (codes "word") then Some key.Word
+    else if bytes_eq word (codes "outline") then Some key.Outline
     else None
 
 -- the command of a keyword with what stands behind the space after it
@@ -37,6 +51,7 @@ abbrev pub command_with : Keyword → List ℕ → Option Command
 command_with key.Create rest = option_map (λ p. Change (change.Create p.0 p.1)) (path_and_text rest)
 command_with key.Write rest = option_map (λ p. Change (change.Write p.0 p.1)) (path_and_text rest)
 command_with key.Word rest = word_command rest
+command_with key.Outline rest = outline_command rest
 
 -- the command that stands alone on its line
 abbrev pub lone_command : List ℕ → Option Command

@@ -52,6 +52,7 @@ IsCommandLine line (Change (change.Write path text)) = HasPathAndText (codes "wr
 IsCommandLine line (Change (change.Intake file stamp)) = ⊥
 IsCommandLine line Settle = line ≡ codes "settle"
 IsCommandLine line (Ask (query.Word name)) = (line ≡ codes "word" ++ space ∷ name) × IsTrue (is_word name)
+IsCommandLine line (Ask (query.Outline path)) = (line ≡ codes "outline" ++ space ∷ path) × (path ≢ []) × All (λ c. c ≢ space) path
 
 -- a line's bytes are UTF-8, and a command's form
 abbrev pub HoldsCommand : List ℕ → Command → Type 0

@@ -1,7 +1,7 @@
 //! The commands of a script, and the forms of the lines that hold them.
 ghost use Rattle.std.specs.Prelude.{◌≡◌, IfOk, option_map};
 ghost use Rattle.std.specs.Str.{chars};
-ghost use Rattle.script_lang.specs.Commands.{command_of, command_with, keyword_of, lone_command, path_and_text, path_of, word_command};
+ghost use Rattle.script_lang.specs.Commands.{command_of, command_with, keyword_of, last_path, lone_command, outline_command, path_and_text, path_of, word_command};
 
 use crate::field::parts_at_space;
 use crate::quoted::text_of_field;
@@ -26,6 +26,8 @@ pub enum Command {
 pub enum Query {
     /// The files that have a word.
     Word { name: Name },
+    /// The declarations of the file at a path.
+    Outline { path: Name },
 }
 
 /// What begins a line with fields.
@@ -34,6 +36,7 @@ enum Keyword {
     Create,
     Write,
     Word,
+    Outline,
 }
 
 /// The command of a line's text, where the line has one of the forms.
@@ -69,6 +72,7 @@ fn keyword_of(word: &str) -> Option<Keyword>
         "create" => Some(Keyword::Create),
         "write" => Some(Keyword::Write),
         "word" => Some(Keyword::Word),
+        "outline" => Some(Keyword::Outline),
         _ => None,
     }
 }
@@ -87,6 +91,7 @@ fn command_with(alloc: Global, keyword: Keyword, rest: &str) -> Result<Option<Co
             Ok(fields.map(|(path, text)| Command::Change(Change::Write { path, text })))
         }
         Keyword::Word => word_command(alloc, rest),
+        Keyword::Outline => outline_command(alloc, rest),
     }
 }
 
@@ -99,6 +104,24 @@ fn word_command(alloc: Global, field: &str) -> Result<Option<Command>, AllocErro
     }
     let name = Name::of(alloc, field)?;
     Ok(Some(Command::Ask(Query::Word { name })))
+}
+
+/// The question for the declarations of a file, where the field is a path.
+fn outline_command(alloc: Global, field: &str) -> Result<Option<Command>, AllocError>
+    ensures { IfOk result (λ command. command ≡ outline_command (chars field.now)) }
+{
+    let path = last_path(alloc, field)?;
+    Ok(path.map(|path| Command::Ask(Query::Outline { path })))
+}
+
+/// The path that the last field of a line is: no field follows.
+fn last_path(alloc: Global, field: &str) -> Result<Option<Name>, AllocError>
+    ensures { IfOk result (λ path. path ≡ last_path (chars field.now)) }
+{
+    match parts_at_space(field) {
+        Some(_) => Ok(None),
+        None => path_of(alloc, field),
+    }
 }
 
 /// The path and the text that stand in two fields.

@@ -11,6 +11,9 @@ returns-in-write c = rw (keyword_of-chars _ c.utf8.word, c.in-write.is) refl
 pub returns-in-word : goal.returns-in-word
 returns-in-word c = rw (keyword_of-chars _ c.utf8.word, c.in-word.is) refl
 
+pub returns-in-outline : goal.returns-in-outline
+returns-in-outline c = rw (keyword_of-chars _ c.utf8.word, c.in-outline.is) refl
+
 pub returns-in_default : goal.returns-in_default
 returns-in_default c =
-    rw (keyword_of-chars _ c.utf8.word, bytes_eq-false _ _ c.in_default.not-create, bytes_eq-false _ _ c.in_default.not-write, bytes_eq-false _ _ c.in_default.not-word) refl
+    rw (keyword_of-chars _ c.utf8.word, bytes_eq-false _ _ c.in_default.not-create, bytes_eq-false _ _ c.in_default.not-write, bytes_eq-false _ _ c.in_default.not-word, bytes_eq-false _ _ c.in_default.not-outline) refl
