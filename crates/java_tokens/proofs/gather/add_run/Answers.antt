@@ -15,7 +15,7 @@ name-requires-clause-inside c =
 -- the run that was added
 pub returns-in_ok-add : goal.returns-in_ok-add
 returns-in_ok-add c =
-    let ws = c.args.masks.now.entries in
+    let ws = c.args.masks.now in
     let run = added_run c.args.place c.args.at c.args.end c.args.piece.now c.requires (sym c.begins_word_at.ensures ∙ c.if-begins_word_at.true) in
     c.in_ok-add.ensures
     ∙ ap (λ (name : List ℕ). with_occurrence ws (name, bit_of c.args.place)) c.in_ok-name.ensures

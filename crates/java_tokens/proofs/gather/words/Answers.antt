@@ -8,6 +8,6 @@ use Rattle.java_tokens.proofs.gather.words.Goals as goal
 pub returns-clause-masks : goal.returns-clause-masks
 returns-clause-masks c =
     let text = c.args.text.now in
-    IfOk-weaker c.from_masks.result (λ list. list ≡ c.in_ok-masks_of.field-0.entries) (λ list. HasMasksOf list (occurrences_of text))
+    IfOk-weaker c.from_masks.result (λ list. list ≡ c.in_ok-masks_of.field-0) (λ list. HasMasksOf list (occurrences_of text))
     (λ list same. subst (λ ws. HasMasksOf ws (occurrences_of text)) (sym (same ∙ c.in_ok-masks_of.ensures)) (has_masks-words_of text))
     c.from_masks.ensures

@@ -2,7 +2,7 @@ use Rattle.std.proofs.Common.{◌≡◌, ◌-◌, ◌∙◌, ap, rules, take, dr
 use Rattle.std.specs.String.{string_bytes}
 use Rattle.ide_text.specs.Chars.{chars_of}
 use Rattle.ide_text.proofs.Utf8Lemmas.{encodes-ascii_part}
-use Rattle.ide_text.proofs.chars.Chars.part.Goals as goal
+use Rattle.ide_text.proofs.chars.Chars.add_part.Goals as goal
 
 pub returns-in-Ascii : goal.returns-in-Ascii
 returns-in-Ascii c = search (rules, encodes-ascii_part)
