@@ -115,7 +115,9 @@ unfolding IsDistinct
 next_differs [] k d distinct inside = absurd (omega arith)
 next_differs (a ∷ []) k d distinct inside = absurd (omega arith)
 next_differs (a ∷ b ∷ ks) zero d distinct inside = distinct.0.0
-next_differs (a ∷ b ∷ ks) (suc k) d distinct inside = next_differs (b ∷ ks) k d distinct.1 (omega arith)
+next_differs (a ∷ b ∷ ks) (suc k) d distinct inside =
+    let place : suc k + 1 ≡ suc (k + 1) = omega arith in
+    ap (λ n. bytes_eq (get_or (b ∷ ks) k d) (get_or (a ∷ b ∷ ks) n d)) place ∙ next_differs (b ∷ ks) k d distinct.1 (omega arith)
 
 -- names that are sorted and distinct rise
 in_order-sorted : (es : List WordRow) → IsSorted name_cmp (keys_of es) → IsDistinct bytes_eq (keys_of es) → AreInOrder es

@@ -7,12 +7,12 @@ ghost use Rattle.java_tokens.specs.Words.{AreInOrder, HasMasksOf, bit_of, gap_at
 use crate::chars::Class;
 use crate::identifier::is_identifier_at;
 use crate::kind::Kind;
+use crate::masks::Masks;
 use crate::piece::Piece;
 use crate::place::Place;
 use crate::scan::run_end;
 use crate::token::Token;
 use crate::tokenizer::{begins_word_at, next_token};
-use crate::masks::Masks;
 use crate::word_list::WordList;
 use ide_text::Text;
 use std::alloc::{AllocError, Global};

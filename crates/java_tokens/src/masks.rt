@@ -75,14 +75,13 @@ fn add_name(rows: &mut IndexMap<Name, u8>, name: &Name, place: Place) -> Result<
     ensures words { OnOk result (in_order_of rows.new.entries ≡ with_occurrence (in_order_of rows.old.entries) (name.now, bit_of place)) }
     ensures unique { IsUnique bytes_eq rows.new }
 {
-    if let Some(mask) = rows.get_mut(name) {
-        *mask |= place.bit();
-        return Ok(());
+    match rows.get_mut(name) {
+        Some(mask) => *mask |= place.bit(),
+        None => {
+            rows.insert(name.copy()?, place.bit())?;
+        }
     }
-    match rows.insert(name.copy()?, place.bit()) {
-        Ok(_) => Ok(()),
-        Err(_) => Err(AllocError),
-    }
+    Ok(())
 }
 
 /// The rows of a map, in its order.
