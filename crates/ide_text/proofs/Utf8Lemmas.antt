@@ -1,13 +1,12 @@
 -- UTF-8: the order of texts is that of their bytes, and an ASCII character stands among the bytes where it stands
 -- among the characters.
-use Rattle.std.proofs.Common.{ℕ, zero, suc, ◌≡◌, ◌+◌, ◌/◌, ◌%◌, ◌<◌, ◌≤◌, Bool, true, false, ◌||◌, List, [], ◌∷◌, ◌++◌, length, encode_utf8_all, bytes_eq, refl, ap, sym, ◌∙◌, subst, ⊎_elim, arith}
+use Rattle.std.proofs.Common.{ℕ, zero, suc, ◌≡◌, ◌+◌, ◌/◌, ◌%◌, ◌<◌, ◌≤◌, Bool, true, false, ◌||◌, List, [], ◌∷◌, ◌++◌, length, encode_utf8_all, bytes_eq, refl, ap, sym, ◌∙◌, ⊎_elim, arith}
 use Rattle.std.specs.Prelude.{◌==◌, ◌&&◌, nat_lt, take, drop}
 use Rattle.std.specs.Char.{encode_utf8}
 use Rattle.std.specs.List.{list_any}
 use Rattle.std.specs.Str.{chars, IsUtf8, IsAscii, all_scalars}
 use Rattle.std.specs.Cmp.{first_so, second_so}
 use Rattle.std.specs.Ordering.{nat_cmp, is_eq, ordering_then, ordering_reverse}
-use Rattle.std.specs.declared.cmp.Ordering.{Ordering}
 use Rattle.std.specs.declared.cmp.Ordering.TheVariants.{Less, Equal, Greater}
 use Rattle.std.specs.Cmp.{nat_cmp_is}
 use Rattle.std.specs.Cmp.Lexicographic.{slice_cmp, nat_list_cmp_total}

@@ -6,6 +6,7 @@ ghost use Rattle.ide_text.specs.Chars.{chars_of, IsKept};
 ghost use Rattle.ide_text.specs.Text.{IsText, repaired};
 ghost use Rattle.ide_text.specs.Place.{line_at, column_at};
 
+use crate::LineWalk;
 use crate::chars::{Chars, repaired};
 use std::alloc::{AllocError, Global};
 use std::marker::Model;
@@ -118,17 +119,7 @@ impl Text {
         ensures line { result.0 ≡ line_at self.now at }
         ensures column { result.1 ≡ column_at self.now at }
     {
-        let mut line = 1;
-        let mut column = 1;
-        for place in 0..at {
-            if self.chars.char_at(place as usize) == '\n' {
-                line += 1;
-                column = 1;
-            } else {
-                column += 1;
-            }
-        }
-        (line, column)
+        LineWalk::new(self).line_col(at)
     }
 
     /// Puts the characters from one offset up to another into a string, in UTF-8, in place of what it has.

@@ -32,10 +32,11 @@ words_by_id rows = by_id (λ row. row.words) None rows
 abbrev pub row_by_words : List ℕ → FileRow → List WordRow
 row_by_words name row = row_with_mask row.path (mask_among row.words name)
 
--- what a row's file is whatever its id: whether it is unready, and its answer for a word
+-- whether a row's file is unready, whatever its id
 abbrev pub is_unready_row : FileRow → Bool
 is_unready_row row = is_unready empty_world (file_of 0 row)
 
+-- the answer of a row's file for a word, whatever its id
 abbrev pub row_of_word : List ℕ → FileRow → List WordRow
 row_of_word name row = word_row empty_world name (file_of 0 row)
 
