@@ -49,8 +49,8 @@ fn push_line(alloc: Global, out: &mut String, line: &Line) -> Result<(), AllocEr
 
 /// A name or a path.
 fn push_name(out: &mut String, name: &Name) -> Result<(), AllocError> {
-    for at in 0..name.len() {
-        out.push(mark(name.char_at(at)))?;
+    for c in name.as_str().chars() {
+        out.push(mark(c))?;
     }
     Ok(())
 }
