@@ -41,7 +41,7 @@ unfoldable mutual
   without_escapes [] = []
   without_escapes (c ∷ cs) = if c == backslash then space ∷ past_escape cs else c ∷ without_escapes cs
 
-  -- after a backslash
+  -- the same from behind a backslash: a space for the character that it takes, if one is left
   pub past_escape : List ℕ → List ℕ
   past_escape [] = []
   past_escape (c ∷ cs) = space ∷ without_escapes cs
