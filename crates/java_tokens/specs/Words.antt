@@ -106,9 +106,13 @@ mask_in ws name = lookup (is_at (name_cmp name)) ws
 abbrev pub with_occurrence : List WordRow → WordRow → List WordRow
 with_occurrence ws o = insert_entry name_cmp ws o.0 (bit_or (unwrap_or (mask_in ws o.0) 0) o.1)
 
+-- occurrences in any order as words: the names in order and each once, with the union of their bits
+abbrev pub in_order_of : List WordRow → List WordRow
+in_order_of os = fold with_occurrence [] os
+
 -- the words of a text: the names that occur, in order and each once, with the union of their bits
 unfoldable pub words_of : List ℕ → List WordRow
-words_of text = fold with_occurrence [] (occurrences_of text)
+words_of text = in_order_of (occurrences_of text)
 
 -- the names rise, so each comes once
 abbrev pub AreInOrder : List WordRow → Type 0
