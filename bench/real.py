@@ -63,11 +63,21 @@ def finished(script):
     return script + b"settle\n" + b"".join(b"word " + word + b"\n" for word in words_of(script))
 
 
+def make(folder, scratch):
+    """Writes the scripts into a folder. In a process of its own: the memory of the one that starts a program counts
+    as the program's own peak."""
+    if os.fork() == 0:
+        for number, script in enumerate(scripts(folder), 1):
+            (scratch / f"{number:03}.ide").write_bytes(script)
+        os._exit(0)
+    if os.wait()[1] != 0:
+        sys.exit("the scripts could not be made")
+    return sorted(scratch.iterdir())
+
+
 def run(program, script):
     """Seconds and megabytes that the program takes on a script."""
-    with tempfile.TemporaryFile() as source:
-        source.write(script)
-        source.seek(0)
+    with open(script, "rb") as source:
         start = time.perf_counter()
         child = subprocess.Popen([program], stdin=source, stdout=subprocess.DEVNULL, stderr=subprocess.PIPE)
         _, status, usage = os.wait4(child.pid, 0)
@@ -77,21 +87,26 @@ def run(program, script):
     return took, usage.ru_maxrss / 1000
 
 
+def compare(script, programs):
+    """Times each program on a script, in turn, and prints a row for each."""
+    size = script.stat().st_size / 1e6
+    print(f"script {script.stem}: {size:.2f} MB")
+    turns = [[run(program, script) for program in programs] for _ in range(3)]
+    first = None
+    for at, program in enumerate(programs):
+        seconds = min(turn[at][0] for turn in turns)
+        memory = max(turn[at][1] for turn in turns)
+        first = first or (seconds, memory)
+        ratios = f"{seconds / first[0]:5.2f} {memory / first[1]:5.2f}"
+        print(f"  {seconds:7.3f} s {memory:7.1f} MB {size / seconds:6.1f} MB/s  {ratios}  {program}")
+
+
 def main():
     if len(sys.argv) < 2:
         sys.exit(__doc__)
-    programs = sys.argv[2:] or [PROGRAM]
-    for number, script in enumerate(scripts(pathlib.Path(sys.argv[1])), 1):
-        size = len(script) / 1e6
-        print(f"script {number}: {size:.2f} MB, {script.count(b'create ')} files")
-        turns = [[run(program, script) for program in programs] for _ in range(3)]
-        first = None
-        for at, program in enumerate(programs):
-            seconds = min(turn[at][0] for turn in turns)
-            memory = max(turn[at][1] for turn in turns)
-            first = first or (seconds, memory)
-            ratios = f"{seconds / first[0]:5.2f} {memory / first[1]:5.2f}"
-            print(f"  {seconds:7.3f} s {memory:7.1f} MB {size / seconds:6.1f} MB/s  {ratios}  {program}")
+    with tempfile.TemporaryDirectory() as scratch:
+        for script in make(pathlib.Path(sys.argv[1]), pathlib.Path(scratch)):
+            compare(script, sys.argv[2:] or [PROGRAM])
 
 
 if __name__ == "__main__":

@@ -1,10 +1,10 @@
 -- Headers: annotations that are taken out.
-use Rattle.std.proofs.Common.{◌≡◌, ◌≢◌, ℕ, zero, suc, ◌+◌, Bool, true, false, ◌==◌, List, [], ◌∷◌, ◌++◌, drop, refl, sym, ap, ◌∙◌, arith, append_assoc}
+use Rattle.std.proofs.Common.{◌≡◌, ◌≢◌, ℕ, zero, suc, true, false, ◌==◌, List, [], ◌∷◌, drop, refl, arith}
 use Rattle.std.proofs.lemmas.Bool.Decides.{nat_tests}
 use Rattle.decl_parser.specs.declared.node.Node.{Node}
 use Rattle.decl_parser.specs.declared.role.Role.TheVariants.{ParenGroup, Dot}
 use Rattle.decl_parser.specs.Forest.{is, is_identifier}
-use Rattle.decl_parser.specs.Header.{annotation_rest, dotted_rest, annotation_len, plain_past, without_annotations}
+use Rattle.decl_parser.specs.Header.{annotation_rest, annotation_len, plain_past, without_annotations}
 
 -- a dot and an identifier belong to the annotation before
 pub annotation_rest-dotted : (n i : Node) (ns : List Node) → is ParenGroup n ≡ false → is Dot n ≡ true → is_identifier i ≡ true

@@ -1,9 +1,9 @@
 -- The units of some nodes, and the items that they make.
-use Rattle.std.proofs.Common.{◌≡◌, ◌≢◌, ℕ, zero, suc, ◌<◌, ◌≤◌, Bool, true, false, List, [], ◌∷◌, ◌++◌, length, take, drop, min, refl, sym, ap, ◌∙◌, arith}
+use Rattle.std.proofs.Common.{◌≡◌, ◌≢◌, ℕ, zero, suc, false, List, [], ◌∷◌, length, take, drop, min, refl, ap, arith}
 use Rattle.decl_parser.specs.declared.node.Node.{Node}
 use Rattle.decl_parser.specs.declared.role.Role.TheVariants.{Lone}
 use Rattle.decl_parser.specs.Forest.{is}
-use Rattle.decl_parser.specs.Unit.{Unit, Item, units_past, units_of, items_from, items_of, last_item}
+use Rattle.decl_parser.specs.Unit.{Unit, units_past, units_of, items_from, items_of}
 
 -- what stands inside the unit before may be left out
 pub units_past-skip : (skip : ℕ) (ns : List Node) → units_past skip ns ≡ units_of (drop skip ns)

@@ -1,7 +1,7 @@
 -- The units of a level and the items that they make.
 use Rattle.std.specs.Prelude.{ℕ, zero, suc, if◌then◌else◌, List, [], ◌∷◌, ◌++◌, take}
 use Rattle.decl_parser.specs.declared.node.Node.{Node}
-use Rattle.decl_parser.specs.declared.role.Role.TheVariants.{Comma, Semicolon, Equals, BraceGroup, Lone}
+use Rattle.decl_parser.specs.declared.role.Role.TheVariants.{Semicolon, Equals, BraceGroup, Lone}
 use Rattle.decl_parser.specs.Forest.{is}
 
 -- a unit of a level: a token with nothing inside, or a group with the nodes inside

@@ -47,11 +47,7 @@ pub(crate) fn enum_body<'a>(alloc: Global, level: &'a [Node]) -> Result<EnumBody
 }
 
 /// Adds the constant of a piece, if it gives one.
-fn push_constant(
-    alloc: Global,
-    constants: &mut Vec<Node>,
-    piece: &[Node],
-) -> Result<(), AllocError>
+fn push_constant(alloc: Global, constants: &mut Vec<Node>, piece: &[Node]) -> Result<(), AllocError>
     ensures { OnOk result (constants.new.items ≡ constants.old.items ++ constant_of piece.now) }
 {
     let plain = without_annotations(alloc, piece)?;

@@ -13,11 +13,7 @@ use std::alloc::{AllocError, Global};
 
 /// The forest of groups of a text, from its tokens. Linear in them.
 #[tactic(auto, unfolding(crate::specs::Forest::forest_of))]
-pub(crate) fn forest(
-    alloc: Global,
-    text: &Text,
-    tokens: &[Token],
-) -> Result<Vec<Node>, AllocError>
+pub(crate) fn forest(alloc: Global, text: &Text, tokens: &[Token]) -> Result<Vec<Node>, AllocError>
     requires { All (IsInside text.now) tokens.now }
     ensures { IfOk result (λ nodes. nodes.items ≡ forest_of text.now tokens.now) }
 {

@@ -12,7 +12,7 @@ use crate::header::header_of;
 use crate::item::first_item;
 use crate::node::Node;
 use crate::supers::supers_of;
-use ide_text::Text;
+use ide_text::{MAX_CHARS, Text};
 use java_tokens::tokens;
 use std::alloc::{AllocError, Global};
 use stub_tree::{MAX_DEPTH, Stub, StubKind, StubList};
@@ -22,6 +22,7 @@ use stub_tree::{MAX_DEPTH, Stub, StubKind, StubList};
 pub fn stubs(alloc: Global, text: &Text) -> Result<StubList, AllocError>
     ensures { IfOk result (λ list. list ≡ listing_of text.now) }
 {
+    prove!(text.len() as usize <= MAX_CHARS);
     let tokens = tokens(alloc, text)?;
     let forest = forest(alloc, text, &tokens)?;
     let mut stubs = Vec::new(alloc);

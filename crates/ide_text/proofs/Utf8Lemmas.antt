@@ -125,6 +125,9 @@ cmp-chars bs ds u v =
     ∙ cmp-encodes (chars bs) (chars ds)
 
 -- and so bytes are the same where characters are
+pub bytes_eq-encodes : (cs ds : List ℕ) → bytes_eq (encode_utf8_all cs) (encode_utf8_all ds) ≡ bytes_eq cs ds
+bytes_eq-encodes cs ds = sym (is_eq-slice_cmp (encode_utf8_all cs) (encode_utf8_all ds)) ∙ ap is_eq (cmp-encodes cs ds) ∙ is_eq-slice_cmp cs ds
+
 pub bytes_eq-chars : (bs ds : List ℕ) → IsUtf8 bs → IsUtf8 ds → bytes_eq bs ds ≡ bytes_eq (chars bs) (chars ds)
 bytes_eq-chars bs ds u v = sym (is_eq-slice_cmp bs ds) ∙ ap is_eq (cmp-chars bs ds u v) ∙ is_eq-slice_cmp (chars bs) (chars ds)
 
@@ -155,22 +158,23 @@ high_bytes c d low high = encode_by (λ bs. list_any (λ b. b == d) bs ≡ false
     last_two : list_any (λ e. e == d) (two c []) ≡ false
     last_two = no_one (128 + c / 64 % 64) (one c []) (omega arith) last
 
+-- an ASCII character is the one byte of its UTF-8, and no byte of another's
+pub list_any-encode : (c d : ℕ) → d < 128 → list_any (λ b. b == d) (encode_utf8 c) ≡ (c == d)
+list_any-encode c d low = ⊎_elim
+    (λ l. ap (list_any (λ b. b == d)) (encode_ascii c l) ∙ or_false (c == d))
+    (λ h. high_bytes c d low h ∙ sym (ne_eqb c d (λ e. omega arith)))
+    (cases_lt c 128)
+  where
+    or_false : (b : Bool) → (b || false) ≡ b
+    or_false true = refl
+    or_false false = refl
+
 -- an ASCII character stands among the bytes where it stands among the characters
 pub list_any-encodes : (cs : List ℕ) (d : ℕ) → d < 128 → list_any (λ b. b == d) (encode_utf8_all cs) ≡ list_any (λ c. c == d) cs
 list_any-encodes [] d low = refl
 list_any-encodes (c ∷ cs) d low =
     list_any-append (λ b. b == d) (encode_utf8 c) (encode_utf8_all cs)
-    ∙ (λ k. first k || list_any-encodes cs d low k)
-  where
-    first : list_any (λ b. b == d) (encode_utf8 c) ≡ (c == d)
-    first = ⊎_elim
-        (λ l. ap (list_any (λ b. b == d)) (encode_ascii c l) ∙ or_false (c == d))
-        (λ h. high_bytes c d low h ∙ sym (ne_eqb c d (λ e. omega arith)))
-        (cases_lt c 128)
-      where
-        or_false : (b : Bool) → (b || false) ≡ b
-        or_false true = refl
-        or_false false = refl
+    ∙ (λ k. list_any-encode c d low k || list_any-encodes cs d low k)
 
 -- two tests that hold
 both_true : (a b : Bool) → a ≡ true → b ≡ true → (a && b) ≡ true

@@ -9,10 +9,11 @@ use Rattle.ide_text.specs.declared.text.TextRefusal.TheVariants.{NotText, TooLon
 abbrev pub max_chars : ℕ
 max_chars = 1048576
 
--- U+000A and U+000D
+-- U+000A, the line break of a text
 abbrev pub line_feed : ℕ
 line_feed = 10
 
+-- U+000D, which no text has
 abbrev pub carriage_return : ℕ
 carriage_return = 13
 

@@ -1,6 +1,6 @@
 //! How the characters of a text lie in memory: a byte each where all of them are ASCII, as in most sources.
-ghost use Rattle.std.specs.Prelude.{◌≡◌, ◌≤◌, ◌<◌, ◌-◌, ◌++◌, IfOk, IfSome, OnOk, IsTrue, Some, length, slice_get, take, drop, encode_utf8_all};
-ghost use Rattle.std.specs.Str.{chars, all_scalars, IsAscii};
+ghost use Rattle.std.specs.Prelude.{◌≡◌, ◌≤◌, ◌<◌, ◌-◌, ◌++◌, IfOk, OnOk, Some, length, slice_get, take, drop, encode_utf8_all};
+ghost use Rattle.std.specs.Str.{chars};
 ghost use Rattle.std.specs.String.{string_bytes};
 ghost use Rattle.ide_text.specs.Chars.{chars_of, IsKept};
 ghost use Rattle.ide_text.specs.Text.{repaired, repaired_char};
@@ -49,28 +49,16 @@ impl Chars {
         }
     }
 
-    /// The characters as ASCII, where they are kept so.
-    pub(crate) fn as_ascii(&self) -> Option<&str>
-        requires { IsKept self.now }
-        ensures value { IfSome result (λ text. text.now ≡ chars_of self.now) }
-        ensures ascii { IfSome result (λ text. IsAscii text.now) }
-    {
-        match self {
-            Chars::Ascii(text) => Some(text.as_str()),
-            Chars::Any(_) => None,
-        }
-    }
-
-    /// The characters from one place up to another, in UTF-8.
-    pub(crate) fn part(&self, alloc: Global, from: usize, to: usize) -> Result<String, AllocError>
+    /// Adds the characters from one place up to another, in UTF-8.
+    pub(crate) fn add_part(&self, out: &mut String, from: usize, to: usize) -> Result<(), AllocError>
         requires kept { IsKept self.now }
         requires ordered { from ≤ to }
         requires inside { to ≤ length (chars_of self.now) }
-        ensures { IfOk result (λ part. string_bytes part ≡ encode_utf8_all (take (to - from) (drop from (chars_of self.now)))) }
+        ensures { OnOk result (string_bytes out.new ≡ string_bytes out.old ++ encode_utf8_all (take (to - from) (drop from (chars_of self.now)))) }
     {
         match self {
-            Chars::Ascii(text) => String::from_str(alloc, &text[from..to]),
-            Chars::Any(chars) => spelled(alloc, &chars[from..to]),
+            Chars::Ascii(text) => out.push_str(&text[from..to]),
+            Chars::Any(chars) => add_chars(out, &chars[from..to]),
         }
     }
 
@@ -87,15 +75,14 @@ impl Chars {
     }
 }
 
-/// Some characters in UTF-8.
-fn spelled(alloc: Global, chars: &[char]) -> Result<String, AllocError>
-    ensures { IfOk result (λ text. string_bytes text ≡ encode_utf8_all chars.now) }
+/// Adds some characters in UTF-8.
+fn add_chars(out: &mut String, chars: &[char]) -> Result<(), AllocError>
+    ensures { OnOk result (string_bytes out.new ≡ string_bytes out.old ++ encode_utf8_all chars.now) }
 {
-    let mut text = String::with_capacity(alloc, chars.len())?;
     for c in chars {
-        text.push(*c)?;
+        out.push(*c)?;
     }
-    Ok(text)
+    Ok(())
 }
 
 /// A text with its line breaks repaired.

@@ -1,5 +1,5 @@
 //! A name: a short list of characters, as a path, an identifier or a key, with their order.
-ghost use Rattle.std.specs.Prelude.{◌≡◌, ◌≤◌, ◌-◌, ◌↔◌, Some, IfOk, IsTrue, ◌==◌, length, take, drop, refl, bytes_eq, encode_utf8_all};
+ghost use Rattle.std.specs.Prelude.{◌≡◌, ◌≤◌, ◌-◌, ◌↔◌, [], Some, IfOk, OnOk, OnErr, IsTrue, ◌==◌, length, take, drop, refl, bytes_eq, encode_utf8_all};
 ghost use Rattle.std.specs.Hash as fed;
 ghost use Rattle.std.specs.Str.{chars, all_scalars};
 ghost use Rattle.std.specs.String.{string_bytes};
@@ -47,9 +47,26 @@ impl Name {
         requires inside { to ≤ length text.now }
         ensures { IfOk result (λ name. name ≡ take (to - from) (drop from text.now)) }
     {
-        Ok(Name {
-            text: text.part(alloc, from, to)?,
-        })
+        let mut name = Name::from(String::with_capacity(alloc, (to - from) as usize)?);
+        name.refill(text, from, to)?;
+        Ok(name)
+    }
+
+    /// Takes on the characters of a text from one offset up to another, in the memory that the name has. Without
+    /// memory it has no character.
+    pub fn refill(&mut self, text: &Text, from: u32, to: u32) -> Result<(), AllocError>
+        requires ordered { from ≤ to }
+        requires inside { to ≤ length text.now }
+        ensures filled { OnOk result (self.new ≡ take (to - from) (drop from text.now)) }
+        ensures err { OnErr result (self.new ≡ []) }
+    {
+        match text.read_part(&mut self.text, from, to) {
+            Ok(()) => Ok(()),
+            Err(e) => {
+                self.text.clear();
+                Err(e)
+            }
+        }
     }
 
     /// The number of characters. Linear in it.

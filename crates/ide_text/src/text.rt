@@ -1,6 +1,6 @@
 //! A text: a list of at most `MAX_CHARS` characters, with `\n` as its only line break.
-ghost use Rattle.std.specs.Prelude.{◌≡◌, ◌≤◌, ◌<◌, ◌-◌, IfOk, IfErr, IfSome, length, slice_get, take, drop, Some, ◌==◌, encode_utf8_all};
-ghost use Rattle.std.specs.Str.{chars, IsAscii};
+ghost use Rattle.std.specs.Prelude.{◌≡◌, ◌≤◌, ◌<◌, ◌-◌, IfOk, IfErr, OnOk, length, slice_get, take, drop, Some, ◌==◌, encode_utf8_all};
+ghost use Rattle.std.specs.Str.{chars};
 ghost use Rattle.std.specs.String.{string_bytes};
 ghost use Rattle.ide_text.specs.Chars.{chars_of, IsKept};
 ghost use Rattle.ide_text.specs.Text.{IsText, repaired};
@@ -122,22 +122,15 @@ impl Text {
         LineWalk::new(self).line_col(at)
     }
 
-    /// The characters as they are, where all of them are ASCII. Constant time.
-    pub fn as_ascii(&self) -> Option<&str>
-        ensures value { IfSome result (λ text. text.now ≡ self.now) }
-        ensures ascii { IfSome result (λ text. IsAscii text.now) }
-    {
-        self.chars.as_ascii()
-    }
-
-    /// The characters from one offset up to another, in UTF-8.
-    pub fn part(&self, alloc: Global, from: u32, to: u32) -> Result<String, AllocError>
+    /// Puts the characters from one offset up to another into a string, in UTF-8, in place of what it has.
+    pub(crate) fn read_part(&self, out: &mut String, from: u32, to: u32) -> Result<(), AllocError>
         requires ordered { from ≤ to }
         requires inside { to ≤ length self.now }
-        ensures utf8 { IfOk result (λ part. string_bytes part ≡ encode_utf8_all (take (to - from) (drop from self.now))) }
-        ensures value { IfOk result (λ part. chars (string_bytes part) ≡ take (to - from) (drop from self.now)) }
+        ensures utf8 { OnOk result (string_bytes out.new ≡ encode_utf8_all (take (to - from) (drop from self.now))) }
+        ensures value { OnOk result (chars (string_bytes out.new) ≡ take (to - from) (drop from self.now)) }
     {
-        self.chars.part(alloc, from as usize, to as usize)
+        out.clear();
+        self.chars.add_part(out, from as usize, to as usize)
     }
 
     /// The same text once more.

@@ -58,8 +58,8 @@ fn push_change(alloc: Global, out: &mut String, change: &Change) -> Result<(), A
 
 /// A name or a path.
 fn push_name(out: &mut String, name: &Name) -> Result<(), AllocError> {
-    for at in 0..name.len() {
-        out.push(mark(name.char_at(at)))?;
+    for c in name.as_str().chars() {
+        out.push(mark(c))?;
     }
     Ok(())
 }

@@ -1,4 +1,4 @@
-use Rattle.std.proofs.Common.{◌≡◌, ◌≤◌, ◌∷◌, length, drop, true, false, sym, ap, ◌∙◌, arith}
+use Rattle.std.proofs.Common.{◌≡◌, ◌∷◌, length, drop, true, false, sym, ap, ◌∙◌, arith}
 use Rattle.decl_parser.specs.declared.role.Role.TheVariants.{ParenGroup, Dot}
 use Rattle.decl_parser.specs.Forest.{is, is_identifier}
 use Rattle.decl_parser.specs.Header.{annotation_rest}

@@ -1,4 +1,4 @@
-use Rattle.std.proofs.Common.{◌≡◌, ◌≤◌, ◌++◌, ◌+◌, ◌-◌, ◌∷◌, [], length, drop, take, false, true, None}
+use Rattle.std.proofs.Common.{◌≡◌, ◌++◌, length}
 use Rattle.decl_parser.specs.Header.{without_annotations}
 use Rattle.decl_parser.proofs.annotation.without_annotations.Given as goal
 

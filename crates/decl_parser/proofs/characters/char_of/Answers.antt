@@ -1,4 +1,4 @@
-use Rattle.std.proofs.Common.{◌≡◌, suc, ◌∷◌, List, ℕ, drop, subst, arith}
+use Rattle.std.proofs.Common.{◌≡◌, suc, ◌∷◌, List, ℕ, drop, subst}
 use Rattle.java_tokens.proofs.Pieces.{drop-part}
 use Rattle.decl_parser.proofs.characters.char_of.Goals as goal
 

@@ -1,4 +1,4 @@
-use Rattle.std.proofs.Common.{◌≡◌, ◌≤◌, ◌++◌, ◌+◌, ◌-◌, ◌∷◌, [], length, drop, take, false, true, None}
+use Rattle.std.proofs.Common.{◌≡◌, ◌≤◌, ◌-◌, drop}
 use Rattle.std.specs.Str.{bytes_eq}
 use Rattle.ide_text.specs.Text.{max_chars}
 use Rattle.decl_parser.specs.Listing.{name_of}

@@ -1,4 +1,4 @@
-use Rattle.std.proofs.Common.{◌≡◌, ◌≤◌, ◌++◌, ◌+◌, ◌-◌, ◌∷◌, [], length, drop, take, false, true, None}
+use Rattle.std.proofs.Common.{◌≡◌, ◌++◌, [], length}
 use Rattle.decl_parser.specs.Unit.{units_of, behind_semicolon}
 use Rattle.decl_parser.specs.Rule.{constants_after}
 use Rattle.decl_parser.proofs.constants.enum_body.Given as goal

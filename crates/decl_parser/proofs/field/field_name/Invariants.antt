@@ -1,4 +1,4 @@
-use Rattle.std.proofs.Common.{◌≡◌, ◌≤◌, ◌++◌, ◌+◌, ◌-◌, ◌∷◌, [], length, drop, take, false, true, None}
+use Rattle.std.proofs.Common.{◌≡◌, drop, None}
 use Rattle.decl_parser.specs.declared.role.Role.TheVariants.{Other}
 use Rattle.decl_parser.specs.Rule.{field_after}
 use Rattle.decl_parser.proofs.field.field_name.Given as goal

@@ -1,6 +1,4 @@
 use Rattle.std.proofs.Common.{◌≡◌, ◌-◌, ◌<◌, ◌≤◌, length, ap, ◌∙◌, arith, slice_set}
-use Rattle.decl_parser.specs.declared.node.Node.{Node}
-use Rattle.decl_parser.specs.Forest.{with_size}
 use Rattle.decl_parser.proofs.ForestLemmas.{changed-set, changed-beyond}
 use Rattle.decl_parser.proofs.forest.set_size.Goals as goal
 

@@ -1,5 +1,4 @@
-use Rattle.std.proofs.Common.{◌≡◌, ◌<◌, ◌≤◌, length, arith}
-use Rattle.decl_parser.specs.declared.node.Node.{Node}
+use Rattle.std.proofs.Common.{◌<◌, ◌≤◌, length, arith}
 use Rattle.decl_parser.specs.declared.role.Role.TheVariants.{Lone}
 use Rattle.decl_parser.proofs.ForestLemmas.{changed-set, changed-beyond}
 use Rattle.decl_parser.proofs.forest.take_out.Goals as goal

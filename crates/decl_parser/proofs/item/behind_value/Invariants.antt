@@ -1,4 +1,4 @@
-use Rattle.std.proofs.Common.{◌≡◌, ◌≤◌, ◌++◌, ◌+◌, ◌-◌, ◌∷◌, [], length, drop, take, false, true, None}
+use Rattle.std.proofs.Common.{◌≡◌, ◌≤◌, length}
 use Rattle.decl_parser.specs.Unit.{units_of, items_behind_value}
 use Rattle.decl_parser.proofs.item.behind_value.Given as goal
 

@@ -1,4 +1,4 @@
-use Rattle.std.proofs.Common.{◌≡◌, ◌≢◌, sym, ◌∙◌, length, arith}
+use Rattle.std.proofs.Common.{◌≢◌, sym, ◌∙◌, length, arith}
 use Rattle.std.proofs.lemmas.Grind.{common_steps}
 use Rattle.decl_parser.specs.Unit.{units_past}
 use Rattle.decl_parser.proofs.UnitLemmas.{items_from-end}

@@ -1,4 +1,4 @@
-use Rattle.std.proofs.Common.{◌≡◌, ◌≤◌, ◌++◌, ◌+◌, ◌-◌, ◌∷◌, [], length, drop, take, false, true, None}
+use Rattle.std.proofs.Common.{◌≡◌, ◌≤◌, ◌+◌, length}
 use Rattle.decl_parser.specs.Unit.{units_of, items_of, items_from}
 use Rattle.decl_parser.proofs.item.first_item.Given as goal
 

@@ -32,19 +32,19 @@ add_item-returns t c =
     let read : c.deref.result.now ≡ header_of c.args.header.now = c.deref.ensures.value ∙ c.in_ok-header.ensures in
     let is : declaration_of text c.args.holder (header_of c.args.header.now) ≡ Some d = ap (declaration_of text c.args.holder) (sym read) ∙ c.in-Some.ensures in
     elim c.if-is_type.branch [
-        add_item-then-is_type+in_ok-add_level w ↦
-            let type : is_type stub ≡ true = sym c.is_type-is_type.ensures ∙ w.if-is_type.true in
-            let below = members (Some (record { kind = d.kind; name = d.name })) (units_of c.args.body.now) in
-            ap (λ v. v.items) w.stubs-is
-            ∙ w.in_ok-add_level.ensures
-            ∙ ap (λ l. l ++ below) c.in_ok-push.ensures.items
-            ∙ append_assoc stubs (stub ∷ []) below
-            ∙ sym (ap (λ l. stubs ++ l) (item_stubs-type text c.args.depth members c.args.holder c.args.header.now c.args.body.now d stub is c.in_ok-stub.ensures type))
-        | add_item-else-is_type w ↦
-            let other : is_type stub ≡ false = sym c.is_type-is_type.ensures ∙ w.if-is_type.false in
-            ap (λ v. v.items) w.stubs-is
-            ∙ c.in_ok-push.ensures.items
-            ∙ sym (ap (λ l. stubs ++ l) (item_stubs-member text c.args.depth members c.args.holder c.args.header.now c.args.body.now d stub is c.in_ok-stub.ensures other))
+      | add_item-then-is_type+in_ok-add_level w ↦
+          let type : is_type stub ≡ true = sym c.is_type-is_type.ensures ∙ w.if-is_type.true in
+          let below = members (Some (record { kind = d.kind; name = d.name })) (units_of c.args.body.now) in
+          ap (λ v. v.items) w.stubs-is
+          ∙ w.in_ok-add_level.ensures
+          ∙ ap (λ l. l ++ below) c.in_ok-push.ensures.items
+          ∙ append_assoc stubs (stub ∷ []) below
+          ∙ sym (ap (λ l. stubs ++ l) (item_stubs-type text c.args.depth members c.args.holder c.args.header.now c.args.body.now d stub is c.in_ok-stub.ensures type))
+      | add_item-else-is_type w ↦
+          let other : is_type stub ≡ false = sym c.is_type-is_type.ensures ∙ w.if-is_type.false in
+          ap (λ v. v.items) w.stubs-is
+          ∙ c.in_ok-push.ensures.items
+          ∙ sym (ap (λ l. stubs ++ l) (item_stubs-member text c.args.depth members c.args.holder c.args.header.now c.args.body.now d stub is c.in_ok-stub.ensures other))
     ]
 
 -- the level is too deep

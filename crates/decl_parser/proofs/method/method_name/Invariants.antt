@@ -1,4 +1,4 @@
-use Rattle.std.proofs.Common.{◌≡◌, ◌≤◌, ◌++◌, ◌+◌, ◌-◌, ◌∷◌, [], length, drop, take, false, true, None}
+use Rattle.std.proofs.Common.{◌≡◌, length, true}
 use Rattle.decl_parser.specs.Rule.{method_after}
 use Rattle.decl_parser.proofs.method.method_name.Given as goal
 

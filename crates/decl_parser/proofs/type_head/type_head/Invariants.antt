@@ -1,4 +1,4 @@
-use Rattle.std.proofs.Common.{◌≡◌, ◌≤◌, ◌++◌, ◌+◌, ◌-◌, ◌∷◌, [], length, drop, take, false, true, None}
+use Rattle.std.proofs.Common.{◌≡◌, length}
 use Rattle.decl_parser.specs.Rule.{type_head, type_after}
 use Rattle.decl_parser.proofs.type_head.type_head.Given as goal
 

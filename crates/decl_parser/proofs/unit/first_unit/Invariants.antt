@@ -1,4 +1,4 @@
-use Rattle.std.proofs.Common.{◌≡◌, ◌≤◌, ◌++◌, ◌+◌, ◌-◌, ◌∷◌, [], length, drop, take, false, true, None}
+use Rattle.std.proofs.Common.{◌≡◌, ◌≤◌, length}
 use Rattle.decl_parser.specs.Unit.{units_of}
 use Rattle.decl_parser.proofs.unit.first_unit.Given as goal
 

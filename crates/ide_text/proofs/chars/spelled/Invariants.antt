@@ -1,7 +1,0 @@
-use Rattle.std.proofs.Common.{◌≡◌, ◌++◌, drop, encode_utf8_all}
-use Rattle.std.specs.String.{string_bytes}
-use Rattle.ide_text.proofs.chars.spelled.Given as goal
-
--- what is there and the rest in UTF-8 are all in UTF-8
-abbrev pub invariant-loop-c : goal.invariant-loop-c
-invariant-loop-c l = string_bytes l.text ++ encode_utf8_all (drop l.c-index l.chars) ≡ encode_utf8_all l.chars
