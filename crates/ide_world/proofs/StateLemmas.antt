@@ -1,27 +1,27 @@
 -- The world of a state, and the soundness of its rows.
-use Rattle.std.proofs.Common.{◌≡◌, cond, ℕ, suc, ◌+◌, ◌-◌, ◌<◌, ◌≤◌, Bool, true, false, List, [], ◌∷◌, ◌++◌, length, get_or, Some, None, refl, sym, ap, ◌∙◌, subst, arith, not, ◌&&◌}
+use Rattle.std.proofs.Common.{◌≡◌, ◌≢◌, eqb, cond, ℕ, suc, ◌+◌, ◌-◌, ◌<◌, ◌≤◌, Bool, true, false, List, [], ◌∷◌, ◌++◌, length, get_or, Some, None, refl, sym, ap, ◌∙◌, subst, arith, not, ◌&&◌}
 use Rattle.std.specs.Prelude.{bytes_eq, find, unwrap_or, option_map, is_some, IsTrue, IsSome, ◌==◌, All, Option, IfSome, position}
 use Rattle.std.specs.BTreeMap.{keys, IsOrdered}
 use Rattle.std.specs.Ordering.{nat_cmp}
 use Rattle.std.specs.Option.{option_map_or}
 use Rattle.std.specs.List.{flat_map}
-use Rattle.std.proofs.lemmas.Bool.{false≢true, not-false, eqb-true, eq-eqb, ne_eqb, and_right}
+use Rattle.std.proofs.lemmas.Bool.{false≢true, true≢false, not-false, eqb-true, eq-eqb, ne_eqb, and_right}
 use Rattle.std.proofs.lemmas.Option.{IfSome_then, none-some, same_Some}
 use Rattle.std.proofs.lemmas.List.Elements.{All-weaker}
 use Rattle.std.specs.Cmp.Lexicographic.{same_text}
 use Rattle.std.proofs.lemmas.List.Quantifiers.{position-Some}
 use Rattle.java_tokens.specs.Words.{words_of, mask_in}
 use Rattle.write_history.specs.Path.{is_java}
-use Rattle.write_history.specs.World.{World, empty_world, File, is_live_at, is_live_id, is_unready, lowest_unready, file_at, file_with_id}
+use Rattle.write_history.specs.World.{World, empty_world, File, is_live_at, is_live_id, is_unready, lowest_unready, file_at, file_with_id, shown_text}
 use Rattle.ide_world.specs.declared.rows.FileRow.{FileRow}
 use Rattle.ide_world.specs.declared.reply.WordRow.{WordRow}
 use Rattle.ide_world.specs.declared.state.State.TheInside.{Inside}
 use Rattle.ide_world.specs.Held.{Held}
 use Rattle.ide_world.specs.Paths.{id_at, id_from, id_of}
-use Rattle.ide_world.proofs.PathIdLemmas.{id_of_live, place_of_id}
+use Rattle.ide_world.proofs.PathIdLemmas.{id_of_live, place_of_id, is_live-id_of}
 use Rattle.ide_world.specs.Prepared.{task_of, task_with_id, has_id, has_word, HasRoomForText, HasRoomForWords}
 use Rattle.ide_world.specs.Postings.{mask_posted, has_room}
-use Rattle.ide_world.specs.Rows.{file_of, is_unready_row, row_of_word, row_by_words, mask_among, words_by_id, IsRight}
+use Rattle.ide_world.specs.Rows.{file_of, files_from, is_unready_row, row_of_word, row_by_words, mask_among, words_by_id, IsRight}
 use Rattle.ide_world.specs.Reply.{row_with_mask, word_row, word_rows}
 use Rattle.ide_world.specs.State.{held, world_of, IsSound}
 use Rattle.ide_world.specs.Unready.{is_on, first_on, unready_flags}
@@ -199,6 +199,29 @@ pub file_of_id : (inside : Inside) (seen : Held) → held inside ≡ seen → (p
 file_of_id inside seen view path id place row at =
     ap (λ h. file_at h.world path) (sym view)
     ∙ find-files_from (is_live_at path) 1 inside.files.items (id - 1) row (IsFirst-from_position (is_live_at path) (λ r. bytes_eq r.path path) (λ i r. refl) 1 inside.files.items (id - 1) row place.at at)
+
+-- what a search sees of the file at a path, by the id that is kept for it
+pub text_of_none : (inside : Inside) → IsSound inside → (seen : Held) → held inside ≡ seen → (path : List ℕ) (id : ℕ) → id ≡ id_at inside.paths path → id ≡ 0 → None ≡ option_map (shown_text seen.world) (file_at seen.world path)
+text_of_none inside sound seen view path id kept none =
+    let rows = inside.files.items in
+    let absent : is_some (find (is_live_at path) (files_from 1 rows)) ≡ false = sym (is_live-id_of path rows) ∙ ap (λ i. not (eqb i 0)) (sym (sound.paths path) ∙ sym kept ∙ none) in
+    ap (option_map (shown_text (world_of inside))) (sym (none_where_absent (find (is_live_at path) (files_from 1 rows)) absent))
+    ∙ ap (λ h. option_map (shown_text h.world) (file_at h.world path)) view
+  where
+    none_where_absent : (o : Option File) → is_some o ≡ false → o ≡ None
+    none_where_absent None e = refl
+    none_where_absent (Some file) e = absurd (true≢false e)
+
+pub text_of_live : (inside : Inside) → IsSound inside → (seen : Held) → held inside ≡ seen → (path : List ℕ) (id : ℕ) → id ≡ id_at inside.paths path → id ≢ 0 → (row : FileRow) → row ≡ get_or inside.files.items (id - 1) row
+    → Some row.content ≡ option_map (shown_text seen.world) (file_at seen.world path)
+text_of_live inside sound seen view path id kept some row at =
+    let rows = inside.files.items in
+    let same = kept ∙ sound.paths path in
+    let place = place_of_id path rows id same (omega (arith, some)) in
+    let found : file_at (world_of inside) path ≡ Some (file_of (1 + (id - 1)) row)
+    = find-files_from (is_live_at path) 1 rows (id - 1) row (IsFirst-from_position (is_live_at path) (λ r. bytes_eq r.path path) (λ i r. refl) 1 rows (id - 1) row place at) in
+    sym (ap (option_map (shown_text (world_of inside))) found)
+    ∙ ap (λ h. option_map (shown_text h.world) (file_at h.world path)) view
 
 -- the room for new content is for the id that is kept for the path
 pub room_for_id : (inside : Inside) (seen : Held) → held inside ≡ seen → (path : List ℕ) (id : ℕ) → IsIdOf inside.files.items path id → HasRoomForText seen path → IsTrue (is_java path) → IsTrue (has_id (keys inside.unready) id)
