@@ -10,3 +10,4 @@ pub mod ListingLawful
 pub mod ForestRising
 pub mod ListedNames
 pub mod CommentLemmas
+pub mod PlainLevels
