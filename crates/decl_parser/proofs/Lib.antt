@@ -8,3 +8,6 @@ pub mod Continuing
 pub mod StubLemmas
 pub mod ListingLawful
 pub mod ForestRising
+pub mod ListedNames
+pub mod CommentLemmas
+pub mod PlainLevels

@@ -54,7 +54,7 @@ module _ (text : List ℕ) where
   both_picks lo hi true xs ys us vs p q = p
   both_picks lo hi false xs ys us vs p q = q
 
-  constants-rise : (lo mid hi : ℕ) (piece : List Node) (us : List UnitOf) → Rises text lo mid piece → UnitsRise text mid hi us
+  pub constants-rise : (lo mid hi : ℕ) (piece : List Node) (us : List UnitOf) → Rises text lo mid piece → UnitsRise text mid hi us
       → EnumRises lo hi (constants_after piece us) (behind_semicolon us)
   unfolding constants_after behind_semicolon
   constants-rise lo mid hi piece [] r s = (mid, first_identifier-rise lo mid (without_annotations piece) (rises-plain text lo mid piece r), s)

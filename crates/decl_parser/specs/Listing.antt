@@ -1,6 +1,8 @@
 -- The listing of a text: what its items declare, and the members of its types.
-use Rattle.std.specs.Prelude.{ℕ, zero, suc, ◌-◌, ◌==◌, Bool, false, if◌then◌else◌, List, [], ◌∷◌, ◌++◌, map, Option, None, Some}
+use Rattle.std.specs.Prelude.{◌≡◌, true, Contains, ℕ, zero, suc, ◌-◌, ◌==◌, Bool, false, if◌then◌else◌, List, [], ◌∷◌, ◌++◌, map, Option, None, Some}
 use Rattle.std.specs.List.{flat_map}
+use Rattle.java_tokens.specs.declared.token.Token.{Token}
+use Rattle.java_tokens.specs.Words.{is_identifier_token}
 use Rattle.java_tokens.specs.Tokens.{characters_of, tokens_of}
 use Rattle.stub_tree.specs.declared.stub.Stub.{Stub}
 use Rattle.stub_tree.specs.declared.stub_kind.StubKind.TheVariants.{Enum, Constant}
@@ -71,3 +73,11 @@ stubs_at text depth holder us = level_stubs text (suc max_depth - depth) depth h
 -- the listing of a text
 unfoldable pub listing_of : List ℕ → List Stub
 listing_of text = stubs_at text 0 None (units_of (forest_of text (tokens_of text)))
+
+-- the stub is named by an identifier of the text, which stands at its offset
+pub record IsNamedIn (text : List ℕ) (s : Stub) : Type 0 where
+  pub token : Token
+  pub token_of : Contains (tokens_of text) token
+  pub identifier : is_identifier_token text token ≡ true
+  pub place : s.at ≡ token.at
+  pub name : s.name ≡ characters_of text token

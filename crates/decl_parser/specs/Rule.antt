@@ -1,5 +1,5 @@
 -- The rules of the listing: what the header of an item declares.
-use Rattle.std.specs.Prelude.{Bool, true, false, ◌&&◌, ◌||◌, if◌then◌else◌, ℕ, List, [], ◌∷◌, ◌++◌, Option, None, Some, bytes_eq}
+use Rattle.std.specs.Prelude.{◌≡◌, Bool, true, false, ◌&&◌, ◌||◌, if◌then◌else◌, ℕ, List, [], ◌∷◌, ◌++◌, Option, None, Some, bytes_eq}
 use Rattle.std.specs.Option.{option_or, option_map, option_to_list}
 use Rattle.java_tokens.specs.Tokens.{characters_of}
 use Rattle.stub_tree.specs.declared.stub_kind.StubKind.{StubKind}
@@ -32,6 +32,13 @@ type_kind before n ns =
     else if is Enum n then Some EnumKind
     else if is Record n && begins_record ns then Some RecordKind
     else None
+
+-- the node is none of the words that may declare a type
+pub record DeclaresNoType (n : Node) : Type 0 where
+  pub no_class : is Class n ≡ false
+  pub no_interface : is Interface n ≡ false
+  pub no_enum : is Enum n ≡ false
+  pub no_record : is Record n ≡ false
 
 -- the first node that declares a type, as its kind and the nodes behind it; the role is that of the node before
 unfoldable pub type_after : Role → List Node → Option (StubKind × List Node)

@@ -10,6 +10,7 @@ mod field;
 mod forest;
 mod header;
 mod item;
+pub mod laws;
 mod listing;
 mod method;
 mod node;

@@ -1,0 +1,5 @@
+use Rattle.decl_parser.proofs.ListedNames.{listing-named}
+use Rattle.decl_parser.proofs.laws.names_are_identifiers.Goals as goal
+
+pub returns : goal.returns
+returns c = listing-named
