@@ -1,5 +1,6 @@
 pub mod ByIdLemmas
 pub mod EntryLemmas
+pub mod OutlineLemmas
 pub mod PathIdLemmas
 pub mod PathLemmas
 pub mod PostingLemmas

@@ -1,5 +1,5 @@
 -- The parts of a path are what a cut at each slash gives.
-use Rattle.std.proofs.Common.{◌≡◌, ℕ, ◌-◌, ◌<◌, Bool, true, false, not, List, [], ◌∷◌, ◌++◌, length, take, drop, eqb, cond, codes, encode_utf8_all, refl, ap, sym, subst, ◌∙◌, ⊎_elim, arith, append-nil, length-append, lit<}
+use Rattle.std.proofs.Common.{◌≡◌, ℕ, ◌-◌, ◌<◌, Bool, true, false, not, List, [], ◌∷◌, ◌++◌, length, take, drop, eqb, cond, codes, encode_utf8_all, refl, ap, sym, ◌∙◌, ⊎_elim, arith, append-nil, length-append, lit<}
 use Rattle.std.specs.Prelude.{◌==◌, ◌&&◌, ◌||◌, None, map, MatchBool}
 use Rattle.std.specs.Char.{encode_utf8}
 use Rattle.std.specs.List.{list_any, list_all, slice_split, onto_first}
@@ -8,7 +8,6 @@ use Rattle.std.specs.Str.Pattern.{HasSuffixMatch, FindsTextSuffix}
 use Rattle.std.specs.Cmp.Lexicographic.{bytes_decides, nat_list_eq_equiv}
 use Rattle.std.proofs.lemmas.Bool.{false≢true, cases_Bool, eqb-true, false_from_ne_true}
 use Rattle.std.proofs.lemmas.List.{take-append-drop}
-use Rattle.std.proofs.lemmas.List.Folds.{list_all-map}
 use Rattle.std.proofs.lemmas.List.Splits.{slice_split-cons_yes, slice_split-cons_no}
 use Rattle.std.proofs.lemmas.Str.{encode_ascii, length-encode, len_utf8_bounds, encodes-IsAscii, encodes-append, encodes-chars, chars-IsAscii, chars-append, IsUtf8-take}
 use Rattle.std.proofs.Math.Seq.{drop-append_seam}

@@ -3,6 +3,7 @@ ghost use Rattle.std.specs.Prelude.{◌≡◌, Err, Some, None, IfOk, length};
 ghost use Rattle.ide_world.specs.Outline.{outline_reply, outline_rows};
 
 use crate::state::State;
+use decl_parser::laws::names_are_identifiers;
 use decl_parser::stubs;
 use ide_text::{LineWalk, Name, Text};
 use std::alloc::{AllocError, Global};
@@ -79,6 +80,7 @@ pub fn ask_outline(alloc: Global, state: &State, path: &Name) -> Result<OutlineR
 fn outline_rows(alloc: Global, text: &Text) -> Result<Vec<OutlineRow>, AllocError>
     ensures { IfOk result (λ rows. rows.items ≡ outline_rows text.now) }
 {
+    names_are_identifiers();
     let stubs = stubs(alloc, text)?;
     let mut rows = Vec::new(alloc);
     let mut walk = LineWalk::new(text);
