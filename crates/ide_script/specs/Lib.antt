@@ -2,7 +2,7 @@
 pub mod Serial
 pub mod Transcript
 -- The command line, and how a run ends
-pub mod Words
+pub mod CommandLine
 pub mod Status
 pub mod Run
 -- How a run keeps its place

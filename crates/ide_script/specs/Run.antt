@@ -10,7 +10,7 @@ use Rattle.ide_script.specs.declared.status.Status.{Status}
 use Rattle.ide_script.specs.declared.status.Status.TheVariants.{Done, Usage, BadScript, SourceFault, TreeFault, SinkFault, OutOfMemory, ScriptTooLong}
 use Rattle.ide_script.specs.Status.{number_of, fault_line}
 use Rattle.ide_script.specs.Transcript.{serial}
-use Rattle.ide_script.specs.Words.{is_command}
+use Rattle.ide_script.specs.CommandLine.{is_command_line}
 
 -- the source was read to its end, and its bytes spell the script
 pub record GivesScript {S : Type 0} (left : S → Option (List ℕ)) (ends : S → ℕ) (old new : S) (script : List Line) : Type 0 where
@@ -85,6 +85,6 @@ pub record EndsWith {S K E : Type 0} (left : S → Option (List ℕ)) (ends faul
   pub numbered : number ≡ number_of status
   pub line : TellsStatus told flaws error error' status
   pub run : RunEnds left ends faults taken misses source source' sink sink' status
-  pub usage : (status ≡ Usage) ↔ (is_command words ≡ false)
+  pub usage : (status ≡ Usage) ↔ (is_command_line words ≡ false)
   pub unread : status ≡ Usage → source' ≡ source
   pub silent : status ≢ Done → status ≢ SinkFault → sink' ≡ sink

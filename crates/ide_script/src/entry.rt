@@ -4,7 +4,7 @@ ghost use Rattle.std.specs.Io.KnownBytes.{append_known};
 ghost use Rattle.ide_io.specs.Fault.{HasFault};
 ghost use Rattle.ide_io.specs.Known.{TakesAtMost};
 ghost use Rattle.script_lang.specs.Lines.{max_bytes};
-ghost use Rattle.ide_script.specs.Words.{given_words};
+ghost use Rattle.ide_script.specs.CommandLine.{given_words};
 ghost use Rattle.ide_script.specs.Status.{number_of, fault_line};
 ghost use Rattle.ide_script.specs.Run.{EndsWith, TellsEndOnce, TellsStatus};
 

@@ -2,7 +2,7 @@
 ghost use Rattle.std.specs.Prelude.{ℕ, ◌≡◌, ◌≢◌, ◌<◌, ◌↔◌, false, map, length, string_bytes, IfOk, IfErr};
 ghost use Rattle.ide_io.specs.Known.{TakesAtMost};
 ghost use Rattle.script_lang.specs.Lines.{max_bytes};
-ghost use Rattle.ide_script.specs.Words.{is_command};
+ghost use Rattle.ide_script.specs.CommandLine.{is_command_line};
 ghost use Rattle.ide_script.specs.Transcript.{serial};
 ghost use Rattle.ide_script.specs.Run.{RunEnds, GivesScript, TellsEndOnce, ReadStops, WriteEnds};
 
@@ -28,7 +28,7 @@ pub fn run_ide<R: Threads + Wait, S: Source, T: Tree, K: Sink>(
 
     // When each answer comes, and what was read and written then.
     ensures ends { RunEnds S.left S.ends S.faults K.taken K.faults script.old script.new out.old out.new result }
-    ensures usage { (result ≡ Status.Usage) ↔ (is_command (map string_bytes words.now) ≡ false) }
+    ensures usage { (result ≡ Status.Usage) ↔ (is_command_line (map string_bytes words.now) ≡ false) }
 
     // How much is read: at most one byte past the longest script, and nothing after the end; with a faulty command line nothing.
     ensures within { result ≢ Status.ScriptTooLong → TakesAtMost max_bytes (S.left script.old) (S.left script.new) }
@@ -53,7 +53,7 @@ pub fn run_ide<R: Threads + Wait, S: Source, T: Tree, K: Sink>(
 
 /// Whether the words are the program's name alone, or the name and `play`.
 fn is_play(words: &[String]) -> bool
-    ensures { result ≡ is_command (map string_bytes words.now) }
+    ensures { result ≡ is_command_line (map string_bytes words.now) }
 {
     match words {
         [_] => true,
