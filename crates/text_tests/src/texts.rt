@@ -178,7 +178,10 @@ fn places_of_a_text(rt: HostRuntime) -> Result<(), Fail> {
 #[test]
 fn names_of_a_text(rt: HostRuntime) -> Result<(), Fail> {
     for (bytes, second) in [
-        (b"int \xc3\xa9\xe2\x82\xac\xf0\x9f\x98\x80;".as_slice(), "\u{e9}\u{20ac}\u{1f600}"),
+        (
+            b"int \xc3\xa9\xe2\x82\xac\xf0\x9f\x98\x80;".as_slice(),
+            "\u{e9}\u{20ac}\u{1f600}",
+        ),
         (b"int ete;", "ete"),
     ] {
         let text = Text::from_utf8(rt.alloc(), bytes)?;
