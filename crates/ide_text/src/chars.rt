@@ -50,7 +50,12 @@ impl Chars {
     }
 
     /// Adds the characters from one place up to another, in UTF-8.
-    pub(crate) fn add_part(&self, out: &mut String, from: usize, to: usize) -> Result<(), AllocError>
+    pub(crate) fn add_part(
+        &self,
+        out: &mut String,
+        from: usize,
+        to: usize,
+    ) -> Result<(), AllocError>
         requires kept { IsKept self.now }
         requires ordered { from ≤ to }
         requires inside { to ≤ length (chars_of self.now) }

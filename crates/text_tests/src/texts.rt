@@ -1,6 +1,5 @@
 //! Tables of bytes with the text that they spell, and of texts with their places and names.
 use ide_text::{MAX_CHARS, Name, Text, TextRefusal};
-use indexmap::IndexMap;
 use std::alloc::{AllocError, Global};
 use std::cmp::Ordering;
 use std::test::Fail;
@@ -179,7 +178,10 @@ fn places_of_a_text(rt: HostRuntime) -> Result<(), Fail> {
 #[test]
 fn names_of_a_text(rt: HostRuntime) -> Result<(), Fail> {
     for (bytes, second) in [
-        (b"int \xc3\xa9\xe2\x82\xac\xf0\x9f\x98\x80;".as_slice(), "\u{e9}\u{20ac}\u{1f600}"),
+        (
+            b"int \xc3\xa9\xe2\x82\xac\xf0\x9f\x98\x80;".as_slice(),
+            "\u{e9}\u{20ac}\u{1f600}",
+        ),
         (b"int ete;", "ete"),
     ] {
         let text = Text::from_utf8(rt.alloc(), bytes)?;
@@ -230,23 +232,6 @@ fn order_of_names(rt: HostRuntime) -> Result<(), Fail> {
             assert_eq!(rt; one.same(&other), i == j);
             assert_eq!(rt; one < other, i.cmp(&j) == Ordering::Less);
         }
-    }
-    Ok(())
-}
-
-// A name is found by its hash, whichever way it was made.
-#[test]
-fn names_as_keys(rt: HostRuntime) -> Result<(), Fail> {
-    let text = Text::from_utf8(rt.alloc(), "a é日𝒳 é".as_bytes())?;
-    let mut places = IndexMap::new(rt.alloc());
-    assert_eq!(rt; text.len(), 7);
-    for (from, to) in [(0, 1), (2, 5), (6, 7), (2, 3)] {
-        assert!(rt; from <= to && to <= text.len());
-        places.insert(Name::of_text(rt.alloc(), &text, from, to)?, from)?;
-    }
-    assert_eq!(rt; places.len(), 3);
-    for (name, from) in [("a", Some(0)), ("é日𝒳", Some(2)), ("é", Some(2)), ("", None)] {
-        assert_eq!(rt; places.get(&Name::of(rt.alloc(), name)?).copied(), from);
     }
     Ok(())
 }
