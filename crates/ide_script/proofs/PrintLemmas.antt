@@ -1,8 +1,8 @@
 -- Printing the entries of a history, one after another.
-use Rattle.std.proofs.Common.{ℕ, ◌≡◌, ◌+◌, ◌-◌, List, ◌∷◌, ◌++◌, drop, ap, sym, ◌∙◌, subst, arith, append_assoc, slice_get, Some}
+use Rattle.std.proofs.Common.{ℕ, suc, codes, ◌≡◌, ◌+◌, ◌-◌, List, ◌∷◌, ◌++◌, drop, ap, sym, ◌∙◌, subst, arith, append_assoc, slice_get, Some}
 use Rattle.write_history.specs.declared.change.Entry.{Entry}
 use Rattle.write_history.specs.Print.{entry_line}
-use Rattle.ide_script.specs.Transcript.{entry_lines}
+use Rattle.ide_script.specs.Transcript.{entry_lines, indent}
 use Rattle.ide_script.proofs.SerialLemmas.{drop_at}
 
 before_position : (n : ℕ) → n + 1 - 1 ≡ n
@@ -16,3 +16,17 @@ entries_turn out new line all entries n entry is grown printed rest =
     ap (λ bs. bs ++ entry_lines (n + 1 + 1) (drop (n + 1) entries)) (grown ∙ ap (λ l. out ++ l) printed)
     ∙ append_assoc out (entry_line (n + 1) entry) (entry_lines (n + 1 + 1) (drop (n + 1) entries))
     ∙ sym (ap (λ es. out ++ entry_lines (n + 1) es) here) ∙ rest
+
+-- two more spaces
+pub indent-more : (depth : ℕ) → indent (depth + 1) ≡ indent depth ++ codes "  "
+indent-more depth = ap indent (one_more depth)
+  where
+    one_more : (n : ℕ) → n + 1 ≡ suc n
+    one_more n = omega arith
+
+-- five pieces, one after another
+pub five_pieces : (out a b c d e out1 out2 out3 out4 out5 : List ℕ) → out1 ≡ out ++ a → out2 ≡ out1 ++ b → out3 ≡ out2 ++ c → out4 ≡ out3 ++ d → out5 ≡ out4 ++ e → out5 ≡ out ++ (a ++ b ++ c ++ d ++ e)
+five_pieces out a b c d e out1 out2 out3 out4 out5 e1 e2 e3 e4 e5 =
+    e5
+    ∙ ap (λ o. o ++ e) (e4 ∙ ap (λ o. o ++ d) (e3 ∙ ap (λ o. o ++ c) (e2 ∙ ap (λ o. o ++ b) e1 ∙ append_assoc out a b) ∙ append_assoc out (a ++ b) c) ∙ append_assoc out (a ++ b ++ c) d)
+    ∙ append_assoc out (a ++ b ++ c ++ d) e

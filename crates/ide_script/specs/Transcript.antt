@@ -7,7 +7,7 @@ use Rattle.write_history.specs.Print.{entry_line, why_text}
 use Rattle.script_lang.specs.declared.line.Line.{Line}
 use Rattle.ide_world.specs.declared.reply.WordRow.{WordRow}
 use Rattle.ide_world.specs.declared.outline.OutlineRow.{OutlineRow}
-use Rattle.stub_tree.specs.declared.stub_kind.StubKind.TheVariants.{Class, Interface, Enum, Record, Annotation, Method, Constructor, Field}
+use Rattle.stub_tree.specs.declared.stub_kind.StubKind.TheVariants as declares
 use Rattle.stub_tree.specs.Stub.{code_of}
 use Rattle.ide_script.specs.declared.record.Answer.{Answer}
 use Rattle.ide_script.specs.declared.record.Answer.TheVariants.{Accepted, Refused, Smart, NotReady, Words, Outline}
@@ -39,20 +39,20 @@ row_line row = codes "  " ++ encode_utf8_all row.path ++ codes " " ++ mask_text 
 -- the word for a kind of declaration
 abbrev pub kind_text : ℕ → List ℕ
 kind_text kind =
-    if kind == code_of Class then codes "class"
-    else if kind == code_of Interface then codes "interface"
-    else if kind == code_of Enum then codes "enum"
-    else if kind == code_of Record then codes "record"
-    else if kind == code_of Annotation then codes "annotation"
-    else if kind == code_of Method then codes "method"
-    else if kind == code_of Constructor then codes "constructor"
-    else if kind == code_of Field then codes "field"
+    if kind == code_of declares.Class then codes "class"
+    else if kind == code_of declares.Interface then codes "interface"
+    else if kind == code_of declares.Enum then codes "enum"
+    else if kind == code_of declares.Record then codes "record"
+    else if kind == code_of declares.Annotation then codes "annotation"
+    else if kind == code_of declares.Method then codes "method"
+    else if kind == code_of declares.Constructor then codes "constructor"
+    else if kind == code_of declares.Field then codes "field"
     else codes "constant"
 
 -- two spaces for each depth
 abbrev pub indent : ℕ → List ℕ
 indent zero = []
-indent (suc depth) = codes "  " ++ indent depth
+indent (suc depth) = indent depth ++ codes "  "
 
 -- a super after a space
 abbrev pub super_text : List ℕ → List ℕ
@@ -63,11 +63,17 @@ abbrev pub supers_text : List (List ℕ) → List ℕ
 supers_text [] = []
 supers_text (name ∷ names) = codes " :" ++ flat_map super_text (name ∷ names)
 
--- the line of a declaration, indented by its depth: where its name stands, its kind, its name and its supers
+-- where the name of a declaration stands
+abbrev pub place_text : List ℕ → OutlineRow → List ℕ
+place_text path row = codes "  " ++ encode_utf8_all path ++ codes ":" ++ decimal row.line ++ codes ":" ++ decimal row.column
+
+-- the kind and the name of a declaration
+abbrev pub declared_text : OutlineRow → List ℕ
+declared_text row = codes " " ++ kind_text row.stub.kind ++ codes " " ++ encode_utf8_all row.stub.name
+
+-- the line of a declaration, indented by its depth, with its supers
 abbrev pub outline_line : List ℕ → OutlineRow → List ℕ
-outline_line path row =
-    indent row.stub.depth ++ codes "  " ++ encode_utf8_all path ++ codes ":" ++ decimal row.line ++ codes ":" ++ decimal row.column
-    ++ codes " " ++ kind_text row.stub.kind ++ codes " " ++ encode_utf8_all row.stub.name ++ supers_text row.stub.supers ++ codes "\n"
+outline_line path row = indent row.stub.depth ++ place_text path row ++ declared_text row ++ supers_text row.stub.supers ++ codes "\n"
 
 -- an answer from its prefix on, without the rows
 abbrev pub head_text : Answer → List ℕ

@@ -1,7 +1,7 @@
 //! Printing the transcript of a run.
 ghost use Rattle.std.specs.Prelude.{◌≡◌, ◌++◌, ℕ, List, IfOk, OnOk, string_bytes};
 ghost use Rattle.std.specs.List.{flat_map};
-ghost use Rattle.ide_script.specs.Transcript.{transcript_of, history_text, entry_lines, record_text, row_line, rows_text, mask_text, outline_line, indent, supers_text, super_text, kind_text};
+ghost use Rattle.ide_script.specs.Transcript.{transcript_of, history_text, entry_lines, record_text, row_line, rows_text, mask_text, outline_line, place_text, declared_text, indent, supers_text, super_text, kind_text};
 
 use crate::{Answer, Played, Record};
 use ide_text::Name;
@@ -115,22 +115,42 @@ fn push_declaration(
 ) -> Result<(), AllocError>
     ensures { OnOk result (out.new.items ≡ out.old.items ++ outline_line path.now row.now) }
 {
+    push_indent(out, row.stub.depth)?;
+    push_place(alloc, out, path, row)?;
+    push_declared(alloc, out, row)?;
+    push_supers(alloc, out, row.stub.supers.as_slice())?;
+    out.extend_from_slice(b"\n")?;
+    Ok(())
+}
+
+/// Adds where the name of a declaration stands.
+fn push_place(
+    alloc: Global,
+    out: &mut Vec<u8>,
+    path: &Name,
+    row: &OutlineRow,
+) -> Result<(), AllocError>
+    ensures { OnOk result (out.new.items ≡ out.old.items ++ place_text path.now row.now) }
+{
     let line = row.line;
     let column = row.column;
+    push_text(out, &format!(in alloc; "  {path}:{line}:{column}")?)
+}
+
+/// Adds the kind and the name of a declaration.
+fn push_declared(alloc: Global, out: &mut Vec<u8>, row: &OutlineRow) -> Result<(), AllocError>
+    ensures { OnOk result (out.new.items ≡ out.old.items ++ declared_text row.now) }
+{
     let kind = kind_name(row.stub.kind);
     let name = &row.stub.name;
-    push_indent(out, row.stub.depth)?;
-    push_text(out, &format!(in alloc; "  {path}:{line}:{column} {kind} {name}")?)?;
-    push_supers(alloc, out, row.stub.supers.as_slice())?;
-    out.push(b'\n')?;
-    Ok(())
+    push_text(out, &format!(in alloc; " {kind} {name}")?)
 }
 
 /// Adds two spaces for each depth.
 fn push_indent(out: &mut Vec<u8>, depth: u8) -> Result<(), AllocError>
     ensures { OnOk result (out.new.items ≡ out.old.items ++ indent depth) }
 {
-    for _ in 0..depth {
+    for _level in 0..depth {
         out.extend_from_slice(b"  ")?;
     }
     Ok(())
@@ -152,9 +172,16 @@ fn push_names(alloc: Global, out: &mut Vec<u8>, names: &[Name]) -> Result<(), Al
     ensures { OnOk result (out.new.items ≡ out.old.items ++ flat_map super_text names.now) }
 {
     for name in names {
-        push_text(out, &format!(in alloc; " {name}")?)?;
+        push_name(alloc, out, name)?;
     }
     Ok(())
+}
+
+/// Adds a name after a space.
+fn push_name(alloc: Global, out: &mut Vec<u8>, name: &Name) -> Result<(), AllocError>
+    ensures { OnOk result (out.new.items ≡ out.old.items ++ super_text name.now) }
+{
+    push_text(out, &format!(in alloc; " {name}")?)
 }
 
 /// The word for a kind of declaration.

@@ -11,14 +11,27 @@ use write_history::Refusal;
 #[derive(Drop)]
 pub enum Answer {
     /// The change is the entry at this position.
-    Accepted { at: u64 },
-    Refused { at: u64, why: Refusal },
+    Accepted {
+        at: u64,
+    },
+    Refused {
+        at: u64,
+        why: Refusal,
+    },
     /// No file is unready.
-    Smart { at: u64 },
+    Smart {
+        at: u64,
+    },
     /// The unready file with the lowest id has this path.
-    NotReady { at: u64, path: Name },
+    NotReady {
+        at: u64,
+        path: Name,
+    },
     /// The files that have a word.
-    Words { at: u64, rows: WordRows },
+    Words {
+        at: u64,
+        rows: WordRows,
+    },
     /// The declarations of the file at this path.
     Outline {
         at: u64,

@@ -10,8 +10,8 @@ ghost use Rattle.ide_script.specs.Settle.{IsOfLowest, TakesIn};
 use crate::Answer;
 use ide_text::Name;
 use ide_world::{
-    Made, OutlineRefusal, Ready, State, WordRefusal, ask_outline, ask_word, install, job, lowest_unready, make, prepare,
-    prepare_intake, reserve,
+    Made, OutlineRefusal, Ready, State, WordRefusal, ask_outline, ask_word, install, job,
+    lowest_unready, make, prepare, prepare_intake, reserve,
 };
 use script_lang::{Command, Line, Query};
 use std::alloc::{AllocError, Global};

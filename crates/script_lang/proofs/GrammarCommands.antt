@@ -143,7 +143,6 @@ IsCommandLine-with key.Write line rest command e read =
 IsCommandLine-with key.Word line rest command e read =
     let made = cond_some (is_word rest) (Ask (query.Word rest)) command read in
     subst (IsCommandLine line) made.1 (e, made.0)
-
 IsCommandLine-with key.Outline line rest command e read =
     let made = option_map-some (λ path. Ask (query.Outline path)) (last_path rest) command read in
     let found = last_path-some rest made.0 made.1 in

@@ -1,0 +1,10 @@
+use Rattle.ide_script.specs.Transcript.{indent, place_text, declared_text, supers_text}
+use Rattle.std.proofs.Common.{codes, ap, ◌∙◌, ◌++◌}
+use Rattle.ide_script.proofs.PrintLemmas.{five_pieces}
+use Rattle.ide_script.proofs.print.push_declaration.Goals as goal
+
+pub returns : goal.returns
+returns c =
+    let row = c.args.row.now in
+    five_pieces c.args.out.now.items (indent row.stub.depth) (place_text c.args.path.now row) (declared_text row) (supers_text row.stub.supers) (codes "\n") _ _ _ _ _
+    c.in_ok-push_indent.ensures c.in_ok-push_place.ensures c.in_ok-push_declared.ensures (c.in_ok-push_supers.ensures ∙ ap (λ names. c.push_declared.new.out.items ++ supers_text names) c.as_slice.ensures) c.in_ok-extend_from_slice.ensures.items
