@@ -1,6 +1,8 @@
 pub mod WordLemmas
+pub mod Tallies
 pub mod Placing
 pub mod Sound
+pub mod Guards
 pub mod LookStep
 pub mod EnterStep
 pub mod HoldStep
@@ -10,3 +12,4 @@ pub mod SplitStep
 pub mod JoinStep
 pub mod Ends
 pub mod ReadLemmas
+pub mod AdvanceLemmas

@@ -1,30 +1,22 @@
 -- Looks, one after another: the laws of a read as a `Watch`.
-use Rattle.std.specs.Prelude.{◌≡◌, ℕ, zero, suc, ◌+◌}
-use Rattle.std.proofs.Common.{sym, refl, ap, ◌∙◌, le_refl, le_trans, zero-add, suc-add}
+use Rattle.std.specs.Prelude.{◌≡◌}
+use Rattle.std.proofs.Common.{refl, ap, ◌∙◌, le_refl, le_trans}
 use Rattle.action_lock.specs.declared.home.Home.{Ghosts}
 use Rattle.action_lock.specs.declared.reading.Reading.{Reading}
 use Rattle.action_lock.specs.declared.view.View.{View}
-use Rattle.action_lock.specs.Counts.{counted, counted_times, HasCounted}
 use Rattle.action_lock.specs.Passes.{view_of}
 use Rattle.action_lock.specs.Reads.{HasLooked}
 use Rattle.action_lock.specs.Readings.{StaysReading}
 
-counted_twice : (m n a : ℕ) → counted_times m (counted_times n a) ≡ counted_times (m + n) a
-counted_twice zero n a = ap (λ (k : ℕ). counted_times k a) (sym (zero-add n))
-counted_twice (suc m) n a = ap counted (counted_twice m n a) ∙ ap (λ (k : ℕ). counted_times k a) (sym (suc-add m n))
-
-pub HasCounted-trans : (a b c : ℕ) → HasCounted a b → HasCounted b c → HasCounted a c
-HasCounted-trans a b c p q = (q.0 + p.0, q.1 ∙ (ap (counted_times q.0) p.1 ∙ counted_twice q.0 p.0 a))
-
 module _ {E : Type 0} where
   pub looked_not : (v : View E) → HasLooked v v
-  looked_not v = record { same = refl; looks = le_refl v.looks; sights = (0, refl) }
+  looked_not v = record { same = refl; looks = le_refl v.looks; sights = le_refl v.sights }
 
   pub looked_on : (u v w : View E) → HasLooked u v → HasLooked v w → HasLooked u w
   looked_on u v w p q = record {
     same = q.same ∙ ap (λ (x : View E). record x { looks = w.looks; last = w.last; sights = w.sights }) p.same;
     looks = le_trans p.looks q.looks;
-    sights = HasCounted-trans u.sights v.sights w.sights p.sights q.sights;
+    sights = le_trans p.sights q.sights;
   }
 
 module _ {H E S : Type 0} {g : Ghosts H E S} where

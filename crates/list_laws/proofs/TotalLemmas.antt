@@ -29,6 +29,11 @@ module _ {A : Type 0} where
   total-append f [] m = omega arith
   total-append f (x ∷ xs) m = let r = total-append f xs m in omega arith
 
+  -- what two weights add up to, together
+  pub total-plus : (f g : A → ℕ) (l : List A) → total (λ x. f x + g x) l ≡ total f l + total g l
+  total-plus f g [] = refl
+  total-plus f g (x ∷ xs) = let r = total-plus f g xs in omega arith
+
   -- where each element weighs as much or less, so do all
   pub total-below : (f g : A → ℕ) (l : List A) → ((i : ℕ) (v : A) → get_elem? l i ≡ some v → f v ≤ g v) → total f l ≤ total g l
   total-below f g [] h = omega arith
