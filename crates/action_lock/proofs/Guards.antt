@@ -1,5 +1,5 @@
 -- The gate after a step on the gate word: the word changes, and the home value stays, goes out or comes home.
-use Rattle.std.proofs.Common.{◌≡◌, ℕ, ◌<◌, ◌≤◌, List, [], ◌∷◌, set, sym, ap, ◌∙◌, arith}
+use Rattle.std.proofs.Common.{◌≡◌, ℕ, ◌+◌, ◌*◌, ◌<◌, ◌≤◌, List, [], ◌∷◌, set, sym, ap, ◌∙◌, arith}
 use mathlib.Core.Option.{some, none}
 use mathlib.Core.Option as maybe
 use Rattle.atomic_table.specs.Table.{put_back}
@@ -43,4 +43,16 @@ module _ {H E : Type 0} (stands : H → List E → Type 0) (history : List E) (t
     write_alone = alone;
     at_home = λ none_holds. (home, (λ k. put_back (g.away held k) (carries k)), stood);
     away = λ some_holds. absurd (omega arith);
+  }
+
+  -- the intent word alone changes
+  pub intent_set : (n : ℕ) → n ≡ t'.intents → t'.intents ≤ 1 → t'.visitors ≡ t.visitors → t'.writers ≡ t.writers → t'.pendings ≡ t.pendings → t'.readers ≡ t.readers → t'.holders ≡ t.holders
+      → IsGuarded stands history t' (set words 1 n) homes
+  intent_set n is one visitors writers pendings readers holders = record {
+    words_are = ap (λ (ws : List ℕ). set ws 1 n) g.words_are ∙ (λ k. (sym visitors k + sym writers k + 2 * sym writers k + 4 * sym pendings k + 8 * sym readers k) ∷ is k ∷ []);
+    one_turn = (let before = g.one_turn in omega arith);
+    one_intent = one;
+    write_alone = λ some_write. readers ∙ g.write_alone (omega arith);
+    at_home = λ none_holds. g.at_home (sym holders ∙ none_holds);
+    away = λ some_holds. g.away (omega arith);
   }

@@ -7,6 +7,10 @@ pub mod LookStep
 pub mod EnterStep
 pub mod HoldStep
 pub mod ExitStep
+pub mod IntentStep
+pub mod WriteStep
+pub mod Growing
+pub mod FinishStep
 pub mod TellStep
 pub mod SplitStep
 pub mod JoinStep

@@ -1,5 +1,5 @@
 -- What placing a view at a seat leaves of the rule: the numbers and entries stay, and the gate is left to the step.
-use Rattle.std.proofs.Common.{◌≡◌, ◌≢◌, ℕ, ◌+◌, List, [], ◌∷◌, length, get_or, set, sym, ap, ◌∙◌, subst, ⊎_elim, Option, eqb}
+use Rattle.std.proofs.Common.{◌≡◌, ◌≢◌, ℕ, ◌+◌, ◌<◌, List, [], ◌∷◌, length, get_or, set, sym, ap, ◌∙◌, subst, ⊎_elim, All, Option, eqb}
 use mathlib.Core.Option.{some}
 use mathlib.Core.Option as maybe
 use lib.ListN.{get_elem?}
@@ -20,17 +20,22 @@ module _ {E : Type 0} (number_of : E → ℕ) where
   each_set history drawn vs id w mine others j v e = ⊎_elim (λ (t : (j ≡ id) × (w ≡ v)). subst (IsSound number_of history drawn) t.1 mine)
       (λ (t : (j ≢ id) × (get_elem? vs j ≡ some v)). others j v t.1) (at_set vs id j w v e)
 
-  -- a sound view that keeps its numbers takes the place of another
-  pub recorded_set : (history : List E) (drawn : ℕ) (vs : List (View E)) (r : IsRecorded number_of history drawn vs) (id : ℕ) (v w : View E) → get_elem? vs id ≡ some v
-      → w.number ≡ v.number → w.ended ≡ v.ended → IsSound number_of history drawn w → IsRecorded number_of history drawn (set vs id w)
-  recorded_set history drawn vs r id v w at number ended sound = record {
+  -- a view that keeps its numbers takes the place of another, beside the same history or a later one
+  pub recorded_as : (history later : List E) (drawn : ℕ) (vs : List (View E)) (r : IsRecorded number_of history drawn vs) (id : ℕ) (v w : View E) → get_elem? vs id ≡ some v
+      → w.number ≡ v.number → w.ended ≡ v.ended → All (λ e. number_of e < drawn) later
+      → ((j : ℕ) (u : View E) → get_elem? (set vs id w) j ≡ some u → IsSound number_of later drawn u) → IsRecorded number_of later drawn (set vs id w)
+  recorded_as history later drawn vs r id v w at number ended known each = record {
     one_leads = total-same leading vs id v w at (ap (number_is 0) number) ∙ r.one_leads;
     once = λ n. total-same (times n) vs id v w at (λ k. number_is n (number k) + total (λ (e : Ended E). bit (eqb e.number n)) (ended k)) ∙ r.once n;
     in_all = total-same numbers vs id v w at (λ k. number_count (number k) + length (ended k)) ∙ r.in_all;
     limit = r.limit;
-    known = r.known;
-    each = each_set history drawn vs id w sound r.each;
+    known = known;
+    each = each;
   }
+
+  pub recorded_set : (history : List E) (drawn : ℕ) (vs : List (View E)) (r : IsRecorded number_of history drawn vs) (id : ℕ) (v w : View E) → get_elem? vs id ≡ some v
+      → w.number ≡ v.number → w.ended ≡ v.ended → IsSound number_of history drawn w → IsRecorded number_of history drawn (set vs id w)
+  recorded_set history drawn vs r id v w at number ended sound = recorded_as history history drawn vs r id v w at number ended r.known (each_set history drawn vs id w sound r.each)
 
 module _ {H E : Type 0} (number_of : E → ℕ) (stands : H → List E → Type 0) where
   abbrev pub Rule : State H (View E) → Type 0

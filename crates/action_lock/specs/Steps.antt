@@ -1,5 +1,5 @@
 -- The table of steps: what each tells the seat that takes it. A step changes one word, and the view of its seat alone.
-use Rattle.std.specs.Prelude.{◌≡◌, ℕ, ◌+◌, ◌<◌, ◌≤◌, Bool, true, false, ◌==◌, if◌then◌else◌, List, [], ◌∷◌, ◌++◌, length, All, Option, Some, None, MatchBool}
+use Rattle.std.specs.Prelude.{◌≡◌, ℕ, ◌+◌, ◌<◌, ◌≤◌, Bool, true, false, ◌==◌, if◌then◌else◌, List, [], ◌∷◌, ◌++◌, length, All, Option, Some, None}
 use Rattle.atomic_table.specs.Table.{Me, Step}
 use Rattle.action_lock.specs.declared.view.Phase.{Phase}
 use Rattle.action_lock.specs.declared.view.Phase.TheVariants.{Out, Entering, Backing, Reading, Asking, Writing}
@@ -129,9 +129,14 @@ module _ {E : Type 0} where
     abbrev pub Enters : (E → ℕ) → (H → List E → Type 0) → Step H → Me H (View E) → ℕ → Me H (View E) → Type 0
     Enters number_of stands st m found m' = EntersAt number_of stands (has_pending found) (has_turn found) m found m'
 
+    -- whether the intent was free: then it is taken
+    abbrev pub TakesAt : Bool → Me H (View E) → Me H (View E) → Type 0
+    TakesAt true m m' = m' ≡ (with_intent m.0, m.1)
+    TakesAt false m m' = m' ≡ (held_up m.0, m.1)
+
     -- the intent word is set, and tells whether it was set before
     abbrev pub Takes : Step H → Me H (View E) → ℕ → Me H (View E) → Type 0
-    Takes st m found m' = m' ≡ ((if found == 0 then with_intent m.0 else held_up m.0), m.1)
+    Takes st m found m' = TakesAt (found == 0) m m'
 
     -- the intent is given back
     abbrev pub Releases : Step H → Me H (View E) → ℕ → Me H (View E) → Type 0

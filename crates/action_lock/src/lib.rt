@@ -12,6 +12,7 @@ mod steps;
 mod view;
 mod watch;
 mod words;
+mod write_steps;
 
 pub use home::Home;
 pub use lock::ActionLock;

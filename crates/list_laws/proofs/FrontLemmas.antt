@@ -68,6 +68,14 @@ module _ {A : Type 0} where
   filter_none test (x ∷ xs) all = let head : test x ≡ false = all 0 x (omega arith) in
       rw head (filter_none test xs (λ k d l. all (suc k) d (omega arith)))
 
+  -- one element more at the end, which passes the filter
+  pub filter_more : (test : A → Bool) (xs : List A) (x : A) → test x ≡ true → filter test (xs ++ x ∷ []) ≡ filter test xs ++ x ∷ []
+  filter_more test xs x e = filter-append test xs (x ∷ []) ∙ ap (λ (l : List A). filter test xs ++ l) (rw e refl)
+
+  -- one that does not
+  pub filter_same : (test : A → Bool) (xs : List A) (x : A) → test x ≡ false → filter test (xs ++ x ∷ []) ≡ filter test xs
+  filter_same test xs x e = filter-append test xs (x ∷ []) ∙ (ap (λ (l : List A). filter test xs ++ l) (rw e refl) ∙ append-nil (filter test xs))
+
   -- a front that has as many elements of each kind as the whole has is the whole
   pub front_same_filter : (kind : A → ℕ) (xs ys : List A) → IsFront xs ys
       → ((d : A) (k : ℕ) → k < length ys → filter (λ x. eqb (kind x) (kind (get_or ys k d))) xs ≡ filter (λ x. eqb (kind x) (kind (get_or ys k d))) ys) → xs ≡ ys
