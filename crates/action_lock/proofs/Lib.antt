@@ -15,5 +15,6 @@ pub mod TellStep
 pub mod SplitStep
 pub mod JoinStep
 pub mod Ends
+pub mod PassLemmas
 pub mod ReadLemmas
 pub mod AdvanceLemmas

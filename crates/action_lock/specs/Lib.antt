@@ -6,6 +6,7 @@ pub mod Advances
 pub mod Passes
 pub mod Reads
 pub mod Readings
+pub mod Writings
 -- The rule and its steps
 pub mod Rule
 pub mod Steps

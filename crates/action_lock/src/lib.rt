@@ -13,12 +13,13 @@ mod view;
 mod watch;
 mod words;
 mod write_steps;
+mod writing;
 
 pub use home::Home;
 pub use lock::ActionLock;
 pub use pass::Pass;
 pub use reading::Reading;
-pub use refusal::{ReadRefusal, SplitRefusal};
+pub use refusal::{IntentRefusal, ReadRefusal, SplitRefusal};
 pub use rule::GateRule;
 pub use view::{Ended, Phase, View};
 pub use watch::Watch;

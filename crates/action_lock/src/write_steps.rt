@@ -53,8 +53,7 @@ impl<H: Home> ActionLock<H> {
         ensures told { ClaimsAt H.number_of H.stands result pass.old.seat.me pass.new.seat.me }
     {
         let shared = &self.table.shared;
-        let found =
-            shared.compare_exchange::<Claim<H>>(&mut pass.seat, GATE, PENDING, WRITING);
+        let found = shared.compare_exchange::<Claim<H>>(&mut pass.seat, GATE, PENDING, WRITING);
         found == PENDING
     }
 
