@@ -1,6 +1,7 @@
 //! A lock with three kinds of hold: read, intent and write. Reads run side by side, and a read can see that a write waits.
 #![tactic(auto)]
 
+mod gate;
 mod home;
 mod lock;
 mod pass;
@@ -15,6 +16,7 @@ mod words;
 mod write_steps;
 mod writing;
 
+pub use gate::{Gate, Point};
 pub use home::Home;
 pub use lock::ActionLock;
 pub use pass::Pass;

@@ -137,11 +137,16 @@ impl<H: Home> ActionLock<H> {
             match self.try_enter(alloc, pass) {
                 Ok(()) => return Ok(()),
                 Err(ReadRefusal::OutOfMemory) => return Err(AllocError),
-                Err(ReadRefusal::Pending { word: _ }) => self.linger(GATE, PENDING | TURN, 0),
-                Err(ReadRefusal::Turn { word: _ }) => self.linger(GATE, PENDING | TURN, 0),
+                Err(ReadRefusal::Pending { word: _ }) => self.pause(),
+                Err(ReadRefusal::Turn { word: _ }) => self.pause(),
             }
         }
         unreachable!()
+    }
+
+    /// Looks at the gate until a reader might enter, for a short while, and then lets other threads run. These looks are not counted.
+    pub fn pause(&self) {
+        self.linger(GATE, PENDING | TURN, 0);
     }
 
     // Looks at these marks of the word until they are as awaited, for a short while, and then lets other threads run.
