@@ -50,6 +50,7 @@ module _ {H E S : Type 0} {g : Ghosts H E S} where
     pub pass : IsSamePass q.pass.now r.pass.now
     pub share : r.pass.now.share ≡ q.pass.now.share
     pub view : HasLooked (view_of q.pass.now) (view_of r.pass.now)
+    pub reads : IsReading q → IsReading r
 
 module _ (H E S : RattleType) (g : Ghosts H.Denot E.Denot S.Denot) where
   -- where the read was refused, the pass is out again, and has learned the word that was found

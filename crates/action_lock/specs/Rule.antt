@@ -90,6 +90,7 @@ module _ {H E : Type 0} (stands : H → List E → Type 0) where
     pub away : 0 < t.holders → homes ≡ none ∷ []
 
 module _ {H E : Type 0} (number_of : E → ℕ) (stands : H → List E → Type 0) where
+  -- The rule: there is a history, with which the numbers and entries, and the gate, are in order
   pub record IsKept (s : State H (View E)) : Type 0 where
     -- the whole history
     pub history : List E

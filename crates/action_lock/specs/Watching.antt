@@ -9,9 +9,11 @@ use Rattle.action_lock.specs.Reads.{HasLooked}
 use Rattle.action_lock.specs.Readings.{StaysReading}
 
 module _ {E : Type 0} where
+  -- a view that nobody looked with
   pub looked_not : (v : View E) → HasLooked v v
   looked_not v = record { same = refl; looks = le_refl v.looks; sights = le_refl v.sights }
 
+  -- looks, and then more looks
   pub looked_on : (u v w : View E) → HasLooked u v → HasLooked v w → HasLooked u w
   looked_on u v w p q = record {
     same = q.same ∙ ap (λ (x : View E). record x { looks = w.looks; last = w.last; sights = w.sights }) p.same;
@@ -20,9 +22,11 @@ module _ {E : Type 0} where
   }
 
 module _ {H E S : Type 0} {g : Ghosts H E S} where
+  -- a read stays itself where nothing happens
   pub stays_itself : (l : Reading H E S g) → StaysReading l l
-  stays_itself l = record { same_reference = refl; lock = refl; pass = record { table = refl; seat = refl }; share = refl; view = looked_not (view_of l.pass.now) }
+  stays_itself l = record { same_reference = refl; lock = refl; pass = record { table = refl; seat = refl }; share = refl; view = looked_not (view_of l.pass.now); reads = λ x. x }
 
+  -- and where it stays itself twice
   pub stays_on : (a b c : Reading H E S g) → StaysReading a b → StaysReading b c → StaysReading a c
   stays_on a b c p q = record {
     same_reference = q.same_reference ∙ p.same_reference;
@@ -30,4 +34,5 @@ module _ {H E S : Type 0} {g : Ghosts H E S} where
     pass = record { table = q.pass.table ∙ p.pass.table; seat = q.pass.seat ∙ p.pass.seat };
     share = q.share ∙ p.share;
     view = looked_on (view_of a.pass.now) (view_of b.pass.now) (view_of c.pass.now) p.view q.view;
+    reads = λ x. q.reads (p.reads x);
   }

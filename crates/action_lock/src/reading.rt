@@ -72,6 +72,7 @@ impl<'a, H: Home> Reading<'a, H> {
         requires { GoesOn self.old }
         ensures same_reference { loan_of self.new ≡ loan_of self.old }
         ensures same { GoesOn self.new × IsSameRead self.old self.new }
+        ensures reads { IsReading self.old → IsReading self.new }
         ensures share { kept_share self.new ≡ kept_share self.old }
         ensures view { view_of (pass_of self.new) ≡ looked (view_of (pass_of self.new)).last (view_of (pass_of self.old)) }
         ensures kept { (view_of (pass_of self.old)).sights ≤ (view_of (pass_of self.new)).sights }
