@@ -38,7 +38,9 @@ pub(crate) fn attempt<H: Home, K: Work<H>, G: Gate>(
             let share = reading.apart();
             let made = work.run(alloc, &share, &mut reading);
             reading.together(share);
-            gate.at(Point::Reading { seat });
+            if made.is_ok() {
+                gate.at(Point::Reading { seat });
+            }
             reading.leave();
             match made {
                 Ok(out) => Ok(out),
