@@ -9,6 +9,7 @@ pub mod lanes;
 pub mod looking;
 pub mod nothing;
 pub mod reads;
+pub mod refusals;
 pub mod side_by_side;
 #[cfg(test)]
 mod tests;

@@ -6,10 +6,11 @@ use crate::drawing::draw;
 use crate::lanes::{Lane, run_all};
 use crate::nothing::NoGate;
 use crate::reads::{finds_nothing, is_let_in, sees_a_write};
+use crate::refusals::{is_held_up, pending_word};
 use crate::side_by_side::{Room, read_three};
 use crate::waiting::{ask_twice, read_and_write, soft_and_write};
 use crate::writes::{begin, change_once, change_twice};
-use action_lock::{ActionLock, ReadRefusal, SplitRefusal};
+use action_lock::{ActionLock, SplitRefusal};
 use nonblocking_read::{SoftRefusal, soft};
 use std::test::Fail;
 
@@ -122,14 +123,7 @@ fn a_write_stops_readers_until_it_ends(rt: HostRuntime) -> Result<(), Fail> {
         panic!(rt; "nobody has the intent")
     };
     let begun = begin(&rt, &lock, &mut second, &Append { alloc, text: 1 });
-    let word = match first.try_read(alloc, &lock) {
-        Err(ReadRefusal::Pending { word }) => word,
-        Err(_) => 0,
-        Ok(reading) => {
-            reading.leave();
-            0
-        }
-    };
+    let word = pending_word(alloc, &lock, &mut first);
     assert!(rt; word == 7 && first.sights() == 1);
     let room = Room::new(0);
     let mut work = Count {
@@ -139,13 +133,7 @@ fn a_write_stops_readers_until_it_ends(rt: HostRuntime) -> Result<(), Fail> {
     let refused = soft(&rt, alloc, &lock, &mut first, 2, &mut work, &NoGate {});
     assert!(rt; refused == Err(SoftRefusal::Cancelled { attempts: 2 }));
     assert!(rt; first.sights() == 3);
-    let held = match first.try_intent(&lock) {
-        Ok(()) => {
-            first.release(&lock);
-            false
-        }
-        Err(_) => true,
-    };
+    let held = is_held_up(&lock, &mut first);
     assert!(rt; held);
     assert!(rt; begun);
     second.finish(&lock);

@@ -7,6 +7,7 @@ use crate::board::Board;
 use crate::count::Count;
 use crate::looking::sees_within;
 use crate::nothing::NoGate;
+use crate::refusals::is_held_up;
 use crate::side_by_side::Room;
 use crate::writes::change_once;
 use action_lock::{ActionLock, Pass};
@@ -143,13 +144,7 @@ fn is_told(lock: &ActionLock<Board>, pass: &mut Pass<Board>, held: &Room, told: 
     ensures { IsPassOf lock.now pass.new × ((view_of pass.new).number ≡ (view_of pass.old).number) }
 {
     let met = held.is_full();
-    let refused = match pass.try_intent(lock) {
-        Ok(()) => {
-            pass.release(lock);
-            false
-        }
-        Err(_) => true,
-    };
+    let refused = is_held_up(lock, pass);
     told.enter();
     met && refused
 }
