@@ -1,12 +1,12 @@
 -- That a view advances: the laws of the order, and the steps and calls that keep it.
-use Rattle.std.proofs.Common.{◌≡◌, ℕ, ◌+◌, ◌++◌, ◌∷◌, [], refl, sym, subst, ◌∙◌, arith, le_refl, le_trans, length, ⊎_elim}
+use Rattle.std.proofs.Common.{◌≡◌, ℕ, ◌∷◌, [], refl, sym, subst, ◌∙◌, arith, le_refl, le_trans, length, ⊎_elim}
 use Rattle.action_lock.specs.declared.refusal.ReadRefusal.{ReadRefusal}
 use Rattle.action_lock.specs.declared.refusal.ReadRefusal.TheVariants.{Pending, Turn, OutOfMemory}
 use Rattle.action_lock.specs.declared.view.Phase.{Phase}
 use Rattle.action_lock.specs.declared.view.Phase.TheVariants.{Out}
 use Rattle.action_lock.specs.declared.view.View.{View}
 use Rattle.action_lock.specs.Advances.{Advances}
-use Rattle.action_lock.specs.Steps.{looked, entering, with_phase}
+use Rattle.action_lock.specs.Steps.{looked, with_phase}
 use Rattle.action_lock.specs.Reads.{HasLooked, HasRead, HasFailed, HasWaited, IsRefused}
 use Rattle.action_lock.proofs.ReadLemmas.{looked_once}
 use Rattle.list_laws.proofs.FrontLemmas.{front_self, front_trans}

@@ -1,10 +1,9 @@
 -- The rule at the beginning, and what it says at the end.
-use Rattle.std.proofs.Common.{◌≡◌, ℕ, zero, suc, ◌+◌, ◌<◌, ◌++◌, Bool, true, false, List, [], ◌∷◌, length, length-append, filter, get_or, refl, ap, ◌∙◌, sym, subst, arith, Some, None, Option, All, nat_lt, eqb, eqb-true}
+use Rattle.std.proofs.Common.{◌≡◌, ℕ, zero, suc, ◌+◌, ◌<◌, Bool, true, false, List, [], ◌∷◌, length, get_or, refl, ap, ◌∙◌, sym, subst, arith, Some, None, Option, All, nat_lt, eqb, eqb-true}
 use mathlib.Core.Option.{some, none, some-injective, some-ne-none}
 use mathlib.Core.Option as maybe
 use lib.ListN.{get_elem?}
 use Rattle.std.proofs.lemmas.Bool.Decides.{nat_tests}
-use Rattle.std.proofs.lemmas.List.Elements.{filter-append}
 use Rattle.atomic_table.specs.Table.{opening, Final, Seen}
 use Rattle.action_lock.specs.declared.view.Ended.{Ended}
 use Rattle.action_lock.specs.declared.view.View.{View}
@@ -15,7 +14,6 @@ use Rattle.action_lock.specs.Steps.{KnowsItsLists}
 use Rattle.action_lock.proofs.Placing.{Rule}
 use Rattle.action_lock.proofs.TellStep.{has_all, knows}
 use Rattle.list_laws.specs.Totals.{total}
-use Rattle.list_laws.specs.Fronts.{IsFront}
 use Rattle.list_laws.proofs.TotalLemmas.{total-only}
 use Rattle.list_laws.proofs.FrontLemmas.{front_same_filter}
 

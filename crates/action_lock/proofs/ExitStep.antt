@@ -1,8 +1,7 @@
 -- A reader's leaving, and the giving back of a turn that was taken under the pending mark, keep the rule.
 use Rattle.std.proofs.Common.{◌≡◌, ℕ, ◌+◌, ◌-◌, ◌%◌, ◌^◌, List, get_or, set, refl, arith, Some}
 use mathlib.Core.Option.{none}
-use lib.ListN.{get_elem?}
-use Rattle.atomic_table.specs.Table.{Me, State, step, keeps, Allows}
+use Rattle.atomic_table.specs.Table.{Me, step, keeps, Allows}
 use Rattle.action_lock.specs.declared.view.Phase.TheVariants.{Out, Backing, Reading}
 use Rattle.action_lock.specs.declared.view.View.{View}
 use Rattle.action_lock.specs.Words.{gate}

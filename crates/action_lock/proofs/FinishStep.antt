@@ -1,7 +1,7 @@
 -- The end of a write with one entry more keeps the rule.
-use Rattle.std.proofs.Common.{◌≡◌, ℕ, ◌+◌, ◌++◌, true, List, [], ◌∷◌, get_or, set, refl, ap, ◌∙◌, sym, subst, arith, Some}
+use Rattle.std.proofs.Common.{◌≡◌, ℕ, ◌++◌, true, List, [], ◌∷◌, get_or, set, refl, ap, ◌∙◌, sym, subst, arith, Some}
 use mathlib.Core.Option.{none}
-use Rattle.atomic_table.specs.Table.{Me, step, gives, put_back, rest, Allows}
+use Rattle.atomic_table.specs.Table.{Me, step, gives, rest, Allows}
 use Rattle.action_lock.specs.declared.view.Phase.TheVariants.{Out, Writing}
 use Rattle.action_lock.specs.declared.view.View.{View}
 use Rattle.action_lock.specs.Words.{gate}

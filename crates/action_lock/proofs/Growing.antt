@@ -1,5 +1,5 @@
 -- A history that grows by one entry, which a view that writes has made.
-use Rattle.std.proofs.Common.{◌≡◌, ◌≢◌, ℕ, zero, suc, ◌+◌, ◌<◌, ◌≤◌, ◌++◌, Bool, true, false, List, [], ◌∷◌, get_or, set, refl, ap, ◌∙◌, sym, subst, ⊎_elim, arith, Some, None, Option, All, nat_lt, eqb, eqb-true, ne_eqb, ltb-true}
+use Rattle.std.proofs.Common.{◌≡◌, ◌≢◌, ℕ, ◌+◌, ◌<◌, ◌≤◌, ◌++◌, Bool, true, false, List, [], ◌∷◌, set, refl, ap, ◌∙◌, sym, subst, ⊎_elim, arith, Some, Option, nat_lt, eqb, ne_eqb, ltb-true}
 use mathlib.Core.Option.{some}
 use lib.ListN.{get_elem?}
 use Rattle.std.proofs.lemmas.Bool.{eq-eqb}
@@ -14,7 +14,6 @@ use Rattle.action_lock.specs.Rule.{turns, entries_of, IsSound, IsRecorded, SeesA
 use Rattle.action_lock.specs.Steps.{finished}
 use Rattle.action_lock.proofs.Placing.{recorded_as}
 use Rattle.action_lock.proofs.Sound.{some_number}
-use Rattle.list_laws.specs.Totals.{total}
 use Rattle.list_laws.specs.Fronts.{IsFront}
 use Rattle.list_laws.proofs.TotalLemmas.{total-at, total-two, total-plus, total-zero}
 use Rattle.list_laws.proofs.FrontLemmas.{front_self, front_trans, filter_more, filter_same, All-weaken, All-cons}

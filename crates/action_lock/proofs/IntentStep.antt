@@ -1,5 +1,5 @@
 -- Taking the intent and giving it back keep the rule.
-use Rattle.std.proofs.Common.{◌≡◌, ℕ, ◌+◌, ◌++◌, Bool, true, false, List, get_or, set, refl, ap, ◌∙◌, sym, subst, arith, Some, bit_or, eqb, eqb-true}
+use Rattle.std.proofs.Common.{◌≡◌, ℕ, ◌+◌, Bool, true, false, List, get_or, set, refl, ap, ◌∙◌, sym, subst, arith, Some, bit_or, eqb, eqb-true}
 use mathlib.Core.Option.{none, some}
 use lib.ListN.{get_elem?}
 use Rattle.std.proofs.lemmas.Bool.{eqb-false}

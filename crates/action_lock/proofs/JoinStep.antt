@@ -1,5 +1,5 @@
 -- Taking in the view of a pass that was met keeps the rule.
-use Rattle.std.proofs.Common.{◌≡◌, ℕ, ◌+◌, ◌<◌, ◌≤◌, Bool, false, List, [], ◌∷◌, ◌++◌, length, filter, set, refl, ap, ◌∙◌, sym, subst, arith, Some, None, Option, All, eqb, ne_eqb, length-append}
+use Rattle.std.proofs.Common.{◌≡◌, ℕ, ◌+◌, ◌<◌, Bool, false, List, [], ◌∷◌, ◌++◌, length, filter, set, refl, ap, ◌∙◌, sym, subst, arith, Some, None, Option, All, eqb, ne_eqb, length-append}
 use mathlib.Core.Option.{some}
 use lib.ListN.{get_elem?}
 use Rattle.std.proofs.lemmas.List.Elements.{All-append}

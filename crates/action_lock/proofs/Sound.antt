@@ -1,5 +1,5 @@
 -- Which changes of a view keep it sound.
-use Rattle.std.proofs.Common.{◌≡◌, ℕ, ◌<◌, Bool, true, List, refl, sym, arith, Some, None, Option, All}
+use Rattle.std.proofs.Common.{◌≡◌, ℕ, ◌<◌, Bool, true, List, refl, sym, arith, Some, None, Option}
 use Rattle.action_lock.specs.declared.view.Phase.{Phase}
 use Rattle.action_lock.specs.declared.view.Ended.{Ended}
 use Rattle.action_lock.specs.declared.view.View.{View}

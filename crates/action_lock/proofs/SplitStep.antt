@@ -1,5 +1,5 @@
 -- Splitting off a pass with the next number keeps the rule.
-use Rattle.std.proofs.Common.{◌≡◌, ◌≢◌, ℕ, ◌+◌, ◌<◌, ◌≤◌, false, List, [], ◌∷◌, ◌++◌, set, refl, ap, ◌∙◌, sym, subst, ⊎_elim, arith, Some, Option, All, nat_lt, eqb, ne_eqb}
+use Rattle.std.proofs.Common.{◌≡◌, ◌≢◌, ℕ, ◌+◌, ◌<◌, false, List, [], ◌∷◌, ◌++◌, set, refl, ap, ◌∙◌, sym, subst, ⊎_elim, arith, Some, Option, All, nat_lt, eqb, ne_eqb}
 use mathlib.Core.Option.{some}
 use lib.ListN.{get_elem?}
 use Rattle.std.proofs.lemmas.Bool.Decides.{nat_tests}

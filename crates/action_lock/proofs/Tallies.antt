@@ -1,5 +1,5 @@
 -- How the tally changes where views change, and how large it is.
-use Rattle.std.proofs.Common.{◌≡◌, ℕ, ◌+◌, ◌<◌, ◌≤◌, Bool, true, List, [], ◌∷◌, ◌++◌, length, set, sym, ap, refl, subst, arith, lit≤, Some, None, Option}
+use Rattle.std.proofs.Common.{◌≡◌, ℕ, ◌+◌, ◌<◌, ◌≤◌, Bool, true, List, set, ap, refl, subst, arith, lit≤, Some, None, Option}
 use mathlib.Core.Option.{some}
 use lib.ListN.{get_elem?}
 use Rattle.action_lock.specs.declared.view.Phase.{Phase}

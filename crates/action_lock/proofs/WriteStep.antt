@@ -1,5 +1,5 @@
 -- Asking for a write, its beginning, and its end with nothing written keep the rule.
-use Rattle.std.proofs.Common.{◌≡◌, ℕ, ◌+◌, ◌%◌, ◌^◌, Bool, true, false, List, [], ◌∷◌, get_or, set, refl, ap, ◌∙◌, sym, subst, arith, Some, eqb, eqb-true}
+use Rattle.std.proofs.Common.{◌≡◌, ℕ, ◌+◌, ◌%◌, ◌^◌, Bool, true, false, List, [], ◌∷◌, get_or, set, refl, subst, arith, Some, eqb, eqb-true}
 use mathlib.Core.Option.{none, some}
 use lib.ListN.{get_elem?}
 use prog.Atomic.{either}

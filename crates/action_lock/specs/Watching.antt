@@ -1,5 +1,4 @@
 -- Looks, one after another: the laws of a read as a `Watch`.
-use Rattle.std.specs.Prelude.{◌≡◌}
 use Rattle.std.proofs.Common.{refl, ap, ◌∙◌, le_refl, le_trans}
 use Rattle.action_lock.specs.declared.home.Home.{Ghosts}
 use Rattle.action_lock.specs.declared.reading.Reading.{Reading}

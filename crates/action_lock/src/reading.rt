@@ -111,7 +111,7 @@ impl<'a, H: Home> Reading<'a, H> {
     /// Ends the read: lets its share go, and then counts it out.
     pub fn leave(self)
         requires { IsReading self }
-        ensures out { IsOut self.entry.lock.now self.exit.1.0.now }
+        ensures out { IsOut (lock_of self.entry) self.exit.1.0.now }
         ensures same { IsSamePass (pass_of self.entry) self.exit.1.0.now }
         ensures view { view_of self.exit.1.0.now ≡ with_phase phase.Out (view_of (pass_of self.entry)) }
         ensures advances { Advances (view_of (pass_of self.entry)) (view_of self.exit.1.0.now) }

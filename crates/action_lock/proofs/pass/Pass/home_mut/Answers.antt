@@ -1,4 +1,4 @@
-use Rattle.std.proofs.Common.{refl, sym, ap, ◌∙◌, get_or}
+use Rattle.std.proofs.Common.{refl}
 use Rattle.action_lock.proofs.PassLemmas.{one_pass, in_hand}
 use Rattle.action_lock.proofs.pass.Pass.home_mut.Goals as goal
 

@@ -1,6 +1,6 @@
-use Rattle.std.proofs.Common.{ap, sym, subst, ◌∙◌}
+use Rattle.std.proofs.Common.{ap, sym, subst}
 use Rattle.action_lock.specs.Counts.{HasRisen}
-use Rattle.action_lock.proofs.ReadLemmas.{found_mark, found_none}
+use Rattle.action_lock.proofs.ReadLemmas.{found_mark}
 use Rattle.action_lock.proofs.reading.ReadingWatch.look.Goals as goal
 
 pub returns-clause-seen : goal.returns-clause-seen
