@@ -1,5 +1,5 @@
 -- Totals over a list in which elements are replaced or added.
-use Rattle.std.proofs.Common.{◌≡◌, ℕ, zero, suc, ◌+◌, ◌≤◌, ◌≢◌, List, [], ◌∷◌, ◌++◌, All, length, set, sym, refl, ap, arith}
+use Rattle.std.proofs.Common.{◌≡◌, ℕ, zero, suc, ◌+◌, ◌≤◌, ◌≢◌, List, [], ◌∷◌, ◌++◌, All, set, sym, refl, ap, arith}
 use mathlib.Core.Option.{some, some-injective, some-ne-none}
 use lib.ListN.{get_elem?}
 use Rattle.list_laws.specs.Totals.{total}

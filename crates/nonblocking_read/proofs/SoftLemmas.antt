@@ -1,5 +1,5 @@
 -- Attempts, one after another.
-use Rattle.std.proofs.Common.{◌≡◌, ℕ, ◌+◌, ◌<◌, ◌≤◌, ◌⊎◌, ◌↔◌, inl, inr, ◌∙◌, ⊎_elim, refl, arith}
+use Rattle.std.proofs.Common.{ℕ, ◌+◌, ◌≤◌, ◌↔◌, inl, inr, ◌∙◌, ⊎_elim, refl, arith}
 use Rattle.action_lock.specs.declared.view.View.{View}
 use Rattle.action_lock.specs.Counts.{HasRisen, HasRisenBy}
 use Rattle.action_lock.proofs.AdvanceLemmas.{advances_not, advances_on}
