@@ -1,25 +1,27 @@
 -- The rule at the beginning, and what it says at the end.
-use Rattle.std.proofs.Common.{◌≡◌, ℕ, zero, suc, ◌+◌, List, [], ◌∷◌, length, refl, ap, ◌∙◌, sym, subst, arith, Some, None, Option, nat_lt, eqb}
+use Rattle.std.proofs.Common.{◌≡◌, ℕ, zero, suc, ◌+◌, ◌<◌, Bool, true, false, List, [], ◌∷◌, length, get_or, refl, ap, ◌∙◌, sym, subst, arith, Some, None, Option, All, nat_lt, eqb, eqb-true}
 use mathlib.Core.Option.{some, none, some-injective, some-ne-none}
 use mathlib.Core.Option as maybe
 use lib.ListN.{get_elem?}
 use Rattle.std.proofs.lemmas.Bool.Decides.{nat_tests}
 use Rattle.atomic_table.specs.Table.{opening, Final, Seen}
-use Rattle.action_lock.specs.declared.view.Phase.TheVariants.{Out}
+use Rattle.action_lock.specs.declared.view.Ended.{Ended}
 use Rattle.action_lock.specs.declared.view.View.{View}
-use Rattle.action_lock.specs.Views.{bit, number_count, phase_holding, holding, numbers, first_view}
-use Rattle.action_lock.specs.Rule.{IsSound}
-use Rattle.action_lock.specs.Steps.{IsTold}
+use Rattle.action_lock.specs.declared.view.Phase.TheVariants.{Out}
+use Rattle.action_lock.specs.Views.{bit, number_count, number_is, weight, weight_in, numbers, times, first_view}
+use Rattle.action_lock.specs.Rule.{entries_of, IsSound, IsRecorded}
+use Rattle.action_lock.specs.Steps.{KnowsItsLists}
 use Rattle.action_lock.proofs.Placing.{Rule}
-use Rattle.action_lock.proofs.TellStep.{is_told}
+use Rattle.action_lock.proofs.TellStep.{has_all, knows}
 use Rattle.list_laws.specs.Totals.{total}
 use Rattle.list_laws.proofs.TotalLemmas.{total-only}
+use Rattle.list_laws.proofs.FrontLemmas.{front_same_filter}
 
 first_once : (n : ℕ) → (bit (eqb 0 n) + 0) + 0 ≡ bit (nat_lt n 1)
 first_once zero = refl
 first_once (suc n) = grind (arith, nat_tests)
 
-module _ {H E : Type 0} (number_of : E → ℕ) (stands : H → List E → Type 0) where
+module _ {E : Type 0} (number_of : E → ℕ) where
   first_sound : IsSound number_of [] 1 first_view
   first_sound = record {
     spent = λ none_there. absurd (cc);
@@ -38,38 +40,76 @@ module _ {H E : Type 0} (number_of : E → ℕ) (stands : H → List E → Type 
   only_first zero v e = subst (IsSound number_of [] 1) (some-injective first_view v e) first_sound
   only_first (suc seat) v e = absurd (some-ne-none v (sym e))
 
+  no_home : (history : List E) (drawn : ℕ) (v : View E) (number : Option ℕ) → v.number ≡ number → IsSound number_of history drawn v → numbers v ≡ 0 → (weight v).holders ≡ 0
+  no_home history drawn v None is sound none_left = ap (λ (u : View E). (weight u).holders) (sound.spent is)
+  no_home history drawn v (Some n) is sound none_left = absurd (let one : number_count v.number ≡ 1 = ap number_count is in omega arith)
+
+  -- a number that a view has, its own or that of a pass that it met: the entries with it have been seen
+  ended_seen : (history seen : List E) (k : ℕ) (ended : List (Ended E)) → 0 < total (λ (e : Ended E). bit (eqb e.number k)) ended
+      → All (λ (e : Ended E). (e.entries ≡ entries_of number_of e.number history) × (e.entries ≡ entries_of number_of e.number seen)) ended
+      → entries_of number_of k seen ≡ entries_of number_of k history
+  ended_seen history seen k [] some_there all = absurd (omega arith)
+  ended_seen history seen k (x ∷ xs) some_there all = by_test (λ more. ended_seen history seen k xs more (λ j d l. all (suc j) d (omega arith))) (eqb x.number k) refl
+    where
+      by_test : (0 < total (λ (e : Ended E). bit (eqb e.number k)) xs → entries_of number_of k seen ≡ entries_of number_of k history)
+          → (b : Bool) → eqb x.number k ≡ b → entries_of number_of k seen ≡ entries_of number_of k history
+      by_test rest true e = let same : x.number ≡ k = eqb-true x.number k e in let both = all 0 x (omega arith) in
+          subst (λ (j : ℕ). entries_of number_of j seen ≡ entries_of number_of j history) same (sym both.1 ∙ both.0)
+      by_test rest false e = rest (let none_here : bit (eqb x.number k) ≡ 0 = ap bit e in omega arith)
+
+  number_seen : (history : List E) (drawn : ℕ) (v : View E) (k : ℕ) (number : Option ℕ) → v.number ≡ number → IsSound number_of history drawn v → times k v ≡ 1
+      → entries_of number_of k v.seen ≡ entries_of number_of k history
+  number_seen history drawn v k None is sound once = ended_seen history v.seen k v.ended (let none_own : number_is k v.number ≡ 0 = ap (number_is k) is in omega arith) sound.ended
+  number_seen history drawn v k (Some n) is sound once = by_test (eqb n k) refl
+    where
+      by_test : (b : Bool) → eqb n k ≡ b → entries_of number_of k v.seen ≡ entries_of number_of k history
+      by_test true e = let both = sound.mine k (is ∙ ap Some (eqb-true n k e)) in sym both.1 ∙ both.0
+      by_test false e = ended_seen history v.seen k v.ended (let none_own : number_is k v.number ≡ 0 = ap (number_is k) is ∙ ap bit e in omega arith) sound.ended
+
+  module _ (history : List E) (drawn : ℕ) (vs : List (View E)) (r : IsRecorded number_of history drawn vs) (id : ℕ) (v : View E) (at : get_elem? vs id ≡ some v) where
+    -- number 0, where it has met every other number, has seen the whole history
+    pub seen_whole : v.number ≡ Some 0 → v.drawn ≡ length v.ended + 1 → v.seen ≡ history
+    seen_whole leads full =
+        front_same_filter number_of v.seen history (r.each id v at).seen
+        (λ d k l. let e : E = get_or history k d in
+        number_seen history drawn v (number_of e) v.number refl (r.each id v at) (has_all number_of history drawn vs r id v at leads full (number_of e) (r.known k d l)))
+
+module _ {H E : Type 0} (number_of : E → ℕ) (stands : H → List E → Type 0) where
   -- a home value that stands for no entry opens the lock
   pub opens : (home : H) → stands home [] → Rule number_of stands (opening (0 ∷ 0 ∷ []) (home ∷ []) first_view)
   opens home empty = record {
     history = [];
     drawn = 1;
-    words = refl;
-    one_turn = omega arith;
-    one_intent = omega arith;
-    write_alone = λ some_write. absurd (omega arith);
-    at_home = λ _. (home, refl, empty);
-    away = λ some_holds. absurd (omega arith);
-    one_leads = refl;
-    once = first_once;
-    in_all = refl;
-    limit = omega arith;
-    known = λ k d l. absurd (omega arith);
-    each = only_first;
+    recorded = record {
+      one_leads = refl;
+      once = first_once;
+      in_all = refl;
+      limit = omega arith;
+      known = λ k d l. absurd (omega arith);
+      each = only_first number_of;
+    };
+    guarded = record {
+      words_are = refl;
+      one_turn = omega arith;
+      one_intent = omega arith;
+      write_alone = λ some_write. absurd (omega arith);
+      at_home = λ _. (home, refl, empty);
+      away = λ some_holds. absurd (omega arith);
+    };
   }
 
-  no_home : (history : List E) (drawn : ℕ) (v : View E) (number : Option ℕ) → v.number ≡ number → IsSound number_of history drawn v → numbers v ≡ 0 → holding v ≡ 0
-  no_home history drawn v None is sound none_left = ap holding (sound.spent is)
-  no_home history drawn v (Some n) is sound none_left = absurd (let one : number_count v.number ≡ 1 = ap number_count is in omega arith)
-
-  -- where number 0 has met all others, the home value is at home and stands for a history that has their entries alone
+  -- where number 0 has met all others, the home value is at home and stands for all that it has seen
   pub closes : (id : ℕ) (v : View E) (words : List ℕ) (slots : List H) → v.number ≡ Some 0 → v.drawn ≡ length v.ended + 1 → v.phase ≡ Out
       → Final (Seen (Rule number_of stands) id v) words slots
-      → (history : List E) × (home : H) × (get_elem? slots 0 ≡ some home) × stands home history × IsTold number_of v history
+      → (home : H) × (get_elem? slots 0 ≡ some home) × stands home v.seen × KnowsItsLists number_of v
   closes id v words slots leads full is (s, (r, at), words_are, as_long, there) =
       let one : number_count v.number ≡ 1 = ap number_count leads in
-      let drawn : v.drawn ≡ r.drawn = (r.each id v at).counts leads in
-      let all = r.in_all in
-      let none_held : total holding s.views ≡ 0 =
-      total-only numbers holding s.views id v at (omega arith) (λ j w e none_left. no_home r.history r.drawn w w.number refl (r.each j w e) none_left) ∙ ap phase_holding is in
-      let home = r.at_home none_held in
-      (r.history, home.0, there 0 home.0 (ap (λ (hs : List (maybe.Option H)). get_elem? hs 0) home.1), home.2, is_told number_of stands s r id v at)
+      let sound = r.recorded.each id v at in
+      let drawn : v.drawn ≡ r.drawn = sound.counts leads in
+      let all = r.recorded.in_all in
+      let none_held : total (λ (u : View E). (weight u).holders) s.views ≡ 0 =
+      total-only numbers (λ (u : View E). (weight u).holders) s.views id v at (omega arith) (λ j w e none_left. no_home number_of r.history r.drawn w w.number refl (r.recorded.each j w e) none_left)
+      ∙ ap (λ p. (weight_in p (bit v.intent)).holders) is in
+      let home = r.guarded.at_home none_held in
+      let whole = seen_whole number_of r.history r.drawn s.views r.recorded id v at leads full in
+      (home.0, there 0 home.0 (ap (λ (hs : List (maybe.Option H)). get_elem? hs 0) home.1), subst (stands home.0) (sym whole) home.2, knows number_of r.history r.drawn s.views r.recorded id v at)

@@ -1,5 +1,5 @@
 -- Taking in the view of a pass that was met keeps the rule.
-use Rattle.std.proofs.Common.{◌≡◌, ℕ, ◌+◌, ◌*◌, ◌<◌, ◌≤◌, Bool, false, List, [], ◌∷◌, ◌++◌, length, set, refl, ap, ◌∙◌, sym, subst, arith, Some, None, Option, All, eqb, ne_eqb, length-append}
+use Rattle.std.proofs.Common.{◌≡◌, ℕ, ◌+◌, ◌<◌, Bool, false, List, [], ◌∷◌, ◌++◌, length, filter, set, refl, ap, ◌∙◌, sym, subst, arith, Some, None, Option, All, eqb, ne_eqb, length-append}
 use mathlib.Core.Option.{some}
 use lib.ListN.{get_elem?}
 use Rattle.std.proofs.lemmas.List.Elements.{All-append}
@@ -8,8 +8,8 @@ use Rattle.atomic_table.proofs.Lists.{set_else}
 use Rattle.action_lock.specs.declared.view.Phase.TheVariants.{Out}
 use Rattle.action_lock.specs.declared.view.Ended.{Ended}
 use Rattle.action_lock.specs.declared.view.View.{View}
-use Rattle.action_lock.specs.Views.{phase_turn, phase_pending, phase_reading, phase_writing, phase_inside, phase_holding, bit, number_count, number_is, turn, pending, reading, writing, inside, holding, intending, leading, numbers, times, spent_view}
-use Rattle.action_lock.specs.Rule.{entries_of, IsSound, SeesAll}
+use Rattle.action_lock.specs.Views.{Tally, weight, weight_in, tally, bit, number_count, number_is, leading, numbers, times, spent_view}
+use Rattle.action_lock.specs.Rule.{entries_of, IsSound, IsRecorded, IsGuarded, SeesAll}
 use Rattle.action_lock.specs.Steps.{joined, end_of}
 use Rattle.action_lock.proofs.Placing.{Rule, each_set}
 use Rattle.list_laws.specs.Totals.{total}
@@ -42,49 +42,70 @@ module _ {E : Type 0} where
   numbers_joined v w =
       let a = length-append v.ended (end_of w.number w ++ w.ended) in let b = length-append (end_of w.number w) w.ended in let c = end_length w.number w in omega arith
 
-module _ {H E : Type 0} (number_of : E → ℕ) (stands : H → List E → Type 0) where
+  -- nothing that is weighed changes, where the other weighs nothing
+  join_tally : (views : List (View E)) (id other : ℕ) (v w both : View E) → get_elem? views id ≡ some v → get_elem? (set views id both) other ≡ some w
+      → weight both ≡ weight v → weight w ≡ weight (spent_view {E = E}) → tally (set (set views id both) other spent_view) ≡ tally views
+  join_tally views id other v w both at there same none_there = λ k. record {
+    visitors = both_same (λ (u : View E). (weight u).visitors) views id other v w both spent_view at there (λ i. (same i).visitors + (sym none_there i).visitors) k;
+    writers = both_same (λ (u : View E). (weight u).writers) views id other v w both spent_view at there (λ i. (same i).writers + (sym none_there i).writers) k;
+    pendings = both_same (λ (u : View E). (weight u).pendings) views id other v w both spent_view at there (λ i. (same i).pendings + (sym none_there i).pendings) k;
+    readers = both_same (λ (u : View E). (weight u).readers) views id other v w both spent_view at there (λ i. (same i).readers + (sym none_there i).readers) k;
+    holders = both_same (λ (u : View E). (weight u).holders) views id other v w both spent_view at there (λ i. (same i).holders + (sym none_there i).holders) k;
+    intents = both_same (λ (u : View E). (weight u).intents) views id other v w both spent_view at there (λ i. (same i).intents + (sym none_there i).intents) k;
+  }
+
+module _ {E : Type 0} (number_of : E → ℕ) where
+  -- these are the entries with the number, in the history and in what was seen
+  abbrev Keeps : List E → List E → Ended E → Type 0
+  Keeps history seen e = (e.entries ≡ entries_of number_of e.number history) × (e.entries ≡ entries_of number_of e.number seen)
+
+  -- what is kept of a number is the same in what lies between what was seen and the history
+  keeps_between : (history seen longer : List E) → IsFront seen longer → IsFront longer history → (e : Ended E) → Keeps history seen e → Keeps history longer e
+  keeps_between history seen longer lower upper e both =
+      let test : E → Bool = λ x. eqb (number_of x) e.number in
+      (both.0, both.0 ∙ sym (front_between (filter test seen) (filter test longer) (filter test history) (front_filter test seen longer lower) (front_filter test longer history upper) (sym both.1 ∙ both.0)))
+
   module _ (history : List E) (drawn : ℕ) (v w : View E) (n m : ℕ) (has : v.number ≡ Some n) (has' : w.number ≡ Some m)
       (sound : IsSound number_of history drawn v) (sound' : IsSound number_of history drawn w) where
-    -- the entries of one's own number are the same in the longer of both
-    mine_in_longer : (k : ℕ) → v.number ≡ Some k → v.mine ≡ entries_of number_of k (longer v.seen w.seen)
-    mine_in_longer k e =
-        let own = sound.mine k e in
-        let whole : entries_of number_of k v.seen ≡ entries_of number_of k history = sym own.1 ∙ own.0 in
-        let test : E → Bool = λ x. eqb (number_of x) k in
-        let inner = front_filter test v.seen (longer v.seen w.seen) (front_longer_left v.seen w.seen history sound.seen sound'.seen) in
-        let outer = front_filter test (longer v.seen w.seen) history (longer_front v.seen w.seen history sound.seen sound'.seen) in
-        own.0 ∙ sym (front_between (entries_of number_of k v.seen) (entries_of number_of k (longer v.seen w.seen)) (entries_of number_of k history) inner outer whole)
+    left : IsFront v.seen (longer v.seen w.seen)
+    left = front_longer_left v.seen w.seen history sound.seen sound'.seen
+
+    right : IsFront w.seen (longer v.seen w.seen)
+    right = front_longer_right v.seen w.seen history sound.seen sound'.seen
+
+    whole : IsFront (longer v.seen w.seen) history
+    whole = longer_front v.seen w.seen history sound.seen sound'.seen
 
     -- where one has seen all, the longer is all
     longer_whole : v.seen ≡ history → longer v.seen w.seen ≡ history
     longer_whole all = longer_is v.seen w.seen (λ l. l ≡ history) (λ _. all)
         (λ more. front_whole w.seen history sound'.seen (let h = ap length all in omega arith))
 
-    ends_known : (number : Option ℕ) → w.number ≡ number → All (λ (x : Ended E). x.entries ≡ entries_of number_of x.number history) (end_of number w)
+    ends_known : (number : Option ℕ) → w.number ≡ number → All (Keeps history (longer v.seen w.seen)) (end_of number w)
     ends_known None e = λ k d l. absurd (omega arith)
-    ends_known (Some k) e = All-cons (λ (x : Ended E). x.entries ≡ entries_of number_of x.number history) _ [] ((sound'.mine k e).0) (λ i d l. absurd (omega arith))
+    ends_known (Some k) e = All-cons (Keeps history (longer v.seen w.seen)) record { number = k; entries = w.mine; sights = w.sights } [] (keeps_between history w.seen (longer v.seen w.seen) right whole record { number = k; entries = w.mine; sights = w.sights } (sound'.mine k e)) (λ i d l. absurd (omega arith))
 
     joined_sound : v.phase ≡ Out → IsSound number_of history drawn (joined v w)
     joined_sound is =
-        let whole = longer v.seen w.seen in
-        let left = front_longer_left v.seen w.seen history sound.seen sound'.seen in
-        let right = front_longer_right v.seen w.seen history sound.seen sound'.seen in
         let Front : List E → Type 0 = λ old. IsFront old (longer v.seen w.seen) in
-        let P : Ended E → Type 0 = λ x. x.entries ≡ entries_of number_of x.number history in
+        let P : Ended E → Type 0 = Keeps history (longer v.seen w.seen) in
         record {
           spent = λ none_there. absurd (cc);
           counts = sound.counts;
           asks = sound.asks;
           current_intends = sound.current_intends;
-          seen = longer_front v.seen w.seen history sound.seen sound'.seen;
+          seen = whole;
           olds = All-cons Front v.seen (w.seen ∷ (v.olds ++ w.olds)) left (All-cons Front w.seen (v.olds ++ w.olds) right
               (All-append Front v.olds w.olds
               (All-weaken (λ old. IsFront old v.seen) Front v.olds (λ old front. front_trans old v.seen (longer v.seen w.seen) front left) sound.olds)
               (All-weaken (λ old. IsFront old w.seen) Front w.olds (λ old front. front_trans old w.seen (longer v.seen w.seen) front right) sound'.olds)));
           entered = subst (λ p. SeesAll p (longer v.seen w.seen ≡ history)) (sym is) tt;
           current = λ e. longer_whole (sound.current e);
-          mine = λ k e. ((sound.mine k e).0, mine_in_longer k e);
-          ended = All-append P v.ended (end_of w.number w ++ w.ended) sound.ended (All-append P (end_of w.number w) w.ended (ends_known w.number refl) sound'.ended);
+          mine = λ k e. keeps_between history v.seen (longer v.seen w.seen) left whole record { number = k; entries = v.mine; sights = 0 } (sound.mine k e);
+          ended = All-append P v.ended (end_of w.number w ++ w.ended)
+              (All-weaken (Keeps history v.seen) P v.ended (keeps_between history v.seen (longer v.seen w.seen) left whole) sound.ended)
+              (All-append P (end_of w.number w) w.ended (ends_known w.number refl)
+              (All-weaken (Keeps history w.seen) P w.ended (keeps_between history w.seen (longer v.seen w.seen) right whole) sound'.ended));
         }
 
   spent_sound : (history : List E) (drawn : ℕ) → IsSound number_of history drawn spent_view
@@ -101,36 +122,30 @@ module _ {H E : Type 0} (number_of : E → ℕ) (stands : H → List E → Type 
     ended = λ k d l. absurd (omega arith);
   }
 
-  pub joins : (id : ℕ) (v : View E) (other : ℕ) (w : View E) (n m : ℕ) → v.number ≡ Some n → v.phase ≡ Out → w.number ≡ Some m → 0 < m → w.phase ≡ Out → w.intent ≡ false
-      → Joins (Rule number_of stands) id v other w (joined v w) spent_view
-  joins id v other w n m has is has' follows is' free s r at apart there =
+  joined_recorded : (history : List E) (drawn : ℕ) (vs : List (View E)) (r : IsRecorded number_of history drawn vs) (id : ℕ) (v : View E) (other : ℕ) (w : View E) (n m : ℕ)
+      → get_elem? vs id ≡ some v → get_elem? vs other ≡ some w → get_elem? (set vs id (joined v w)) other ≡ some w
+      → v.number ≡ Some n → v.phase ≡ Out → w.number ≡ Some m → 0 < m → IsRecorded number_of history drawn (set (set vs id (joined v w)) other spent_view)
+  joined_recorded history drawn vs r id v other w n m at there' there has is has' follows =
       let both : View E = joined v w in
-      let kept = (λ (f : View E → ℕ) (same : f both + f (spent_view {E = E}) ≡ f v + f w). both_same f s.views id other v w both spent_view at there same) in
-      let sound = r.each id v at in
-      let there' : get_elem? s.views other ≡ some w = sym (set_else s.views id other both apart) ∙ there in
-      let sound' = r.each other w there' in
-      let turns = kept turn (let z = ap phase_turn is' in omega arith) in
-      let writers = kept writing (let z = ap phase_writing is' in omega arith) in
-      let pendings = kept pending (let z = ap phase_pending is' in omega arith) in
-      let readers = kept reading (let z = ap phase_reading is' in omega arith) in
-      let insides = kept inside (let z = ap phase_inside is' in omega arith) in
-      let holders = kept holding (let z = ap phase_holding is' in omega arith) in
-      let intents = kept intending (let z = ap bit free in omega arith) in
-      let leaders = kept leading (let z : leading w ≡ 0 = ap (number_is 0) has' ∙ ap bit (ne_eqb m 0 (λ e. omega arith)) in omega arith) in
+      let kept = (λ (f : View E → ℕ) (same : f both + f (spent_view {E = E}) ≡ f v + f w). both_same f vs id other v w both spent_view at there same) in
       record {
-        history = r.history;
-        drawn = r.drawn;
-        words = r.words ∙ (λ k. (sym turns k + 2 * sym writers k + 4 * sym pendings k + 8 * sym readers k) ∷ sym intents k ∷ []);
-        one_turn = subst (λ (k : ℕ). k ≤ 1) (sym turns) r.one_turn;
-        one_intent = subst (λ (k : ℕ). k ≤ 1) (sym intents) r.one_intent;
-        write_alone = λ some_write. insides ∙ r.write_alone (subst (λ (k : ℕ). 0 < k) writers some_write);
-        at_home = λ none_holds. r.at_home (sym holders ∙ none_holds);
-        away = λ some_holds. r.away (subst (λ (k : ℕ). 0 < k) holders some_holds);
-        one_leads = leaders ∙ r.one_leads;
+        one_leads = kept leading (let z : leading w ≡ 0 = ap (number_is 0) has' ∙ ap bit (ne_eqb m 0 (λ e. omega arith)) in omega arith) ∙ r.one_leads;
         once = λ k. kept (times k) (let t = times_joined k v w in omega arith) ∙ r.once k;
         in_all = kept numbers (let t = numbers_joined v w in omega arith) ∙ r.in_all;
         limit = r.limit;
         known = r.known;
-        each = each_set number_of stands r.history r.drawn (set s.views id both) other spent_view (spent_sound r.history r.drawn)
-            (each_set number_of stands r.history r.drawn s.views id both (joined_sound r.history r.drawn v w n m has has' sound sound' is) r.each);
+        each = each_set number_of history drawn (set vs id both) other spent_view (spent_sound history drawn)
+            (each_set number_of history drawn vs id both (joined_sound history drawn v w n m has has' (r.each id v at) (r.each other w there') is) r.each);
+      }
+
+module _ {H E : Type 0} (number_of : E → ℕ) (stands : H → List E → Type 0) where
+  pub joins : (id : ℕ) (v : View E) (other : ℕ) (w : View E) (n m : ℕ) → v.number ≡ Some n → v.phase ≡ Out → w.number ≡ Some m → 0 < m → w.phase ≡ Out → w.intent ≡ false
+      → Joins (Rule number_of stands) id v other w (joined v w) spent_view
+  joins id v other w n m has is has' follows is' free s r at apart there =
+      let there' : get_elem? s.views other ≡ some w = sym (set_else s.views id other (joined v w) apart) ∙ there in
+      record {
+        history = r.history;
+        drawn = r.drawn;
+        recorded = joined_recorded number_of r.history r.drawn s.views r.recorded id v other w n m at there' there has is has' follows;
+        guarded = subst (λ (t : Tally). IsGuarded stands r.history t s.words s.homes) (sym (join_tally s.views id other v w (joined v w) at there refl (λ k. weight_in (is' k) (bit (free k))))) r.guarded;
       }

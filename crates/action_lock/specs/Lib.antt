@@ -1,11 +1,16 @@
+-- What callers rest on
 pub mod Counts
 pub mod Words
 pub mod Views
-pub mod Rule
-pub mod Steps
+pub mod Advances
 pub mod Passes
 pub mod Reads
 pub mod Readings
+pub mod Writings
+-- The rule and its steps
+pub mod Rule
+pub mod Steps
+-- The laws of a read as a `Watch`
 pub mod Watching
 -- What these cite from below: totals and prefixes of lists
 pub use Rattle.list_laws.specs.Totals

@@ -1,8 +1,8 @@
 -- What contracts see of a pass.
-use Rattle.std.specs.Prelude.{◌≡◌, ◌+◌, [], ◌∷◌, length, false, Some, None}
+use Rattle.std.specs.Prelude.{◌≡◌, ◌+◌, List, [], ◌∷◌, ◌++◌, length, true, false, Some, None}
 use Rattle.action_lock.specs.declared.home.Home.{Ghosts}
 use Rattle.action_lock.specs.declared.view.Phase.{Phase}
-use Rattle.action_lock.specs.declared.view.Phase.TheVariants.{Out, Entering, Reading}
+use Rattle.action_lock.specs.declared.view.Phase.TheVariants.{Out, Entering, Reading, Asking, Writing}
 use Rattle.action_lock.specs.declared.view.View.{View}
 use Rattle.action_lock.specs.declared.pass.Pass.{Pass}
 use Rattle.action_lock.specs.declared.lock.ActionLock.{ActionLock}
@@ -35,7 +35,7 @@ module _ {H E S : Type 0} {g : Ghosts H E S} where
     pub kept : p.share ≡ Some share
     pub stands : g.share_stands share (view_of p).seen
 
-  -- the pass is out
+  -- the pass is one of this lock and out
   pub record IsOut (l : ActionLock H E S) (p : Pass H E S g) : Type 0 where
     pub at : IsAt l p Out
     pub no_share : p.share ≡ None
@@ -54,8 +54,45 @@ module _ {H E S : Type 0} {g : Ghosts H E S} where
     pub hand : p.seat.me.1 ≡ (0, home) ∷ []
     pub stands : g.stands home (view_of p).seen
 
-  -- the pass is one of this lock and at rest: it may be handed to a call
+  -- the pass is one of this lock and at rest: out, with no intent
   pub record IsPassOf (l : ActionLock H E S) (p : Pass H E S g) : Type 0 where
     pub out : IsOut l p
     pub no_intent : (view_of p).intent ≡ false
     pub not_current : (view_of p).current ≡ false
+
+  -- the pass is one of this lock, out, and has the intent
+  pub record Intends (l : ActionLock H E S) (p : Pass H E S g) : Type 0 where
+    pub out : IsOut l p
+    pub intent : (view_of p).intent ≡ true
+
+  -- the pass has set the pending mark, and waits for the readers to leave
+  pub record IsAsking (l : ActionLock H E S) (p : Pass H E S g) : Type 0 where
+    pub at : IsAt l p Asking
+    pub no_share : p.share ≡ None
+    pub intent : (view_of p).intent ≡ true
+
+  -- this home value is in the pass's hand
+  abbrev pub InHand : Pass H E S g → H → Type 0
+  InHand p home = p.seat.me.1 ≡ (0, home) ∷ []
+
+  -- the pass is one of this lock and writes: it has the home value in hand
+  pub record Writes (l : ActionLock H E S) (p : Pass H E S g) : Type 0 where
+    pub home : H
+    pub hand : InHand p home
+    pub table : p.seat.table_id ≡ l.table.shared.table_id
+    pub phase : (view_of p).phase ≡ Writing
+    pub intent : (view_of p).intent ≡ true
+    pub told : (view_of p).olds ≡ []
+    pub no_share : p.share ≡ None
+
+  -- the home value in hand stands for these entries
+  pub record HandStands (p : Pass H E S g) (entries : List E) : Type 0 where
+    pub home : H
+    pub hand : InHand p home
+    pub stands : g.stands home entries
+
+  -- the home value in hand stands for what was seen, and for this entry of the pass's own
+  pub record HasAdded (p : Pass H E S g) : Type 0 where
+    pub entry : E
+    pub own : (view_of p).number ≡ Some (g.number_of entry)
+    pub hand : HandStands p ((view_of p).seen ++ entry ∷ [])

@@ -1,8 +1,8 @@
 -- The table of steps: what each tells the seat that takes it. A step changes one word, and the view of its seat alone.
-use Rattle.std.specs.Prelude.{◌≡◌, ℕ, ◌+◌, ◌≤◌, Bool, true, false, if◌then◌else◌, List, [], ◌∷◌, ◌++◌, length, All, Option, Some, None}
+use Rattle.std.specs.Prelude.{◌≡◌, ℕ, ◌+◌, ◌<◌, ◌≤◌, Bool, true, false, ◌==◌, if◌then◌else◌, List, [], ◌∷◌, ◌++◌, length, All, Option, Some, None}
 use Rattle.atomic_table.specs.Table.{Me, Step}
 use Rattle.action_lock.specs.declared.view.Phase.{Phase}
-use Rattle.action_lock.specs.declared.view.Phase.TheVariants.{Out, Entering, Backing, Reading}
+use Rattle.action_lock.specs.declared.view.Phase.TheVariants.{Out, Entering, Backing, Reading, Asking, Writing}
 use Rattle.action_lock.specs.declared.view.Ended.{Ended}
 use Rattle.action_lock.specs.declared.view.View.{View}
 use Rattle.action_lock.specs.Counts.{counted}
@@ -33,6 +33,26 @@ module _ {E : Type 0} where
   abbrev pub with_phase : Phase → View E → View E
   with_phase phase v = record v { phase = phase }
 
+  -- the intent is taken
+  abbrev pub with_intent : View E → View E
+  with_intent v = record v { intent = true }
+
+  -- the intent was found taken
+  abbrev pub held_up : View E → View E
+  held_up v = record v { held = v.held + 1 }
+
+  -- the readers have left, and the home value is taken, which stands for what is now seen
+  abbrev pub writing : List E → View E → View E
+  writing seen v = record v { phase = Writing; seen = seen; current = true }
+
+  -- the write has ended with one entry more
+  abbrev pub finished : E → View E → View E
+  finished entry v = record v { phase = Out; seen = v.seen ++ entry ∷ []; mine = v.mine ++ entry ∷ [] }
+
+  -- the intent is given back
+  abbrev pub released : View E → View E
+  released v = record v { intent = false; current = false }
+
   -- all that a join left is told
   abbrev pub told : View E → View E
   told v = record v { olds = [] }
@@ -59,14 +79,26 @@ module _ {E : Type 0} where
   }
 
   module _ (number_of : E → ℕ) where
-    -- A view has 65,536 numbers at most. The history that was found begins with what it has seen, and the entries of its numbers are those that it keeps.
-    -- Where it is number 0 and has met every other number, there are no further entries
-    pub record IsTold (v : View E) (history : List E) : Type 0 where
+    -- A view knows its own lists. It has 65,536 numbers at most
+    pub record KnowsItsLists (v : View E) : Type 0 where
       pub few : numbers v ≤ 65536
-      pub seen : IsFront v.seen history
-      pub mine : (n : ℕ) → v.number ≡ Some n → v.mine ≡ entries_of number_of n history
-      pub ended : All (λ (e : Ended E). e.entries ≡ entries_of number_of e.number history) v.ended
-      pub no_others : v.number ≡ Some 0 → v.drawn ≡ length v.ended + 1 → All (λ e. times (number_of e) v ≡ 1) history
+      -- what it made are the entries of what it has seen with its number
+      pub mine : (n : ℕ) → v.number ≡ Some n → v.mine ≡ entries_of number_of n v.seen
+      -- what is kept of a pass that was met are those with that pass's number
+      pub ended : All (λ (e : Ended E). e.entries ≡ entries_of number_of e.number v.seen) v.ended
+      -- where it is number 0, no entry has a number that it hasn't given
+      pub known : v.number ≡ Some 0 → All (λ e. number_of e < v.drawn) v.seen
+      -- and where it has met every other number, each entry is its own or is kept of one of these
+      pub no_others : v.number ≡ Some 0 → v.drawn ≡ length v.ended + 1 → All (λ e. times (number_of e) v ≡ 1) v.seen
+
+    -- What a view learns of the whole history, when it is let in and sees it
+    pub record Learns (v : View E) (seen : List E) : Type 0 where
+      -- it begins with what was seen
+      pub longer : IsFront v.seen seen
+      -- it is what was seen, where the view was current
+      pub current : v.current ≡ true → seen ≡ v.seen
+      -- the entries with its number in it are those that it made
+      pub mine : (n : ℕ) → v.number ≡ Some n → v.mine ≡ entries_of number_of n seen
 
   module _ {H : Type 0} where
     -- a load of the gate word
@@ -81,19 +113,53 @@ module _ {E : Type 0} where
     abbrev pub Holds : Step H → Me H (View E) → ℕ → Me H (View E) → Type 0
     Holds st m found m' = m' ≡ (with_phase Reading m.0, [])
 
-    -- a load that tells what a join left, and which entries the history has
+    -- a load that tells what a join left, and which entries the view has
     abbrev pub Tells : (E → ℕ) → Step H → Me H (View E) → ℕ → Me H (View E) → Type 0
-    Tells number_of st m found m' =
-        (m' ≡ (told m.0, m.1)) × All (λ old. IsFront old m.0.seen) m.0.olds × ((history : List E) × IsTold number_of m.0 history)
+    Tells number_of st m found m' = (m' ≡ (told m.0, m.1)) × All (λ old. IsFront old m.0.seen) m.0.olds × KnowsItsLists number_of (told m.0)
 
     -- by what the word had: the pending mark, and the turn
-    abbrev pub EntersAt : (H → List E → Type 0) → Bool → Bool → Me H (View E) → ℕ → Me H (View E) → Type 0
-    EntersAt stands true true m found m' = m' ≡ (looked found m.0, m.1)
-    EntersAt stands true false m found m' = m' ≡ (backing found m.0, m.1)
-    EntersAt stands false true m found m' = m' ≡ (looked found m.0, m.1)
-    EntersAt stands false false m found m' =
-        (seen : List E) × (home : H) × IsFront m.0.seen seen × stands home seen × (m' ≡ (entering found seen m.0, (0, home) ∷ m.1))
+    abbrev pub EntersAt : (E → ℕ) → (H → List E → Type 0) → Bool → Bool → Me H (View E) → ℕ → Me H (View E) → Type 0
+    EntersAt number_of stands true true m found m' = m' ≡ (looked found m.0, m.1)
+    EntersAt number_of stands true false m found m' = m' ≡ (backing found m.0, m.1)
+    EntersAt number_of stands false true m found m' = m' ≡ (looked found m.0, m.1)
+    EntersAt number_of stands false false m found m' =
+        (seen : List E) × (home : H) × Learns number_of m.0 seen × stands home seen × (m' ≡ (entering found seen m.0, (0, home) ∷ m.1))
 
     -- the step that decides a read
-    abbrev pub Enters : (H → List E → Type 0) → Step H → Me H (View E) → ℕ → Me H (View E) → Type 0
-    Enters stands st m found m' = EntersAt stands (has_pending found) (has_turn found) m found m'
+    abbrev pub Enters : (E → ℕ) → (H → List E → Type 0) → Step H → Me H (View E) → ℕ → Me H (View E) → Type 0
+    Enters number_of stands st m found m' = EntersAt number_of stands (has_pending found) (has_turn found) m found m'
+
+    -- whether the intent was free: then it is taken
+    abbrev pub TakesAt : Bool → Me H (View E) → Me H (View E) → Type 0
+    TakesAt true m m' = m' ≡ (with_intent m.0, m.1)
+    TakesAt false m m' = m' ≡ (held_up m.0, m.1)
+
+    -- the intent word is set, and tells whether it was set before
+    abbrev pub Takes : Step H → Me H (View E) → ℕ → Me H (View E) → Type 0
+    Takes st m found m' = TakesAt (found == 0) m m'
+
+    -- the intent is given back
+    abbrev pub Releases : Step H → Me H (View E) → ℕ → Me H (View E) → Type 0
+    Releases st m found m' = m' ≡ (released m.0, m.1)
+
+    -- the pending mark is set
+    abbrev pub Asks : Step H → Me H (View E) → ℕ → Me H (View E) → Type 0
+    Asks st m found m' = m' ≡ (with_phase Asking m.0, m.1)
+
+    -- whether the gate word had the pending mark alone: then the write begins
+    abbrev pub ClaimsAt : (E → ℕ) → (H → List E → Type 0) → Bool → Me H (View E) → Me H (View E) → Type 0
+    ClaimsAt number_of stands true m m' = (seen : List E) × (home : H) × Learns number_of m.0 seen × stands home seen × (m' ≡ (writing seen m.0, (0, home) ∷ m.1))
+    ClaimsAt number_of stands false m m' = m' ≡ m
+
+    -- the step that begins a write
+    abbrev pub Claims : (E → ℕ) → (H → List E → Type 0) → Step H → Me H (View E) → ℕ → Me H (View E) → Type 0
+    Claims number_of stands st m found m' = ClaimsAt number_of stands (found == 4) m m'
+
+    -- The write ends: whatever entry it is by which the home value in hand stands for one more than was seen
+    abbrev pub Finishes : (H → List E → Type 0) → Step H → Me H (View E) → ℕ → Me H (View E) → Type 0
+    Finishes stands st m found m' =
+        (home : H) (entry : E) → m.1 ≡ (0, home) ∷ [] → stands home (m.0.seen ++ entry ∷ []) → m' ≡ (finished entry m.0, [])
+
+    -- the write ends, and nothing was written
+    abbrev pub Abandons : Step H → Me H (View E) → ℕ → Me H (View E) → Type 0
+    Abandons st m found m' = m' ≡ (with_phase Out m.0, [])

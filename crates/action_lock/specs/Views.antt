@@ -1,4 +1,4 @@
--- Views: what they weigh in the words, and how the steps change them.
+-- Views: what they weigh in the words, and which numbers they have.
 use Rattle.std.specs.Prelude.{ℕ, ◌+◌, Bool, true, false, ◌==◌, List, [], length, Option, Some, None}
 use Rattle.action_lock.specs.declared.view.Phase.{Phase}
 use Rattle.action_lock.specs.declared.view.Phase.TheVariants.{Out, Entering, Backing, Reading, Asking, Writing}
@@ -6,59 +6,29 @@ use Rattle.action_lock.specs.declared.view.Ended.{Ended}
 use Rattle.action_lock.specs.declared.view.View.{View}
 use Rattle.list_laws.specs.Totals.{total}
 
--- 1 where the phase has the turn
-abbrev pub phase_turn : Phase → ℕ
-phase_turn Out = 0
-phase_turn Entering = 1
-phase_turn Backing = 1
-phase_turn Reading = 0
-phase_turn Asking = 0
-phase_turn Writing = 1
+-- what one view weighs, or all of them together
+pub record Tally : Type 0 where
+  -- the turn, on the way in or back
+  pub visitors : ℕ
+  -- the turn and the mark of the writer
+  pub writers : ℕ
+  -- the pending mark
+  pub pendings : ℕ
+  -- a reader who is in
+  pub readers : ℕ
+  -- the home value
+  pub holders : ℕ
+  -- the intent
+  pub intents : ℕ
 
--- 1 where the phase has set the pending mark
-abbrev pub phase_pending : Phase → ℕ
-phase_pending Out = 0
-phase_pending Entering = 0
-phase_pending Backing = 0
-phase_pending Reading = 0
-phase_pending Asking = 1
-phase_pending Writing = 1
-
--- 1 where the phase is that of a reader who is in
-abbrev pub phase_reading : Phase → ℕ
-phase_reading Out = 0
-phase_reading Entering = 0
-phase_reading Backing = 0
-phase_reading Reading = 1
-phase_reading Asking = 0
-phase_reading Writing = 0
-
--- 1 where the phase is that of the writer
-abbrev pub phase_writing : Phase → ℕ
-phase_writing Out = 0
-phase_writing Entering = 0
-phase_writing Backing = 0
-phase_writing Reading = 0
-phase_writing Asking = 0
-phase_writing Writing = 1
-
--- 1 where the phase is in, or on its way in or back
-abbrev pub phase_inside : Phase → ℕ
-phase_inside Out = 0
-phase_inside Entering = 1
-phase_inside Backing = 1
-phase_inside Reading = 1
-phase_inside Asking = 0
-phase_inside Writing = 0
-
--- 1 where the phase has the home value
-abbrev pub phase_holding : Phase → ℕ
-phase_holding Out = 0
-phase_holding Entering = 1
-phase_holding Backing = 0
-phase_holding Reading = 0
-phase_holding Asking = 0
-phase_holding Writing = 1
+-- what a view in this phase weighs, beside its intent
+abbrev pub weight_in : Phase → ℕ → Tally
+weight_in Out i = record { visitors = 0; writers = 0; pendings = 0; readers = 0; holders = 0; intents = i }
+weight_in Entering i = record { visitors = 1; writers = 0; pendings = 0; readers = 0; holders = 1; intents = i }
+weight_in Backing i = record { visitors = 1; writers = 0; pendings = 0; readers = 0; holders = 0; intents = i }
+weight_in Reading i = record { visitors = 0; writers = 0; pendings = 0; readers = 1; holders = 0; intents = i }
+weight_in Asking i = record { visitors = 0; writers = 0; pendings = 1; readers = 0; holders = 0; intents = i }
+weight_in Writing i = record { visitors = 0; writers = 1; pendings = 1; readers = 0; holders = 1; intents = i }
 
 -- 1 for yes, 0 for no
 abbrev pub bit : Bool → ℕ
@@ -76,33 +46,20 @@ number_is n (Some m) = bit (m == n)
 number_is n None = 0
 
 module _ {E : Type 0} where
-  -- 1 where the view has the turn
-  abbrev pub turn : View E → ℕ
-  turn v = phase_turn v.phase
+  -- what the view weighs
+  abbrev pub weight : View E → Tally
+  weight v = weight_in v.phase (bit v.intent)
 
-  -- 1 where it has set the pending mark
-  abbrev pub pending : View E → ℕ
-  pending v = phase_pending v.phase
-
-  -- 1 where it reads
-  abbrev pub reading : View E → ℕ
-  reading v = phase_reading v.phase
-
-  -- 1 where it writes
-  abbrev pub writing : View E → ℕ
-  writing v = phase_writing v.phase
-
-  -- 1 where it is in, or on its way in or back
-  abbrev pub inside : View E → ℕ
-  inside v = phase_inside v.phase
-
-  -- 1 where it has the home value
-  abbrev pub holding : View E → ℕ
-  holding v = phase_holding v.phase
-
-  -- 1 where it has the intent
-  abbrev pub intending : View E → ℕ
-  intending v = bit v.intent
+  -- what the views weigh together
+  abbrev pub tally : List (View E) → Tally
+  tally views = record {
+    visitors = total (λ (v : View E). (weight v).visitors) views;
+    writers = total (λ (v : View E). (weight v).writers) views;
+    pendings = total (λ (v : View E). (weight v).pendings) views;
+    readers = total (λ (v : View E). (weight v).readers) views;
+    holders = total (λ (v : View E). (weight v).holders) views;
+    intents = total (λ (v : View E). (weight v).intents) views;
+  }
 
   -- 1 for the view of number 0
   abbrev pub leading : View E → ℕ

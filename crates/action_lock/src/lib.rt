@@ -1,6 +1,7 @@
 //! A lock with three kinds of hold: read, intent and write. Reads run side by side, and a read can see that a write waits.
 #![tactic(auto)]
 
+mod gate;
 mod home;
 mod lock;
 mod pass;
@@ -12,12 +13,15 @@ mod steps;
 mod view;
 mod watch;
 mod words;
+mod write_steps;
+mod writing;
 
+pub use gate::{Gate, Point};
 pub use home::Home;
 pub use lock::ActionLock;
 pub use pass::Pass;
 pub use reading::Reading;
-pub use refusal::{ReadRefusal, SplitRefusal};
+pub use refusal::{IntentRefusal, ReadRefusal, SplitRefusal};
 pub use rule::GateRule;
 pub use view::{Ended, Phase, View};
 pub use watch::Watch;

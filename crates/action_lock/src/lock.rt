@@ -1,6 +1,6 @@
 //! The lock: its words, its home value and the views of its passes.
 ghost use Rattle.std.specs.Prelude.{◌≡◌, ◌≢◌, ◌<◌, ◌↔◌, List, [], ◌∷◌, Some, IfOk, IfErr, MatchResult, IsTrue};
-ghost use Rattle.action_lock.specs.Steps.{IsTold, joined, splitting, split_off, told};
+ghost use Rattle.action_lock.specs.Steps.{KnowsItsLists, joined, splitting, split_off, told};
 ghost use Rattle.action_lock.specs.Views.{first_view};
 ghost use Rattle.list_laws.specs.Fronts.{IsFront};
 
@@ -10,6 +10,7 @@ use crate::plays::{Cut, Glue, Tell};
 use crate::refusal::SplitRefusal;
 use crate::rule::GateRule;
 use crate::view::View;
+use crate::words::{GATE, HOME};
 use atomic_table::{Refused, Table};
 use std::alloc::{AllocFailed, Global};
 
@@ -86,6 +87,7 @@ impl<H: Home> ActionLock<H> {
         ensures view { view_of pass.new ≡ told (joined (view_of pass.old) (view_of other)) }
         ensures keeps { IsFront (view_of pass.old).seen (view_of pass.new).seen }
         ensures learns { IsFront (view_of other).seen (view_of pass.new).seen }
+        ensures knows { KnowsItsLists H.number_of (view_of pass.new) }
     {
         let Pass {
             seat,
@@ -97,7 +99,7 @@ impl<H: Home> ActionLock<H> {
         } = other;
         let None = share else { unreachable!() };
         self.table.shared.join_seat::<Glue>(&mut pass.seat, seat);
-        self.table.shared.load::<Tell<H>>(&mut pass.seat, 0);
+        self.table.shared.load::<Tell<H>>(&mut pass.seat, GATE);
         pass.met += met + 1;
     }
 
@@ -107,17 +109,18 @@ impl<H: Home> ActionLock<H> {
         ensures pass { IsPassOf self.now pass.new × IsSamePass pass.old pass.new }
         ensures view { view_of pass.new ≡ view_of pass.old }
         ensures last { IsTrue result ↔ IsLast (view_of pass.new) }
-        ensures history { (history : List H.Entry) × IsTold H.number_of (view_of pass.new) history }
+        ensures knows { KnowsItsLists H.number_of (view_of pass.new) }
     {
-        self.table.shared.load::<Tell<H>>(&mut pass.seat, 0);
+        self.table.shared.load::<Tell<H>>(&mut pass.seat, GATE);
         pass.number == 0 && pass.drawn == pass.met + 1
     }
 
-    /// Gives the home value back.
+    /// Gives the home value back, which stands for all that the pass has seen.
     pub fn close(self, pass: Pass<H>) -> H
         requires pass { IsPassOf self pass }
         requires last { IsLast (view_of pass) }
-        ensures { (history : List H.Entry) × H.stands result history × IsTold H.number_of (view_of pass) history }
+        ensures stands { H.stands result (view_of pass).seen }
+        ensures knows { KnowsItsLists H.number_of (view_of pass) }
     {
         let ActionLock { table } = self;
         let Pass {
@@ -130,7 +133,7 @@ impl<H: Home> ActionLock<H> {
         } = pass;
         let None = share else { unreachable!() };
         let mut closed = table.close_with(seat);
-        let home = closed.take(0);
+        let home = closed.take(HOME);
         closed.free();
         home
     }

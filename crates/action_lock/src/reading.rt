@@ -4,9 +4,10 @@ ghost use Rattle.std.specs.Borrow.{sem};
 ghost use Rattle.action_lock.specs.declared.view.Phase.TheVariants as phase;
 ghost use Rattle.action_lock.specs.Words.{has_pending};
 ghost use Rattle.action_lock.specs.Steps.{looked, with_phase};
-ghost use Rattle.action_lock.specs.Passes.{view_of, IsSamePass, IsOut, IsPassOf};
+ghost use Rattle.action_lock.specs.Advances.{Advances};
+ghost use Rattle.action_lock.specs.Passes.{view_of, IsSamePass, IsOut};
 ghost use Rattle.action_lock.specs.Reads.{HasRead, HasWaited};
-ghost use Rattle.action_lock.specs.Readings.{IsReading, GoesOn, rests_if_refused, rests_if_no_memory};
+ghost use Rattle.action_lock.specs.Readings.{IsReading, GoesOn, IsSameRead, lock_of, pass_of, loan_of, kept_share, rests_if_refused, rests_if_no_memory};
 
 use crate::home::Home;
 use crate::lock::ActionLock;
@@ -24,16 +25,16 @@ pub struct Reading<'a, H: Home> {
 }
 
 impl<H: Home> Pass<H> {
-    /// One attempt to read. It does not wait.
+    /// One attempt to read, with the intent or without. It does not wait.
     pub fn try_read<'a>(
         &'a mut self,
         alloc: Global,
         lock: &'a ActionLock<H>,
     ) -> Result<Reading<'a, H>, ReadRefusal>
-        requires { IsPassOf lock.now self.old }
+        requires { IsOut lock.now self.old }
         ensures* refused { sem 𝓛 (rests_if_refused H.row H.Entry.row H.Share.row H.Home lock.now self.entry result) }
-        ensures same_reference { IfOk result (λ it. it.pass.ghost_name ≡ self.entry.ghost_name) }
-        ensures ok { IfOk result (λ it. IsReading it × (it.lock.now ≡ lock.now) × IsSamePass self.old it.pass.now × HasRead phase.Reading (view_of self.old) (view_of it.pass.now)) }
+        ensures same_reference { IfOk result (λ it. loan_of it ≡ self.entry.ghost_name) }
+        ensures ok { IfOk result (λ it. IsReading it × (lock_of it ≡ lock.now) × IsSamePass self.old (pass_of it) × HasRead H.number_of phase.Reading (view_of self.old) (view_of (pass_of it)) × Advances (view_of self.old) (view_of (pass_of it))) }
     {
         lock.try_enter(alloc, self)?;
         Ok(Reading { lock, pass: self })
@@ -46,10 +47,10 @@ impl<H: Home> Pass<H> {
         alloc: Global,
         lock: &'a ActionLock<H>,
     ) -> Result<Reading<'a, H>, AllocError>
-        requires { IsPassOf lock.now self.old }
+        requires { IsOut lock.now self.old }
         ensures* refused { sem 𝓛 (rests_if_no_memory H.row H.Entry.row H.Share.row H.Home lock.now self.entry result) }
-        ensures same_reference { IfOk result (λ it. it.pass.ghost_name ≡ self.entry.ghost_name) }
-        ensures ok { IfOk result (λ it. IsReading it × (it.lock.now ≡ lock.now) × IsSamePass self.old it.pass.now × HasWaited phase.Reading (view_of self.old) (view_of it.pass.now)) }
+        ensures same_reference { IfOk result (λ it. loan_of it ≡ self.entry.ghost_name) }
+        ensures ok { IfOk result (λ it. IsReading it × (lock_of it ≡ lock.now) × IsSamePass self.old (pass_of it) × HasWaited (HasRead H.number_of phase.Reading) (view_of self.old) (view_of (pass_of it)) × Advances (view_of self.old) (view_of (pass_of it))) }
     {
         lock.enter_waiting(rt, alloc, self)?;
         Ok(Reading { lock, pass: self })
@@ -60,8 +61,8 @@ impl<'a, H: Home> Reading<'a, H> {
     /// A share of the home value of the moment in which the read was let in.
     pub fn share(&self) -> &H::Share
         requires { IsReading self.now }
-        ensures value { self.now.pass.now.share ≡ Some result.now }
-        ensures stands { H.share_stands result.now (view_of self.now.pass.now).seen }
+        ensures value { kept_share self.now ≡ Some result.now }
+        ensures stands { H.share_stands result.now (view_of (pass_of self.now)).seen }
     {
         self.pass.share.as_ref().unwrap()
     }
@@ -69,12 +70,13 @@ impl<'a, H: Home> Reading<'a, H> {
     /// Looks whether a write waits.
     pub fn check(&mut self) -> bool
         requires { GoesOn self.old }
-        ensures same_reference { self.new.pass.ghost_name ≡ self.old.pass.ghost_name }
-        ensures same { GoesOn self.new × (self.new.lock ≡ self.old.lock) × IsSamePass self.old.pass.now self.new.pass.now }
-        ensures share { self.new.pass.now.share ≡ self.old.pass.now.share }
-        ensures view { view_of self.new.pass.now ≡ looked (view_of self.new.pass.now).last (view_of self.old.pass.now) }
-        ensures kept { (view_of self.old.pass.now).sights ≤ (view_of self.new.pass.now).sights }
-        ensures found { result ≡ has_pending (view_of self.new.pass.now).last }
+        ensures same_reference { loan_of self.new ≡ loan_of self.old }
+        ensures same { GoesOn self.new × IsSameRead self.old self.new }
+        ensures reads { IsReading self.old → IsReading self.new }
+        ensures share { kept_share self.new ≡ kept_share self.old }
+        ensures view { view_of (pass_of self.new) ≡ looked (view_of (pass_of self.new)).last (view_of (pass_of self.old)) }
+        ensures kept { (view_of (pass_of self.old)).sights ≤ (view_of (pass_of self.new)).sights }
+        ensures found { result ≡ has_pending (view_of (pass_of self.new)).last }
     {
         let found = self.lock.look_at_gate(self.pass);
         has_pending(found)
@@ -84,10 +86,11 @@ impl<'a, H: Home> Reading<'a, H> {
     /// `together` puts it back.
     pub fn apart(&mut self) -> H::Share
         requires { IsReading self.old }
-        ensures same_reference { self.new.pass.ghost_name ≡ self.old.pass.ghost_name }
-        ensures same { GoesOn self.new × (self.new.lock ≡ self.old.lock) × (self.new.pass.now.seat ≡ self.old.pass.now.seat) }
-        ensures share { (self.old.pass.now.share ≡ Some result) × (self.new.pass.now.share ≡ None) }
-        ensures stands { H.share_stands result (view_of self.new.pass.now).seen }
+        ensures same_reference { loan_of self.new ≡ loan_of self.old }
+        ensures same { GoesOn self.new × IsSameRead self.old self.new }
+        ensures view { view_of (pass_of self.new) ≡ view_of (pass_of self.old) }
+        ensures share { (kept_share self.old ≡ Some result) × (kept_share self.new ≡ None) }
+        ensures stands { H.share_stands result (view_of (pass_of self.new)).seen }
     {
         self.pass.let_go()
     }
@@ -95,38 +98,40 @@ impl<'a, H: Home> Reading<'a, H> {
     /// Puts back a share that stands for all that the pass has seen.
     pub fn together(&mut self, share: H::Share)
         requires goes_on { GoesOn self.old }
-        requires no_share { self.old.pass.now.share ≡ None }
-        requires stands { H.share_stands share (view_of self.old.pass.now).seen }
-        ensures same_reference { self.new.pass.ghost_name ≡ self.old.pass.ghost_name }
-        ensures same { IsReading self.new × (self.new.lock ≡ self.old.lock) × (self.new.pass.now.seat ≡ self.old.pass.now.seat) }
-        ensures share { self.new.pass.now.share ≡ Some share }
+        requires no_share { kept_share self.old ≡ None }
+        requires stands { H.share_stands share (view_of (pass_of self.old)).seen }
+        ensures same_reference { loan_of self.new ≡ loan_of self.old }
+        ensures same { IsReading self.new × IsSameRead self.old self.new }
+        ensures view { view_of (pass_of self.new) ≡ view_of (pass_of self.old) }
+        ensures share { kept_share self.new ≡ Some share }
     {
         self.pass.keep(share);
     }
 
-    /// Ends the read, and lets its share go if it is not taken out.
+    /// Ends the read: lets its share go, and then counts it out.
     pub fn leave(self)
-        requires { GoesOn self }
-        ensures out { IsOut self.entry.lock.now self.exit.1.0.now }
-        ensures same { IsSamePass self.entry.pass.now self.exit.1.0.now }
-        ensures view { view_of self.exit.1.0.now ≡ with_phase phase.Out (view_of self.entry.pass.now) }
+        requires { IsReading self }
+        ensures out { IsOut (lock_of self.entry) self.exit.1.0.now }
+        ensures same { IsSamePass (pass_of self.entry) self.exit.1.0.now }
+        ensures view { view_of self.exit.1.0.now ≡ with_phase phase.Out (view_of (pass_of self.entry)) }
+        ensures advances { Advances (view_of (pass_of self.entry)) (view_of self.exit.1.0.now) }
     {
         let Reading { lock, pass } = self;
-        lock.exit(pass);
         pass.clear();
+        lock.exit(pass);
     }
 }
 
 impl<'a, H: Home> Watch for Reading<'a, H> {
     ghost use Rattle.std.specs.Prelude.{min};
     ghost use Rattle.action_lock.specs.Passes.{view_of};
-    ghost use Rattle.action_lock.specs.Readings.{GoesOn, StaysReading};
+    ghost use Rattle.action_lock.specs.Readings.{GoesOn, StaysReading, pass_of};
     ghost use Rattle.action_lock.specs.Watching.{stays_itself, stays_on};
 
     // The looks of the view, which have no end, up to 2^64 - 1.
-    ghost looks = { λ r. min (view_of r.pass.now).looks 18446744073709551615 };
+    ghost looks = { λ r. min (view_of (pass_of r)).looks 18446744073709551615 };
 
-    ghost sightings = { λ r. (view_of r.pass.now).sights };
+    ghost sightings = { λ r. (view_of (pass_of r)).sights };
 
     ghost can_look = { GoesOn };
 

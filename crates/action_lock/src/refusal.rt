@@ -14,3 +14,9 @@ pub enum ReadRefusal {
     /// There was no memory for a share.
     OutOfMemory,
 }
+
+#[derive(Clone, Copy, Debug, PartialEq, Eq)]
+pub enum IntentRefusal {
+    /// Another pass has the intent.
+    Held,
+}

@@ -1,9 +1,9 @@
-//! The steps on the gate word, one call each.
-ghost use Rattle.std.specs.Prelude.{◌≡◌, ◌≤◌, [], IfOk, IfErr, OnOk, OnErr};
+//! The steps on the gate word by which a pass reads, one call each.
+ghost use Rattle.std.specs.Prelude.{◌≡◌, ◌<◌, ◌≤◌, [], None, IfOk, IfErr, OnOk, OnErr};
 ghost use Rattle.action_lock.specs.declared.view.Phase.TheVariants.{Out, Backing, Reading};
 ghost use Rattle.action_lock.specs.Words.{has_turn, has_pending};
 ghost use Rattle.action_lock.specs.Passes.{view_of, IsSamePass, IsAt, IsOut, IsInside, IsEntering};
-ghost use Rattle.action_lock.specs.Reads.{HasRead, HasWaited, IsRefused};
+ghost use Rattle.action_lock.specs.Reads.{HasRead, HasFailed, HasWaited, IsRefused};
 ghost use Rattle.action_lock.specs.Steps.{EntersAt, looked, with_phase};
 
 use crate::home::Home;
@@ -11,10 +11,14 @@ use crate::lock::ActionLock;
 use crate::pass::Pass;
 use crate::plays::{Enter, Exit, Hold, Look};
 use crate::refusal::ReadRefusal;
-use crate::words::{READER, TURN, has_pending, has_turn, sights_after};
+use crate::words::{GATE, HOME, PENDING, READER, TURN, has_pending, has_turn, sights_after};
 use std::alloc::{AllocError, Global};
+use std::hint::spin_loop;
 use std::sync::Wait;
 use std::thread;
+
+/// How often a waiting call looks at a word before it lets other threads run.
+const SPINS: u32 = 100;
 
 impl<H: Home> ActionLock<H> {
     // The one step that decides a read.
@@ -22,10 +26,10 @@ impl<H: Home> ActionLock<H> {
         requires { IsAt self.now pass.old Out }
         ensures same { IsSamePass pass.old pass.new }
         ensures share { pass.new.share ≡ pass.old.share }
-        ensures told { EntersAt H.stands (has_pending result) (has_turn result) pass.old.seat.me result pass.new.seat.me }
+        ensures told { EntersAt H.number_of H.stands (has_pending result) (has_turn result) pass.old.seat.me result pass.new.seat.me }
     {
         let shared = &self.table.shared;
-        let found = shared.fetch_or::<Enter<H>>(&mut pass.seat, 0, TURN);
+        let found = shared.fetch_or::<Enter<H>>(&mut pass.seat, GATE, TURN);
         pass.sights = sights_after(pass.sights, found);
         found
     }
@@ -38,18 +42,19 @@ impl<H: Home> ActionLock<H> {
         ensures view { pass.new.seat.me ≡ (with_phase Reading (view_of pass.old), []) }
     {
         let shared = &self.table.shared;
-        shared.fetch_add::<Hold>(&mut pass.seat, 0, READER - TURN);
+        shared.fetch_add::<Hold>(&mut pass.seat, GATE, READER - TURN);
     }
 
-    // A reader leaves.
+    // A reader leaves. It has let its share go, so that none is out when a writer comes in.
     pub(crate) fn exit(&self, pass: &mut Pass<H>)
-        requires { IsAt self.now pass.old Reading }
+        requires reads { IsAt self.now pass.old Reading }
+        requires no_share { pass.old.share ≡ None }
         ensures same { IsSamePass pass.old pass.new }
         ensures share { pass.new.share ≡ pass.old.share }
         ensures view { pass.new.seat.me ≡ (with_phase Out (view_of pass.old), []) }
     {
         let shared = &self.table.shared;
-        shared.fetch_sub::<Exit>(&mut pass.seat, 0, READER);
+        shared.fetch_sub::<Exit>(&mut pass.seat, GATE, READER);
     }
 
     // The turn is given back, with nothing done.
@@ -60,7 +65,7 @@ impl<H: Home> ActionLock<H> {
         ensures view { pass.new.seat.me ≡ (with_phase Out (view_of pass.old), []) }
     {
         let shared = &self.table.shared;
-        shared.fetch_sub::<Exit>(&mut pass.seat, 0, TURN);
+        shared.fetch_sub::<Exit>(&mut pass.seat, GATE, TURN);
     }
 
     pub(crate) fn look_at_gate(&self, pass: &mut Pass<H>) -> u64
@@ -71,7 +76,7 @@ impl<H: Home> ActionLock<H> {
         ensures kept { (view_of pass.old).sights ≤ (view_of pass.new).sights }
     {
         let shared = &self.table.shared;
-        let found = shared.load::<Look>(&mut pass.seat, 0);
+        let found = shared.load::<Look>(&mut pass.seat, GATE);
         pass.sights = sights_after(pass.sights, found);
         found
     }
@@ -85,7 +90,7 @@ impl<H: Home> ActionLock<H> {
         ensures kept { pass.new.share ≡ pass.old.share }
         ensures share { IfOk result (λ share. H.share_stands share (view_of pass.old).seen) }
     {
-        let home = pass.seat.slot_mut(&self.table.shared, 0);
+        let home = pass.seat.slot_mut(&self.table.shared, HOME);
         home.share(alloc)
     }
 
@@ -93,8 +98,8 @@ impl<H: Home> ActionLock<H> {
     pub(crate) fn try_enter(&self, alloc: Global, pass: &mut Pass<H>) -> Result<(), ReadRefusal>
         requires { IsOut self.now pass.old }
         ensures same { IsSamePass pass.old pass.new }
-        ensures ok { OnOk result (IsInside self.now pass.new × HasRead Reading (view_of pass.old) (view_of pass.new)) }
-        ensures err { IfErr result (λ refusal. IsOut self.now pass.new × IsRefused refusal (view_of pass.old) (view_of pass.new)) }
+        ensures ok { OnOk result (IsInside self.now pass.new × HasRead H.number_of Reading (view_of pass.old) (view_of pass.new)) }
+        ensures err { IfErr result (λ refusal. IsOut self.now pass.new × IsRefused H.number_of refusal (view_of pass.old) (view_of pass.new)) }
     {
         let found = self.enter(pass);
         if has_pending(found) {
@@ -125,17 +130,35 @@ impl<H: Home> ActionLock<H> {
     ) -> Result<(), AllocError>
         requires { IsOut self.now pass.old }
         ensures same { IsSamePass pass.old pass.new }
-        ensures ok { OnOk result (IsInside self.now pass.new × HasWaited Reading (view_of pass.old) (view_of pass.new)) }
-        ensures err { OnErr result (IsOut self.now pass.new × HasWaited Out (view_of pass.old) (view_of pass.new)) }
+        ensures ok { OnOk result (IsInside self.now pass.new × HasWaited (HasRead H.number_of Reading) (view_of pass.old) (view_of pass.new)) }
+        ensures err { OnErr result (IsOut self.now pass.new × HasWaited (HasFailed H.number_of) (view_of pass.old) (view_of pass.new)) }
     {
         for _ in rt.forever() {
             match self.try_enter(alloc, pass) {
                 Ok(()) => return Ok(()),
                 Err(ReadRefusal::OutOfMemory) => return Err(AllocError),
-                Err(ReadRefusal::Pending { word: _ }) => thread::yield_now(),
-                Err(ReadRefusal::Turn { word: _ }) => thread::yield_now(),
+                Err(ReadRefusal::Pending { word: _ }) => self.pause(),
+                Err(ReadRefusal::Turn { word: _ }) => self.pause(),
             }
         }
         unreachable!()
+    }
+
+    /// Looks at the gate until a reader might enter, for a short while, and then lets other threads run. These looks are not counted.
+    pub fn pause(&self) {
+        self.linger(GATE, PENDING | TURN, 0);
+    }
+
+    // Looks at these marks of the word until they are as awaited, for a short while, and then lets other threads run.
+    pub(crate) fn linger(&self, word: usize, marks: u64, awaited: u64)
+        requires { word < 2 }
+    {
+        for _ in 0..SPINS {
+            if self.table.shared.peek(word) & marks == awaited {
+                return;
+            }
+            spin_loop();
+        }
+        thread::yield_now();
     }
 }

@@ -1,5 +1,5 @@
 //! What a piece of work looks at, now and then, to learn whether it is to end early.
-ghost use Rattle.std.specs.Prelude.{◌≡◌, ℕ, ◌≤◌, IsTrue};
+ghost use Rattle.std.specs.Prelude.{◌≡◌, ℕ, ◌≤◌, IsTrue, IsFalse};
 ghost use Rattle.action_lock.specs.Counts.{counted, HasRisen};
 
 /// Counts its looks and its sightings. A count goes up to 2^64 - 1 and stands there.
@@ -23,7 +23,8 @@ pub trait Watch {
         ensures stays { stays self.old self.new }
         ensures looks { looks self.new ≡ counted (looks self.old) }
         ensures kept { sightings self.old ≤ sightings self.new }
-        ensures seen { IsTrue result → HasRisen (sightings self.old) (sightings self.new) };
+        ensures seen { IsTrue result → HasRisen (sightings self.old) (sightings self.new) }
+        ensures unseen { IsFalse result → sightings self.new ≡ sightings self.old };
 
     ghost stays_itself: { (watch : Self) → stays watch watch };
 

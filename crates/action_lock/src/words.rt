@@ -1,11 +1,23 @@
-//! The marks of the gate word.
+//! The words of the lock's table, and the marks of the gate word.
 ghost use Rattle.std.specs.Prelude.{◌≡◌};
 ghost use Rattle.action_lock.specs.Words.{has_turn, has_pending};
 ghost use Rattle.action_lock.specs.Steps.{sights_after};
 
+/// Where the gate word stands.
+pub(crate) const GATE: usize = 0;
+
+/// Where the intent word stands.
+pub(crate) const INTENT: usize = 1;
+
+/// Where the home value stands.
+pub(crate) const HOME: usize = 0;
+
 pub(crate) const TURN: u64 = 1;
 
 pub(crate) const PENDING: u64 = 4;
+
+/// The word of a write that goes on: the turn, the mark of the writer, and the pending mark.
+pub(crate) const WRITING: u64 = 7;
 
 /// What one reader adds to the gate word.
 pub(crate) const READER: u64 = 8;

@@ -1,8 +1,10 @@
 -- Lists that begin with one another.
-use Rattle.std.proofs.Common.{◌≡◌, ℕ, zero, suc, ◌<◌, ◌≤◌, Bool, true, false, ltb, List, [], ◌∷◌, ◌++◌, length, get_or, filter, All, sym, refl, ap, ◌∙◌, subst, append_assoc, length-append, arith, ltb-true, ltb-false}
+use Rattle.std.proofs.Common.{◌≡◌, ℕ, zero, suc, ◌<◌, ◌≤◌, Bool, true, false, ltb, List, [], ◌∷◌, ◌++◌, length, get_or, filter, All, sym, refl, ap, ◌∙◌, subst, append_assoc, length-append, arith, ltb-true, ltb-false, eqb}
 use Rattle.std.proofs.lemmas.List.{append-nil}
 use Rattle.std.proofs.lemmas.List.Elements.{filter-append}
 use Rattle.std.proofs.lemmas.List.Prefix.{front_reads}
+use Rattle.std.proofs.Math.Seq.{get_or-append_seam}
+use Rattle.std.proofs.lemmas.Bool.{eq-eqb}
 use Rattle.list_laws.specs.Fronts.{IsFront, longer}
 
 module _ {A : Type 0} where
@@ -65,6 +67,30 @@ module _ {A : Type 0} where
   filter_none test [] all = refl
   filter_none test (x ∷ xs) all = let head : test x ≡ false = all 0 x (omega arith) in
       rw head (filter_none test xs (λ k d l. all (suc k) d (omega arith)))
+
+  -- one element more at the end, which passes the filter
+  pub filter_more : (test : A → Bool) (xs : List A) (x : A) → test x ≡ true → filter test (xs ++ x ∷ []) ≡ filter test xs ++ x ∷ []
+  filter_more test xs x e = filter-append test xs (x ∷ []) ∙ ap (λ (l : List A). filter test xs ++ l) (rw e refl)
+
+  -- one that does not
+  pub filter_same : (test : A → Bool) (xs : List A) (x : A) → test x ≡ false → filter test (xs ++ x ∷ []) ≡ filter test xs
+  filter_same test xs x e = filter-append test xs (x ∷ []) ∙ (ap (λ (l : List A). filter test xs ++ l) (rw e refl) ∙ append-nil (filter test xs))
+
+  -- a front that has as many elements of each kind as the whole has is the whole
+  pub front_same_filter : (kind : A → ℕ) (xs ys : List A) → IsFront xs ys
+      → ((d : A) (k : ℕ) → k < length ys → filter (λ x. eqb (kind x) (kind (get_or ys k d))) xs ≡ filter (λ x. eqb (kind x) (kind (get_or ys k d))) ys) → xs ≡ ys
+  front_same_filter kind xs ys p same = rest p.0 p.1
+    where
+      rest : (more : List A) → ys ≡ xs ++ more → xs ≡ ys
+      rest [] e = sym (e ∙ append-nil xs)
+      rest (z ∷ more) e =
+          let test : A → Bool = λ x. eqb (kind x) (kind z) in
+          let at : get_or ys (length xs) z ≡ z = ap (λ (l : List A). get_or l (length xs) z) e ∙ get_or-append_seam xs z more z in
+          let long = length-append xs (z ∷ more) in
+          let whole = subst (λ (y : A). filter (λ x. eqb (kind x) (kind y)) xs ≡ filter (λ x. eqb (kind x) (kind y)) ys) at (same z (length xs) (omega (arith, ap length e))) in
+          let parts : filter test ys ≡ filter test xs ++ filter test (z ∷ more) = ap (filter test) e ∙ filter-append test xs (z ∷ more) in
+          let here : filter test (z ∷ more) ≡ z ∷ filter test more = rw (eq-eqb (kind z) (kind z) refl) refl in
+          absurd (omega (arith, ap length whole, ap length parts, length-append (filter test xs) (filter test (z ∷ more)), ap length here))
 
   longer_by : (xs ys : List A) (b : Bool) → ltb (length xs) (length ys) ≡ b → (P : List A → Type 0) → (length ys ≤ length xs → P xs) → (length xs < length ys → P ys) → P (longer xs ys)
   longer_by xs ys true e P left right = rw e (right (ltb-true (length xs) (length ys) e))

@@ -1,8 +1,9 @@
 -- Totals over a list in which elements are replaced or added.
-use Rattle.std.proofs.Common.{◌≡◌, ℕ, zero, suc, ◌+◌, ◌≤◌, ◌≢◌, List, [], ◌∷◌, ◌++◌, set, sym, refl, ap, arith}
+use Rattle.std.proofs.Common.{◌≡◌, ℕ, zero, suc, ◌+◌, ◌≤◌, ◌≢◌, List, [], ◌∷◌, ◌++◌, All, set, sym, refl, ap, arith}
 use mathlib.Core.Option.{some, some-injective, some-ne-none}
 use lib.ListN.{get_elem?}
 use Rattle.list_laws.specs.Totals.{total}
+use Rattle.list_laws.proofs.FrontLemmas.{All-cons}
 
 module _ {A : Type 0} where
   -- the total after the element at `i` was replaced
@@ -29,6 +30,11 @@ module _ {A : Type 0} where
   total-append f [] m = omega arith
   total-append f (x ∷ xs) m = let r = total-append f xs m in omega arith
 
+  -- what two weights add up to, together
+  pub total-plus : (f g : A → ℕ) (l : List A) → total (λ x. f x + g x) l ≡ total f l + total g l
+  total-plus f g [] = refl
+  total-plus f g (x ∷ xs) = let r = total-plus f g xs in omega arith
+
   -- where each element weighs as much or less, so do all
   pub total-below : (f g : A → ℕ) (l : List A) → ((i : ℕ) (v : A) → get_elem? l i ≡ some v → f v ≤ g v) → total f l ≤ total g l
   total-below f g [] h = omega arith
@@ -42,6 +48,11 @@ module _ {A : Type 0} where
   pub total-none : (f : A → ℕ) (l : List A) → ((i : ℕ) (v : A) → get_elem? l i ≡ some v → f v ≡ 0) → total f l ≡ 0
   total-none f [] h = refl
   total-none f (x ∷ xs) h = let a = h 0 x refl in let r = total-none f xs (λ i v e. h (suc i) v e) in omega arith
+
+  -- where all weigh nothing, so does each
+  pub total-zero : (f : A → ℕ) (l : List A) → total f l ≡ 0 → All (λ x. f x ≡ 0) l
+  total-zero f [] e = λ k d less. absurd (omega arith)
+  total-zero f (x ∷ xs) e = All-cons (λ x. f x ≡ 0) x xs (omega arith) (total-zero f xs (omega arith))
 
   -- where one element weighs all by `f`, and each that weighs nothing by `f` weighs nothing by `g`, it weighs all by `g` too
   pub total-only : (f g : A → ℕ) (l : List A) (i : ℕ) (v : A) → get_elem? l i ≡ some v → total f l ≡ f v

@@ -1,5 +1,5 @@
 //! A home value for the tests: a list of notes under an `Arc`.
-ghost use Rattle.std.specs.Prelude.{◌≡◌, [], IfOk};
+ghost use Rattle.std.specs.Prelude.{◌≡◌, ◌∷◌, ◌++◌, [], IfOk, OnOk, OnErr};
 ghost use Rattle.std.specs.Arc.{arc_value};
 ghost use Rattle.std.proofs.Common.{sym, ◌∙◌};
 
@@ -27,6 +27,17 @@ impl Board {
             notes: Arc::new(alloc, notes)?,
         })
     }
+
+    /// Adds a note, on a copy, so that shares that are out stay as they are.
+    pub fn add(&mut self, alloc: Global, note: Note) -> Result<(), AllocError>
+        ensures ok { OnOk result ((arc_value self.new.notes).items ≡ (arc_value self.old.notes).items ++ note ∷ []) }
+        ensures err { OnErr result ((arc_value self.new.notes).items ≡ (arc_value self.old.notes).items) }
+    {
+        let mut notes = copied(alloc, &self.notes)?;
+        notes.push(note)?;
+        self.notes = Arc::new(alloc, notes)?;
+        Ok(())
+    }
 }
 
 impl Home for Board {
@@ -45,4 +56,14 @@ impl Home for Board {
     fn share(&self, _alloc: Global) -> Result<Arc<Vec<Note>>, AllocError> {
         Arc::try_clone(&self.notes)
     }
+}
+
+fn copied(alloc: Global, notes: &[Note]) -> Result<Vec<Note>, AllocError>
+    ensures { IfOk result (λ copy. copy.items ≡ notes.now) }
+{
+    let mut copy = Vec::new(alloc);
+    for &note in notes {
+        copy.push(note)?;
+    }
+    Ok(copy)
 }

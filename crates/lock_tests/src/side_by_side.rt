@@ -29,7 +29,17 @@ impl Room {
 
     // Whether all came in before the turns ran out. Nobody leaves before.
     fn fills(&self) -> bool {
+        self.enter();
+        self.is_full()
+    }
+
+    /// One more is in.
+    pub fn enter(&self) {
         self.came.fetch_add(1, Ordering::SeqCst);
+    }
+
+    /// Waits until all are in. Whether that was before the turns ran out.
+    pub fn is_full(&self) -> bool {
         for _ in 0..TURNS {
             if self.came.load(Ordering::SeqCst) >= self.awaited {
                 return true;

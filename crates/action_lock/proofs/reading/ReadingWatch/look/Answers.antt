@@ -1,0 +1,7 @@
+use Rattle.std.proofs.Common.{ap, sym, subst}
+use Rattle.action_lock.specs.Counts.{HasRisen}
+use Rattle.action_lock.proofs.ReadLemmas.{found_mark}
+use Rattle.action_lock.proofs.reading.ReadingWatch.look.Goals as goal
+
+pub returns-clause-seen : goal.returns-clause-seen
+returns-clause-seen g c = λ e. subst (HasRisen _) (sym (ap (λ v. v.sights) c.check.ensures.view)) (found_mark _ _ _ c.check.ensures.found e)

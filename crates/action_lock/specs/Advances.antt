@@ -1,0 +1,17 @@
+-- What each call leaves of a pass's view, whatever else it does: it goes on, and loses nothing.
+use Rattle.std.specs.Prelude.{◌≡◌, ◌≤◌}
+use Rattle.action_lock.specs.declared.view.View.{View}
+use Rattle.list_laws.specs.Fronts.{IsFront}
+
+module _ {E : Type 0} where
+  -- the same pass's view at a later time: the same numbers, what was seen and made is still seen and made, and no count is lower
+  pub record Advances (v w : View E) : Type 0 where
+    pub number : w.number ≡ v.number
+    pub drawn : w.drawn ≡ v.drawn
+    pub ended : w.ended ≡ v.ended
+    pub seen : IsFront v.seen w.seen
+    pub mine : IsFront v.mine w.mine
+    pub reads : IsFront v.reads w.reads
+    pub sights : v.sights ≤ w.sights
+    pub looks : v.looks ≤ w.looks
+    pub held : v.held ≤ w.held

@@ -1,0 +1,21 @@
+//! Points of a run at which a gate is told where a thread is, so that a test can hold it there.
+
+#[derive(Clone, Copy, Debug, PartialEq, Eq)]
+pub enum Point {
+    /// A lane is about to begin a command.
+    Start { seat: u32, line: u32 },
+    /// A read is open, and its answer is made.
+    Reading { seat: u32 },
+    /// Index data are made, and nothing is taken in yet.
+    Made { seat: u32, file: u32, stamp: u64 },
+    /// A worker found nothing to do.
+    Idle { seat: u32 },
+    /// A lane has ended.
+    Ended { seat: u32 },
+}
+
+/// Is told each point, and may hold the thread there for a while.
+pub trait Gate {
+    /// Its answer counts at `Idle` alone: whether the worker is to go on.
+    fn at(&self, point: Point) -> bool;
+}

@@ -1,0 +1,5 @@
+pub mod Soft
+-- What these cite from below: views, counts, and the words of passes
+pub use Rattle.action_lock.specs.Counts
+pub use Rattle.action_lock.specs.Advances
+pub use Rattle.action_lock.specs.Passes

@@ -1,0 +1,36 @@
+//! A piece of work that can be stopped.
+ghost use Rattle.std.specs.Prelude.{◌≡◌, ◌↔◌, List, IfOk, IfErr};
+ghost use Rattle.action_lock.specs.Counts.{HasRisen};
+
+use action_lock::{Home, Watch};
+use std::alloc::Global;
+
+/// Why a piece of work gave no answer.
+#[derive(Clone, Copy, Debug, PartialEq, Eq)]
+pub enum Stopped {
+    /// Its watch saw that it is to end.
+    Seen,
+    OutOfMemory,
+}
+
+/// Work on what a share stands for. It looks at its watch now and then.
+pub trait Work<H: Home> {
+    type Out;
+
+    // The answer is one to this work, on this list of entries.
+    ghost fits: { Self → Self.Out → List H.Entry → Type 0 };
+
+    /// Works on the share until it has an answer, or its watch has seen that it is to end.
+    fn run<W: Watch>(
+        &mut self,
+        alloc: Global,
+        share: &H::Share,
+        watch: &mut W,
+    ) -> Result<Self::Out, Stopped>
+        requires { W.can_look watch.old }
+        ensures again { W.can_look watch.new }
+        ensures stays { W.stays watch.old watch.new }
+        ensures meaning { (out : Self.Out) (entries : List H.Entry) → fits self.old out entries ↔ fits self.new out entries }
+        ensures ok { IfOk result (λ out. (entries : List H.Entry) → H.share_stands share.now entries → fits self.old out entries) }
+        ensures stopped { IfErr result (λ why. why ≡ Stopped.Seen → HasRisen (W.sightings watch.old) (W.sightings watch.new)) };
+}
