@@ -1,0 +1,23 @@
+-- Rows of a key and a value, and their order.
+use Rattle.std.specs.Prelude.{Bool, List, map, filter}
+use Rattle.std.specs.List.{list_any}
+use Rattle.std.specs.declared.cmp.Ordering.{Ordering}
+use Rattle.std.specs.Ordering.{ordering_then}
+use Rattle.std.specs.List.Sorted.{IsStrictlySortedBy}
+
+module _ {K V : Type 0} where
+  -- rows by their keys, and rows of one key by their values
+  abbrev pub row_cmp : (K → K → Ordering) → (V → V → Ordering) → K × V → K × V → Ordering
+  row_cmp key_cmp value_cmp a b = ordering_then (key_cmp a.0 b.0) (value_cmp a.1 b.1)
+
+  -- each row is below those after it
+  abbrev pub AreInOrder : (K → K → Ordering) → (V → V → Ordering) → List (K × V) → Type 0
+  AreInOrder key_cmp value_cmp rows = IsStrictlySortedBy (row_cmp key_cmp value_cmp) rows
+
+  -- the values of the rows with this key
+  abbrev pub values_at : (K → K → Bool) → K → List (K × V) → List V
+  values_at key_eq key rows = map (λ row. row.1) (filter (λ row. key_eq key row.0) rows)
+
+  -- whether a row has this key
+  abbrev pub has_key : (K → K → Bool) → K → List (K × V) → Bool
+  has_key key_eq key rows = list_any (λ row. key_eq key row.0) rows

@@ -1,0 +1,101 @@
+//! The rows of one input.
+ghost use Rattle.std.specs.Prelude.{◌≡◌, ◌≤◌, [], length, filter, ◌==◌, true, false};
+ghost use Rattle.std.specs.List.Sorted.{IsPartitionPoint};
+ghost use Rattle.std.specs.Ordering.{is_lt, is_le};
+ghost use Rattle.file_index.specs.KeyRows.{AreInOrder, has_key};
+
+use std::alloc::Global;
+use std::marker::Model;
+
+/// Rows of a key and a value, which rise, first by the keys and then by the values.
+#[derive(Drop)]
+pub struct KeyRows<K: Ord, V: Ord> {
+    rows: Vec<(K, V)>,
+}
+
+impl<K: Ord, V: Ord> Model for KeyRows<K, V> {
+    ghost use Rattle.std.specs.Prelude.{List};
+    ghost use Rattle.file_index.specs.KeyRows.{AreInOrder};
+
+    ghost Value = { List (K × V) };
+
+    ghost view = { λ r. r.rows.items };
+
+    ghost invariant = { λ r. AreInOrder K.cmp V.cmp r.rows.items };
+}
+
+impl<K: Ord, V: Ord> KeyRows<K, V> {
+    /// No rows.
+    pub fn new(alloc: Global) -> KeyRows<K, V>
+        ensures { result ≡ [] }
+    {
+        KeyRows {
+            rows: Vec::new(alloc),
+        }
+    }
+
+    /// Rows that are in order.
+    pub fn from_ordered(rows: Vec<(K, V)>) -> KeyRows<K, V>
+        requires { AreInOrder K.cmp V.cmp rows.items }
+        ensures { result ≡ rows.items }
+    {
+        KeyRows { rows }
+    }
+
+    /// The number of rows.
+    pub fn len(&self) -> usize
+        ensures { result ≡ length self.now }
+    {
+        self.rows.len()
+    }
+
+    /// Whether there is no row.
+    pub fn is_empty(&self) -> bool
+        ensures { result ≡ (length self.now == 0) }
+    {
+        self.rows.is_empty()
+    }
+
+    /// The rows.
+    pub fn as_slice(&self) -> &[(K, V)]
+        ensures rows { result.now ≡ self.now }
+        ensures in_order { AreInOrder K.cmp V.cmp self.now }
+    {
+        &self.rows
+    }
+
+    /// The rows with a key. The time is the logarithm of the number of rows.
+    pub fn at(&self, key: &K) -> &[(K, V)]
+        ensures { result.now ≡ filter (λ row. K.eq key.now row.0) self.now }
+    {
+        let rows = self.as_slice();
+        let (_, from) = rows.split_at(first_from(rows, key));
+        let (run, _) = from.split_at(first_after(from, key));
+        run
+    }
+
+    /// Whether a row has the key. The time is the logarithm of the number of rows.
+    pub fn has_key(&self, key: &K) -> bool
+        ensures { result ≡ has_key K.eq key.now self.now }
+    {
+        !self.at(key).is_empty()
+    }
+}
+
+/// How many of the rows, which are in order, have a key below this one.
+fn first_from<K: Ord, V: Ord>(rows: &[(K, V)], key: &K) -> usize
+    requires { AreInOrder K.cmp V.cmp rows.now }
+    ensures bound { result ≤ length rows.now }
+    ensures parts { IsPartitionPoint (λ row. is_lt (K.cmp row.0 key.now) ≡ true) (λ row. is_lt (K.cmp row.0 key.now) ≡ false) rows.now result }
+{
+    rows.partition_point(|row| row.0.cmp(key).is_lt())
+}
+
+/// How many of the rows, which are in order, have no key above this one.
+fn first_after<K: Ord, V: Ord>(rows: &[(K, V)], key: &K) -> usize
+    requires { AreInOrder K.cmp V.cmp rows.now }
+    ensures bound { result ≤ length rows.now }
+    ensures parts { IsPartitionPoint (λ row. is_le (K.cmp row.0 key.now) ≡ true) (λ row. is_le (K.cmp row.0 key.now) ≡ false) rows.now result }
+{
+    rows.partition_point(|row| row.0.cmp(key).is_le())
+}
