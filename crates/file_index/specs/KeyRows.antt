@@ -1,5 +1,5 @@
 -- Rows of a key and a value, and their order.
-use Rattle.std.specs.Prelude.{Bool, List, map, filter}
+use Rattle.std.specs.Prelude.{Bool, List, filter}
 use Rattle.std.specs.List.{list_any}
 use Rattle.std.specs.declared.cmp.Ordering.{Ordering}
 use Rattle.std.specs.Ordering.{ordering_then}
@@ -14,9 +14,9 @@ module _ {K V : Type 0} where
   abbrev pub AreInOrder : (K → K → Ordering) → (V → V → Ordering) → List (K × V) → Type 0
   AreInOrder key_cmp value_cmp rows = IsStrictlySortedBy (row_cmp key_cmp value_cmp) rows
 
-  -- the values of the rows with this key
-  abbrev pub values_at : (K → K → Bool) → K → List (K × V) → List V
-  values_at key_eq key rows = map (λ row. row.1) (filter (λ row. key_eq key row.0) rows)
+  -- the rows with this key
+  abbrev pub rows_with : (K → K → Bool) → K → List (K × V) → List (K × V)
+  rows_with key_eq key rows = filter (λ row. key_eq key row.0) rows
 
   -- whether a row has this key
   abbrev pub has_key : (K → K → Bool) → K → List (K × V) → Bool

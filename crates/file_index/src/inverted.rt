@@ -1,16 +1,15 @@
 //! The rows of all files, and where to find those under a key.
-ghost use Rattle.std.specs.Prelude.{◌≡◌, ℕ, [], Bool, true, ◌&&◌, ◌||◌, not, ◌==◌, OnErr, OnOk, IfOk};
-ghost use Rattle.file_index.specs.Rows.{rows, with_rows, without_file, rows_at, HasRoom, KeepsRoom, KeepsRoomBut};
+ghost use Rattle.std.specs.Prelude.{◌≡◌, ℕ, [], Bool, ◌&&◌, ◌||◌, not, ◌==◌, OnErr, OnOk};
+ghost use Rattle.file_index.specs.Rows.{rows, rows_in_file, with_rows, without_file, rows_at, HasRoom, KeepsRoom, KeepsRoomBut};
 ghost use Rattle.file_index.specs.KeyRows.{has_key};
 ghost use Rattle.file_index.specs.Places.{is_placed};
 
+use crate::files::Files;
 use crate::postings::Postings;
 use crate::{Indexer, KeyRows, RowWalk};
 use std::alloc::{AllocError, Global};
-use std::collections::BTreeMap;
 use std::hash::Hash;
 use std::marker::Model;
-use std::mem;
 
 /// An inverted index: the rows of each file, found by their keys.
 ///
@@ -20,7 +19,7 @@ use std::mem;
 pub struct Inverted<I: Indexer> {
     alloc: Global,
     indexer: I,
-    files: BTreeMap<u32, KeyRows<I::Key, I::Value>>,
+    files: Files<I::Key, I::Value>,
     postings: Postings<I::Key>,
 }
 
@@ -29,9 +28,9 @@ impl<I: Indexer> Model for Inverted<I> {
 
     ghost Value = { Table I.Key I.Value };
 
-    ghost view = { λ t. record { files = t.files.entries; room = t.postings } };
+    ghost view = { λ t. record { files = t.files; room = t.postings } };
 
-    ghost invariant = { λ t. AllPlaced I.Key.eq t.files.entries t.postings };
+    ghost invariant = { λ t. AllPlaced I.Key.eq t.files t.postings };
 }
 
 impl<I: Indexer> Inverted<I> {
@@ -42,7 +41,7 @@ impl<I: Indexer> Inverted<I> {
         Inverted {
             alloc,
             indexer,
-            files: BTreeMap::new(alloc),
+            files: Files::new(alloc),
             postings: Postings::new(alloc),
         }
     }
@@ -52,7 +51,7 @@ impl<I: Indexer> Inverted<I> {
     pub fn rows<'a>(&'a self, key: &'a I::Key) -> RowWalk<'a, I::Key, I::Value>
         ensures { result ≡ rows_at I.Key.eq key.now (rows self.now) }
     {
-        RowWalk::new(&self.files, self.postings.at(key), key)
+        self.files.walk(self.postings.at(key), key)
     }
 
     /// Makes room for a file's rows, so that `replace` with them takes no memory. No row changes.
@@ -61,9 +60,7 @@ impl<I: Indexer> Inverted<I> {
         ensures room { OnOk result (HasRoom I.Key.eq self.new file new.now) }
         ensures keeps_room { KeepsRoom I.Key.eq self.old self.new }
     {
-        if !self.files.contains_key(&file) {
-            self.files.insert(file, KeyRows::new(self.alloc))?;
-        }
+        self.files.make_known(self.alloc, file)?;
         for (key, _) in new.as_slice() {
             self.mark(key, file)?;
         }
@@ -90,13 +87,8 @@ impl<I: Indexer> Inverted<I> {
         ensures keeps_room { KeepsRoomBut I.Key.eq file self.old self.new }
         ensures room { HasRoom I.Key.eq self.new file new }
     {
-        match self.files.get_mut(&file) {
-            Some(rows) => {
-                let old = mem::replace(rows, new);
-                take_out_all(&mut self.postings, file, &old, rows);
-            }
-            None => unreachable!(),
-        }
+        let old = self.files.put(file, new);
+        take_out_all(&mut self.postings, &self.files, file, &old);
     }
 
     /// Takes a file's rows out.
@@ -104,26 +96,26 @@ impl<I: Indexer> Inverted<I> {
         ensures removed { rows self.new ≡ without_file file (rows self.old) }
         ensures keeps_room { KeepsRoomBut I.Key.eq file self.old self.new }
     {
-        if let Some(old) = self.files.remove(&file) {
-            take_out_all(&mut self.postings, file, &old, &KeyRows::new(self.alloc));
+        if let Some(old) = self.files.take(file) {
+            take_out_all(&mut self.postings, &self.files, file, &old);
         }
     }
 }
 
-/// Takes a file out from under the keys of its old rows that are none of the new.
+/// Takes a file out from under the keys of rows that it had and that none of its rows has now.
 fn take_out_all<K: Ord + Hash + Drop, V: Ord>(
     postings: &mut Postings<K>,
+    files: &Files<K, V>,
     file: u32,
     old: &KeyRows<K, V>,
-    new: &KeyRows<K, V>,
 )
     ensures {
         (k : K) (j : ℕ) → is_placed K.eq postings.new k j
-            ≡ (is_placed K.eq postings.old k j && not (j == file && has_key K.eq k old.now && not (has_key K.eq k new.now)))
+            ≡ (is_placed K.eq postings.old k j && not (j == file && has_key K.eq k old.now && not (has_key K.eq k (rows_in_file file files.now))))
     }
 {
     for (key, _) in old.as_slice() {
-        if !new.has_key(key) {
+        if !files.has_key(file, key) {
             postings.take_out(key, file);
         }
     }

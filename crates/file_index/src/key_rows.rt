@@ -1,8 +1,8 @@
 //! The rows of one input.
-ghost use Rattle.std.specs.Prelude.{◌≡◌, ◌≤◌, [], length, filter, ◌==◌, true, false};
+ghost use Rattle.std.specs.Prelude.{◌≡◌, ◌≤◌, [], length, ◌==◌, true, false};
 ghost use Rattle.std.specs.List.Sorted.{IsPartitionPoint};
 ghost use Rattle.std.specs.Ordering.{is_lt, is_le};
-ghost use Rattle.file_index.specs.KeyRows.{AreInOrder, has_key};
+ghost use Rattle.file_index.specs.KeyRows.{AreInOrder, has_key, rows_with};
 
 use std::alloc::Global;
 use std::marker::Model;
@@ -66,7 +66,7 @@ impl<K: Ord, V: Ord> KeyRows<K, V> {
 
     /// The rows with a key. The time is the logarithm of the number of rows.
     pub fn at(&self, key: &K) -> &[(K, V)]
-        ensures { result.now ≡ filter (λ row. K.eq key.now row.0) self.now }
+        ensures { result.now ≡ rows_with K.eq key.now self.now }
     {
         let rows = self.as_slice();
         let (_, from) = rows.split_at(first_from(rows, key));

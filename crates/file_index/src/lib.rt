@@ -1,6 +1,7 @@
 //! Inverted indexes: the rows that an input gives, and which files have rows under a key.
 #![tactic(auto)]
 
+mod files;
 mod ids;
 mod indexer;
 mod inverted;

@@ -1,18 +1,15 @@
 //! A walk over the rows under a key.
 ghost use Rattle.std.specs.Prelude.{◌≡◌};
-ghost use Rattle.std.specs.Ordering.{nat_cmp};
 ghost use Rattle.std.specs.Iterator.{YieldsFirstBy, item_count};
-ghost use Rattle.std.specs.List.Sorted.{IsStrictlySortedBy};
 ghost use Rattle.file_index.specs.Walk.{walked};
 
-use crate::KeyRows;
-use std::collections::BTreeMap;
+use crate::files::Files;
 use std::marker::Model;
 
 /// The rows under a key, each as its file and its value, seen as those that are left.
 #[derive(Drop)]
 pub struct RowWalk<'a, K: Ord, V: Ord> {
-    files: &'a BTreeMap<u32, KeyRows<K, V>>,
+    files: &'a Files<K, V>,
     ids: &'a [u32],
     key: &'a K,
     /// The file of `run`, the rows that come next.
@@ -26,17 +23,17 @@ impl<'a, K: Ord, V: Ord> Model for RowWalk<'a, K, V> {
 
     ghost Value = { List (ℕ × V) };
 
-    ghost view = { λ w. left_to_walk K.eq w.key.now w.files.now.entries w.file w.run.now w.ids.now };
+    ghost view = { λ w. left_to_walk K.eq w.key.now w.files.now w.file w.run.now w.ids.now };
 }
 
 impl<'a, K: Ord, V: Ord> RowWalk<'a, K, V> {
     /// A walk over the rows that these files have under a key.
     pub(crate) fn new(
-        files: &'a BTreeMap<u32, KeyRows<K, V>>,
+        files: &'a Files<K, V>,
         ids: &'a [u32],
         key: &'a K,
     ) -> RowWalk<'a, K, V>
-        ensures { result ≡ walked K.eq key.now files.now.entries ids.now }
+        ensures { result ≡ walked K.eq key.now files.now ids.now }
     {
         RowWalk {
             files,
@@ -60,10 +57,7 @@ impl<'a, K: Ord, V: Ord> Iterator for RowWalk<'a, K, V> {
             let (id, ids) = self.ids.split_first()?;
             self.ids = ids;
             self.file = *id;
-            self.run = match self.files.get(id) {
-                Some(rows) => rows.at(self.key),
-                None => &[],
-            };
+            self.run = self.files.at(*id, self.key);
         }
         let (row, run) = self.run.split_first()?;
         self.run = run;
