@@ -1,12 +1,13 @@
 //! The rows of each file.
-ghost use Rattle.std.specs.Prelude.{◌≡◌, ℕ, [], Bool, true, if◌then◌else◌, is_some, unwrap_or, OnOk, ◌==◌, false};
+ghost use Rattle.std.specs.Prelude.{◌≡◌, ℕ, [], Bool, true, if◌then◌else◌, is_some, unwrap_or, OnOk, IfOk, ◌==◌, false};
 ghost use Rattle.std.specs.Ordering.{nat_cmp};
 ghost use Rattle.std.specs.List.Sorted.{IsStrictlySortedBy};
 ghost use Rattle.file_index.specs.KeyRows.{has_key, rows_with};
 ghost use Rattle.file_index.specs.Places.{has_id};
 ghost use Rattle.file_index.specs.Rows.{is_known, rows_of, rows_at, rows_in_file, with_rows, without_file};
 
-use crate::{KeyRows, RowWalk};
+use crate::key_rows::copy_rows;
+use crate::{Indexer, KeyRows, RowWalk};
 use std::alloc::{AllocError, Global};
 use std::collections::BTreeMap;
 use std::marker::Model;
@@ -114,4 +115,19 @@ impl<K: Ord, V: Ord> Files<K, V> {
     {
         self.rows.remove(&file)
     }
+}
+
+/// The same files once more.
+pub(crate) fn copy_files<I: Indexer>(
+    alloc: Global,
+    indexer: &I,
+    files: &Files<I::Key, I::Value>,
+) -> Result<Files<I::Key, I::Value>, AllocError>
+    ensures { IfOk result (λ copy. copy ≡ files.now) }
+{
+    let mut rows = BTreeMap::new(alloc);
+    for (file, own) in &files.rows {
+        rows.insert(*file, copy_rows(alloc, indexer, own)?)?;
+    }
+    Ok(Files { rows })
 }

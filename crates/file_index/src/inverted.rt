@@ -1,11 +1,11 @@
 //! The rows of all files, and where to find those under a key.
-ghost use Rattle.std.specs.Prelude.{◌≡◌, ℕ, [], Bool, ◌&&◌, ◌||◌, not, ◌==◌, OnErr, OnOk};
+ghost use Rattle.std.specs.Prelude.{◌≡◌, ℕ, [], Bool, ◌&&◌, ◌||◌, not, ◌==◌, OnErr, OnOk, IfOk};
 ghost use Rattle.file_index.specs.Rows.{rows, rows_in_file, with_rows, without_file, rows_at, HasRoom, KeepsRoom, KeepsRoomBut};
 ghost use Rattle.file_index.specs.KeyRows.{has_key};
 ghost use Rattle.file_index.specs.Places.{is_placed};
 
-use crate::files::Files;
-use crate::postings::Postings;
+use crate::files::{Files, copy_files};
+use crate::postings::{Postings, copy_postings};
 use crate::{Indexer, KeyRows, RowWalk};
 use std::alloc::{AllocError, Global};
 use std::hash::Hash;
@@ -99,6 +99,26 @@ impl<I: Indexer> Inverted<I> {
         if let Some(old) = self.files.take(file) {
             take_out_all(&mut self.postings, &self.files, file, &old);
         }
+    }
+
+    /// Gives up the room that was made for a file's rows: it stands no more under keys that none of its rows has.
+    pub fn release(&mut self, file: u32, given: &KeyRows<I::Key, I::Value>)
+        ensures same { rows self.new ≡ rows self.old }
+        ensures keeps_room { KeepsRoomBut I.Key.eq file self.old self.new }
+    {
+        take_out_all(&mut self.postings, &self.files, file, given);
+    }
+
+    /// The same index once more.
+    pub fn copy(&self) -> Result<Inverted<I>, AllocError>
+        ensures { IfOk result (λ copy. rows copy ≡ rows self.now) }
+    {
+        Ok(Inverted {
+            alloc: self.alloc,
+            indexer: self.indexer,
+            files: copy_files(self.alloc, &self.indexer, &self.files)?,
+            postings: copy_postings(self.alloc, &self.indexer, &self.postings)?,
+        })
     }
 }
 

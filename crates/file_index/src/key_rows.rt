@@ -1,10 +1,11 @@
 //! The rows of one input.
-ghost use Rattle.std.specs.Prelude.{◌≡◌, ◌≤◌, [], length, ◌==◌, true, false};
+ghost use Rattle.std.specs.Prelude.{◌≡◌, ◌≤◌, [], length, ◌==◌, true, false, IfOk};
 ghost use Rattle.std.specs.List.Sorted.{IsPartitionPoint};
 ghost use Rattle.std.specs.Ordering.{is_lt, is_le};
 ghost use Rattle.file_index.specs.KeyRows.{AreInOrder, has_key, rows_with};
 
-use std::alloc::Global;
+use crate::Indexer;
+use std::alloc::{AllocError, Global};
 use std::marker::Model;
 
 /// Rows of a key and a value, which rise, first by the keys and then by the values.
@@ -80,6 +81,21 @@ impl<K: Ord, V: Ord> KeyRows<K, V> {
     {
         !self.at(key).is_empty()
     }
+}
+
+/// The same rows once more.
+pub(crate) fn copy_rows<I: Indexer>(
+    alloc: Global,
+    indexer: &I,
+    rows: &KeyRows<I::Key, I::Value>,
+) -> Result<KeyRows<I::Key, I::Value>, AllocError>
+    ensures { IfOk result (λ copy. copy ≡ rows.now) }
+{
+    let mut copies = Vec::new(alloc);
+    for (key, value) in rows.as_slice() {
+        copies.push((indexer.copy_key(alloc, key)?, indexer.copy_value(alloc, value)?))?;
+    }
+    Ok(KeyRows::from_ordered(copies))
 }
 
 /// How many of the rows, which are in order, have a key below this one.

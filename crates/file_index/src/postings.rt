@@ -6,6 +6,7 @@ ghost use Rattle.std.specs.Map.{lookup};
 ghost use Rattle.std.specs.List.Sorted.{IsStrictlySortedBy};
 ghost use Rattle.file_index.specs.Places.{has_id, ids_at, is_placed};
 
+use crate::Indexer;
 use crate::ids::Ids;
 use indexmap::IndexMap;
 use std::alloc::{AllocError, Global};
@@ -92,4 +93,19 @@ impl<K: Eq + Hash> Postings<K> {
             self.files.swap_remove(key);
         }
     }
+}
+
+/// The same files under the same keys once more.
+pub(crate) fn copy_postings<I: Indexer>(
+    alloc: Global,
+    indexer: &I,
+    postings: &Postings<I::Key>,
+) -> Result<Postings<I::Key>, AllocError>
+    ensures { IfOk result (λ copy. (k : I.Key) (j : ℕ) → is_placed I.Key.eq copy k j ≡ is_placed I.Key.eq postings.now k j) }
+{
+    let mut files = IndexMap::with_capacity(alloc, postings.files.len())?;
+    for (key, ids) in &postings.files {
+        files.insert(indexer.copy_key(alloc, key)?, ids.copy()?)?;
+    }
+    Ok(Postings { files })
 }
