@@ -1,18 +1,19 @@
 -- Rows in order, and those of one key among them.
-use Rattle.std.proofs.Common.{◌≡◌, ℕ, zero, suc, ◌+◌, ◌<◌, ◌≤◌, Bool, true, false, ◌||◌, cond, List, [], ◌∷◌, length, get_or, take, drop, length-drop, refl, sym, ap, subst, ◌∙◌, arith}
+use Rattle.std.proofs.Common.{◌≡◌, ℕ, zero, suc, ◌+◌, ◌<◌, ◌≤◌, Bool, true, false, ◌||◌, cond, List, [], ◌∷◌, length, get_or, take, drop, length-drop, refl, sym, ap, ◌∙◌, arith}
 use Rattle.std.specs.Prelude.{not, ◌==◌}
-use Rattle.std.specs.Ordering.{is_lt, is_le, is_eq, ordering_then, ordering_reverse, ordering_index, eq_by_cmp}
+use Rattle.std.specs.Ordering.{nat_cmp, is_lt, is_le, is_eq, ordering_then, ordering_reverse, ordering_index, eq_by_cmp}
 use Rattle.std.specs.declared.cmp.Ordering.{Ordering}
 use Rattle.std.specs.declared.cmp.Ordering.TheVariants.{Less, Equal, Greater}
 use Rattle.std.specs.Cmp.{IsTotalOrder}
-use Rattle.std.specs.List.{filter, list_any, All}
+use Rattle.std.specs.Map.{keys_of}
+use Rattle.std.specs.List.{AllByRecursion, filter, list_any}
 use Rattle.std.specs.List.Sorted.{IsStrictlySortedBy, IsSortedBy, IsNonDecreasingBy, IsPartitionedBy, IsPartitionPoint}
 use Rattle.std.proofs.lemmas.Bool.{cond-true, cond-false, ne_eqb}
 use Rattle.std.proofs.lemmas.List.{get_or-drop}
 use Rattle.std.proofs.lemmas.List.Sorted.{searchable_from_sorted}
 use Rattle.std.proofs.lemmas.Map.Keys.{Less-from_sorted}
 use Rattle.list_laws.proofs.FrontLemmas.{filter_none}
-use Rattle.file_index.specs.KeyRows.{row_cmp, AreInOrder, has_key}
+use Rattle.file_index.specs.KeyRows.{row_cmp, AreInOrder}
 
 -- the rest of a rising list rises
 pub drop_rises : {X : Type 0} (c : X → X → Ordering) (xs : List X) (n : ℕ) → IsStrictlySortedBy c xs → IsStrictlySortedBy c (drop n xs)
@@ -89,21 +90,21 @@ module _ {X : Type 0} (test : X → Bool) where
       by true rest = ap not (ne_eqb (suc (length (filter test xs))) 0 (λ e. absurd (omega (arith, e))))
       by false rest = rest
 
-module _ {K V : Type 0} (key_cmp : K → K → Ordering) (value_cmp : V → V → Ordering) (total : IsTotalOrder key_cmp) (rows : List (K × V)) (key : K) where
-  rises_by_key : AreInOrder key_cmp value_cmp rows → IsSortedBy (λ (a b : K × V). is_lt (key_cmp a.0 b.0)) rows
+module _ {K V : Type 0} (key_cmp : K → K → Ordering) (place_of : V → ℕ) (total : IsTotalOrder key_cmp) (rows : List (K × V)) (key : K) where
+  rises_by_key : AreInOrder key_cmp place_of rows → IsSortedBy (λ (a b : K × V). is_lt (key_cmp a.0 b.0)) rows
   rises_by_key ordered = λ k d z l.
       let a = get_or rows k d in
       let b = get_or rows (k + 1) d in
-      ap is_lt (total.antisymm b.0 a.0) ∙ then_less (key_cmp a.0 b.0) (value_cmp a.1 b.1) (Less-from_sorted (row_cmp key_cmp value_cmp) rows k (k + 1) d ordered (omega arith) l)
+      ap is_lt (total.antisymm b.0 a.0) ∙ then_less (key_cmp a.0 b.0) (nat_cmp (place_of a.1) (place_of b.1)) (Less-from_sorted (row_cmp key_cmp place_of) rows k (k + 1) d ordered (omega arith) l)
 
-  compares : AreInOrder key_cmp value_cmp rows → IsNonDecreasingBy (λ (row : K × V). ordering_index (key_cmp row.0 key)) rows
+  compares : AreInOrder key_cmp place_of rows → IsNonDecreasingBy (λ (row : K × V). ordering_index (key_cmp row.0 key)) rows
   compares ordered = searchable_from_sorted total (λ (row : K × V). row.0) rows key (rises_by_key ordered)
 
   -- rows in order are parted by whether their keys are below a key, and by whether they are not above it
-  pub parted_below : AreInOrder key_cmp value_cmp rows → IsPartitionedBy (λ (row : K × V). is_lt (key_cmp row.0 key)) rows
+  pub parted_below : AreInOrder key_cmp place_of rows → IsPartitionedBy (λ (row : K × V). is_lt (key_cmp row.0 key)) rows
   parted_below ordered = λ i j d before inside e. lt_stays (key_cmp (get_or rows i d).0 key) (key_cmp (get_or rows j d).0 key) (compares ordered i j d before inside) e
 
-  pub parted_above : AreInOrder key_cmp value_cmp rows → IsPartitionedBy (λ (row : K × V). is_le (key_cmp row.0 key)) rows
+  pub parted_above : AreInOrder key_cmp place_of rows → IsPartitionedBy (λ (row : K × V). is_le (key_cmp row.0 key)) rows
   parted_above ordered = λ i j d before inside e. le_stays (key_cmp (get_or rows i d).0 key) (key_cmp (get_or rows j d).0 key) (compares ordered i j d before inside) e
 
   -- what lies between the two places is the rows of the key
@@ -124,3 +125,13 @@ module _ {K V : Type 0} (key_cmp : K → K → Ordering) (value_cmp : V → V �
       is_test row = ties key row.0 ∙ ap is_eq (total.antisymm key row.0)
       not_below : (k : ℕ) (d : K × V) → k < length (drop from rows) → is_lt (key_cmp (get_or (drop from rows) k d).0 key) ≡ false
       not_below k d l = ap (λ (row : K × V). is_lt (key_cmp row.0 key)) (get_or-drop from rows k d) ∙ lower.1 (from + k) d (omega arith) (omega (arith, l, length-drop from rows))
+
+-- rows whose keys rise are in order
+pub in_order_by_key : {K V : Type 0} (key_cmp : K → K → Ordering) (place_of : V → ℕ) (rows : List (K × V)) → IsStrictlySortedBy key_cmp (keys_of rows) → AreInOrder key_cmp place_of rows
+unfolding IsStrictlySortedBy
+in_order_by_key key_cmp place_of [] rises = tt
+in_order_by_key key_cmp place_of (r ∷ rs) rises = (below rs rises.0, in_order_by_key key_cmp place_of rs rises.1)
+  where
+    below : (ss : List (K × V)) → AllByRecursion (λ k. key_cmp r.0 k ≡ Less) (keys_of ss) → AllByRecursion (λ s. row_cmp key_cmp place_of r s ≡ Less) ss
+    below [] all = tt
+    below (s ∷ ss) all = (ap (λ o. ordering_then o (nat_cmp (place_of r.1) (place_of s.1))) all.0, below ss all.1)

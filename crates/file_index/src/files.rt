@@ -7,18 +7,18 @@ ghost use Rattle.file_index.specs.Places.{has_id};
 ghost use Rattle.file_index.specs.Rows.{is_known, rows_of, rows_at, rows_in_file, with_rows, without_file};
 
 use crate::key_rows::copy_rows;
-use crate::{Indexer, KeyRows, RowWalk};
+use crate::{Indexer, KeyRows, Place, RowWalk};
 use std::alloc::{AllocError, Global};
 use std::collections::BTreeMap;
 use std::marker::Model;
 
 /// The files that are known, by rising ids, with their rows.
 #[derive(Drop)]
-pub(crate) struct Files<K: Ord, V: Ord> {
+pub(crate) struct Files<K: Ord, V: Place> {
     rows: BTreeMap<u32, KeyRows<K, V>>,
 }
 
-impl<K: Ord, V: Ord> Model for Files<K, V> {
+impl<K: Ord, V: Place> Model for Files<K, V> {
     ghost use Rattle.std.specs.Prelude.{List, ℕ};
 
     ghost Value = { List (ℕ × List (K × V)) };
@@ -32,7 +32,7 @@ impl<K: Ord, V: Ord> Model for Files<K, V> {
     ghost invariant = { λ f. IsStrictlySortedBy nat_cmp (keys_of f.rows.entries) };
 }
 
-impl<K: Ord, V: Ord> Files<K, V> {
+impl<K: Ord, V: Place> Files<K, V> {
     /// No files.
     pub(crate) fn new(alloc: Global) -> Files<K, V>
         ensures { result ≡ [] }

@@ -1,21 +1,38 @@
 //! What an index reads from its inputs.
-ghost use Rattle.std.specs.Prelude.{◌≡◌, List, IfOk};
+ghost use Rattle.std.specs.Prelude.{◌≡◌, ℕ, List, IfOk};
 
 use crate::KeyRows;
 use std::alloc::{AllocError, Global};
 use std::hash::Hash;
 
+/// A value of rows that has a place among those of one key in a file.
+pub trait Place {
+    ghost place_of: { Self → ℕ };
+
+    /// Its place.
+    fn place(&self) -> u32
+        ensures { result ≡ place_of self.now };
+}
+
+impl Place for u8 {
+    ghost place_of = { λ value. value };
+
+    fn place(&self) -> u32 {
+        *self as u32
+    }
+}
+
 /// A way to make rows of an input: each a key, by which it is found, and a value.
 ///
-/// The rows are a function of the input alone, `rows_of`. They rise, first by the keys and then by the values, since
-/// `KeyRows` are such rows by their type.
+/// The rows are a function of the input alone, `rows_of`. They rise, first by the keys and then by the places of the
+/// values, since `KeyRows` are such rows by their type.
 pub trait Indexer: Copy + Drop {
     /// What is indexed.
     type Input;
     /// What rows are found by.
     type Key: Hash + Eq + Ord + Drop;
     /// What a row tells.
-    type Value: Ord + Drop;
+    type Value: Place + Drop;
 
     ghost rows_of: { Self.Input → List (Self.Key × Self.Value) };
 

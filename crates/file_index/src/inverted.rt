@@ -6,7 +6,7 @@ ghost use Rattle.file_index.specs.Places.{is_placed};
 
 use crate::files::{Files, copy_files};
 use crate::postings::{Postings, copy_postings};
-use crate::{Indexer, KeyRows, RowWalk};
+use crate::{Indexer, KeyRows, Place, RowWalk};
 use std::alloc::{AllocError, Global};
 use std::hash::Hash;
 use std::marker::Model;
@@ -123,7 +123,7 @@ impl<I: Indexer> Inverted<I> {
 }
 
 /// Takes a file out from under the keys of rows that it had and that none of its rows has now.
-fn take_out_all<K: Ord + Hash + Drop, V: Ord>(
+fn take_out_all<K: Ord + Hash + Drop, V: Place>(
     postings: &mut Postings<K>,
     files: &Files<K, V>,
     file: u32,

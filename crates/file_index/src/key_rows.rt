@@ -4,17 +4,18 @@ ghost use Rattle.std.specs.List.Sorted.{IsPartitionPoint};
 ghost use Rattle.std.specs.Ordering.{is_lt, is_le};
 ghost use Rattle.file_index.specs.KeyRows.{AreInOrder, has_key, rows_with};
 
-use crate::Indexer;
+use crate::{Indexer, Place};
 use std::alloc::{AllocError, Global};
+use std::collections::BTreeMap;
 use std::marker::Model;
 
-/// Rows of a key and a value, which rise, first by the keys and then by the values.
+/// Rows of a key and a value, which rise, first by the keys and then by the places of the values.
 #[derive(Drop)]
-pub struct KeyRows<K: Ord, V: Ord> {
+pub struct KeyRows<K: Ord, V: Place> {
     rows: Vec<(K, V)>,
 }
 
-impl<K: Ord, V: Ord> Model for KeyRows<K, V> {
+impl<K: Ord, V: Place> Model for KeyRows<K, V> {
     ghost use Rattle.std.specs.Prelude.{List};
     ghost use Rattle.file_index.specs.KeyRows.{AreInOrder};
 
@@ -22,10 +23,10 @@ impl<K: Ord, V: Ord> Model for KeyRows<K, V> {
 
     ghost view = { λ r. r.rows.items };
 
-    ghost invariant = { λ r. AreInOrder K.cmp V.cmp r.rows.items };
+    ghost invariant = { λ r. AreInOrder K.cmp V.place_of r.rows.items };
 }
 
-impl<K: Ord, V: Ord> KeyRows<K, V> {
+impl<K: Ord, V: Place> KeyRows<K, V> {
     /// No rows.
     pub fn new(alloc: Global) -> KeyRows<K, V>
         ensures { result ≡ [] }
@@ -37,10 +38,24 @@ impl<K: Ord, V: Ord> KeyRows<K, V> {
 
     /// Rows that are in order.
     pub fn from_ordered(rows: Vec<(K, V)>) -> KeyRows<K, V>
-        requires { AreInOrder K.cmp V.cmp rows.items }
+        requires { AreInOrder K.cmp V.place_of rows.items }
         ensures { result ≡ rows.items }
     {
         KeyRows { rows }
+    }
+
+    /// Rows of keys with one value each.
+    pub fn from_map(alloc: Global, map: BTreeMap<K, V>) -> Result<KeyRows<K, V>, AllocError>
+    where
+        K: Drop,
+        V: Drop,
+        ensures { IfOk result (λ rows. rows ≡ map.entries) }
+    {
+        let mut rows = Vec::with_capacity(alloc, map.len())?;
+        for row in map {
+            rows.push(row)?;
+        }
+        Ok(KeyRows { rows })
     }
 
     /// The number of rows.
@@ -60,7 +75,7 @@ impl<K: Ord, V: Ord> KeyRows<K, V> {
     /// The rows.
     pub fn as_slice(&self) -> &[(K, V)]
         ensures rows { result.now ≡ self.now }
-        ensures in_order { AreInOrder K.cmp V.cmp self.now }
+        ensures in_order { AreInOrder K.cmp V.place_of self.now }
     {
         &self.rows
     }
@@ -99,8 +114,8 @@ pub(crate) fn copy_rows<I: Indexer>(
 }
 
 /// How many of the rows, which are in order, have a key below this one.
-fn first_from<K: Ord, V: Ord>(rows: &[(K, V)], key: &K) -> usize
-    requires { AreInOrder K.cmp V.cmp rows.now }
+fn first_from<K: Ord, V: Place>(rows: &[(K, V)], key: &K) -> usize
+    requires { AreInOrder K.cmp V.place_of rows.now }
     ensures bound { result ≤ length rows.now }
     ensures parts { IsPartitionPoint (λ row. is_lt (K.cmp row.0 key.now) ≡ true) (λ row. is_lt (K.cmp row.0 key.now) ≡ false) rows.now result }
 {
@@ -108,8 +123,8 @@ fn first_from<K: Ord, V: Ord>(rows: &[(K, V)], key: &K) -> usize
 }
 
 /// How many of the rows, which are in order, have no key above this one.
-fn first_after<K: Ord, V: Ord>(rows: &[(K, V)], key: &K) -> usize
-    requires { AreInOrder K.cmp V.cmp rows.now }
+fn first_after<K: Ord, V: Place>(rows: &[(K, V)], key: &K) -> usize
+    requires { AreInOrder K.cmp V.place_of rows.now }
     ensures bound { result ≤ length rows.now }
     ensures parts { IsPartitionPoint (λ row. is_le (K.cmp row.0 key.now) ≡ true) (λ row. is_le (K.cmp row.0 key.now) ≡ false) rows.now result }
 {

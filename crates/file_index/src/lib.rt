@@ -9,7 +9,7 @@ mod key_rows;
 mod postings;
 mod row_walk;
 
-pub use indexer::Indexer;
+pub use indexer::{Indexer, Place};
 pub use inverted::Inverted;
 pub use key_rows::KeyRows;
 pub use row_walk::RowWalk;

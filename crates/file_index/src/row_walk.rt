@@ -3,12 +3,13 @@ ghost use Rattle.std.specs.Prelude.{◌≡◌};
 ghost use Rattle.std.specs.Iterator.{YieldsFirstBy, item_count};
 ghost use Rattle.file_index.specs.Walk.{walked};
 
+use crate::Place;
 use crate::files::Files;
 use std::marker::Model;
 
 /// The rows under a key, each as its file and its value, seen as those that are left.
 #[derive(Drop)]
-pub struct RowWalk<'a, K: Ord, V: Ord> {
+pub struct RowWalk<'a, K: Ord, V: Place> {
     files: &'a Files<K, V>,
     ids: &'a [u32],
     key: &'a K,
@@ -17,7 +18,7 @@ pub struct RowWalk<'a, K: Ord, V: Ord> {
     run: &'a [(K, V)],
 }
 
-impl<'a, K: Ord, V: Ord> Model for RowWalk<'a, K, V> {
+impl<'a, K: Ord, V: Place> Model for RowWalk<'a, K, V> {
     ghost use Rattle.std.specs.Prelude.{List, ℕ};
     ghost use Rattle.file_index.specs.Walk.{left_to_walk};
 
@@ -26,7 +27,7 @@ impl<'a, K: Ord, V: Ord> Model for RowWalk<'a, K, V> {
     ghost view = { λ w. left_to_walk K.eq w.key.now w.files.now w.file w.run.now w.ids.now };
 }
 
-impl<'a, K: Ord, V: Ord> RowWalk<'a, K, V> {
+impl<'a, K: Ord, V: Place> RowWalk<'a, K, V> {
     /// A walk over the rows that these files have under a key.
     pub(crate) fn new(
         files: &'a Files<K, V>,
@@ -45,7 +46,7 @@ impl<'a, K: Ord, V: Ord> RowWalk<'a, K, V> {
     }
 }
 
-impl<'a, K: Ord, V: Ord> Iterator for RowWalk<'a, K, V> {
+impl<'a, K: Ord, V: Place> Iterator for RowWalk<'a, K, V> {
     type Item = (u32, &'a V);
 
     ghost next_gives = { YieldsFirstBy (λ item. (item.0, item.1.now)) (λ rest. rest) };

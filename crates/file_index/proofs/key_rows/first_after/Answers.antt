@@ -6,4 +6,4 @@ use Rattle.file_index.proofs.key_rows.first_after.Goals as goal
 
 pub returns-clause-parts : goal.returns-clause-parts
 returns-clause-parts g c = IsPartitionPoint-from_clause (λ row. is_le (g.K.Ord.cmp row.0 c.args.key.now)) c.args.rows.now c.partition_point.result c.partition_point.ensures.partitioned
-    (parted_above g.K.Ord.cmp g.V.Ord.cmp g.met.K.Ord.total c.args.rows.now c.args.key.now c.requires) (λ a r f called. search rules)
+    (parted_above g.K.Ord.cmp g.V.Place.place_of g.met.K.Ord.total c.args.rows.now c.args.key.now c.requires) (λ a r f called. search rules)
