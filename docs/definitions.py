@@ -2,18 +2,16 @@
 """Writes docs/DEFINITIONS.md: each public definition of specs/ with the sentence that stands above it.
 
     docs/definitions.py           writes the file
-    docs/definitions.py --check   says which definitions have no sentence above them, and ends with 1 if any
+    docs/definitions.py --check   says which definitions have no sentence of their own, and whether the file is
+                                  what would be written; ends with 1 where anything is amiss
 """
 import pathlib
 import re
 import sys
 
 TOP = pathlib.Path(__file__).resolve().parent.parent
-ORDER = [
-    "ide_text", "ide_io", "java_tokens", "write_history", "script_lang", "ide_world", "ide_script",
-    "list_laws", "action_lock",
-]
-DEFINITION = re.compile(r"^\s*(?:abbrev pub|unfoldable pub|pub record|pub data|pub)\s+(\S+)\s*[:({]")
+WRITTEN = TOP / "docs/DEFINITIONS.md"
+DEFINITION = re.compile(rf"^( *)(?:abbrev |unfoldable )*pub (?!mod\b|use\b)(record |data )?(?:abbrev |unfoldable )*(\S+)\s*[:({{]")
 HEAD = """# Definitions
 
 Each public definition that contracts cite, with the sentence that stands above it in its file. Made by
@@ -21,44 +19,63 @@ Each public definition that contracts cite, with the sentence that stands above 
 """
 
 
+def crates():
+    """The crates in the order of crates.txt, without those of tests."""
+    for line in (TOP / "crates.txt").read_text().splitlines():
+        name = line.split("#")[0].split(":")[0].split()
+        if name and not name[0].endswith("_tests"):
+            yield name[0]
+
+
 def definitions(path):
-    """Pairs of a name and its sentence, in order; a definition without one goes with the sentence before it."""
-    sentence, pending = "", []
+    """Pairs of a name and its sentence, in order. A block of definitions that are recursive together may have one
+    sentence above it, which is that of its first."""
+    comment, record_indent = [], None
     for line in path.read_text().splitlines():
         bare = line.strip()
+        indent = len(line) - len(line.lstrip())
         if bare.startswith("--"):
-            pending.append(bare[2:].strip())
+            comment.append(bare[2:].strip())
             continue
+        if record_indent is not None and bare and indent <= record_indent:
+            record_indent = None
         found = DEFINITION.match(line)
-        # fields of records are indented below their record, and `pub mod` or `pub use` lines are no definitions
-        if found and not re.match(r"^\s*pub (mod|use)\b", line):
-            is_field = re.match(r"^\s+pub \S+ :", line) and "record" not in line
-            if not is_field:
-                if pending:
-                    sentence = " ".join(pending)
-                yield found.group(1), sentence
-        pending = []
+        if found and record_indent is None:
+            yield found.group(3), " ".join(comment)
+            if found.group(2):
+                record_indent = indent
+        if not re.match(r"^(unfoldable |abbrev )?mutual\b", bare):
+            comment = []
 
 
-def main():
-    out, bare = [HEAD], []
-    for crate in ORDER:
+def sections():
+    """The text of each crate's part, and the definitions that lack a sentence."""
+    text, lacking = [HEAD], []
+    for crate in crates():
         specs = TOP / "crates" / crate / "specs"
         files = sorted(p for p in specs.rglob("*.antt") if p.name != "Lib.antt")
         if not files:
             continue
-        out.append(f"\n## {crate}\n")
+        text.append(f"\n## {crate}\n")
         for path in files:
             head = path.read_text().splitlines()[0].lstrip("- ").strip()
-            out.append(f"\n`specs/{path.relative_to(specs)}`: {head}\n\n")
+            text.append(f"\n`specs/{path.relative_to(specs)}`: {head}\n\n")
             for name, sentence in definitions(path):
                 if not sentence:
-                    bare.append(f"{crate}/specs/{path.name}: {name}")
-                out.append(f"- `{name}`: {sentence}\n" if sentence else f"- `{name}`\n")
-    if "--check" in sys.argv[1:]:
-        print("\n".join(bare))
-        sys.exit(1 if bare else 0)
-    (TOP / "docs/DEFINITIONS.md").write_text("".join(out))
+                    lacking.append(f"crates/{crate}/specs/{path.relative_to(specs)}: {name} has no sentence")
+                text.append(f"- `{name}`: {sentence}\n" if sentence else f"- `{name}`\n")
+    return "".join(text), lacking
+
+
+def main():
+    text, amiss = sections()
+    if "--check" not in sys.argv[1:]:
+        WRITTEN.write_text(text)
+        return
+    if WRITTEN.read_text() != text:
+        amiss.append("docs/DEFINITIONS.md isn't what docs/definitions.py would write")
+    print("\n".join(amiss) or "each definition has its sentence")
+    sys.exit(1 if amiss else 0)
 
 
 if __name__ == "__main__":

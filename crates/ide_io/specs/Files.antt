@@ -5,6 +5,10 @@ use Rattle.std.specs.Ordering.{nat_cmp}
 use Rattle.std.specs.Cmp.Lexicographic.{slice_cmp}
 use Rattle.std.specs.BTreeMap.{BTreeMap, get}
 
+-- the most bytes that a file may have
+abbrev pub max_file_len : ℕ
+max_file_len = 16777216
+
 -- the bytes of the file at each path, where there is one; a path is a list of characters
 abbrev pub Files : Type 0
 Files = List ℕ → Option (List ℕ)

@@ -4,18 +4,19 @@ ghost use Rattle.std.specs.Prelude.{◌≡◌, ◌≢◌, ◌<◌, ◌≤◌, Er
 ghost use Rattle.std.specs.Io.{ReadsAtMost, WritesAtMost};
 ghost use Rattle.ide_io.specs.Failing.{faults_with};
 ghost use Rattle.ide_io.specs.Fault.{HasFault};
-ghost use Rattle.ide_io.specs.Known.{ReadTakes, WriteTakes};
+ghost use Rattle.ide_io.specs.Files.{max_file_len};
+ghost use Rattle.ide_io.specs.Known.{ReadTakes, ReadTells, WriteTakes};
 ghost use Rattle.ide_io.specs.Plan.{is_next_listed, plan_after};
 
 use crate::failed::Failed;
 use crate::fault_plan::FaultPlan;
 use crate::sink::Sink;
 use crate::source::Source;
-use crate::tree::{MAX_FILE_LEN, ReadFileError, Tree};
+use crate::tree::{ReadFileError, Tree};
 use ide_text::Name;
 use std::alloc::Global;
 
-/// An object whose calls fail where the plan lists them. Every other call is passed on to `inner`.
+/// An object whose calls fail where the plan lists them. Any other call fails only with a fault of `inner`.
 ///
 /// Its faults are those of the plan and those of `inner`.
 #[derive(Drop)]
@@ -29,6 +30,8 @@ impl<S: Source> Source for Failing<S> {
 
     ghost faults = { faults_with S.faults };
 
+    ghost ends = { λ source. S.ends source.inner };
+
     fn read(&mut self, into: &mut [u8]) -> Result<usize, Failed>
         ensures counted { self.new.plan ≡ plan_after self.old.plan }
         ensures listed { is_next_listed self.old.plan ≡ true
@@ -38,6 +41,7 @@ impl<S: Source> Source for Failing<S> {
 
         ensures count { ReadsAtMost result into.new }
         ensures bytes { ReadTakes (S.left self.old.inner) (S.left self.new.inner) result into.new }
+        ensures told { ReadTells (S.ends self.old.inner) (S.ends self.new.inner) result into.new }
         ensures never_falls { faults_with S.faults self.old ≤ faults_with S.faults self.new }
         ensures no_fault { OnOk result
             (faults_with S.faults self.new ≡ faults_with S.faults self.old) }
@@ -93,7 +97,7 @@ impl<T: Tree> Tree for Failing<T> {
 
         ensures bytes { IfOk result
             (λ v. IfSome (T.files self.old.inner) (λ at. at path.now ≡ Some v.items)) }
-        ensures limit { IfOk result (λ v. vec_len v ≤ MAX_FILE_LEN) }
+        ensures limit { IfOk result (λ v. vec_len v ≤ max_file_len) }
         ensures files { T.files self.new.inner ≡ T.files self.old.inner }
         ensures never_falls { faults_with T.faults self.old ≤ faults_with T.faults self.new }
         ensures no_fault { result ≢ Err ReadFileError.Failed

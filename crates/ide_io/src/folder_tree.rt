@@ -1,6 +1,7 @@
 //! The files of the current folder as a tree.
 
 ghost use Rattle.std.specs.Prelude.{◌≡◌, ◌≤◌, None, IfOk, vec_len};
+ghost use Rattle.ide_io.specs.Files.{max_file_len};
 
 use crate::fault_count::FaultCount;
 use crate::reader_source::ReaderSource;
@@ -50,7 +51,7 @@ impl<R: Files> Tree for FolderTree<'_, R> {
 
 // The bytes of the file at a path, if they are few enough.
 fn read_path<R: Files>(rt: &R, alloc: Global, path: &str) -> Result<Vec<u8>, ReadAllError>
-    ensures { IfOk result (λ v. vec_len v ≤ MAX_FILE_LEN) }
+    ensures { IfOk result (λ v. vec_len v ≤ max_file_len) }
 {
     let Ok(file) = File::open(rt, path) else {
         return Err(ReadAllError::Failed);

@@ -7,6 +7,7 @@
 
 mod bytes_sink;
 mod bytes_source;
+mod end_count;
 mod failed;
 mod failing;
 mod fault_count;
@@ -23,6 +24,7 @@ mod writing;
 
 pub use crate::bytes_sink::BytesSink;
 pub use crate::bytes_source::BytesSource;
+pub use crate::end_count::EndCount;
 pub use crate::failed::Failed;
 pub use crate::failing::Failing;
 pub use crate::fault_count::FaultCount;
@@ -34,5 +36,5 @@ pub use crate::reading::{ReadAllError, read_all};
 pub use crate::sink::Sink;
 pub use crate::source::Source;
 pub use crate::tree::{MAX_FILE_LEN, ReadFileError, Tree};
-pub use crate::writer_sink::{StdoutSink, WriterSink};
+pub use crate::writer_sink::{StderrSink, StdoutSink, WriterSink};
 pub use crate::writing::write_all;

@@ -2,7 +2,7 @@
 
 ghost use Rattle.std.specs.Prelude.{◌≡◌, ◌≢◌, ◌≤◌, ◌<◌, Some, Err, length, vec_len, IfOk, IfSome, IsErrOf};
 ghost use Rattle.ide_io.specs.Fault.{HasFault, next_count};
-ghost use Rattle.ide_io.specs.Files.{files_of};
+ghost use Rattle.ide_io.specs.Files.{files_of, max_file_len};
 
 use crate::fault_count::FaultCount;
 use crate::tree::{MAX_FILE_LEN, ReadFileError, Tree};
@@ -37,13 +37,13 @@ impl Tree for MemoryTree {
 
     fn read_file(&mut self, alloc: Global, path: &Name) -> Result<Vec<u8>, ReadFileError>
         ensures absent_or_long { IsErrOf result ReadFileError.Failed
-            → IfSome (files_of self.old.files path.now) (λ bytes. MAX_FILE_LEN < length bytes) }
+            → IfSome (files_of self.old.files path.now) (λ bytes. max_file_len < length bytes) }
         ensures one_fault { IsErrOf result ReadFileError.Failed
             → self.new.faults ≡ next_count self.old.faults }
         ensures kept { self.new.files ≡ self.old.files }
 
         ensures bytes { IfOk result (λ v. files_of self.old.files path.now ≡ Some v.items) }
-        ensures limit { IfOk result (λ v. vec_len v ≤ MAX_FILE_LEN) }
+        ensures limit { IfOk result (λ v. vec_len v ≤ max_file_len) }
         ensures files { Some (files_of self.new.files) ≡ Some (files_of self.old.files) }
         ensures never_falls { self.old.faults ≤ self.new.faults }
         ensures no_fault { result ≢ Err ReadFileError.Failed → self.new.faults ≡ self.old.faults }

@@ -1,9 +1,8 @@
 //! Reading a source to its end.
 
-ghost use Rattle.std.specs.Prelude.{◌≡◌, ◌≢◌, ℕ, ◌≤◌, ◌<◌, List, length, vec_len, IfOk, OnOk, IfSome, IsErrOf};
-ghost use Rattle.std.specs.Io.KnownBytes.{IsAtEnd, prepend_known};
+ghost use Rattle.std.specs.Prelude.{◌≡◌, ◌≢◌, ℕ, ◌+◌, ◌≤◌, ◌<◌, List, length, vec_len, IfOk, OnErr, IfSome, IsErrOf};
 ghost use Rattle.ide_io.specs.Fault.{HasFault};
-ghost use Rattle.ide_io.specs.Known.{TakesOver, TakesSome};
+ghost use Rattle.ide_io.specs.Known.{ReadsToEnd, TakesAtMost, TakesCount};
 ghost use Rattle.ide_io.specs.declared.reading.ReadAllError.TheVariants as variant;
 
 use crate::failed::Failed;
@@ -39,7 +38,8 @@ impl From<AllocError> for ReadAllError {
 // How many bytes are asked of the source at once.
 const CHUNK_LEN: usize = 8192;
 
-/// All bytes that the source has left, if they are at most `limit`.
+/// All bytes that the source has left, if they are at most `limit`. No more than one byte past the limit is read, and
+/// nothing after a read that told the end.
 ///
 /// Costs one read for each chunk that the source gives. With an error, the bytes that were read
 /// are lost.
@@ -48,20 +48,21 @@ pub fn read_all<S: Source>(
     source: &mut S,
     limit: usize,
 ) -> Result<Vec<u8>, ReadAllError>
-    // All that was left, and the end after it.
+    // All that was left, and the end after it, which is met once.
     ensures whole { IfOk result (λ v. IfSome (S.left source.old) (λ all. v.items ≡ all)) }
-    ensures bytes { IfOk result (λ v. S.left source.old ≡ prepend_known v.items (S.left source.new)) }
-    ensures end { OnOk result (IsAtEnd (S.left source.new)) }
+    ensures to_end { IfOk result (λ v. ReadsToEnd S.left S.ends source.old source.new v.items) }
     ensures limit { IfOk result (λ v. vec_len v ≤ limit) }
+    ensures no_end { OnErr result (S.ends source.new ≡ S.ends source.old) }
 
-    // The byte past the limit was read.
+    // The byte past the limit was read, and none after it.
     ensures too_long { IsErrOf result ReadAllError.TooLong
         → IfSome (S.left source.old) (λ all. limit < length all) }
     ensures over { IsErrOf result ReadAllError.TooLong
-        → TakesOver limit (S.left source.old) (S.left source.new) }
+        → TakesCount (limit + 1) (S.left source.old) (S.left source.new) }
 
-    // Whatever the answer, nothing but the front is taken.
-    ensures front { TakesSome (S.left source.old) (S.left source.new) }
+    // With any other answer no byte past the limit was read.
+    ensures within { result ≢ Err ReadAllError.TooLong
+        → TakesAtMost limit (S.left source.old) (S.left source.new) }
 
     ensures fault { IsErrOf result ReadAllError.Failed
         → HasFault (S.faults source.old) (S.faults source.new) }
@@ -71,13 +72,15 @@ pub fn read_all<S: Source>(
     let mut bytes = Vec::new(alloc);
     let mut chunk = [0u8; CHUNK_LEN];
     'reads: loop {
-        let count = source.read(&mut chunk)?;
+        let room = (limit - bytes.len()).saturating_add(1).min(CHUNK_LEN);
+        let piece = &mut chunk[..room];
+        let count = source.read(piece)?;
         if count == 0 {
             return Ok(bytes);
         }
         if limit - bytes.len() < count {
             return Err(ReadAllError::TooLong);
         }
-        bytes.extend_from_slice(&chunk[..count])?;
+        bytes.extend_from_slice(&piece[..count])?;
     }
 }

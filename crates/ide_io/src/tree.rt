@@ -2,7 +2,7 @@
 
 ghost use Rattle.std.specs.Prelude.{◌≡◌, ◌≢◌, ◌≤◌, ℕ, Option, Some, Err, vec_len, IfOk, IfSome, IsErrOf};
 ghost use Rattle.ide_io.specs.Fault.{HasFault};
-ghost use Rattle.ide_io.specs.Files.{Files};
+ghost use Rattle.ide_io.specs.Files.{Files, max_file_len};
 ghost use Rattle.ide_io.specs.declared.tree.ReadFileError.TheVariants as variant;
 
 use crate::failed::Failed;
@@ -48,7 +48,7 @@ pub trait Tree {
     /// `MAX_FILE_LEN` bytes.
     fn read_file(&mut self, alloc: Global, path: &Name) -> Result<Vec<u8>, ReadFileError>
         ensures bytes { IfOk result (λ v. IfSome (files self.old) (λ at. at path.now ≡ Some v.items)) }
-        ensures limit { IfOk result (λ v. vec_len v ≤ MAX_FILE_LEN) }
+        ensures limit { IfOk result (λ v. vec_len v ≤ max_file_len) }
         ensures files { files self.new ≡ files self.old }
         ensures never_falls { faults self.old ≤ faults self.new }
         ensures no_fault { result ≢ Err ReadFileError.Failed → faults self.new ≡ faults self.old }

@@ -9,7 +9,7 @@ ghost use Rattle.ide_io.specs.Known.{WriteTakes};
 use crate::failed::Failed;
 use crate::fault_count::FaultCount;
 use crate::sink::Sink;
-use std::io::{ErrorKind, Printer, Write};
+use std::io::{ErrorKind, Printer, Stderr, Write};
 
 // How many writes in a row a signal may interrupt.
 const TRIES: usize = 64;
@@ -24,6 +24,9 @@ pub struct WriterSink<W> {
 
 /// Standard output: `StdoutSink::new(io::writer(&rt))`.
 pub type StdoutSink<'a, R> = WriterSink<Printer<'a, R>>;
+
+/// Standard error: `StderrSink::new(io::writer(&rt.stderr()))`.
+pub type StderrSink<'a> = WriterSink<Printer<'a, Stderr>>;
 
 impl<W> WriterSink<W> {
     /// The sink of a writer, which has met no fault.

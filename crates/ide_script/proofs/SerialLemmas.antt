@@ -7,9 +7,10 @@ use Rattle.std.proofs.lemmas.Option.{slice_get_within, get_or_from_slice_get}
 use Rattle.write_history.specs.declared.change.Entry.{Entry}
 use Rattle.write_history.specs.declared.change.Change.TheVariants.{Intake}
 use Rattle.write_history.specs.declared.refusal.Refusal.{Refusal}
-use Rattle.write_history.specs.World.{World, File, empty_world, is_unready, unready_files, lowest_unready}
+use Rattle.list_laws.proofs.BoolLemmas.{bool_cases}
+use Rattle.write_history.specs.World.{World, File, is_unready, unready_files, lowest_unready}
 use Rattle.write_history.specs.Effect.{refusal_of}
-use Rattle.write_history.specs.Fold.{fold, fold_from, effect_of, IsLegal, IsLegalFrom}
+use Rattle.write_history.specs.Fold.{fold, fold_from, effect_of}
 use Rattle.ide_world.specs.declared.data.Made.{Made}
 use Rattle.ide_world.specs.Prepared.{Task, task_with_id, task_of, IsOfWorld}
 use Rattle.script_lang.specs.declared.line.Line.{Line}
@@ -19,25 +20,9 @@ use Rattle.ide_script.specs.declared.record.Answer.TheVariants.{Smart, Refused}
 use Rattle.ide_script.specs.Settle.{IsOfLowest}
 use Rattle.ide_script.specs.Serial.{settle_step, intakes, settle_unless, with_entry, entry_of, intake_of, step_of, after_step, run_from, Done}
 
--- by whether a test holds
-bool_cases : (b : Bool) (P : Bool → Type 0) → (b ≡ true → P true) → (b ≡ false → P false) → P b
-bool_cases b P = elim b as (λ v. (v ≡ true → P true) → (v ≡ false → P false) → P v) [ true ↦ λ holds fails. holds refl | false ↦ λ holds fails. fails refl ]
-
--- one entry more is one change more
-fold_from-append : (world : World) (history : List Entry) (entry : Entry) → fold_from world (history ++ entry ∷ []) ≡ effect_of (fold_from world history) entry.change
-fold_from-append world [] entry = refl
-fold_from-append world (first ∷ history) entry = fold_from-append (effect_of world first.change) history entry
-
-pub fold-append : (history : List Entry) (entry : Entry) → fold (history ++ entry ∷ []) ≡ effect_of (fold history) entry.change
-fold-append = fold_from-append empty_world
-
-IsLegalFrom-append : (world : World) (history : List Entry) (entry : Entry) → IsLegalFrom world history → refusal_of (fold_from world history) entry.change ≡ None → IsLegalFrom world (history ++ entry ∷ [])
-IsLegalFrom-append world [] entry h accepted = (accepted, tt)
-IsLegalFrom-append world (first ∷ history) entry h accepted = (h.0, IsLegalFrom-append (effect_of world first.change) history entry h.1 accepted)
-
--- a history stays legal with an entry that isn't refused
-pub IsLegal-append : (history : List Entry) (entry : Entry) → IsLegal history → refusal_of (fold history) entry.change ≡ None → IsLegal (history ++ entry ∷ [])
-IsLegal-append = IsLegalFrom-append empty_world
+-- a longer history goes on from the world of the shorter one
+abbrev pub FoldsOn : Type 0
+FoldsOn = (earlier later : List Entry) → fold (earlier ++ later) ≡ fold_from (fold earlier) later
 
 -- the first that passes is the head of those that pass
 found_first : {X : Type 0} (test : X → Bool) (xs : List X) (x : X) → find test xs ≡ Some x → (others : List X) × (filter test xs ≡ x ∷ others)
@@ -71,21 +56,21 @@ settle_step-refused history line file why lowest refused =
     ∙ ap (λ r. settle_unless r history (entry_of line (intake_of file)) (intakes (history ++ entry_of line (intake_of file) ∷ []) line found.0)) refused
 
 -- else it goes on after that intake
-pub settle_step-accepted : ReadiesOne → (history : List Entry) (line : ℕ) (file : File) → lowest_unready (fold history) ≡ Some file → refusal_of (fold history) (intake_of file) ≡ None
+pub settle_step-accepted : FoldsOn → ReadiesOne → (history : List Entry) (line : ℕ) (file : File) → lowest_unready (fold history) ≡ Some file → refusal_of (fold history) (intake_of file) ≡ None
     → settle_step history line ≡ with_entry (entry_of line (intake_of file)) (settle_step (history ++ entry_of line (intake_of file) ∷ []) line)
-settle_step-accepted law history line file lowest accepted =
+settle_step-accepted folds law history line file lowest accepted =
     let found = found_first (is_unready (fold history)) (fold history).files file lowest in
     let entry : Entry = entry_of line (intake_of file) in
     ap (intakes history line) found.1
     ∙ ap (λ r. settle_unless r history entry (intakes (history ++ entry ∷ []) line found.0)) accepted
-    ∙ ap (λ files. with_entry entry (intakes (history ++ entry ∷ []) line files)) (sym (ap unready_files (fold-append history entry) ∙ law history file found.0 found.1))
+    ∙ ap (λ files. with_entry entry (intakes (history ++ entry ∷ []) line files)) (sym (ap unready_files (folds history (entry ∷ [])) ∙ law history file found.0 found.1))
 
 -- and fewer files are unready then
-pub fewer_unready : ReadiesOne → (history : List Entry) (line : ℕ) (file : File) → lowest_unready (fold history) ≡ Some file
+pub fewer_unready : FoldsOn → ReadiesOne → (history : List Entry) (line : ℕ) (file : File) → lowest_unready (fold history) ≡ Some file
     → length (unready_files (fold (history ++ entry_of line (intake_of file) ∷ []))) < length (unready_files (fold history))
-fewer_unready law history line file lowest =
+fewer_unready folds law history line file lowest =
     let found = found_first (is_unready (fold history)) (fold history).files file lowest in
-    let fewer : length (unready_files (fold (history ++ entry_of line (intake_of file) ∷ []))) ≡ length found.0 = ap length (ap unready_files (fold-append history (entry_of line (intake_of file))) ∙ law history file found.0 found.1) in
+    let fewer : length (unready_files (fold (history ++ entry_of line (intake_of file) ∷ []))) ≡ length found.0 = ap length (ap unready_files (folds history (entry_of line (intake_of file) ∷ [])) ∙ law history file found.0 found.1) in
     let before : length (unready_files (fold history)) ≡ length (file ∷ found.0) = ap length found.1 in
     omega (arith, fewer, before)
 
@@ -121,17 +106,17 @@ no_task view job world value id task same told is none = let seen : Some task �
 -- what was made of that task is of the lowest unready file
 pub made_of_lowest : {E : Type 0} (world value : World) (id : ℕ) (job : Task) (file : File) (result : Result Made E) → world ≡ value → Some job ≡ task_with_id world id → lowest_unready value ≡ Some file
     → task_with_id value id ≡ Some (task_of file) → IsOfWorld world job → IfOk result (λ made. made.file ≡ job.file) → IfOk result (λ made. made.stamp ≡ job.stamp)
-    → IfOk result (λ made. made.text.value ≡ job.content) → IfOk result (λ made. IsOfLowest value made.file made.stamp made.text.value)
+    → IfOk result (λ made. made.text ≡ job.content) → IfOk result (λ made. IsOfLowest value made.file made.stamp made.text)
 made_of_lowest world value id job file (Ok made) same told lowest is of_world files stamps texts =
     let seen : Some job ≡ Some (task_of file) = told ∙ ap (λ w. task_with_id w id) same ∙ is in
     let task : job ≡ task_of file = cc in
-    let made_task : job ≡ record { file = made.file; stamp = made.stamp; content = made.text.value } = cc in
+    let made_task : job ≡ record { file = made.file; stamp = made.stamp; content = made.text } = cc in
     record {
       file = file;
       lowest = lowest;
       same_id = files ∙ ap (λ (t : Task). t.file) task;
       same_stamp = stamps ∙ ap (λ (t : Task). t.stamp) task;
-      of_world = subst (λ w. IsOfWorld w (record { file = made.file; stamp = made.stamp; content = made.text.value })) same (subst (IsOfWorld world) made_task of_world);
+      of_world = subst (λ w. IsOfWorld w (record { file = made.file; stamp = made.stamp; content = made.text })) same (subst (IsOfWorld world) made_task of_world);
     }
 made_of_lowest world value id job file (Err e) same told lowest is of_world files stamps texts = tt
 

@@ -9,7 +9,7 @@ pub mod Run
 pub mod Progress
 pub mod Settle
 -- What these cite from below: scripts, answers, the history, and the outside
-pub use Rattle.script_lang.specs.Script
+pub use Rattle.script_lang.specs.Grammar
 pub use Rattle.ide_world.specs.Reply
 pub use Rattle.write_history.specs.World
 pub use Rattle.write_history.specs.Effect

@@ -1,53 +1,90 @@
 -- How a run of the program ends.
-use Rattle.std.specs.Prelude.{ℕ, ◌≡◌, ◌≤◌, List, length, Option, IfSome, Ok, Err}
+use Rattle.std.specs.Prelude.{ℕ, ◌≡◌, ◌≢◌, ◌↔◌, ◌+◌, ◌⊎◌, false, List, Option}
 use Rattle.std.specs.Io.KnownBytes.{append_known}
-use Rattle.ide_io.specs.Known.{TakesPrefix, TakesOver}
-use Rattle.ide_io.specs.Fault.{HasFault}
+use Rattle.ide_io.specs.Known.{ReadsToEnd, TakesPrefix, TakesCount}
+use Rattle.ide_io.specs.Fault.{HasFault, next_count}
 use Rattle.script_lang.specs.declared.line.Line.{Line}
-use Rattle.script_lang.specs.declared.refusal.ScriptRefusal.TheVariants.{BadLine}
-use Rattle.script_lang.specs.Script.{script_of}
+use Rattle.script_lang.specs.Lines.{max_bytes}
+use Rattle.script_lang.specs.Grammar.{IsScript, IsFirstBadLine}
 use Rattle.ide_script.specs.declared.status.Status.{Status}
 use Rattle.ide_script.specs.declared.status.Status.TheVariants.{Done, Usage, BadScript, SourceFault, TreeFault, SinkFault, OutOfMemory, ScriptTooLong}
+use Rattle.ide_script.specs.Status.{number_of, fault_line}
 use Rattle.ide_script.specs.Transcript.{serial}
+use Rattle.ide_script.specs.Words.{is_command}
 
--- the most bytes that a script may have
-abbrev pub max_bytes : ℕ
-max_bytes = 16777216
+-- the source was read to its end, and its bytes spell the script
+pub record GivesScript {S : Type 0} (left : S → Option (List ℕ)) (ends : S → ℕ) (old new : S) (script : List Line) : Type 0 where
+  pub bytes : List ℕ
+  pub read : ReadsToEnd left ends old new bytes
+  pub is : IsScript bytes script
 
--- the bytes spell a script, of which P holds
-abbrev pub SpellsScript : List ℕ → (List Line → Type 0) → Type 0
-SpellsScript bytes P = (script : List Line) × (script_of bytes ≡ Ok script) × P script
+-- the source was read to its end, and this line is the first that its bytes have outside the grammar
+pub record GivesBadLine {S : Type 0} (left : S → Option (List ℕ)) (ends : S → ℕ) (old new : S) (line : ℕ) : Type 0 where
+  pub bytes : List ℕ
+  pub read : ReadsToEnd left ends old new bytes
+  pub is : IsFirstBadLine bytes line
 
--- the sink took exactly the transcript of the script that the source gave, after what it held
-abbrev pub WritesTranscript : Option (List ℕ) → Option (List ℕ) → Option (List ℕ) → Type 0
-WritesTranscript source old new = IfSome source (λ bytes. SpellsScript bytes (λ script. new ≡ append_known old (serial script)))
+-- the source gave a script, and the sink took exactly its transcript, after what it held
+pub record WritesTranscript {S : Type 0} (left : S → Option (List ℕ)) (ends : S → ℕ) (old new : S) (before after : Option (List ℕ)) : Type 0 where
+  pub script : List Line
+  pub read : GivesScript left ends old new script
+  pub taken : after ≡ append_known before (serial script)
 
--- the sink took a prefix of that transcript
-abbrev pub WritesPrefix : Option (List ℕ) → Option (List ℕ) → Option (List ℕ) → Type 0
-WritesPrefix source old new = IfSome source (λ bytes. SpellsScript bytes (λ script. TakesPrefix old new (serial script)))
+-- the source gave a script, and the sink took a prefix of its transcript
+pub record WritesPrefix {S : Type 0} (left : S → Option (List ℕ)) (ends : S → ℕ) (old new : S) (before after : Option (List ℕ)) : Type 0 where
+  pub script : List Line
+  pub read : GivesScript left ends old new script
+  pub taken : TakesPrefix before after (serial script)
 
--- the line is the first that is outside the grammar, in bytes that are few enough for a script
-abbrev pub HasBadLine : Option (List ℕ) → ℕ → Type 0
-HasBadLine source line = IfSome source (λ bytes. (length bytes ≤ max_bytes) × (script_of bytes ≡ Err (BadLine line)))
+-- when each answer comes, and what was read and written then
+abbrev pub RunEnds : {S K : Type 0} → (S → Option (List ℕ)) → (S → ℕ) → (S → ℕ) → (K → Option (List ℕ)) → (K → ℕ) → S → S → K → K → Status → Type 0
+RunEnds left ends faults taken misses source source' sink sink' Done = WritesTranscript left ends source source' (taken sink) (taken sink')
+RunEnds left ends faults taken misses source source' sink sink' (BadScript line) = GivesBadLine left ends source source' line
+RunEnds left ends faults taken misses source source' sink sink' ScriptTooLong = TakesCount (max_bytes + 1) (left source) (left source')
+RunEnds left ends faults taken misses source source' sink sink' SourceFault = HasFault (faults source) (faults source')
+RunEnds left ends faults taken misses source source' sink sink' TreeFault = ⊥
+RunEnds left ends faults taken misses source source' sink sink' SinkFault =
+    HasFault (misses sink) (misses sink') × WritesPrefix left ends source source' (taken sink) (taken sink')
+RunEnds left ends faults taken misses source source' sink sink' OutOfMemory = Unit {0}
+RunEnds left ends faults taken misses source source' sink sink' Usage = Unit {0}
+
+-- the end was told once, or not at all
+abbrev pub TellsEndOnce : ℕ → ℕ → Type 0
+TellsEndOnce old new = (new ≡ old) ⊎ (new ≡ next_count old)
 
 -- why a script wasn't read
-abbrev pub ReadStops : {S : Type 0} → (S → Option (List ℕ)) → (S → ℕ) → S → S → Status → Type 0
-ReadStops left faults old new (BadScript line) = HasBadLine (left old) line
-ReadStops left faults old new ScriptTooLong = TakesOver max_bytes (left old) (left new)
-ReadStops left faults old new SourceFault = HasFault (faults old) (faults new)
-ReadStops left faults old new OutOfMemory = Unit {0}
-ReadStops left faults old new Done = ⊥
-ReadStops left faults old new Usage = ⊥
-ReadStops left faults old new TreeFault = ⊥
-ReadStops left faults old new SinkFault = ⊥
+abbrev pub ReadStops : {S : Type 0} → (S → Option (List ℕ)) → (S → ℕ) → (S → ℕ) → S → S → Status → Type 0
+ReadStops left ends faults old new (BadScript line) = GivesBadLine left ends old new line
+ReadStops left ends faults old new ScriptTooLong = TakesCount (max_bytes + 1) (left old) (left new)
+ReadStops left ends faults old new SourceFault = HasFault (faults old) (faults new)
+ReadStops left ends faults old new OutOfMemory = Unit {0}
+ReadStops left ends faults old new Done = ⊥
+ReadStops left ends faults old new Usage = ⊥
+ReadStops left ends faults old new TreeFault = ⊥
+ReadStops left ends faults old new SinkFault = ⊥
 
 -- how the writing of some bytes ended
 abbrev pub WriteEnds : {K : Type 0} → (K → Option (List ℕ)) → (K → ℕ) → K → K → List ℕ → Status → Type 0
 WriteEnds taken faults old new bytes Done = taken new ≡ append_known (taken old) bytes
 WriteEnds taken faults old new bytes SinkFault = HasFault (faults old) (faults new) × TakesPrefix (taken old) (taken new) bytes
-WriteEnds taken faults old new bytes OutOfMemory = taken new ≡ taken old
+WriteEnds taken faults old new bytes OutOfMemory = new ≡ old
 WriteEnds taken faults old new bytes Usage = ⊥
 WriteEnds taken faults old new bytes (BadScript line) = ⊥
 WriteEnds taken faults old new bytes SourceFault = ⊥
 WriteEnds taken faults old new bytes TreeFault = ⊥
 WriteEnds taken faults old new bytes ScriptTooLong = ⊥
+
+-- the line of the status was written, unless the stream for errors met a fault
+abbrev pub TellsStatus : {E : Type 0} → (E → Option (List ℕ)) → (E → ℕ) → E → E → Status → Type 0
+TellsStatus taken faults old new status = HasFault (faults old) (faults new) ⊎ (taken new ≡ append_known (taken old) (fault_line status))
+
+-- how the process ends: with the number of a status, whose line was written, and which says how the run on these words ended
+pub record EndsWith {S K E : Type 0} (left : S → Option (List ℕ)) (ends faults : S → ℕ) (taken : K → Option (List ℕ)) (misses : K → ℕ)
+    (told : E → Option (List ℕ)) (flaws : E → ℕ) (source source' : S) (sink sink' : K) (error error' : E) (words : List (List ℕ)) (number : ℕ) : Type 0 where
+  pub status : Status
+  pub numbered : number ≡ number_of status
+  pub line : TellsStatus told flaws error error' status
+  pub run : RunEnds left ends faults taken misses source source' sink sink' status
+  pub usage : (status ≡ Usage) ↔ (is_command words ≡ false)
+  pub unread : status ≡ Usage → source' ≡ source
+  pub silent : status ≢ Done → status ≢ SinkFault → sink' ≡ sink

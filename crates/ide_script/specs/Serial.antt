@@ -9,6 +9,8 @@ use Rattle.write_history.specs.Effect.{refusal_of}
 use Rattle.write_history.specs.Fold.{fold}
 use Rattle.script_lang.specs.declared.command.Command.{Command}
 use Rattle.script_lang.specs.declared.command.Command.TheVariants as command
+use Rattle.script_lang.specs.declared.command.Query.{Query}
+use Rattle.script_lang.specs.declared.command.Query.TheVariants as query
 use Rattle.script_lang.specs.declared.line.Line.{Line}
 use Rattle.ide_world.specs.declared.reply.WordRow.{WordRow}
 use Rattle.ide_world.specs.Reply.{word_reply}
@@ -34,6 +36,7 @@ abbrev pub step_unless : Option Refusal → List Entry → Entry → Step
 step_unless None history entry = record { added = entry ∷ []; answer = Accepted (length history + 1) }
 step_unless (Some why) history entry = record { added = []; answer = Refused (length history) why }
 
+-- what a change of a line adds and is answered
 abbrev pub change_step : List Entry → ℕ → Change → Step
 change_step history line change = step_unless (refusal_of (fold history) change) history (entry_of line change)
 
@@ -66,16 +69,19 @@ abbrev pub answer_of : ℕ → Result (List WordRow) (List ℕ) → Answer
 answer_of at (Ok rows) = Words at rows
 answer_of at (Err path) = NotReady at path
 
--- a question adds nothing
+-- a question for a word adds nothing
 abbrev pub word_step : List Entry → List ℕ → Step
 word_step history name = record { added = []; answer = answer_of (length history) (word_reply (fold history) name) }
 
+-- a question is answered by what it asks for
+abbrev pub query_step : List Entry → Query → Step
+query_step history (query.Word name) = word_step history name
+
 -- what a command of a line does
 abbrev pub step_of : List Entry → ℕ → Command → Step
-step_of history line (command.Create path text) = change_step history line (change.Create path text)
-step_of history line (command.Write path text) = change_step history line (change.Write path text)
+step_of history line (command.Change change) = change_step history line change
 step_of history line command.Settle = settle_step history line
-step_of history line (command.Word name) = word_step history name
+step_of history line (command.Ask query) = query_step history query
 
 -- a history and the records of the commands so far
 pub record Done : Type 0 where

@@ -1,5 +1,5 @@
 -- The numbers and the words of the ways in which a run ends.
-use Rattle.std.specs.Prelude.{ℕ, List, ◌++◌, codes}
+use Rattle.std.specs.Prelude.{ℕ, List, [], ◌++◌, codes}
 use Rattle.std.specs.Fmt.{decimal}
 use Rattle.ide_script.specs.declared.status.Status.{Status}
 use Rattle.ide_script.specs.declared.status.Status.TheVariants.{Done, Usage, BadScript, SourceFault, TreeFault, SinkFault, OutOfMemory, ScriptTooLong}
@@ -15,13 +15,13 @@ number_of SinkFault = 5
 number_of OutOfMemory = 6
 number_of ScriptTooLong = 7
 
--- what the line on standard error says behind the program's name; a run that is done prints none
-abbrev pub fault_text : Status → List ℕ
-fault_text Done = codes "done"
-fault_text Usage = codes "usage"
-fault_text (BadScript line) = codes "bad script line " ++ decimal line
-fault_text SourceFault = codes "source fault"
-fault_text TreeFault = codes "tree fault"
-fault_text SinkFault = codes "sink fault"
-fault_text OutOfMemory = codes "out of memory"
-fault_text ScriptTooLong = codes "script too long"
+-- the line on standard error; a run that is done writes none
+abbrev pub fault_line : Status → List ℕ
+fault_line Done = []
+fault_line Usage = codes "ide: usage\n"
+fault_line (BadScript line) = codes "ide: bad script line " ++ decimal line ++ codes "\n"
+fault_line SourceFault = codes "ide: source fault\n"
+fault_line TreeFault = codes "ide: tree fault\n"
+fault_line SinkFault = codes "ide: sink fault\n"
+fault_line OutOfMemory = codes "ide: out of memory\n"
+fault_line ScriptTooLong = codes "ide: script too long\n"

@@ -25,6 +25,7 @@ joined [] = []
 joined (place ∷ []) = place
 joined (place ∷ other ∷ places) = place ++ codes "+" ++ joined (other ∷ places)
 
+-- the text of a mask
 abbrev pub mask_text : ℕ → List ℕ
 mask_text mask = joined (places_of mask)
 

@@ -7,3 +7,8 @@ is_command [] = false
 is_command (name ∷ []) = true
 is_command (name ∷ word ∷ []) = bytes_eq word (codes "play")
 is_command (name ∷ word ∷ other ∷ words) = false
+
+-- the words of a command line: the program's name where the system gives none
+abbrev pub given_words : List (List ℕ) → List (List ℕ)
+given_words [] = codes "ide" ∷ []
+given_words (name ∷ words) = name ∷ words

@@ -1,11 +1,10 @@
 //! The top call: everything that the program does, over a source, a tree and a sink.
-ghost use Rattle.std.specs.Prelude.{ℕ, ◌≡◌, ◌≢◌, ◌<◌, ◌↔◌, false, map, length, string_bytes, Ok, IfSome, IfOk, IfErr};
-ghost use Rattle.ide_io.specs.Fault.{HasFault};
-ghost use Rattle.ide_io.specs.Known.{TakesOver};
+ghost use Rattle.std.specs.Prelude.{ℕ, ◌≡◌, ◌≢◌, ◌<◌, ◌↔◌, false, map, length, string_bytes, IfOk, IfErr};
+ghost use Rattle.ide_io.specs.Known.{TakesAtMost};
+ghost use Rattle.script_lang.specs.Lines.{max_bytes};
 ghost use Rattle.ide_script.specs.Words.{is_command};
-ghost use Rattle.script_lang.specs.Script.{script_of};
 ghost use Rattle.ide_script.specs.Transcript.{serial};
-ghost use Rattle.ide_script.specs.Run.{HasBadLine, WritesTranscript, WritesPrefix, ReadStops, WriteEnds};
+ghost use Rattle.ide_script.specs.Run.{RunEnds, GivesScript, TellsEndOnce, ReadStops, WriteEnds};
 
 use crate::{Status, play, transcript};
 use ide_io::{ReadAllError, Sink, Source, Tree, read_all, write_all};
@@ -27,26 +26,21 @@ pub fn run_ide<R: Threads + Wait, S: Source, T: Tree, K: Sink>(
 ) -> Status
     requires { 0 < length words.now }
 
-    // Done: the sink took exactly the transcript.
-    ensures done { result ≡ Status.Done → WritesTranscript (S.left script.old) (K.taken out.old) (K.taken out.new) }
-
-    // When each other answer comes.
+    // When each answer comes, and what was read and written then.
+    ensures ends { RunEnds S.left S.ends S.faults K.taken K.faults script.old script.new out.old out.new result }
     ensures usage { (result ≡ Status.Usage) ↔ (is_command (map string_bytes words.now) ≡ false) }
-    ensures bad_script { (line : ℕ) → result ≡ Status.BadScript line → HasBadLine (S.left script.old) line }
-    ensures too_long { result ≡ Status.ScriptTooLong → TakesOver MAX_BYTES (S.left script.old) (S.left script.new) }
-    ensures source_fault { result ≡ Status.SourceFault → HasFault (S.faults script.old) (S.faults script.new) }
-    ensures tree_fault { result ≢ Status.TreeFault }
-    ensures sink_fault { result ≡ Status.SinkFault → HasFault (K.faults out.old) (K.faults out.new) }
 
-    // What the sink holds then.
-    ensures prefix { result ≡ Status.SinkFault → WritesPrefix (S.left script.old) (K.taken out.old) (K.taken out.new) }
-    ensures silent { result ≢ Status.Done → result ≢ Status.SinkFault → K.taken out.new ≡ K.taken out.old }
+    // How much is read: at most one byte past the longest script, and nothing after the end; with a faulty command line nothing.
+    ensures within { result ≢ Status.ScriptTooLong → TakesAtMost max_bytes (S.left script.old) (S.left script.new) }
+    ensures end_once { TellsEndOnce (S.ends script.old) (S.ends script.new) }
+    ensures unread { result ≡ Status.Usage → script.new ≡ script.old }
 
-    // What stays the same: no fault is met but that which is told, the tree isn't asked, and a faulty command line reads nothing.
+    // What stays the same: nothing is written before the run is known to end so, the tree isn't asked, and no fault is met but
+    // that which is told.
+    ensures silent { result ≢ Status.Done → result ≢ Status.SinkFault → out.new ≡ out.old }
+    ensures tree_unasked { tree.new ≡ tree.old }
     ensures source_quiet { result ≢ Status.SourceFault → S.faults script.new ≡ S.faults script.old }
     ensures sink_quiet { result ≢ Status.SinkFault → K.faults out.new ≡ K.faults out.old }
-    ensures tree_quiet { T.faults tree.new ≡ T.faults tree.old }
-    ensures unread { result ≡ Status.Usage → S.left script.new ≡ S.left script.old }
 {
     if !is_play(words) {
         return Status::Usage;
@@ -70,8 +64,10 @@ fn is_play(words: &[String]) -> bool
 
 /// The script that the source gives.
 fn read_script<S: Source>(alloc: Global, source: &mut S) -> Result<Script, Status>
-    ensures ok { IfOk result (λ script. IfSome (S.left source.old) (λ bytes. script_of bytes ≡ Ok script)) }
-    ensures err { IfErr result (ReadStops S.left S.faults source.old source.new) }
+    ensures ok { IfOk result (λ script. GivesScript S.left S.ends source.old source.new script) }
+    ensures err { IfErr result (ReadStops S.left S.ends S.faults source.old source.new) }
+    ensures within { result ≢ Err Status.ScriptTooLong → TakesAtMost max_bytes (S.left source.old) (S.left source.new) }
+    ensures end_once { TellsEndOnce (S.ends source.old) (S.ends source.new) }
     ensures quiet { result ≢ Err Status.SourceFault → S.faults source.new ≡ S.faults source.old }
 {
     let bytes = match read_all(alloc, source, MAX_BYTES) {

@@ -3,7 +3,8 @@ ghost use Rattle.std.specs.Prelude.{◌≡◌, ◌+◌, [], ◌∷◌, ◌++◌,
 ghost use Rattle.write_history.specs.World.{lowest_unready};
 ghost use Rattle.write_history.specs.Fold.{fold, IsLegal};
 ghost use Rattle.ide_world.specs.Prepared.{IsEdit, IsReadyFor};
-ghost use Rattle.ide_script.specs.Serial.{change_step, settle_step, word_step, step_of, entry_of};
+ghost use Rattle.script_lang.specs.Held.{IsOfLine};
+ghost use Rattle.ide_script.specs.Serial.{change_step, settle_step, word_step, query_step, step_of, entry_of};
 ghost use Rattle.ide_script.specs.Settle.{IsOfLowest, TakesIn};
 
 use crate::Answer;
@@ -12,10 +13,10 @@ use ide_world::{
     Made, Ready, State, WordRefusal, ask_word, install, job, lowest_unready, make, prepare,
     prepare_intake, reserve,
 };
-use script_lang::{Command, Line};
+use script_lang::{Command, Line, Query};
 use std::alloc::{AllocError, Global};
 use std::marker::Model;
-use write_history::laws::intake_readies_one;
+use write_history::laws::{histories_go_on, intake_readies_one};
 use write_history::{Change, Entry, History, Refusal};
 
 /// The seat of the prelude.
@@ -69,26 +70,17 @@ impl Session {
 
     /// Does what the command of a line asks for, and gives its answer.
     pub(crate) fn perform(&mut self, line: &Line) -> Result<Answer, AllocError>
+        requires { IsOfLine line.now.command }
         ensures answer { IfOk result (λ answer. answer ≡ (step_of self.old line.now.number line.now.command).answer) }
         ensures history { OnOk result (self.new ≡ self.old ++ (step_of self.old line.now.number line.now.command).added) }
     {
         match &line.command {
-            Command::Create { path, text } => {
-                let change = Change::Create {
-                    path: path.copy()?,
-                    text: text.copy()?,
-                };
-                self.change(line.number, change)
-            }
-            Command::Write { path, text } => {
-                let change = Change::Write {
-                    path: path.copy()?,
-                    text: text.copy()?,
-                };
+            Command::Change(change) => {
+                let change = change.copy()?;
                 self.change(line.number, change)
             }
             Command::Settle => self.settle(line.number),
-            Command::Word { name } => self.word(name),
+            Command::Ask(query) => self.ask(query),
         }
     }
 
@@ -98,7 +90,7 @@ impl Session {
         ensures answer { IfOk result (λ answer. answer ≡ (change_step self.old line change).answer) }
         ensures history { OnOk result (self.new ≡ self.old ++ (change_step self.old line change).added) }
     {
-        match prepare(self.alloc, &self.state, &change) {
+        match prepare(&self.state, &change) {
             Ok(ready) => {
                 let at = self.accept(ready, line, change)?;
                 Ok(Answer::Accepted { at })
@@ -116,6 +108,7 @@ impl Session {
         ensures answer { IfOk result (λ answer. answer ≡ (settle_step self.old line).answer) }
         ensures history { OnOk result (self.new ≡ self.old ++ (settle_step self.old line).added) }
     {
+        histories_go_on();
         intake_readies_one();
         while let Some(id) = lowest_unready(&self.state) {
             if let Some(why) = self.take_in(line, id)? {
@@ -128,6 +121,15 @@ impl Session {
         Ok(Answer::Smart {
             at: self.history.len(),
         })
+    }
+
+    /// The answer to a question.
+    fn ask(&self, query: &Query) -> Result<Answer, AllocError>
+        ensures { IfOk result (λ answer. answer ≡ (query_step self.now query.now).answer) }
+    {
+        match query {
+            Query::Word { name } => self.word(name),
+        }
     }
 
     /// The files that have a word.
@@ -164,7 +166,7 @@ impl Session {
     /// The index data of the lowest unready file.
     fn make_lowest(&self, id: u32) -> Result<Made, AllocError>
         requires { option_map (λ file. file.id) (lowest_unready (fold self.now)) ≡ Some id }
-        ensures { IfOk result (λ made. IsOfLowest (fold self.now) made.file made.stamp made.text.value) }
+        ensures { IfOk result (λ made. IsOfLowest (fold self.now) made.file made.stamp made.text) }
     {
         let Some(job) = job(&self.state, id)? else {
             unreachable!()
@@ -179,6 +181,7 @@ impl Session {
         ensures position { IfOk result (λ position. position ≡ length self.old + 1) }
         ensures history { OnOk result (self.new ≡ self.old ++ entry_of line change ∷ []) }
     {
+        histories_go_on();
         reserve(&mut self.state, &ready)?;
         self.history.reserve()?;
         install(&mut self.state, ready);

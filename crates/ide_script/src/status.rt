@@ -2,8 +2,6 @@
 ghost use Rattle.std.specs.Prelude.{◌≡◌};
 ghost use Rattle.ide_script.specs.Status.{number_of};
 
-use std::fmt;
-
 /// How a run of the program ends. `main` ends with its number.
 #[derive(Clone, Copy, Debug, PartialEq, Eq)]
 pub enum Status {
@@ -35,26 +33,6 @@ impl Status {
             Status::SinkFault => 5,
             Status::OutOfMemory => 6,
             Status::ScriptTooLong => 7,
-        }
-    }
-}
-
-impl fmt::Display for Status {
-    ghost use Rattle.std.specs.Prelude.{Some};
-    ghost use Rattle.ide_script.specs.Status.{fault_text};
-
-    ghost output = { λ status. Some (fault_text status) };
-
-    fn fmt<W: fmt::Write>(&self, f: &mut fmt::Formatter<W>) -> fmt::Result {
-        match self {
-            Status::Done => write!(f, "done"),
-            Status::Usage => write!(f, "usage"),
-            Status::BadScript { line } => write!(f, "bad script line {line}"),
-            Status::SourceFault => write!(f, "source fault"),
-            Status::TreeFault => write!(f, "tree fault"),
-            Status::SinkFault => write!(f, "sink fault"),
-            Status::OutOfMemory => write!(f, "out of memory"),
-            Status::ScriptTooLong => write!(f, "script too long"),
         }
     }
 }

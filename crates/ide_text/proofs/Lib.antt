@@ -1,1 +1,2 @@
+pub mod Utf8Lemmas
 pub mod TextLemmas

@@ -1,15 +1,17 @@
 -- The column that follows a list of characters, and the text that bytes spell.
-use Rattle.std.proofs.Common.{ℕ, ◌≡◌, ◌≢◌, ◌+◌, ◌<◌, ◌≤◌, Bool, true, false, List, [], ◌∷◌, ◌++◌, length, take, get_or, encode_utf8_all, encode_utf8, refl, ap, sym, ◌∙◌, ◌||◌, Ok, Err, eq-eqb, append-nil}
+use Rattle.std.proofs.Common.{ℕ, ◌≡◌, ◌≢◌, ◌+◌, ◌<◌, ◌≤◌, Bool, true, false, List, [], ◌∷◌, ◌++◌, length, take, get_or, encode_utf8_all, refl, ap, sym, ◌∙◌, ◌||◌, Ok, Err, eq-eqb, arith}
 use Rattle.std.specs.Prelude.{◌==◌, ◌&&◌, if◌then◌else◌}
 use Rattle.std.specs.List.{list_any}
-use Rattle.std.specs.Str.{chars, IsUtf8}
+use Rattle.std.specs.Str.{chars, IsUtf8, all_scalars}
+use Rattle.std.specs.Cmp.{first_so, second_so}
 use Rattle.std.specs.Str.Lossy.{utf8_valid_len}
-use Rattle.std.proofs.lemmas.Str.{is_utf8-from_IsUtf8, IsUtf8-from_is_utf8, encodes-append}
+use Rattle.std.proofs.lemmas.Str.{is_utf8-from_IsUtf8, IsUtf8-from_is_utf8, encodes-chars, chars-encodes, scalars-chars}
 use Rattle.std.proofs.lemmas.List.{take_more}
 use Rattle.std.proofs.lemmas.Bool.{false≢true, le-leb, lt-leb, ne_eqb}
 use Rattle.ide_text.specs.declared.text.TextRefusal.TheVariants.{NotText, TooLong}
 use Rattle.ide_text.specs.Text.{line_feed, carriage_return, max_chars, repaired, repaired_after, repaired_char, sized_text, text_of, HasNoReturn}
 use Rattle.ide_text.specs.Place.{since_break}
+use Rattle.ide_text.proofs.Utf8Lemmas.{list_any-encodes}
 
 -- after one character more the column is 0 or one more
 since_break-append : (cs : List ℕ) (n c : ℕ) → since_break n (cs ++ c ∷ []) ≡ (if c == line_feed then 0 else since_break n cs + 1)
@@ -29,9 +31,9 @@ since_break_at_break cs i c l e h = since_break_more cs i c l e ∙ ap (λ b. if
 pub since_break_at_other : (cs : List ℕ) (i c : ℕ) → i < length cs → c ≡ get_or cs i c → c ≢ line_feed → since_break 0 (take (i + 1) cs) ≡ since_break 0 (take i cs) + 1
 since_break_at_other cs i c l e h = since_break_more cs i c l e ∙ ap (λ b. if b then 0 else since_break 0 (take i cs) + 1) (ne_eqb c line_feed h)
 
--- the bytes of one character more
-pub encodes_more : (cs : List ℕ) (i c : ℕ) → i < length cs → c ≡ get_or cs i c → encode_utf8_all (take i cs) ++ encode_utf8 c ≡ encode_utf8_all (take (i + 1) cs)
-encodes_more cs i c l e = sym (ap encode_utf8_all (take_more cs i c l ∙ ap (λ d. take i cs ++ d ∷ []) (sym e)) ∙ encodes-append (take i cs) (c ∷ []) ∙ ap (λ bs. encode_utf8_all (take i cs) ++ bs) (append-nil (encode_utf8 c)))
+-- two tests that hold
+both_true : (a b : Bool) → a ≡ true → b ≡ true → (a && b) ≡ true
+both_true a b h k = λ i. h i && k i
 
 -- a test that isn't true is false
 not_true : {b : Bool} → (b ≢ true) → b ≡ false
@@ -41,9 +43,9 @@ not_true {b} = elim b as (λ v. v ≢ true → v ≡ false) [ true ↦ λ h. abs
 text_of-utf8 : (bytes : List ℕ) → IsUtf8 bytes → text_of bytes ≡ sized_text (repaired (chars bytes))
 text_of-utf8 bytes u = ap (λ b. if b then sized_text (repaired (chars bytes)) else Err (NotText (utf8_valid_len bytes))) (is_utf8-from_IsUtf8 bytes u)
 
--- the same where the bytes are a given text, whose repaired characters are these
-pub text_of-spelled : (bytes text cs : List ℕ) → (text ≡ bytes) × IsUtf8 bytes → cs ≡ repaired (chars text) → text_of bytes ≡ sized_text cs
-text_of-spelled bytes text cs h e = text_of-utf8 bytes h.1 ∙ ap sized_text (sym (e ∙ ap (λ t. repaired (chars t)) h.0))
+-- the same where the repaired characters are these
+pub text_of-spelled : (bytes cs : List ℕ) → IsUtf8 bytes → cs ≡ repaired (chars bytes) → text_of bytes ≡ sized_text cs
+text_of-spelled bytes cs u e = text_of-utf8 bytes u ∙ ap sized_text (sym e)
 
 -- bytes that aren't UTF-8 spell no text
 pub text_of-not_utf8 : (bytes : List ℕ) → ¬ IsUtf8 bytes → text_of bytes ≡ Err (NotText (utf8_valid_len bytes))
@@ -84,3 +86,32 @@ repaired-none (c ∷ cs) none =
     or_false : (a b : Bool) → (a || b) ≡ false → (a ≡ false) × (b ≡ false)
     or_false true b h = absurd (false≢true (sym h))
     or_false false b h = (refl, h)
+
+-- the same of the characters of bytes among which it doesn't stand
+pub repaired-without : (bytes : List ℕ) → IsUtf8 bytes → list_any (λ b. b == carriage_return) bytes ≡ false → repaired (chars bytes) ≡ chars bytes
+repaired-without bytes u none =
+    repaired-none (chars bytes)
+    (sym (list_any-encodes (chars bytes) carriage_return (omega arith)) ∙ ap (list_any (λ b. b == carriage_return)) (encodes-chars bytes u) ∙ none)
+
+-- scalar values stay such
+all_scalars-append : (xs ys : List ℕ) → all_scalars xs ≡ true → all_scalars ys ≡ true → all_scalars (xs ++ ys) ≡ true
+all_scalars-append [] ys h k = k
+all_scalars-append (x ∷ xs) ys h k = both_true _ _ (first_so _ _ h) (all_scalars-append xs ys (second_so _ _ h) k)
+
+all_scalars-repaired_char : (after_return : Bool) (c : ℕ) → all_scalars (c ∷ []) ≡ true → all_scalars (repaired_char after_return c) ≡ true
+all_scalars-repaired_char after_return c h =
+    elim (c == carriage_return) as (λ b. all_scalars (if b then line_feed ∷ [] else (if after_return && c == line_feed then [] else c ∷ [])) ≡ true) [
+      | true ↦ refl
+      | false ↦ elim (after_return && c == line_feed) as (λ b. all_scalars (if b then [] else c ∷ []) ≡ true) [ true ↦ refl | false ↦ h ]
+    ]
+
+pub all_scalars-repaired_after : (after_return : Bool) (cs : List ℕ) → all_scalars cs ≡ true → all_scalars (repaired_after after_return cs) ≡ true
+all_scalars-repaired_after after_return [] h = refl
+all_scalars-repaired_after after_return (c ∷ cs) h =
+    all_scalars-append (repaired_char after_return c) _
+    (all_scalars-repaired_char after_return c (both_true _ _ (first_so _ _ h) refl))
+    (all_scalars-repaired_after (c == carriage_return) cs (second_so _ _ h))
+
+-- so the repaired characters in UTF-8 spell themselves
+pub chars-repaired : (bytes out : List ℕ) → IsUtf8 bytes → out ≡ encode_utf8_all (repaired (chars bytes)) → chars out ≡ repaired (chars bytes)
+chars-repaired bytes out u e = ap chars e ∙ chars-encodes (repaired (chars bytes)) (all_scalars-repaired_after false (chars bytes) (scalars-chars bytes u))

@@ -1,6 +1,6 @@
 -- Texts: lists of Unicode scalar values, by code, whose one line break is U+000A.
-use Rattle.std.specs.Prelude.{ℕ, ◌≡◌, ◌≤◌, Bool, false, ◌&&◌, List, [], ◌∷◌, ◌++◌, length, nat_le, ◌==◌, if◌then◌else◌, Result, Ok, Err}
-use Rattle.std.specs.Str.{chars, is_utf8}
+use Rattle.std.specs.Prelude.{ℕ, ◌≡◌, ◌≤◌, Bool, false, IsTrue, ◌&&◌, List, [], ◌∷◌, ◌++◌, length, nat_le, ◌==◌, if◌then◌else◌, Result, Ok, Err}
+use Rattle.std.specs.Str.{chars, is_utf8, all_scalars}
 use Rattle.std.specs.Str.Lossy.{utf8_valid_len}
 use Rattle.ide_text.specs.declared.text.TextRefusal.{TextRefusal}
 use Rattle.ide_text.specs.declared.text.TextRefusal.TheVariants.{NotText, TooLong, OutOfMemory}
@@ -9,10 +9,11 @@ use Rattle.ide_text.specs.declared.text.TextRefusal.TheVariants.{NotText, TooLon
 abbrev pub max_chars : ℕ
 max_chars = 1048576
 
--- U+000A and U+000D
+-- U+000A, the line break of a text
 abbrev pub line_feed : ℕ
 line_feed = 10
 
+-- U+000D, which no text has
 abbrev pub carriage_return : ℕ
 carriage_return = 13
 
@@ -52,4 +53,5 @@ HasNoReturn (c ∷ cs) = ((c == carriage_return) ≡ false) × HasNoReturn cs
 -- what a list of characters needs to be a text
 pub record IsText (cs : List ℕ) : Type 0 where
   pub few : length cs ≤ max_chars
+  pub scalars : IsTrue (all_scalars cs)
   pub no_return : HasNoReturn cs

@@ -1,7 +1,8 @@
 //! How the characters of a text lie in memory: a byte each where all of them are ASCII, as in most sources.
-ghost use Rattle.std.specs.Prelude.{◌≡◌, ◌≤◌, ◌<◌, ◌-◌, ◌++◌, IfOk, IfSome, OnOk, Some, length, slice_get, take, drop};
+ghost use Rattle.std.specs.Prelude.{◌≡◌, ◌≤◌, ◌<◌, ◌-◌, ◌++◌, IfOk, OnOk, Some, length, slice_get, take, drop, encode_utf8_all};
 ghost use Rattle.std.specs.Str.{chars};
-ghost use Rattle.ide_text.specs.Chars.{chars_of};
+ghost use Rattle.std.specs.String.{string_bytes};
+ghost use Rattle.ide_text.specs.Chars.{chars_of, IsKept};
 ghost use Rattle.ide_text.specs.Text.{repaired, repaired_char};
 
 use std::alloc::{AllocError, Global};
@@ -10,25 +11,21 @@ use std::alloc::{AllocError, Global};
 #[derive(Drop)]
 pub(crate) enum Chars {
     /// All of them are ASCII.
-    Ascii(Vec<u8>),
+    Ascii(String),
     /// Any.
     Any(Vec<char>),
 }
 
 impl Chars {
-    /// The characters of a text, line breaks repaired.
-    pub(crate) fn repaired(alloc: Global, text: &str) -> Result<Chars, AllocError>
-        ensures { IfOk result (λ cs. chars_of cs ≡ repaired (chars text.now)) }
+    /// The characters of a text.
+    pub(crate) fn of(alloc: Global, text: String) -> Result<Chars, AllocError>
+        ensures value { IfOk result (λ cs. chars_of cs ≡ chars (string_bytes text)) }
+        ensures kept { IfOk result IsKept }
     {
-        let bytes = text.as_bytes();
-        if bytes.is_ascii() && !bytes.contains(&b'\r') {
-            return Ok(Chars::Ascii(Vec::from_slice(alloc, bytes)?));
+        if text.is_ascii() {
+            return Ok(Chars::Ascii(text));
         }
-        let chars = repaired_chars(alloc, text)?;
-        match ascii_bytes(alloc, &chars)? {
-            Some(bytes) => Ok(Chars::Ascii(bytes)),
-            None => Ok(Chars::Any(chars)),
-        }
+        Ok(Chars::Any(text.chars().collect(alloc)?))
     }
 
     /// The number of characters.
@@ -36,7 +33,7 @@ impl Chars {
         ensures { result ≡ length (chars_of self.now) }
     {
         match self {
-            Chars::Ascii(bytes) => bytes.len(),
+            Chars::Ascii(text) => text.len(),
             Chars::Any(chars) => chars.len(),
         }
     }
@@ -47,77 +44,63 @@ impl Chars {
         ensures { slice_get (chars_of self.now) at ≡ Some result }
     {
         match self {
-            Chars::Ascii(bytes) => bytes[at] as char,
+            Chars::Ascii(text) => text.as_bytes()[at] as char,
             Chars::Any(chars) => chars[at],
         }
     }
 
-    /// The characters from one place up to another.
-    pub(crate) fn part(
-        &self,
-        alloc: Global,
-        from: usize,
-        to: usize,
-    ) -> Result<Vec<char>, AllocError>
+    /// Adds the characters from one place up to another, in UTF-8.
+    pub(crate) fn add_part(&self, out: &mut String, from: usize, to: usize) -> Result<(), AllocError>
+        requires kept { IsKept self.now }
         requires ordered { from ≤ to }
         requires inside { to ≤ length (chars_of self.now) }
-        ensures { IfOk result (λ part. part.items ≡ take (to - from) (drop from (chars_of self.now))) }
+        ensures { OnOk result (string_bytes out.new ≡ string_bytes out.old ++ encode_utf8_all (take (to - from) (drop from (chars_of self.now)))) }
     {
         match self {
-            Chars::Ascii(bytes) => widened(alloc, &bytes[from..to]),
-            Chars::Any(chars) => Vec::from_slice(alloc, &chars[from..to]),
+            Chars::Ascii(text) => out.push_str(&text[from..to]),
+            Chars::Any(chars) => add_chars(out, &chars[from..to]),
         }
     }
 
     /// The same characters once more.
     pub(crate) fn copy(&self) -> Result<Chars, AllocError>
-        ensures { IfOk result (λ copy. chars_of copy ≡ chars_of self.now) }
+        requires { IsKept self.now }
+        ensures value { IfOk result (λ copy. chars_of copy ≡ chars_of self.now) }
+        ensures kept { IfOk result IsKept }
     {
         Ok(match self {
-            Chars::Ascii(bytes) => Chars::Ascii(bytes.clone()?),
+            Chars::Ascii(text) => Chars::Ascii(text.clone()?),
             Chars::Any(chars) => Chars::Any(chars.clone()?),
         })
     }
 }
 
-/// A byte for each character, where all of them are ASCII.
-fn ascii_bytes(alloc: Global, chars: &[char]) -> Result<Option<Vec<u8>>, AllocError>
-    ensures { IfOk result (λ bytes. IfSome bytes (λ bs. bs.items ≡ chars.now)) }
+/// Adds some characters in UTF-8.
+fn add_chars(out: &mut String, chars: &[char]) -> Result<(), AllocError>
+    ensures { OnOk result (string_bytes out.new ≡ string_bytes out.old ++ encode_utf8_all chars.now) }
 {
-    let mut bytes = Vec::new(alloc);
     for c in chars {
-        if !c.is_ascii() {
-            return Ok(None);
-        }
-        bytes.push(*c as u8)?;
+        out.push(*c)?;
     }
-    Ok(Some(bytes))
+    Ok(())
 }
 
-/// A character for each byte.
-fn widened(alloc: Global, bytes: &[u8]) -> Result<Vec<char>, AllocError>
-    ensures { IfOk result (λ cs. cs.items ≡ bytes.now) }
+/// A text with its line breaks repaired.
+pub(crate) fn repaired(alloc: Global, text: String) -> Result<String, AllocError>
+    ensures { IfOk result (λ out. chars (string_bytes out) ≡ repaired (chars (string_bytes text))) }
 {
-    let mut chars = Vec::with_capacity(alloc, bytes.len())?;
-    for byte in bytes {
-        chars.push(*byte as char)?;
+    if !text.as_bytes().contains(&b'\r') {
+        return Ok(text);
     }
-    Ok(chars)
-}
-
-/// The characters of a text, line breaks repaired.
-fn repaired_chars(alloc: Global, text: &str) -> Result<Vec<char>, AllocError>
-    ensures { IfOk result (λ cs. cs.items ≡ repaired (chars text.now)) }
-{
     let chars: Vec<char> = text.chars().collect(alloc)?;
     with_breaks_repaired(alloc, &chars)
 }
 
-/// The characters with CR LF and a lone CR as `\n`.
-fn with_breaks_repaired(alloc: Global, chars: &[char]) -> Result<Vec<char>, AllocError>
-    ensures { IfOk result (λ cs. cs.items ≡ repaired chars.now) }
+/// Some characters with CR LF and a lone CR as `\n`, in UTF-8.
+fn with_breaks_repaired(alloc: Global, chars: &[char]) -> Result<String, AllocError>
+    ensures { IfOk result (λ out. string_bytes out ≡ encode_utf8_all (repaired chars.now)) }
 {
-    let mut out = Vec::new(alloc);
+    let mut out = String::with_capacity(alloc, chars.len())?;
     let mut after_return = false;
     for c in chars {
         push_repaired(&mut out, after_return, *c)?;
@@ -127,8 +110,8 @@ fn with_breaks_repaired(alloc: Global, chars: &[char]) -> Result<Vec<char>, Allo
 }
 
 /// Adds what one character gives.
-fn push_repaired(out: &mut Vec<char>, after_return: bool, c: char) -> Result<(), AllocError>
-    ensures { OnOk result (out.new.items ≡ out.old.items ++ repaired_char after_return c) }
+fn push_repaired(out: &mut String, after_return: bool, c: char) -> Result<(), AllocError>
+    ensures { OnOk result (string_bytes out.new ≡ string_bytes out.old ++ encode_utf8_all (repaired_char after_return c)) }
 {
     if c == '\r' {
         out.push('\n')?;

@@ -2,8 +2,12 @@
 #![tactic(auto)]
 
 mod chars;
+mod line_walk;
 mod name;
+mod shared;
 mod text;
 
+pub use line_walk::LineWalk;
 pub use name::Name;
+pub use shared::SharedText;
 pub use text::{MAX_CHARS, Text, TextRefusal};

@@ -1,28 +1,34 @@
 //! A name: a short list of characters, as a path, an identifier or a key, with their order.
-ghost use Rattle.std.specs.Prelude.{◌≡◌, ◌≤◌, ◌<◌, ◌-◌, ◌↔◌, ℕ, Some, IfOk, IsTrue, ◌==◌, length, slice_get, take, drop, refl, bytes_eq, encode_utf8_all};
-ghost use Rattle.std.specs.Str.{chars};
+ghost use Rattle.std.specs.Prelude.{◌≡◌, ◌≤◌, ◌-◌, ◌↔◌, [], Some, IfOk, OnOk, OnErr, IsTrue, ◌==◌, length, take, drop, refl, bytes_eq, encode_utf8_all};
+ghost use Rattle.std.specs.Hash as fed;
+ghost use Rattle.std.specs.Str.{chars, all_scalars};
+ghost use Rattle.std.specs.String.{string_bytes};
 ghost use Rattle.std.specs.Ordering.{nat_cmp};
-ghost use Rattle.std.specs.Cmp.{on_equiv, on_total, on_po, on_per, partial_equiv_from_equiv};
-ghost use Rattle.std.specs.Cmp.Lexicographic.{slice_cmp, nat_list_eq_equiv, nat_list_cmp_total, texts_ties, texts_po};
+ghost use Rattle.std.specs.Cmp.{partial_equiv_from_equiv};
+ghost use Rattle.std.specs.Cmp.Lexicographic.{slice_cmp, nat_list_eq_equiv, nat_list_cmp_total, texts_ties, texts_po, bytes_decides};
+ghost use Rattle.std.proofs.Common.{ap};
 
 use crate::Text;
 use std::alloc::{AllocError, Global};
 use std::cmp::Ordering;
 use std::fmt;
+use std::hash::{Hash, Hasher};
 use std::marker::Model;
 
-/// A list of characters, ordered by them from the left.
+/// A list of characters, ordered by them from the left, which is the order of their UTF-8.
 #[derive(Drop)]
 pub struct Name {
-    chars: Vec<char>,
+    text: String,
 }
 
 impl Model for Name {
     ghost use Rattle.std.specs.Prelude.{List, ℕ};
+    ghost use Rattle.std.specs.Str.{chars};
+    ghost use Rattle.std.specs.String.{string_bytes};
 
     ghost Value = { List ℕ };
 
-    ghost view = { λ n. n.chars.items };
+    ghost view = { λ n. chars (string_bytes n.text) };
 }
 
 impl Name {
@@ -31,7 +37,7 @@ impl Name {
         ensures { IfOk result (λ name. name ≡ chars text.now) }
     {
         Ok(Name {
-            chars: text.chars().collect(alloc)?,
+            text: String::from_str(alloc, text)?,
         })
     }
 
@@ -41,38 +47,49 @@ impl Name {
         requires inside { to ≤ length text.now }
         ensures { IfOk result (λ name. name ≡ take (to - from) (drop from text.now)) }
     {
-        Ok(Name {
-            chars: text.part(alloc, from, to)?,
-        })
+        let mut name = Name::from(String::with_capacity(alloc, (to - from) as usize)?);
+        name.refill(text, from, to)?;
+        Ok(name)
     }
 
-    /// The number of characters.
+    /// Takes on the characters of a text from one offset up to another, in the memory that the name has. Without
+    /// memory it has no character.
+    pub fn refill(&mut self, text: &Text, from: u32, to: u32) -> Result<(), AllocError>
+        requires ordered { from ≤ to }
+        requires inside { to ≤ length text.now }
+        ensures filled { OnOk result (self.new ≡ take (to - from) (drop from text.now)) }
+        ensures err { OnErr result (self.new ≡ []) }
+    {
+        match text.read_part(&mut self.text, from, to) {
+            Ok(()) => Ok(()),
+            Err(e) => {
+                self.text.clear();
+                Err(e)
+            }
+        }
+    }
+
+    /// The number of characters. Linear in it.
     pub fn len(&self) -> usize
         ensures { result ≡ length self.now }
     {
-        self.chars.len()
+        self.text.chars().count()
     }
 
     /// Whether there is no character.
     pub fn is_empty(&self) -> bool
         ensures { result ≡ (length self.now == 0) }
     {
-        self.chars.is_empty()
+        self.as_str().is_empty()
     }
 
-    /// The character at a place.
-    pub fn char_at(&self, at: usize) -> char
-        requires { at < length self.now }
-        ensures { slice_get self.now at ≡ Some result }
+    /// The name in UTF-8.
+    pub fn as_str(&self) -> &str
+        ensures utf8 { result.now ≡ encode_utf8_all self.now }
+        ensures value { chars result.now ≡ self.now }
+        ensures scalars { IsTrue (all_scalars self.now) }
     {
-        self.chars[at]
-    }
-
-    /// The characters.
-    pub fn as_slice(&self) -> &[char]
-        ensures { result.now ≡ self.now }
-    {
-        &self.chars
+        self.text.as_str()
     }
 
     /// The same name once more.
@@ -80,7 +97,7 @@ impl Name {
         ensures { IfOk result (λ copy. copy ≡ self.now) }
     {
         Ok(Name {
-            chars: self.chars.clone()?,
+            text: self.text.clone()?,
         })
     }
 
@@ -92,13 +109,21 @@ impl Name {
     }
 }
 
+impl From<String> for Name {
+    ghost from_gives = { λ text name. name ≡ chars (string_bytes text) };
+
+    fn from(text: String) -> Name {
+        Name { text }
+    }
+}
+
 impl PartialEq for Name {
     ghost eq = { λ a b. bytes_eq a b };
 
     ghost laws = { partial_equiv_from_equiv nat_list_eq_equiv };
 
     fn eq(&self, other: &Name) -> bool {
-        self.chars.as_slice() == other.chars.as_slice()
+        self.as_str() == other.as_str()
     }
 }
 
@@ -126,7 +151,17 @@ impl Ord for Name {
     ghost matches_eq = { texts_ties };
 
     fn cmp(&self, other: &Name) -> Ordering {
-        self.chars.as_slice().cmp(other.chars.as_slice())
+        self.as_str().cmp(other.as_str())
+    }
+}
+
+impl Hash for Name {
+    ghost hash_input = { λ name. fed.str (encode_utf8_all name) };
+
+    ghost respects_eq = { λ a b same. ap (λ n. fed.str (encode_utf8_all n)) ((bytes_decides a b).0 same) };
+
+    fn hash<H: Hasher>(&self, state: &mut H) {
+        self.as_str().hash(state);
     }
 }
 
@@ -134,14 +169,13 @@ impl fmt::Display for Name {
     ghost output = { λ name. Some (encode_utf8_all name) };
 
     fn fmt<W: fmt::Write>(&self, f: &mut fmt::Formatter<W>) -> fmt::Result {
-        for c in &self.chars {
-            write!(f, "{c}")?;
-        }
-        Ok(())
+        f.write_str(self.as_str())
     }
 }
 
 impl fmt::Debug for Name {
+    ghost debug_output = { λ name. Some (encode_utf8_all name) };
+
     fn fmt<W: fmt::Write>(&self, f: &mut fmt::Formatter<W>) -> fmt::Result {
         write!(f, "{self}")
     }

@@ -1,9 +1,13 @@
 //! A text: a list of at most `MAX_CHARS` characters, with `\n` as its only line break.
-ghost use Rattle.std.specs.Prelude.{◌≡◌, ◌≤◌, ◌<◌, ◌-◌, IfOk, IfErr, length, slice_get, take, drop, Some, ◌==◌};
-ghost use Rattle.ide_text.specs.Text.{IsText};
+ghost use Rattle.std.specs.Prelude.{◌≡◌, ◌≤◌, ◌<◌, ◌-◌, IfOk, IfErr, OnOk, length, slice_get, take, drop, Some, ◌==◌, encode_utf8_all};
+ghost use Rattle.std.specs.Str.{chars};
+ghost use Rattle.std.specs.String.{string_bytes};
+ghost use Rattle.ide_text.specs.Chars.{chars_of, IsKept};
+ghost use Rattle.ide_text.specs.Text.{IsText, repaired};
 ghost use Rattle.ide_text.specs.Place.{line_at, column_at};
 
-use crate::chars::Chars;
+use crate::LineWalk;
+use crate::chars::{Chars, repaired};
 use std::alloc::{AllocError, Global};
 use std::marker::Model;
 use thiserror::Error;
@@ -33,17 +37,21 @@ pub struct Text {
 
 impl Model for Text {
     ghost use Rattle.std.specs.Prelude.{List, ℕ};
-    ghost use Rattle.ide_text.specs.Chars.{chars_of};
+    ghost use Rattle.ide_text.specs.Chars.{chars_of, IsKept};
     ghost use Rattle.ide_text.specs.Text.{IsText};
 
     ghost Value = { List ℕ };
 
     ghost view = { λ t. chars_of t.chars };
 
-    ghost invariant = { λ t. IsText (chars_of t.chars) };
+    ghost invariant = { λ t. IsText (chars_of t.chars) × IsKept t.chars };
 }
 
 impl Text {
+    ghost use Rattle.std.specs.Prelude.{false, Err};
+    ghost use Rattle.std.specs.Str.{is_utf8};
+    ghost use Rattle.std.specs.Str.Lossy.{utf8_valid_len};
+    ghost use Rattle.ide_text.specs.declared.text.TextRefusal.TheVariants.{NotText};
     ghost use Rattle.ide_text.specs.Text.{text_of, IsRefusalOf};
 
     /// The text that the bytes spell in UTF-8 (Unicode, chapter 3). CR LF and a lone CR become `\n`.
@@ -51,6 +59,7 @@ impl Text {
     pub fn from_utf8(alloc: Global, bytes: &[u8]) -> Result<Text, TextRefusal>
         ensures ok { IfOk result (λ text. text_of bytes.now ≡ Ok text) }
         ensures err { IfErr result (λ refusal. IsRefusalOf (text_of bytes.now) refusal) }
+        ensures no_utf8 { is_utf8 bytes.now ≡ false → result ≡ Err (NotText (utf8_valid_len bytes.now)) }
     {
         let text = match std::str::from_utf8(bytes) {
             Ok(text) => text,
@@ -60,7 +69,19 @@ impl Text {
                 });
             }
         };
-        match Chars::repaired(alloc, text) {
+        match String::from_str(alloc, text) {
+            Ok(text) => Text::from_string(alloc, text),
+            Err(_) => Err(TextRefusal::OutOfMemory),
+        }
+    }
+
+    /// The same of a string, whose memory the text takes over where all characters are ASCII and no line break has
+    /// to be repaired.
+    pub fn from_string(alloc: Global, text: String) -> Result<Text, TextRefusal>
+        ensures ok { IfOk result (λ made. text_of (string_bytes text) ≡ Ok made) }
+        ensures err { IfErr result (λ refusal. IsRefusalOf (text_of (string_bytes text)) refusal) }
+    {
+        match chars_of_repaired(alloc, text) {
             Ok(chars) if chars.len() > MAX_CHARS => Err(TextRefusal::TooLong {
                 count: chars.len(),
             }),
@@ -98,26 +119,18 @@ impl Text {
         ensures line { result.0 ≡ line_at self.now at }
         ensures column { result.1 ≡ column_at self.now at }
     {
-        let mut line = 1;
-        let mut column = 1;
-        for place in 0..at {
-            if self.chars.char_at(place as usize) == '\n' {
-                line += 1;
-                column = 1;
-            } else {
-                column += 1;
-            }
-        }
-        (line, column)
+        LineWalk::new(self).line_col(at)
     }
 
-    /// The characters from one offset up to another.
-    pub(crate) fn part(&self, alloc: Global, from: u32, to: u32) -> Result<Vec<char>, AllocError>
+    /// Puts the characters from one offset up to another into a string, in UTF-8, in place of what it has.
+    pub(crate) fn read_part(&self, out: &mut String, from: u32, to: u32) -> Result<(), AllocError>
         requires ordered { from ≤ to }
         requires inside { to ≤ length self.now }
-        ensures { IfOk result (λ part. part.items ≡ take (to - from) (drop from self.now)) }
+        ensures utf8 { OnOk result (string_bytes out.new ≡ encode_utf8_all (take (to - from) (drop from self.now))) }
+        ensures value { OnOk result (chars (string_bytes out.new) ≡ take (to - from) (drop from self.now)) }
     {
-        self.chars.part(alloc, from as usize, to as usize)
+        out.clear();
+        self.chars.add_part(out, from as usize, to as usize)
     }
 
     /// The same text once more.
@@ -128,4 +141,12 @@ impl Text {
             chars: self.chars.copy()?,
         })
     }
+}
+
+/// The characters of a string, line breaks repaired.
+fn chars_of_repaired(alloc: Global, text: String) -> Result<Chars, AllocError>
+    ensures value { IfOk result (λ cs. chars_of cs ≡ repaired (chars (string_bytes text))) }
+    ensures kept { IfOk result IsKept }
+{
+    Chars::of(alloc, repaired(alloc, text)?)
 }

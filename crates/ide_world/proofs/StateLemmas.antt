@@ -97,10 +97,10 @@ row_by_words-ready name next_stamp row right ready = by (is_java row.path) refl
         let indexed = option_map_or (λ x. x == row.stamp) row.indexed false in
         let words = right.words e (indexed_at row.indexed row.stamp (not-false indexed (sym (ap (λ j. (j && true) && not indexed) e) ∙ ready))) in
         ap (λ ws. row_with_mask row.path (mask_among ws name)) words
-        ∙ sym (ap (λ j. cond (true && j) (row_with_mask row.path (mask_in (words_of row.content.value) name)) []) e)
+        ∙ sym (ap (λ j. cond (true && j) (row_with_mask row.path (mask_in (words_of row.content) name)) []) e)
     by false e =
         ap (λ ws. row_with_mask row.path (mask_among ws name)) (right.others e)
-        ∙ sym (ap (λ j. cond (true && j) (row_with_mask row.path (mask_in (words_of row.content.value) name)) []) e)
+        ∙ sym (ap (λ j. cond (true && j) (row_with_mask row.path (mask_in (words_of row.content) name)) []) e)
 
 -- where no file is unready the words that are kept give the answer
 pub word_rows_by_words : (inside : Inside) → IsSound inside → (seen : Held) → held inside ≡ seen → (name : List ℕ) → lowest_unready seen.world ≡ None → flat_map (row_by_words name) inside.files.items ≡ word_rows seen.world name

@@ -22,7 +22,7 @@ use Rattle.ide_world.proofs.StateLemmas.{ready_row}
 abbrev pub taken_row : FileRow → ℕ → List (List ℕ × ℕ) → FileRow
 taken_row row stamp words = record { path = row.path; content = row.content; stamp = row.stamp; indexed = Some stamp; words = if is_java row.path then Some words else row.words }
 
-taken_row_right : (next_stamp : ℕ) (row : FileRow) (stamp : ℕ) (words : List (List ℕ × ℕ)) → IsRight next_stamp row → row.stamp ≡ stamp → words ≡ words_of row.content.value → IsRight next_stamp (taken_row row stamp words)
+taken_row_right : (next_stamp : ℕ) (row : FileRow) (stamp : ℕ) (words : List (List ℕ × ℕ)) → IsRight next_stamp row → row.stamp ≡ stamp → words ≡ words_of row.content → IsRight next_stamp (taken_row row stamp words)
 taken_row_right next_stamp row stamp words right same made = record {
   stamp = right.stamp;
   indexed = omega (arith, same, right.stamp);
@@ -36,7 +36,7 @@ pub record IsTakenIn (old new : Inside) (id stamp : ℕ) (row : FileRow) (words 
   pub within : id ≤ length old.files.items
   pub at : row ≡ get_or old.files.items (id - 1) row
   pub same_stamp : row.stamp ≡ stamp
-  pub made : words ≡ words_of row.content.value
+  pub made : words ≡ words_of row.content
   pub rows : new.files.items ≡ set old.files.items (id - 1) (taken_row row stamp words)
   pub paths : (path : List ℕ) → id_at new.paths path ≡ id_at old.paths path
   pub unready : (other : ℕ) → is_on new.unready other ≡ (if id == other then false else is_on old.unready other)

@@ -6,6 +6,6 @@ use Rattle.ide_world.specs.Prepared.{Prepared}
 
 -- the change, and the content that it speaks of
 abbrev pub prepared_of : Parts → Prepared
-prepared_of (parts.Create path text) = record { change = Create path text.value; content = text.value }
-prepared_of (parts.Write path text) = record { change = Write path text.value; content = text.value }
-prepared_of (parts.Intake made) = record { change = Intake made.file made.stamp; content = made.text.value }
+prepared_of (parts.Create path text) = record { change = Create path text; content = text }
+prepared_of (parts.Write path text) = record { change = Write path text; content = text }
+prepared_of (parts.Intake made) = record { change = Intake made.file made.stamp; content = made.text }

@@ -65,6 +65,7 @@ HasRoomFor held (Create path text) content = HasRoomForFile held path
 HasRoomFor held (Write path text) content = HasRoomForText held path
 HasRoomFor held (Intake file stamp) content = HasRoomForWords held file content
 
+-- there is room for what a prepared change adds
 abbrev pub HasRoom : Held → Prepared → Type 0
 HasRoom held prepared = HasRoomFor held prepared.change prepared.content
 
@@ -85,6 +86,7 @@ pub record Task : Type 0 where
   pub stamp : ℕ
   pub content : List ℕ
 
+-- the work of indexing a file as it is
 abbrev pub task_of : File → Task
 task_of file = record { file = file.id; stamp = file.stamp; content = file.content }
 

@@ -22,11 +22,12 @@ word_row world name file =
 abbrev pub word_rows : World → List ℕ → List WordRow
 word_rows world name = flat_map (word_row world name) world.files
 
--- the path of the unready file with the lowest id, or the rows
+-- the rows, unless there is an unready file: then its path
 abbrev pub reply_unless : Option File → List WordRow → Result (List WordRow) (List ℕ)
 reply_unless None rows = Ok rows
 reply_unless (Some file) rows = Err file.path
 
+-- the rows of a word, or the path of the unready file with the lowest id
 abbrev pub word_reply : World → List ℕ → Result (List WordRow) (List ℕ)
 word_reply world name = reply_unless (lowest_unready world) (word_rows world name)
 

@@ -9,7 +9,7 @@ use Rattle.ide_world.specs.Reply.{word_row, row_with_mask}
 
 -- the file of a row
 abbrev pub file_of : ℕ → FileRow → File
-file_of id row = record { id = id; path = row.path; content = row.content.value; stamp = row.stamp; live = true; indexed = row.indexed }
+file_of id row = record { id = id; path = row.path; content = row.content; stamp = row.stamp; live = true; indexed = row.indexed }
 
 -- the files of rows, the first of which has this id
 abbrev pub files_from : ℕ → List FileRow → List File
@@ -32,10 +32,11 @@ words_by_id rows = by_id (λ row. row.words) None rows
 abbrev pub row_by_words : List ℕ → FileRow → List WordRow
 row_by_words name row = row_with_mask row.path (mask_among row.words name)
 
--- what a row's file is whatever its id: whether it is unready, and its answer for a word
+-- whether a row's file is unready, whatever its id
 abbrev pub is_unready_row : FileRow → Bool
 is_unready_row row = is_unready empty_world (file_of 0 row)
 
+-- the answer of a row's file for a word, whatever its id
 abbrev pub row_of_word : List ℕ → FileRow → List WordRow
 row_of_word name row = word_row empty_world name (file_of 0 row)
 
@@ -44,5 +45,5 @@ row_of_word name row = word_row empty_world name (file_of 0 row)
 pub record IsRight (next_stamp : ℕ) (row : FileRow) : Type 0 where
   pub stamp : row.stamp < next_stamp
   pub indexed : IfSome row.indexed (λ stamp. stamp < next_stamp)
-  pub words : is_java row.path ≡ true → row.indexed ≡ Some row.stamp → row.words ≡ Some (words_of row.content.value)
+  pub words : is_java row.path ≡ true → row.indexed ≡ Some row.stamp → row.words ≡ Some (words_of row.content)
   pub others : is_java row.path ≡ false → row.words ≡ None

@@ -20,6 +20,7 @@ world_of inside = record {
   entries = inside.entries;
 }
 
+-- what contracts see of a state: its world, and what there is room for
 abbrev pub held : Inside → Held
 held inside = record {
   world = world_of inside;

@@ -1,5 +1,5 @@
 //! How a change goes in: it is prepared, room is made for it, then it is installed and can't fail.
-ghost use Rattle.std.specs.Prelude.{◌≡◌, ℕ, List, IfOk, IfErr, OnOk, nat_le, if◌then◌else◌};
+ghost use Rattle.std.specs.Prelude.{◌≡◌, ℕ, List, Err, IfOk, IfErr, IfSome, OnOk, nat_le, if◌then◌else◌};
 ghost use Rattle.write_history.specs.declared.change.Change.TheVariants.{Create, Write, Intake};
 ghost use Rattle.write_history.specs.World.{World};
 ghost use Rattle.write_history.specs.Effect.{refusal_of, max_entries};
@@ -9,17 +9,16 @@ ghost use Rattle.ide_world.specs.Prepared.{IsReadyFor, HasRoom, IsRefusalOf, IsE
 
 use crate::data::Made;
 use crate::state::{MAX_FILES, State};
-use ide_text::{Name, Text};
-use std::alloc::{AllocError, Global};
+use ide_text::{Name, SharedText};
+use std::alloc::AllocError;
 use std::marker::Model;
-use std::sync::Arc;
 use write_history::{Change, MAX_ENTRIES, Refusal};
 
 /// What a prepared change holds, all its memory taken.
 #[derive(Drop)]
 pub(crate) enum Parts {
-    Create { path: Name, text: Arc<Text> },
-    Write { path: Name, text: Arc<Text> },
+    Create { path: Name, text: SharedText },
+    Write { path: Name, text: SharedText },
     Intake { made: Made },
 }
 
@@ -39,18 +38,19 @@ impl Model for Ready {
     ghost view = { λ r. prepared_of r.parts };
 }
 
-/// Makes a change other than an intake ready, or gives the first reason to refuse it. Memory for its text is
-/// taken here.
-pub fn prepare(alloc: Global, state: &State, change: &Change) -> Result<Ready, Refusal>
+/// Makes a change other than an intake ready, or gives the first reason to refuse it; that reason is found before
+/// memory is asked for. Its text is shared and not copied.
+pub fn prepare(state: &State, change: &Change) -> Result<Ready, Refusal>
     requires { IsEdit change.now }
     ensures ready { IfOk result (λ ready. IsReadyFor state.now.world ready) }
     ensures change { IfOk result (λ ready. ready.change ≡ change.now) }
+    ensures first { IfSome (refusal_of state.now.world change.now) (λ why. result ≡ Err why) }
     ensures refused { IfErr result (IsRefusalOf (refusal_of state.now.world change.now)) }
 {
     if let Some(refusal) = refusal(state, change) {
         return Err(refusal);
     }
-    match parts_of(alloc, change) {
+    match parts_of(change) {
         Ok(parts) => Ok(Ready { parts }),
         Err(_) => Err(Refusal::OutOfMemory),
     }
@@ -58,7 +58,7 @@ pub fn prepare(alloc: Global, state: &State, change: &Change) -> Result<Ready, R
 
 /// Makes the intake of index data ready, or gives the first reason to refuse it. It takes no memory.
 pub fn prepare_intake(state: &State, made: Made) -> Result<Ready, Refusal>
-    requires { IsOfWorld state.now.world (record { file = made.file; stamp = made.stamp; content = made.text.value }) }
+    requires { IsOfWorld state.now.world (record { file = made.file; stamp = made.stamp; content = made.text }) }
     ensures ready { IfOk result (λ ready. IsReadyFor state.now.world ready) }
     ensures change { IfOk result (λ ready. ready.change ≡ Intake made.file made.stamp) }
     ensures refused { IfErr result (λ refusal. refusal_of state.now.world (Intake made.file made.stamp) ≡ Some refusal) }
@@ -159,7 +159,7 @@ fn fullness(state: &State) -> Option<Refusal>
 }
 
 /// The parts of a change other than an intake.
-fn parts_of(alloc: Global, change: &Change) -> Result<Parts, AllocError>
+fn parts_of(change: &Change) -> Result<Parts, AllocError>
     requires { IsEdit change.now }
     ensures change { IfOk result (λ parts. (prepared_of parts).change ≡ change.now) }
     ensures content { IfOk result (λ parts. (world : World) → SpeaksOfContent world change.now (prepared_of parts).content) }
@@ -167,11 +167,11 @@ fn parts_of(alloc: Global, change: &Change) -> Result<Parts, AllocError>
     match change {
         Change::Create { path, text } => Ok(Parts::Create {
             path: path.copy()?,
-            text: Arc::new(alloc, text.copy()?)?,
+            text: text.share()?,
         }),
         Change::Write { path, text } => Ok(Parts::Write {
             path: path.copy()?,
-            text: Arc::new(alloc, text.copy()?)?,
+            text: text.share()?,
         }),
         Change::Intake { .. } => unreachable!(),
     }

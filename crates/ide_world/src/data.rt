@@ -2,16 +2,15 @@
 ghost use Rattle.std.specs.Prelude.{◌≡◌};
 ghost use Rattle.java_tokens.specs.Words.{words_of};
 
-use ide_text::Text;
+use ide_text::SharedText;
 use java_tokens::WordList;
-use std::sync::Arc;
 
 /// An unready file as it was when its index data are to be made.
 #[derive(Drop)]
 pub struct Job {
     pub file: u32,
     pub stamp: u64,
-    pub text: Arc<Text>,
+    pub text: SharedText,
 }
 
 /// The index data of a file, made from its text at a stamp.
@@ -19,7 +18,7 @@ pub struct Job {
 pub struct Made {
     pub file: u32,
     pub stamp: u64,
-    pub text: Arc<Text>,
+    pub text: SharedText,
     pub words: WordList,
-    ghost of_text: { words ≡ words_of text.value },
+    ghost of_text: { words ≡ words_of text },
 }

@@ -17,8 +17,8 @@ pub fn lowest_unready(state: &State) -> Option<u32>
 
 /// The work of indexing a file, where it is unready.
 pub fn job(state: &State, id: u32) -> Result<Option<Job>, AllocError>
-    ensures task { IfOk result (λ job. option_map (λ j. record { file = j.file; stamp = j.stamp; content = j.text.value }) job ≡ task_with_id state.now.world id) }
-    ensures of_world { IfOk result (λ job. IfSome job (λ j. IsOfWorld state.now.world (record { file = j.file; stamp = j.stamp; content = j.text.value }))) }
+    ensures task { IfOk result (λ job. option_map (λ j. record { file = j.file; stamp = j.stamp; content = j.text }) job ≡ task_with_id state.now.world id) }
+    ensures of_world { IfOk result (λ job. IfSome job (λ j. IsOfWorld state.now.world (record { file = j.file; stamp = j.stamp; content = j.text }))) }
 {
     let Some(row) = state.unready_row(id) else {
         return Ok(None);
@@ -26,7 +26,7 @@ pub fn job(state: &State, id: u32) -> Result<Option<Job>, AllocError>
     Ok(Some(Job {
         file: id,
         stamp: row.stamp,
-        text: row.content.clone()?,
+        text: row.content.share()?,
     }))
 }
 
@@ -34,9 +34,9 @@ pub fn job(state: &State, id: u32) -> Result<Option<Job>, AllocError>
 pub fn make(alloc: Global, job: Job) -> Result<Made, AllocError>
     ensures file { IfOk result (λ made. made.file ≡ job.file) }
     ensures stamp { IfOk result (λ made. made.stamp ≡ job.stamp) }
-    ensures text { IfOk result (λ made. made.text.value ≡ job.text.value) }
+    ensures text { IfOk result (λ made. made.text ≡ job.text) }
 {
-    let words = words(alloc, &job.text)?;
+    let words = words(alloc, job.text.as_text())?;
     Ok(Made {
         file: job.file,
         stamp: job.stamp,

@@ -1,6 +1,7 @@
 //! Lawful paths, and which of them are Java sources.
 ghost use Rattle.std.specs.Prelude.{◌≡◌, not};
 ghost use Rattle.std.specs.List.{list_all};
+ghost use Rattle.std.specs.Str.{chars};
 ghost use Rattle.write_history.specs.Path.{is_barred, is_part, parts_of, is_path, is_java};
 
 use ide_text::Name;
@@ -12,29 +13,38 @@ const MAX_PATH: usize = 255;
 pub(crate) fn is_lawful(path: &Name) -> bool
     ensures { result ≡ is_path path.now }
 {
-    let path = path.as_slice();
-    !path.is_empty() && path.len() <= MAX_PATH && has_no_barred(path) && has_parts(path)
+    !path.is_empty()
+        && path.len() <= MAX_PATH
+        && has_no_barred(path.as_str())
+        && has_parts(path.as_str())
 }
 
 /// Whether the path ends in `.java`.
 pub(crate) fn is_java_source(path: &Name) -> bool
     ensures { result ≡ is_java path.now }
 {
-    path.as_slice().ends_with(&['.', 'j', 'a', 'v', 'a'])
+    ends_in_java(path.as_str())
+}
+
+/// Whether a text ends in `.java`.
+fn ends_in_java(path: &str) -> bool
+    ensures { result ≡ is_java (chars path.now) }
+{
+    path.ends_with(".java")
 }
 
 /// Whether no character is barred from paths.
-fn has_no_barred(path: &[char]) -> bool
-    ensures { result ≡ list_all (λ c. not (is_barred c)) path.now }
+fn has_no_barred(path: &str) -> bool
+    ensures { result ≡ list_all (λ c. not (is_barred c)) (chars path.now) }
 {
-    path.iter().all(|c| !is_barred(*c))
+    path.chars().all(|c| !is_barred(c))
 }
 
 /// Whether each part between slashes names something.
-fn has_parts(path: &[char]) -> bool
-    ensures { result ≡ list_all is_part (parts_of path.now) }
+fn has_parts(path: &str) -> bool
+    ensures { result ≡ list_all is_part (parts_of (chars path.now)) }
 {
-    path.split(|c| *c == '/').all(is_part)
+    path.split('/').all(is_part)
 }
 
 fn is_barred(c: char) -> bool
@@ -43,8 +53,9 @@ fn is_barred(c: char) -> bool
     c <= ' ' || c == '\u{7F}' || c == '"' || c == '\\' || c == ':'
 }
 
-fn is_part(part: &[char]) -> bool
+/// Whether a part names something. Its bytes decide.
+fn is_part(part: &str) -> bool
     ensures { result ≡ is_part part.now }
 {
-    !part.is_empty() && part != ['.'].as_slice() && part != ['.', '.'].as_slice()
+    !part.is_empty() && part != "." && part != ".."
 }

@@ -9,16 +9,15 @@ ghost use Rattle.ide_world.specs.Rows.{is_unready_row};
 use crate::path::is_java_source;
 use crate::postings::Posting;
 use crate::reply::WordRow;
-use ide_text::{Name, Text};
+use ide_text::{Name, SharedText};
 use java_tokens::WordList;
 use std::alloc::{AllocError, Global};
-use std::sync::Arc;
 
 /// A file: the row of id `n` is the one at place `n - 1`.
 #[derive(Drop)]
 pub(crate) struct FileRow {
     pub(crate) path: Name,
-    pub(crate) content: Arc<Text>,
+    pub(crate) content: SharedText,
     pub(crate) stamp: u64,
     /// The stamp of the content that was indexed last.
     pub(crate) indexed: Option<u64>,

@@ -12,11 +12,10 @@ use crate::postings::Postings;
 use crate::reply::WordRow;
 use crate::rows::{FileRow, is_unready, rows_of_posting};
 use crate::{paths, postings, unready};
-use ide_text::{Name, Text};
+use ide_text::{Name, SharedText};
 use std::alloc::{AllocError, Global};
 use std::collections::BTreeMap;
 use std::marker::Model;
-use std::sync::Arc;
 
 /// The most files that are ever made.
 pub(crate) const MAX_FILES: usize = 65_536;
@@ -122,7 +121,7 @@ impl State {
 
     /// The row of a file, where it is unready.
     pub(crate) fn unready_row(&self, id: u32) -> Option<&FileRow>
-        ensures task { option_map (λ row. record { file = id; stamp = row.now.stamp; content = row.now.content.value }) result ≡ task_with_id self.now.world id }
+        ensures task { option_map (λ row. record { file = id; stamp = row.now.stamp; content = row.now.content }) result ≡ task_with_id self.now.world id }
         ensures live { IfSome result (λ row. file_with_id self.now.world id ≡ Some (file_of id row.now)) }
     {
         let _ = &self.files;
@@ -173,7 +172,7 @@ impl State {
 
     /// Makes room for the words of a live file.
     pub(crate) fn make_room_for_words(&mut self, made: &Made) -> Result<(), AllocError>
-        ensures room { OnOk result (HasRoomForWords self.new made.now.file made.now.text.value) }
+        ensures room { OnOk result (HasRoomForWords self.new made.now.file made.now.text) }
         ensures same { self.new.world ≡ self.old.world }
     {
         if !self.is_java_file(made.file) {
@@ -184,12 +183,12 @@ impl State {
     }
 
     /// Adds a file.
-    pub(crate) fn add(&mut self, path: Name, text: Arc<Text>)
+    pub(crate) fn add(&mut self, path: Name, text: SharedText)
         requires room { HasRoomForFile self.old path }
         requires path { IsNone (file_at self.old.world path) }
         requires files { length self.old.world.files < max_files }
         requires entries { self.old.world.entries < max_entries }
-        ensures { self.new.world ≡ effect_of self.old.world (Create path text.value) }
+        ensures { self.new.world ≡ effect_of self.old.world (Create path text) }
     {
         let id = self.files.len() as u32 + 1;
         paths::set_id(&mut self.paths, &path, id);
@@ -209,11 +208,11 @@ impl State {
     }
 
     /// Gives a live file new content.
-    pub(crate) fn write(&mut self, path: &Name, text: Arc<Text>)
+    pub(crate) fn write(&mut self, path: &Name, text: SharedText)
         requires room { HasRoomForText self.old path.now }
         requires file { IsSome (file_at self.old.world path.now) }
         requires entries { self.old.world.entries < max_entries }
-        ensures { self.new.world ≡ effect_of self.old.world (Write path.now text.value) }
+        ensures { self.new.world ≡ effect_of self.old.world (Write path.now text) }
     {
         let id = paths::id_at(&self.paths, path);
         unready::turn_on(&mut self.unready, id, is_java_source(path));
@@ -226,10 +225,10 @@ impl State {
 
     /// Takes in the index data of a live file, made from its content.
     pub(crate) fn take_in(&mut self, made: Made)
-        requires room { HasRoomForWords self.old made.file made.text.value }
+        requires room { HasRoomForWords self.old made.file made.text }
         requires file { IsSome (file_with_id self.old.world made.file) }
         requires stamp { IfSome (file_with_id self.old.world made.file) (λ file. file.stamp ≡ made.stamp) }
-        requires content { IfSome (file_with_id self.old.world made.file) (λ file. file.content ≡ made.text.value) }
+        requires content { IfSome (file_with_id self.old.world made.file) (λ file. file.content ≡ made.text) }
         requires entries { self.old.world.entries < max_entries }
         ensures { self.new.world ≡ effect_of self.old.world (Intake made.file made.stamp) }
     {

@@ -1,6 +1,7 @@
 //! Runs each source, tree and sink, with calls that fail, and prints what came of them.
 #![tactic(auto)]
 
+mod signals;
 mod sinks;
 mod sources;
 mod trees;
@@ -15,6 +16,7 @@ fn main(rt: HostRuntime) -> io::Result<()> {
     sources::run(&rt)?;
     sinks::run(&rt)?;
     trees::run(&rt)?;
+    signals::run(&rt)?;
     copy_input(&rt)
 }
 

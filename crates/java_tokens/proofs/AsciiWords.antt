@@ -10,7 +10,8 @@ use Rattle.std.proofs.lemmas.Slice.Eq.{bytes_eq-Decides}
 use Rattle.std.proofs.lemmas.Str.{chars-IsAscii, encodes-IsAscii, encodes-chars}
 use lib.Utf8.{encodes}
 
-ascii_at : (word : List ℕ) → list_all is_ascii word ≡ true → IsAscii word
+-- what is tested to be ASCII is so at each place
+pub ascii_at : (word : List ℕ) → list_all is_ascii word ≡ true → IsAscii word
 ascii_at [] ascii i = omega arith
 ascii_at (b ∷ word) ascii zero = ltb-true b 128 (and_parts _ _ ascii).0
 ascii_at (b ∷ word) ascii (suc i) = ascii_at word (and_parts _ _ ascii).1 i

@@ -4,5 +4,6 @@ pub mod TokenLemmas
 pub mod WordLemmas
 pub mod WordListLemmas
 pub mod MaskLemmas
+pub mod GatherLemmas
 pub mod AsciiWords
 pub mod IdentifierLemmas

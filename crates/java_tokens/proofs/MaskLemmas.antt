@@ -1,15 +1,15 @@
 -- What one occurrence more makes of a list of words, and so what all make of the empty one.
 use Rattle.std.proofs.Common.{◌≡◌, ℕ, Bool, true, false, cond, List, [], ◌∷◌, Option, Some, None, Ordering, Less, Equal, Greater, refl, sym, ap, ◌∙◌, ⊎_elim}
-use Rattle.std.specs.Prelude.{fold, filter, map, bit_or, is_some, unwrap_or}
+use Rattle.std.specs.Prelude.{fold, filter, map, bit_or, unwrap_or}
 use Rattle.std.specs.List.{AllByRecursion}
 use Rattle.std.specs.List.Sorted.{IsStrictlySortedBy}
 use Rattle.std.specs.Ordering.{is_eq, match_ordering}
 use Rattle.std.specs.Str.{bytes_eq}
 use Rattle.std.specs.Cmp.Lexicographic.{nat_list_cmp_total, texts_ties}
-use Rattle.std.specs.Map.{keys_of, set_value}
+use Rattle.std.specs.Map.{keys_of}
 use Rattle.std.specs.BTreeMap.{insert_entry, is_at}
 use Rattle.std.specs.Int.Bits.{or_zero_l}
-use Rattle.std.proofs.lemmas.Bool.{false≢true, cases_Bool, cond-true, cond-false}
+use Rattle.std.proofs.lemmas.Bool.{cases_Bool, cond-true, cond-false}
 use Rattle.std.proofs.lemmas.Slice.Eq.{bytes_eq-Decides}
 use Rattle.std.proofs.lemmas.Map.Lookups.{exact_bytes}
 use Rattle.java_tokens.specs.Words.{WordRow, name_cmp, mask_in, AreInOrder, with_occurrence, occurrences_of, words_of, bits_of, union_of, HasMasksOf}
@@ -26,12 +26,12 @@ names_after P (w ∷ ws) name mask each this =
     ]
 
 -- what is above a name is above each below it
-all_above : (a b : List ℕ) (ws : List WordRow) → name_cmp a b ≡ Less → AllByRecursion (λ name. name_cmp b name ≡ Less) (keys_of ws) → AllByRecursion (λ name. name_cmp a name ≡ Less) (keys_of ws)
+pub all_above : (a b : List ℕ) (ws : List WordRow) → name_cmp a b ≡ Less → AllByRecursion (λ name. name_cmp b name ≡ Less) (keys_of ws) → AllByRecursion (λ name. name_cmp a name ≡ Less) (keys_of ws)
 all_above a b [] below each = tt
 all_above a b (w ∷ ws) below each = (nat_list_cmp_total.trans a b w.0 below each.0, all_above a b ws below each.1)
 
 -- words stay in order with one occurrence more
-in_order-insert : (ws : List WordRow) (name : List ℕ) (mask : ℕ) → AreInOrder ws → AreInOrder (insert_entry name_cmp ws name mask)
+pub in_order-insert : (ws : List WordRow) (name : List ℕ) (mask : ℕ) → AreInOrder ws → AreInOrder (insert_entry name_cmp ws name mask)
 unfolding IsStrictlySortedBy
 in_order-insert [] name mask ordered = (tt, tt)
 in_order-insert (w ∷ ws) name mask ordered =
@@ -43,23 +43,12 @@ in_order-insert (w ∷ ws) name mask ordered =
     ]) refl
 
 -- a name below all others isn't among them
-mask_in-below : (ws : List WordRow) (name : List ℕ) → AllByRecursion (λ other. name_cmp name other ≡ Less) (keys_of ws) → mask_in ws name ≡ None
+pub mask_in-below : (ws : List WordRow) (name : List ℕ) → AllByRecursion (λ other. name_cmp name other ≡ Less) (keys_of ws) → mask_in ws name ≡ None
 mask_in-below [] name below = refl
 mask_in-below (w ∷ ws) name below = ap (λ r. cond (is_eq r) (Some w.1) (mask_in ws name)) below.0 ∙ mask_in-below ws name below.1
 
--- a mask written over that of a name is put in for it
-pub set_value-mask : (ws : List WordRow) (name : List ℕ) (mask : ℕ) → AreInOrder ws → is_some (mask_in ws name) ≡ true → set_value (is_at (name_cmp name)) ws mask ≡ insert_entry name_cmp ws name mask
-unfolding IsStrictlySortedBy
-set_value-mask [] name mask ordered found = absurd (false≢true found)
-set_value-mask (w ∷ ws) name mask ordered found =
-    let P : Ordering → Type 0 = λ r. name_cmp name w.0 ≡ r → is_some (cond (is_eq r) (Some w.1) (mask_in ws name)) ≡ true → cond (is_eq r) ((w.0, mask) ∷ ws) (w ∷ set_value (is_at (name_cmp name)) ws mask) ≡ match_ordering r ((name, mask) ∷ w ∷ ws) ((w.0, mask) ∷ ws) (w ∷ insert_entry name_cmp ws name mask) in
-    (elim (name_cmp name w.0) as P [
-      | Less ↦ λ below here. absurd (false≢true (ap is_some (sym (mask_in-below ws name (all_above name w.0 ws below ordered.0))) ∙ here))
-      | Equal ↦ λ _ _. refl
-      | Greater ↦ λ _ here. ap (λ xs. w ∷ xs) (set_value-mask ws name mask ordered.1 here)
-    ]) refl found
-
-in_order-fold : (os ws : List WordRow) → AreInOrder ws → AreInOrder (fold with_occurrence ws os)
+-- and with many more
+pub in_order-fold : (os ws : List WordRow) → AreInOrder ws → AreInOrder (fold with_occurrence ws os)
 in_order-fold [] ws ordered = ordered
 in_order-fold (o ∷ os) ws ordered = in_order-fold os (with_occurrence ws o) (in_order-insert ws o.0 _ ordered)
 
@@ -78,7 +67,7 @@ cond_again true x y z = refl
 cond_again false x y z = refl
 
 -- the mask of a name, after one name got another mask
-mask_in-insert : (ws : List WordRow) (name : List ℕ) (mask : ℕ) (other : List ℕ) → mask_in (insert_entry name_cmp ws name mask) other ≡ cond (bytes_eq name other) (Some mask) (mask_in ws other)
+pub mask_in-insert : (ws : List WordRow) (name : List ℕ) (mask : ℕ) (other : List ℕ) → mask_in (insert_entry name_cmp ws name mask) other ≡ cond (bytes_eq name other) (Some mask) (mask_in ws other)
 mask_in-insert [] name mask other = ap (λ b. cond b (Some mask) None) (is_eq-name_cmp other name)
 mask_in-insert (w ∷ ws) name mask other =
     let rest = insert_entry name_cmp ws name mask in
@@ -120,7 +109,7 @@ united-more None bit bits = ap (λ mask. Some (fold bit_or mask bits)) (or_zero_
 united-more (Some mask) bit bits = refl
 
 -- the mask of a name, after many occurrences
-mask_in-fold : (os ws : List WordRow) (name : List ℕ) → mask_in (fold with_occurrence ws os) name ≡ united (mask_in ws name) (bits_of os name)
+pub mask_in-fold : (os ws : List WordRow) (name : List ℕ) → mask_in (fold with_occurrence ws os) name ≡ united (mask_in ws name) (bits_of os name)
 mask_in-fold [] ws name = united-none (mask_in ws name)
 mask_in-fold (o ∷ os) ws name =
     let more = bits_of os name in

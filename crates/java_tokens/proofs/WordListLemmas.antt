@@ -31,7 +31,7 @@ first_below : (w : WordRow) (ws : List WordRow) (i : ℕ) (d : WordRow) → AreI
 unfolding IsStrictlySortedBy
 first_below w ws i d ordered inside = name_at (λ name. name_cmp w.0 name ≡ Less) ws i d ordered.0 inside
 
-ordered_rest : (w : WordRow) (ws : List WordRow) → AreInOrder (w ∷ ws) → AreInOrder ws
+pub ordered_rest : (w : WordRow) (ws : List WordRow) → AreInOrder (w ∷ ws) → AreInOrder ws
 unfolding IsStrictlySortedBy
 ordered_rest w ws ordered = ordered.1
 

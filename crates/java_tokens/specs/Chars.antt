@@ -1,43 +1,50 @@
 -- The characters that the lexical grammar tells apart (Java Language Specification, chapter 3).
 use Rattle.std.specs.Prelude.{ℕ, Bool, true, false, not, ◌&&◌, ◌||◌, ◌==◌, List, [], ◌∷◌}
 use Rattle.unicode_ident.specs.Ident.{is_xid_start, is_xid_continue}
+-- U+000A, the one line break of a text
+pub use Rattle.ide_text.specs.Text.{line_feed}
 
+-- U+0009, the tab
 abbrev pub tab : ℕ
 tab = 9
 
-abbrev pub line_feed : ℕ
-line_feed = 10
-
+-- U+000C, the form feed
 abbrev pub form_feed : ℕ
 form_feed = 12
 
+-- U+0020, the space
 abbrev pub space : ℕ
 space = 32
 
+-- U+0022, which begins and ends strings
 abbrev pub double_quote : ℕ
 double_quote = 34
 
+-- U+0024, a letter of Java
 abbrev pub dollar : ℕ
 dollar = 36
 
+-- U+0027, which begins and ends characters
 abbrev pub single_quote : ℕ
 single_quote = 39
 
+-- U+002A, of the marks of comments
 abbrev pub asterisk : ℕ
 asterisk = 42
 
+-- U+002E, which may stand in numbers
 abbrev pub dot : ℕ
 dot = 46
 
+-- U+002F, of the marks of comments
 abbrev pub slash : ℕ
 slash = 47
 
-abbrev pub digit_zero : ℕ
-digit_zero = 48
-
+-- U+005C, which begins an escape
 abbrev pub backslash : ℕ
 backslash = 92
 
+-- U+005F, a letter of Java
 abbrev pub underscore : ℕ
 underscore = 95
 

@@ -65,7 +65,7 @@ unfoldable mutual
       else if c == backslash then suc (literal_escape quote cs)
       else suc (literal_rest quote cs)
 
-  -- after a backslash
+  -- the same from behind a backslash, which takes a character unless that is a line feed
   pub literal_escape : ℕ → List ℕ → ℕ
   literal_escape quote [] = 0
   literal_escape quote (c ∷ cs) = if c == line_feed then 0 else suc (literal_rest quote cs)
@@ -80,7 +80,7 @@ unfoldable mutual
       else if begins_with text_block_mark (c ∷ cs) then 3
       else suc (text_block_rest cs)
 
-  -- after a backslash
+  -- the same from behind a backslash, which takes a character whatever it is
   pub text_block_escape : List ℕ → ℕ
   text_block_escape [] = 0
   text_block_escape (c ∷ cs) = suc (text_block_rest cs)

@@ -41,7 +41,7 @@ unfoldable mutual
   without_escapes [] = []
   without_escapes (c ∷ cs) = if c == backslash then space ∷ past_escape cs else c ∷ without_escapes cs
 
-  -- after a backslash
+  -- the same from behind a backslash: a space for the character that it takes, if one is left
   pub past_escape : List ℕ → List ℕ
   past_escape [] = []
   past_escape (c ∷ cs) = space ∷ without_escapes cs
@@ -106,9 +106,13 @@ mask_in ws name = lookup (is_at (name_cmp name)) ws
 abbrev pub with_occurrence : List WordRow → WordRow → List WordRow
 with_occurrence ws o = insert_entry name_cmp ws o.0 (bit_or (unwrap_or (mask_in ws o.0) 0) o.1)
 
+-- occurrences in any order as words: the names in order and each once, with the union of their bits
+abbrev pub in_order_of : List WordRow → List WordRow
+in_order_of os = fold with_occurrence [] os
+
 -- the words of a text: the names that occur, in order and each once, with the union of their bits
 unfoldable pub words_of : List ℕ → List WordRow
-words_of text = fold with_occurrence [] (occurrences_of text)
+words_of text = in_order_of (occurrences_of text)
 
 -- the names rise, so each comes once
 abbrev pub AreInOrder : List WordRow → Type 0

@@ -7,18 +7,18 @@ ghost use Rattle.java_tokens.specs.Words.{AreInOrder, HasMasksOf, bit_of, gap_at
 use crate::chars::Class;
 use crate::identifier::is_identifier_at;
 use crate::kind::Kind;
+use crate::masks::Masks;
 use crate::piece::Piece;
 use crate::place::Place;
 use crate::scan::run_end;
 use crate::token::Token;
 use crate::tokenizer::{begins_word_at, next_token};
-use crate::word_list::{Masks, WordList};
-use ide_text::{Name, Text};
+use crate::word_list::WordList;
+use ide_text::Text;
 use std::alloc::{AllocError, Global};
-use std::collections::BTreeMap;
 
-/// The words of a text: its identifiers, and the words in its comments and strings. Linear in the text, but for
-/// the look-up of each word among those so far.
+/// The words of a text: its identifiers, and the words in its comments and strings. Each occurrence is looked up once,
+/// by hash, and the distinct words are sorted at the end.
 pub fn words(alloc: Global, text: &Text) -> Result<WordList, AllocError>
     ensures value { IfOk result (λ list. list ≡ words_of text.now) }
 
@@ -32,13 +32,13 @@ pub fn words(alloc: Global, text: &Text) -> Result<WordList, AllocError>
 /// The words of a text, each with the places where it stands.
 #[tactic(auto, unfolding(crate::specs::Words::words_of))]
 fn masks_of(alloc: Global, text: &Text) -> Result<Masks, AllocError>
-    ensures { IfOk result (λ masks. masks.entries ≡ words_of text.now) }
+    ensures { IfOk result (λ masks. masks ≡ words_of text.now) }
 {
     let piece = Piece::whole(text);
-    let mut masks = BTreeMap::new(alloc);
+    let mut masks = Masks::new(alloc);
     let mut at = 0;
     while let Some(token) = next_token(&piece, at) {
-        add_token(alloc, &mut masks, text, &token)?;
+        add_token(&mut masks, text, &token)?;
         at = token.at + token.len;
     }
     Ok(masks)
@@ -46,36 +46,31 @@ fn masks_of(alloc: Global, text: &Text) -> Result<Masks, AllocError>
 
 /// Adds the words of a token.
 #[tactic(auto, unfolding(crate::specs::Words::occurrences_at))]
-fn add_token(alloc: Global, masks: &mut Masks, text: &Text, token: &Token) -> Result<(), AllocError>
+fn add_token(masks: &mut Masks, text: &Text, token: &Token) -> Result<(), AllocError>
     requires { token.now.at + token.now.len ≤ length text.now }
-    ensures { OnOk result (masks.new.entries
-        ≡ fold with_occurrence masks.old.entries (occurrences_at text.now token.now)) }
+    ensures { OnOk result (masks.new
+        ≡ fold with_occurrence masks.old (occurrences_at text.now token.now)) }
 {
     let piece = Piece::part(text, token.at, token.len);
     if is_identifier_at(text, token) {
-        add(masks, piece.name(alloc, 0, token.len)?, Place::Code)?;
+        masks.add(&piece, 0, token.len, Place::Code)?;
     } else if token.is(Kind::LineComment) || token.is(Kind::BlockComment) {
-        add_words(alloc, masks, &piece, Place::Comment)?;
+        add_words(masks, &piece, Place::Comment)?;
     } else if token.is(Kind::Str) || token.is(Kind::TextBlock) {
-        add_words(alloc, masks, &piece, Place::String)?;
+        add_words(masks, &piece, Place::String)?;
     }
     Ok(())
 }
 
 /// Adds the words in a comment or a string.
-fn add_words(
-    alloc: Global,
-    masks: &mut Masks,
-    piece: &Piece,
-    place: Place,
-) -> Result<(), AllocError>
-    ensures { OnOk result (masks.new.entries
-        ≡ fold with_occurrence masks.old.entries (words_at place piece.now)) }
+fn add_words(masks: &mut Masks, piece: &Piece, place: Place) -> Result<(), AllocError>
+    ensures { OnOk result (masks.new
+        ≡ fold with_occurrence masks.old (words_at place piece.now)) }
 {
     let mut at = 0;
     loop {
         let end = run_end(piece, at, Class::Word);
-        add_run(alloc, masks, piece, at, end, place)?;
+        add_run(masks, piece, at, end, place)?;
         let Some(c) = piece.get(end) else {
             return Ok(());
         };
@@ -97,7 +92,6 @@ fn gap_at(place: Place, c: char) -> u32
 
 /// Adds a longest run of what may go on in a word, if it begins as a word does.
 fn add_run(
-    alloc: Global,
     masks: &mut Masks,
     piece: &Piece,
     at: u32,
@@ -106,22 +100,10 @@ fn add_run(
 ) -> Result<(), AllocError>
     requires { end ≡ at + prefix_len continues_word (drop at piece.now) }
     ensures { OnOk result (let run = take (end - at) (drop at piece.now) in
-        masks.new.entries ≡ fold with_occurrence masks.old.entries (marked place (words_among (run ∷ [])))) }
+        masks.new ≡ fold with_occurrence masks.old (marked place (words_among (run ∷ [])))) }
 {
     if begins_word_at(piece, at) {
-        add(masks, piece.name(alloc, at, end)?, place)?;
+        masks.add(piece, at, end, place)?;
     }
-    Ok(())
-}
-
-/// Adds one occurrence of a word.
-fn add(masks: &mut Masks, name: Name, place: Place) -> Result<(), AllocError>
-    ensures { OnOk result (masks.new.entries ≡ with_occurrence masks.old.entries (name, bit_of place)) }
-{
-    if let Some(mask) = masks.get_mut(&name) {
-        *mask |= place.bit();
-        return Ok(());
-    }
-    masks.insert(name, place.bit())?;
     Ok(())
 }

@@ -5,6 +5,7 @@ mod chars;
 mod gather;
 mod identifier;
 mod kind;
+mod masks;
 mod piece;
 mod place;
 mod reserved;

@@ -1,10 +1,10 @@
 //! A part of a text, read by places of its own.
-ghost use Rattle.std.specs.Prelude.{◌≡◌, ◌+◌, ◌-◌, ◌<◌, ◌≤◌, suc, [], ◌∷◌, IsTrue, IfSome, IfNone, OnSome, IfOk, length, take, drop};
+ghost use Rattle.std.specs.Prelude.{◌≡◌, ◌+◌, ◌-◌, ◌<◌, ◌≤◌, suc, [], ◌∷◌, IsTrue, IfSome, IfNone, OnSome, OnOk, length, take, drop};
 ghost use Rattle.ide_text.specs.Text.{max_chars};
 ghost use Rattle.java_tokens.specs.Chars.{begins_with};
 
 use ide_text::{Name, Text};
-use std::alloc::{AllocError, Global};
+use std::alloc::AllocError;
 use std::marker::Model;
 
 /// Some characters of a text that follow one another.
@@ -85,12 +85,12 @@ impl<'a> Piece<'a> {
         true
     }
 
-    /// A name of the characters from one place up to another.
-    pub fn name(&self, alloc: Global, from: u32, to: u32) -> Result<Name, AllocError>
+    /// Gives a name the characters from one place up to another.
+    pub fn read_name(&self, name: &mut Name, from: u32, to: u32) -> Result<(), AllocError>
         requires ordered { from ≤ to }
         requires inside { to ≤ length self.now }
-        ensures { IfOk result (λ name. name ≡ take (to - from) (drop from self.now)) }
+        ensures { OnOk result (name.new ≡ take (to - from) (drop from self.now)) }
     {
-        Name::of_text(alloc, self.text, self.from + from, self.from + to)
+        name.refill(self.text, self.from + from, self.from + to)
     }
 }

@@ -2,13 +2,10 @@
 ghost use Rattle.std.specs.Prelude.{◌≡◌, ◌==◌, IfOk, length};
 ghost use Rattle.java_tokens.specs.Words.{AreInOrder, mask_in};
 
+use crate::masks::Masks;
 use ide_text::Name;
 use std::alloc::{AllocError, Global};
-use std::collections::BTreeMap;
 use std::marker::Model;
-
-/// Words and their masks, while they are gathered.
-pub(crate) type Masks = BTreeMap<Name, u8>;
 
 /// Names with masks: the names in order, each once, and the mask of each the union of the bits of the places where
 /// it stands (`Place`).
@@ -32,14 +29,12 @@ impl Model for WordList {
 impl WordList {
     /// The words that were gathered.
     pub(crate) fn from_masks(alloc: Global, masks: Masks) -> Result<WordList, AllocError>
-        requires { AreInOrder masks.entries }
-        ensures { IfOk result (λ list. list ≡ masks.entries) }
+        requires { AreInOrder masks }
+        ensures { IfOk result (λ list. list ≡ masks) }
     {
-        let mut rows = Vec::new(alloc);
-        for row in masks {
-            rows.push(row)?;
-        }
-        Ok(WordList { rows })
+        Ok(WordList {
+            rows: masks.into_rows(alloc)?,
+        })
     }
 
     /// The number of words.

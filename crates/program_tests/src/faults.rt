@@ -11,8 +11,8 @@ const PIECE_WRITTEN: usize = 5;
 
 const IDE: &[&str] = &["ide"];
 
-/// A command line and a script, the call on the source and the call on the sink that fail, counted from 1, how
-/// the run ends, and what the sink holds then. Call 0 is never made.
+/// A command line and a script, the call on the source and the call on the sink that fail, counted from 1, with
+/// which number the run ends and what it writes to standard error, and what the sink holds then. Call 0 is never made.
 struct Case {
     words: &'static [&'static str],
     script: &'static str,
@@ -29,7 +29,7 @@ static CASES: [Case; 16] = [
         script: "settle\n",
         read: 1,
         write: 0,
-        status: "3 source fault",
+        status: "3 ide: source fault\n",
         written: "",
     },
     Case {
@@ -37,7 +37,7 @@ static CASES: [Case; 16] = [
         script: "settle\n",
         read: 2,
         write: 0,
-        status: "3 source fault",
+        status: "3 ide: source fault\n",
         written: "",
     },
     Case {
@@ -45,7 +45,7 @@ static CASES: [Case; 16] = [
         script: "settle\n",
         read: 3,
         write: 0,
-        status: "3 source fault",
+        status: "3 ide: source fault\n",
         written: "",
     },
     Case {
@@ -53,7 +53,7 @@ static CASES: [Case; 16] = [
         script: "settle\n",
         read: 4,
         write: 0,
-        status: "0 done",
+        status: "0 ",
         written: "history 0\n1 at 0 smart\n",
     },
     // The transcript takes five writes.
@@ -62,7 +62,7 @@ static CASES: [Case; 16] = [
         script: "settle\n",
         read: 0,
         write: 1,
-        status: "5 sink fault",
+        status: "5 ide: sink fault\n",
         written: "",
     },
     Case {
@@ -70,7 +70,7 @@ static CASES: [Case; 16] = [
         script: "settle\n",
         read: 0,
         write: 2,
-        status: "5 sink fault",
+        status: "5 ide: sink fault\n",
         written: "histo",
     },
     Case {
@@ -78,7 +78,7 @@ static CASES: [Case; 16] = [
         script: "settle\n",
         read: 0,
         write: 3,
-        status: "5 sink fault",
+        status: "5 ide: sink fault\n",
         written: "history 0\n",
     },
     Case {
@@ -86,7 +86,7 @@ static CASES: [Case; 16] = [
         script: "settle\n",
         read: 0,
         write: 4,
-        status: "5 sink fault",
+        status: "5 ide: sink fault\n",
         written: "history 0\n1 at ",
     },
     Case {
@@ -94,7 +94,7 @@ static CASES: [Case; 16] = [
         script: "settle\n",
         read: 0,
         write: 5,
-        status: "5 sink fault",
+        status: "5 ide: sink fault\n",
         written: "history 0\n1 at 0 sma",
     },
     Case {
@@ -102,7 +102,7 @@ static CASES: [Case; 16] = [
         script: "settle\n",
         read: 0,
         write: 6,
-        status: "0 done",
+        status: "0 ",
         written: "history 0\n1 at 0 smart\n",
     },
     Case {
@@ -110,7 +110,7 @@ static CASES: [Case; 16] = [
         script: "",
         read: 0,
         write: 2,
-        status: "5 sink fault",
+        status: "5 ide: sink fault\n",
         written: "histo",
     },
     // Whichever comes first: the words, the reading, the grammar, the writing.
@@ -119,7 +119,7 @@ static CASES: [Case; 16] = [
         script: "settle\n",
         read: 1,
         write: 1,
-        status: "1 usage",
+        status: "1 ide: usage\n",
         written: "",
     },
     Case {
@@ -127,7 +127,7 @@ static CASES: [Case; 16] = [
         script: "settle\n",
         read: 1,
         write: 1,
-        status: "3 source fault",
+        status: "3 ide: source fault\n",
         written: "",
     },
     Case {
@@ -135,7 +135,7 @@ static CASES: [Case; 16] = [
         script: "x\nsettle\n",
         read: 2,
         write: 0,
-        status: "3 source fault",
+        status: "3 ide: source fault\n",
         written: "",
     },
     Case {
@@ -143,7 +143,7 @@ static CASES: [Case; 16] = [
         script: "x\nsettle\n",
         read: 0,
         write: 1,
-        status: "2 bad script line 1",
+        status: "2 ide: bad script line 1\n",
         written: "",
     },
     Case {
@@ -151,7 +151,7 @@ static CASES: [Case; 16] = [
         script: "settle\nx\n",
         read: 4,
         write: 1,
-        status: "3 source fault",
+        status: "3 ide: source fault\n",
         written: "",
     },
 ];
@@ -187,10 +187,10 @@ fn faults_of_source_and_sink(rt: HostRuntime) -> Result<(), Fail> {
 #[test]
 fn longest_script_and_least_room(rt: HostRuntime) -> Result<(), Fail> {
     for (len, room, wanted, written) in [
-        (0, 5, "5 sink fault", "histo"),
-        (0, 10, "0 done", "history 0\n"),
-        (16_777_216, 10, "0 done", "history 0\n"),
-        (16_777_217, 10, "7 script too long", ""),
+        (0, 5, "5 ide: sink fault\n", "histo"),
+        (0, 10, "0 ", "history 0\n"),
+        (16_777_216, 10, "0 ", "history 0\n"),
+        (16_777_217, 10, "7 ide: script too long\n", ""),
     ] {
         let script = vec![in rt.alloc(); b'\n'; len]?;
         let mut source = BytesSource::new(&script);
@@ -203,5 +203,24 @@ fn longest_script_and_least_room(rt: HostRuntime) -> Result<(), Fail> {
             "of {len} line ends"
         );
     }
+    Ok(())
+}
+
+// A transcript of more than 65,536 bytes, and a script of as many, are no reason to be short of memory.
+#[test]
+fn long_transcript(rt: HostRuntime) -> Result<(), Fail> {
+    let alloc = rt.alloc();
+    let mut script = Vec::new(alloc);
+    let mut wanted = Vec::from_slice(alloc, b"history 0\n")?;
+    for line in 1..=10_000 {
+        script.extend_from_slice(b"settle\n")?;
+        wanted.extend_from_slice(format!(in alloc; "{line} at 0 smart\n")?.as_bytes())?;
+    }
+    let mut source = BytesSource::new(&script);
+    let mut sink = BytesSink::with_room(alloc, 1_000_000)?;
+    let status = run(&rt, IDE, &mut source, &mut sink)?;
+    assert_eq!(rt; status.as_str(), "0 ");
+    assert_eq!(rt; sink.bytes().len(), wanted.len());
+    assert!(rt; sink.bytes() == wanted.as_slice(), "the transcript");
     Ok(())
 }

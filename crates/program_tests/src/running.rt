@@ -1,15 +1,14 @@
 //! One run of the program, over a tree with no file.
-use ide_io::{MemoryTree, Sink, Source};
-use ide_script::run_ide;
+use ide_io::{BytesSink, MemoryTree, Sink, Source};
+use ide_script::run_main;
 use std::alloc::{AllocError, Global};
 use std::collections::BTreeMap;
-use std::process::Abort;
 use std::sync::Wait;
 use std::test::Fail;
 use std::thread::Threads;
 
-/// Runs the program with these words, and gives the number and the words of the status.
-pub fn run<R: Abort + AllocGlobal + Threads + Wait, S: Source, K: Sink>(
+/// Runs the program with these words, and gives the number with which it ends and what it writes to standard error.
+pub fn run<R: Threads + Wait + AllocGlobal, S: Source, K: Sink>(
     rt: &R,
     words: &[&str],
     script: &mut S,
@@ -17,14 +16,11 @@ pub fn run<R: Abort + AllocGlobal + Threads + Wait, S: Source, K: Sink>(
 ) -> Result<String, Fail> {
     let alloc = rt.alloc();
     let words = owned(alloc, words)?;
-    assert!(rt;
-        !words.is_empty(),
-        "the words begin with the program's name"
-    );
     let mut tree = MemoryTree::new(BTreeMap::new(alloc));
-    let status = run_ide(rt, alloc, &words, script, &mut tree, out);
-    let number = status.number();
-    Ok(format!(in alloc; "{number} {status}")?)
+    let mut error = BytesSink::with_room(alloc, 100)?;
+    let number = run_main(rt, alloc, words, script, &mut tree, out, &mut error);
+    let line = str::from_utf8(error.bytes())?;
+    Ok(format!(in alloc; "{number} {line}")?)
 }
 
 /// The words, each as a `String`.

@@ -3,7 +3,7 @@ use crate::running::run;
 use ide_io::{BytesSink, BytesSource};
 use std::test::Fail;
 
-/// A command line and a script, how the run ends, and all that it writes.
+/// A command line and a script, with which number the run ends and what it writes to standard error, and all that it writes.
 struct Case {
     words: &'static [&'static str],
     script: &'static str,
@@ -13,11 +13,18 @@ struct Case {
 
 const IDE: &[&str] = &["ide"];
 
-static CASES: [Case; 29] = [
+static CASES: [Case; 30] = [
+    // Where the system gives no word, the program has its own name.
+    Case {
+        words: &[],
+        script: "settle\n",
+        status: "0 ",
+        written: "history 0\n1 at 0 smart\n",
+    },
     Case {
         words: IDE,
         script: "",
-        status: "0 done",
+        status: "0 ",
         written: "history 0\n",
     },
     // A word is told only where no file is unready.
@@ -26,7 +33,7 @@ static CASES: [Case; 29] = [
         script: r#"create A.java "class A {}"
 word A
 "#,
-        status: "0 done",
+        status: "0 ",
         written: r#"history 1
 1 0 1 create A.java 10
 1 at 1 accepted
@@ -39,7 +46,7 @@ word A
 settle
 word A
 "#,
-        status: "0 done",
+        status: "0 ",
         written: r#"history 2
 1 0 1 create A.java 10
 2 0 2 intake 1 1
@@ -60,7 +67,7 @@ settle
 word A
 word B
 "#,
-        status: "0 done",
+        status: "0 ",
         written: r#"history 4
 1 0 1 create A.java 10
 2 0 2 intake 1 1
@@ -83,7 +90,7 @@ word B
 word a
 create A.java "x"
 "#,
-        status: "0 done",
+        status: "0 ",
         written: r#"history 1
 1 0 1 create A.java 1
 1 at 1 accepted
@@ -97,7 +104,7 @@ create A.java "x"
 word a
 write B.java "x"
 "#,
-        status: "0 done",
+        status: "0 ",
         written: r#"history 1
 1 0 1 create A.java 1
 1 at 1 accepted
@@ -113,7 +120,7 @@ create a:b "a"
 write ../x "a"
 settle
 "#,
-        status: "0 done",
+        status: "0 ",
         written: r#"history 0
 1 at 0 refused bad-path
 2 at 0 refused bad-path
@@ -135,7 +142,7 @@ write A.txt "A B"
 settle
 word B
 "#,
-        status: "0 done",
+        status: "0 ",
         written: r#"history 6
 1 0 1 create b/B.java 1
 2 0 2 create A.txt 1
@@ -176,7 +183,7 @@ word x
 word y
 word z
 "#,
-        status: "0 done",
+        status: "0 ",
         written: r#"history 12
 1 0 1 create A.java 3
 2 0 2 create B.java 1
@@ -229,7 +236,7 @@ word foo
 word bar
 word int
 "#,
-        status: "0 done",
+        status: "0 ",
         written: r#"history 2
 1 0 1 create A.java 33
 2 0 2 intake 1 1
@@ -252,7 +259,7 @@ word t
 word u
 word x
 "#,
-        status: "0 done",
+        status: "0 ",
         written: r#"history 2
 1 0 1 create A.java 30
 2 0 2 intake 1 1
@@ -280,7 +287,7 @@ word x
                  write A \"a\rb\"\n\
                  write A \"a\r\\nb\"\n\
                  write A \"é😀\"\n",
-        status: "0 done",
+        status: "0 ",
         written: r#"history 7
 1 0 1 create A 3
 2 0 2 write A 0
@@ -302,7 +309,7 @@ word x
     Case {
         words: IDE,
         script: "# first\r\n\r\ncreate A.java \"class A {}\"\r\n\n#\nsettle\r\nword A",
-        status: "0 done",
+        status: "0 ",
         written: r#"history 2
 1 0 3 create A.java 10
 2 0 6 intake 1 1
@@ -316,98 +323,98 @@ word x
     Case {
         words: IDE,
         script: "nonsense\n",
-        status: "2 bad script line 1",
+        status: "2 ide: bad script line 1\n",
         written: "",
     },
     Case {
         words: IDE,
         script: "create A.java \"x",
-        status: "2 bad script line 1",
+        status: "2 ide: bad script line 1\n",
         written: "",
     },
     Case {
         words: IDE,
         script: "create A.java \"\\a\"\n",
-        status: "2 bad script line 1",
+        status: "2 ide: bad script line 1\n",
         written: "",
     },
     Case {
         words: IDE,
         script: "# first\n\nsettle\r\nword  A\nnonsense\n",
-        status: "2 bad script line 4",
+        status: "2 ide: bad script line 4\n",
         written: "",
     },
     Case {
         words: IDE,
         script: "create A.java \"class A {}\"\nsettle\n word A\n",
-        status: "2 bad script line 3",
+        status: "2 ide: bad script line 3\n",
         written: "",
     },
     Case {
         words: IDE,
         script: "settle\nlane\nload A.java\n",
-        status: "2 bad script line 2",
+        status: "2 ide: bad script line 2\n",
         written: "",
     },
     Case {
         words: IDE,
         script: "load A.java\n",
-        status: "2 bad script line 1",
+        status: "2 ide: bad script line 1\n",
         written: "",
     },
     // The words of the command line come first.
     Case {
         words: &["/usr/bin/ide", "play"],
         script: "settle\n",
-        status: "0 done",
+        status: "0 ",
         written: "history 0\n1 at 0 smart\n",
     },
     Case {
         words: &["ide", "play", "--workers", "9"],
         script: "nonsense\n",
-        status: "1 usage",
+        status: "1 ide: usage\n",
         written: "",
     },
     Case {
         words: &["ide", "--help"],
         script: "",
-        status: "1 usage",
+        status: "1 ide: usage\n",
         written: "",
     },
     Case {
         words: &["ide", "demo"],
         script: "",
-        status: "1 usage",
+        status: "1 ide: usage\n",
         written: "",
     },
     Case {
         words: &["ide", "play", "play"],
         script: "",
-        status: "1 usage",
+        status: "1 ide: usage\n",
         written: "",
     },
     Case {
         words: &["ide", "Play"],
         script: "",
-        status: "1 usage",
+        status: "1 ide: usage\n",
         written: "",
     },
     Case {
         words: &["ide", "pla"],
         script: "",
-        status: "1 usage",
+        status: "1 ide: usage\n",
         written: "",
     },
     Case {
         words: &["ide", "play "],
         script: "",
-        status: "1 usage",
+        status: "1 ide: usage\n",
         written: "",
     },
     Case {
         words: &["ide", ""],
         script: "",
-        status: "1 usage",
+        status: "1 ide: usage\n",
         written: "",
     },
 ];

@@ -13,7 +13,9 @@ use Rattle.script_lang.specs.Quotes.{text_of_field}
 use Rattle.script_lang.specs.Commands.{path_of, path_and_text, keyword_of, command_with, command_of_parts, command_of}
 use Rattle.script_lang.specs.Grammar.{IsQuoted, HasPathAndText, IsCommandLine}
 use Rattle.script_lang.specs.declared.command.Command.{Command}
-use Rattle.script_lang.specs.declared.command.Command.TheVariants.{Create, Write, Settle, Word}
+use Rattle.script_lang.specs.declared.command.Command.TheVariants.{Change, Settle, Ask}
+use Rattle.script_lang.specs.declared.command.Query.TheVariants as query
+use Rattle.write_history.specs.declared.change.Change.TheVariants as change
 use Rattle.script_lang.specs.declared.command.Keyword.{Keyword}
 use Rattle.script_lang.specs.declared.command.Keyword.TheVariants as key
 use Rattle.script_lang.proofs.OptionLemmas.{option_map-some, option_and_then-some}
@@ -103,13 +105,13 @@ path_and_text-found path field text filled none quoted =
 -- what is read is the form of the command
 IsCommandLine-with : (keyword : Keyword) (line rest : List ℕ) (command : Command) → line ≡ spelled keyword ++ space ∷ rest → command_with keyword rest ≡ Some command → IsCommandLine line command
 IsCommandLine-with key.Create line rest command e read =
-    let made = option_map-some (λ p. Create p.0 p.1) (path_and_text rest) command read in
+    let made = option_map-some (λ p. Change (change.Create p.0 p.1)) (path_and_text rest) command read in
     subst (IsCommandLine line) made.2 (HasPathAndText-read (codes "create") line rest made.0 e made.1)
 IsCommandLine-with key.Write line rest command e read =
-    let made = option_map-some (λ p. Write p.0 p.1) (path_and_text rest) command read in
+    let made = option_map-some (λ p. Change (change.Write p.0 p.1)) (path_and_text rest) command read in
     subst (IsCommandLine line) made.2 (HasPathAndText-read (codes "write") line rest made.0 e made.1)
 IsCommandLine-with key.Word line rest command e read =
-    let made = cond_some (is_word rest) (Word rest) command read in
+    let made = cond_some (is_word rest) (Ask (query.Word rest)) command read in
     subst (IsCommandLine line) made.1 (e, made.0)
 
 IsCommandLine-parts : (line : List ℕ) (parts : Option (List ℕ × List ℕ)) (command : Command) → parts_at_space line ≡ parts → command_of_parts line parts ≡ Some command → IsCommandLine line command
@@ -128,11 +130,12 @@ IsCommandLine-command_of line command read = IsCommandLine-parts line (parts_at_
 -- and a command's form is read
 pub command_of-IsCommandLine : (line : List ℕ) (command : Command) → IsCommandLine line command → command_of line ≡ Some command
 unfolding command_of
-command_of-IsCommandLine line (Create path text) is =
+command_of-IsCommandLine line (Change (change.Create path text)) is =
     let read = path_and_text-found path is.field text is.not_empty is.no_space is.quoted in
     ap command_of is.pieces ∙ (rw read refl)
-command_of-IsCommandLine line (Write path text) is =
+command_of-IsCommandLine line (Change (change.Write path text)) is =
     let read = path_and_text-found path is.field text is.not_empty is.no_space is.quoted in
     ap command_of is.pieces ∙ (rw read refl)
+command_of-IsCommandLine line (Change (change.Intake file stamp)) is = absurd is
 command_of-IsCommandLine line Settle e = ap command_of e
-command_of-IsCommandLine line (Word name) (e, whole) = ap command_of e ∙ (rw whole refl)
+command_of-IsCommandLine line (Ask (query.Word name)) (e, whole) = ap command_of e ∙ (rw whole refl)

@@ -1,14 +1,21 @@
 -- The script of bytes is the one that the grammar has, and its bad line is the first.
-use Rattle.std.proofs.Common.{◌≡◌, inl, inr, ℕ, ◌+◌, ◌<◌, true, false, Bool, eqb, cond, List, [], ◌∷◌, ◌++◌, length, Option, Some, None, Result, Ok, Err, IfOk, IfErr, MatchResult, refl, ap, sym, ◌∙◌, subst, arith, lit<}
+use Rattle.std.proofs.Common.{◌≡◌, inl, inr, ℕ, ◌+◌, ◌<◌, ◌≤◌, true, false, Bool, eqb, cond, List, [], ◌∷◌, ◌++◌, length, Option, Some, None, Result, Ok, Err, IfOk, IfErr, MatchResult, refl, ap, sym, ◌∙◌, subst, arith, lit<, append_assoc}
 use Rattle.std.specs.Str.{chars, IsUtf8}
 use lib.Utf8.{encodes}
 use Rattle.std.proofs.lemmas.Str.{encodes-chars, encode_ascii, is_utf8-from_IsUtf8, IsUtf8-from_is_utf8}
-use Rattle.script_lang.specs.Lines.{lines_of, without_return, is_passed_by, number_sign}
+use Rattle.std.specs.List.{All}
+use Rattle.std.proofs.lemmas.List.{append-nil}
+use Rattle.std.proofs.lemmas.List.Elements.{All-nil, All-cons}
+use Rattle.script_lang.specs.Held.{IsOfLine}
+use Rattle.script_lang.specs.Lines.{max_bytes, lines_of, without_return, is_passed_by, number_sign}
 use Rattle.script_lang.specs.Script.{content_of, content_of_bytes, content_from, line_before, script_from, script_of, IsRefusalOf}
-use Rattle.script_lang.specs.Grammar.{DropsReturn, IsPassedBy, HoldsCommand, AreLines, HoldScript, IsScript, IsFirstBadLine, IsRefused}
+use Rattle.script_lang.specs.Grammar.{DropsReturn, IsPassedBy, HoldsCommand, AreLines, HoldScript, IsScript, BeginScript, IsFirstBadLine, IsCommandLine, IsRefused}
 use Rattle.script_lang.specs.declared.command.Command.{Command}
-use Rattle.script_lang.specs.declared.command.Command.TheVariants.{Create, Write, Settle, Word}
+use Rattle.script_lang.specs.declared.command.Command.TheVariants.{Change, Settle, Ask}
+use Rattle.script_lang.specs.declared.command.Query.TheVariants as query
+use Rattle.write_history.specs.declared.change.Change.TheVariants as change
 use Rattle.script_lang.specs.declared.line.Line.{Line}
+use Rattle.script_lang.specs.declared.line.Section.TheVariants.{Prelude}
 use Rattle.script_lang.specs.declared.line.Content.{Content}
 use Rattle.script_lang.specs.declared.line.Content.TheVariants.{PassedBy, Holds, Bad}
 use Rattle.script_lang.specs.declared.refusal.ScriptRefusal.{ScriptRefusal}
@@ -25,10 +32,11 @@ is_passed_by-char bytes c cs text e ascii other =
 
 -- no command's line is passed by
 not_passed_by : (bytes : List ℕ) (command : Command) → HoldsCommand bytes command → is_passed_by bytes ≡ false
-not_passed_by bytes (Create path field) (text, is) = is_passed_by-char bytes 99 _ text is.pieces (lit< tt) refl
-not_passed_by bytes (Write path field) (text, is) = is_passed_by-char bytes 119 _ text is.pieces (lit< tt) refl
+not_passed_by bytes (Change (change.Create path field)) (text, is) = is_passed_by-char bytes 99 _ text is.pieces (lit< tt) refl
+not_passed_by bytes (Change (change.Write path field)) (text, is) = is_passed_by-char bytes 119 _ text is.pieces (lit< tt) refl
+not_passed_by bytes (Change (change.Intake file stamp)) (text, is) = absurd is
 not_passed_by bytes Settle (text, is) = is_passed_by-char bytes 115 _ text is (lit< tt) refl
-not_passed_by bytes (Word name) (text, is) = is_passed_by-char bytes 119 _ text is.0 (lit< tt) refl
+not_passed_by bytes (Ask (query.Word name)) (text, is) = is_passed_by-char bytes 119 _ text is.0 (lit< tt) refl
 
 -- what a line is, from the grammar
 content_of_bytes-IsPassedBy : (bytes : List ℕ) → IsPassedBy bytes → content_of_bytes bytes ≡ PassedBy
@@ -146,7 +154,7 @@ StopsAt-line number line lines PassedBy rest bad more is e =
 StopsAt-line number line lines (Holds command) (Ok s) bad more is e = absurd cc
 StopsAt-line number line lines (Holds command) (Err refusal) bad more is e =
     let stop = more e in
-    StopsAt-after number line lines bad stop (record { number = number; command = command } ∷ stop.script) (rw (is, stop.before) refl)
+    StopsAt-after number line lines bad stop (record { number = number; section = Prelude; command = command } ∷ stop.script) (rw (is, stop.before) refl)
 
 StopsAt-script_from : (number : ℕ) (lines : List (List ℕ)) (bad : ScriptRefusal) → script_from number lines ≡ Err bad → StopsAt number lines bad
 unfolding script_from
@@ -171,31 +179,70 @@ script_from-never number (first ∷ front) line more script bad e =
     script_from-never (number + 1) front line more read.0 bad read.1
 
 -- the script that is computed is the one of the grammar
-pub IsScript-script_of : (bytes : List ℕ) (script : List Line) → script_of bytes ≡ Ok script → IsScript bytes script
-IsScript-script_of bytes script e = (lines_of bytes, AreLines-lines_of bytes, HoldScript-script_from 1 (lines_of bytes) script e)
+pub IsScript-script_of : (bytes : List ℕ) (script : List Line) → length bytes ≤ max_bytes → script_of bytes ≡ Ok script → IsScript bytes script
+IsScript-script_of bytes script few e = record {
+  few = few;
+  lines = lines_of bytes;
+  cut = AreLines-lines_of bytes;
+  held = HoldScript-script_from 1 (lines_of bytes) script e;
+}
 
 pub script_of-IsScript : (bytes : List ℕ) (script : List Line) → IsScript bytes script → script_of bytes ≡ Ok script
-script_of-IsScript bytes script (lines, cut, holds) = ap (script_from 1) (sym (lines_of-AreLines bytes lines cut)) ∙ script_from-HoldScript 1 lines script holds
+script_of-IsScript bytes script is = ap (script_from 1) (sym (lines_of-AreLines bytes is.lines is.cut)) ∙ script_from-HoldScript 1 is.lines script is.held
+
+-- lines that are a script begin one
+BeginScript-script_from : (lines : List (List ℕ)) (script : List Line) → script_from 1 lines ≡ Ok script → BeginScript lines
+BeginScript-script_from lines script e = record {
+  more = [];
+  script = script;
+  held = subst (λ l. HoldScript 1 l script) (sym (append-nil lines)) (HoldScript-script_from 1 lines script e);
+}
+
+-- with a bad line they begin none
+begins_no_script : (front : List (List ℕ)) (line : List ℕ) → content_of line ≡ Bad → BeginScript (front ++ line ∷ []) → ⊥
+begins_no_script front line bad begins =
+    let held = subst (λ l. HoldScript 1 l begins.script) (append_assoc front (line ∷ []) begins.more) begins.held in
+    script_from-never 1 front line begins.more begins.script bad (script_from-HoldScript 1 (front ++ line ∷ begins.more) begins.script held)
 
 -- the line that is refused is the first bad one
-pub IsFirstBadLine-script_of : (bytes : List ℕ) (number : ℕ) → script_of bytes ≡ Err (BadLine number) → IsFirstBadLine bytes number
-IsFirstBadLine-script_of bytes number e =
+pub IsFirstBadLine-script_of : (bytes : List ℕ) (number : ℕ) → length bytes ≤ max_bytes → script_of bytes ≡ Err (BadLine number) → IsFirstBadLine bytes number
+IsFirstBadLine-script_of bytes number few e =
     let stop = StopsAt-script_from 1 (lines_of bytes) (BadLine number) e in
     let P : List (List ℕ) → Type 0 = λ l. AreLines bytes l in
     record {
+      few = few;
       front = stop.front;
       line = stop.line;
       rest = stop.rest;
       lines = subst P stop.parts (AreLines-lines_of bytes);
       numbered = (let n = stop.numbered in cc);
-      before = (stop.script, HoldScript-script_from 1 stop.front stop.script stop.before);
-      none = λ more script holds. script_from-never 1 stop.front stop.line more script stop.content (script_from-HoldScript 1 (stop.front ++ stop.line ∷ more) script holds);
+      before = BeginScript-script_from stop.front stop.script stop.before;
+      none = begins_no_script stop.front stop.line stop.content;
     }
 
+-- the commands of a script are none but those that lines can hold
+IsOfLine-IsCommandLine : (line : List ℕ) (command : Command) → IsCommandLine line command → IsOfLine command
+IsOfLine-IsCommandLine line (Change (change.Create path text)) is = tt
+IsOfLine-IsCommandLine line (Change (change.Write path text)) is = tt
+IsOfLine-IsCommandLine line (Change (change.Intake file stamp)) is = is
+IsOfLine-IsCommandLine line Settle is = tt
+IsOfLine-IsCommandLine line (Ask query) is = tt
+
+AreOfLines-HoldScript : (number : ℕ) (lines : List (List ℕ)) (script : List Line) → HoldScript number lines script → All (λ line. IsOfLine line.command) script
+AreOfLines-HoldScript number [] script e = subst (All (λ (line : Line). IsOfLine line.command)) (sym e) (All-nil (λ line. IsOfLine line.command))
+AreOfLines-HoldScript number (line ∷ lines) script (kept, drops, inl (passed, more)) = AreOfLines-HoldScript (number + 1) lines script more
+AreOfLines-HoldScript number (line ∷ lines) script (kept, drops, inr (command, rest, holds, made, more)) =
+    subst (All (λ (l : Line). IsOfLine l.command)) (sym made)
+    (All-cons (λ l. IsOfLine l.command) (record { number = number; section = Prelude; command = command }) rest (IsOfLine-IsCommandLine (chars kept) command holds.1)
+    (AreOfLines-HoldScript (number + 1) lines rest more))
+
+pub AreOfLines-script_of : (bytes : List ℕ) (script : List Line) → script_of bytes ≡ Ok script → All (λ line. IsOfLine line.command) script
+AreOfLines-script_of bytes script e = AreOfLines-HoldScript 1 (lines_of bytes) script (HoldScript-script_from 1 (lines_of bytes) script e)
+
 -- what an answer that the computed script bounds says by the grammar
-pub answer_is_script : (bytes : List ℕ) (r : Result (List Line) ScriptRefusal) → IfOk r (λ s. script_of bytes ≡ Ok s) → IfOk r (λ s. IsScript bytes s)
-answer_is_script bytes (Ok s) ok = IsScript-script_of bytes s ok
-answer_is_script bytes (Err refusal) ok = tt
+pub answer_is_script : (bytes : List ℕ) (r : Result (List Line) ScriptRefusal) → length bytes ≤ max_bytes → IfOk r (λ s. script_of bytes ≡ Ok s) → IfOk r (λ s. IsScript bytes s)
+answer_is_script bytes (Ok s) few ok = IsScript-script_of bytes s few ok
+answer_is_script bytes (Err refusal) few ok = tt
 
 refusal_of_script : (bytes : List ℕ) (refusal : ScriptRefusal) (script : List Line) → IsRefusalOf (script_of bytes) refusal → script_of bytes ≡ Ok script → refusal ≡ OutOfMemory
 refusal_of_script bytes OutOfMemory script refused e = refl
@@ -210,10 +257,11 @@ answer_is_only bytes (Ok s) ok err script is =
     cc
 answer_is_only bytes (Err refusal) ok err script is = refusal_of_script bytes refusal script err (script_of-IsScript bytes script is)
 
-refused_by : (bytes : List ℕ) (refusal : ScriptRefusal) → IsRefusalOf (script_of bytes) refusal → IsRefused bytes refusal
-refused_by bytes OutOfMemory refused = tt
-refused_by bytes (BadLine number) refused = IsFirstBadLine-script_of bytes number refused
+refused_by : (bytes : List ℕ) (refusal : ScriptRefusal) → length bytes ≤ max_bytes → IsRefusalOf (script_of bytes) refusal → IsRefused bytes refusal
+refused_by bytes OutOfMemory few refused = tt
+refused_by bytes (BadLine number) few refused = IsFirstBadLine-script_of bytes number few refused
 
-pub answer_is_refused : (bytes : List ℕ) (r : Result (List Line) ScriptRefusal) → IfErr r (λ refusal. IsRefusalOf (script_of bytes) refusal) → IfErr r (λ refusal. IsRefused bytes refusal)
-answer_is_refused bytes (Ok s) err = tt
-answer_is_refused bytes (Err refusal) err = refused_by bytes refusal err
+pub answer_is_refused : (bytes : List ℕ) (r : Result (List Line) ScriptRefusal) → length bytes ≤ max_bytes → IfErr r (λ refusal. IsRefusalOf (script_of bytes) refusal)
+    → IfErr r (λ refusal. IsRefused bytes refusal)
+answer_is_refused bytes (Ok s) few err = tt
+answer_is_refused bytes (Err refusal) few err = refused_by bytes refusal few err

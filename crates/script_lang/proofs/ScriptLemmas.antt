@@ -9,6 +9,7 @@ use Rattle.script_lang.specs.Script.{script_from, line_before, content_of, conte
 use Rattle.script_lang.specs.Commands.{command_of}
 use Rattle.script_lang.specs.declared.command.Command.{Command}
 use Rattle.script_lang.specs.declared.line.Line.{Line}
+use Rattle.script_lang.specs.declared.line.Section.TheVariants.{Prelude}
 use Rattle.script_lang.specs.declared.line.Content.{Content}
 use Rattle.script_lang.specs.declared.line.Content.TheVariants.{PassedBy, Holds, Bad}
 use Rattle.script_lang.specs.declared.refusal.ScriptRefusal.{ScriptRefusal}
@@ -31,13 +32,13 @@ pub script_from-passed_by : (front : List Line) (number : ℕ) (rest line after 
 script_from-passed_by front number rest line after u cut e before = sym (script_from-line front number rest line after PassedBy cut e) ∙ before
 
 lines_then-more : (front : List Line) (number : ℕ) (command : Command) (rest : Result (List Line) ScriptRefusal)
-    → lines_then front (line_before number (Holds command) rest) ≡ lines_then (front ++ record { number = number; command = command } ∷ []) rest
-lines_then-more front number command (Ok lines) = ap Ok (sym (append_assoc front (record { number = number; command = command } ∷ []) lines))
+    → lines_then front (line_before number (Holds command) rest) ≡ lines_then (front ++ record { number = number; section = Prelude; command = command } ∷ []) rest
+lines_then-more front number command (Ok lines) = ap Ok (sym (append_assoc front (record { number = number; section = Prelude; command = command } ∷ []) lines))
 lines_then-more front number command (Err refusal) = refl
 
 pub script_from-holds : (front front' : List Line) (number : ℕ) (command : Command) (rest line after : List ℕ) (u : Result (List Line) ScriptRefusal)
     → lines_of rest ≡ line ∷ lines_of after → Holds command ≡ content_of line → lines_then front (script_from number (lines_of rest)) ≡ u
-    → front' ≡ front ++ record { number = number; command = command } ∷ []
+    → front' ≡ front ++ record { number = number; section = Prelude; command = command } ∷ []
     → lines_then front' (script_from (number + 1) (lines_of after)) ≡ u
 script_from-holds front front' number command rest line after u cut e before grown =
     rw grown (sym (lines_then-more front number command (script_from (number + 1) (lines_of after)))

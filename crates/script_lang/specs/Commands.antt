@@ -1,11 +1,13 @@
 -- The command on a line, from the line's characters.
 use Rattle.std.specs.Prelude.{ℕ, List, [], ◌∷◌, Option, Some, None, if◌then◌else◌, option_map, codes, bytes_eq}
 use Rattle.std.specs.Option.{option_and_then, option_zip}
+use Rattle.write_history.specs.declared.change.Change.TheVariants as change
 use Rattle.java_tokens.specs.Identifier.{is_word}
 use Rattle.script_lang.specs.Fields.{parts_at_space}
 use Rattle.script_lang.specs.Quotes.{text_of_field}
 use Rattle.script_lang.specs.declared.command.Command.{Command}
-use Rattle.script_lang.specs.declared.command.Command.TheVariants.{Create, Write, Settle, Word}
+use Rattle.script_lang.specs.declared.command.Command.TheVariants.{Change, Settle, Ask}
+use Rattle.script_lang.specs.declared.command.Query.TheVariants as query
 use Rattle.script_lang.specs.declared.command.Keyword.{Keyword}
 use Rattle.script_lang.specs.declared.command.Keyword.TheVariants as key
 
@@ -20,7 +22,7 @@ path_and_text fields = option_and_then (λ p. option_zip (path_of p.0) (text_of_
 
 -- the question for a word, where the field is a name
 abbrev pub word_command : List ℕ → Option Command
-word_command field = if is_word field then Some (Word field) else None
+word_command field = if is_word field then Some (Ask (query.Word field)) else None
 
 -- the keyword that the characters spell
 abbrev pub keyword_of : List ℕ → Option Keyword
@@ -32,8 +34,8 @@ keyword_of word =
 
 -- the command of a keyword with what stands behind the space after it
 abbrev pub command_with : Keyword → List ℕ → Option Command
-command_with key.Create rest = option_map (λ p. Create p.0 p.1) (path_and_text rest)
-command_with key.Write rest = option_map (λ p. Write p.0 p.1) (path_and_text rest)
+command_with key.Create rest = option_map (λ p. Change (change.Create p.0 p.1)) (path_and_text rest)
+command_with key.Write rest = option_map (λ p. Change (change.Write p.0 p.1)) (path_and_text rest)
 command_with key.Word rest = word_command rest
 
 -- the command that stands alone on its line

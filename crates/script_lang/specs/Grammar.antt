@@ -3,13 +3,16 @@ use Rattle.std.specs.Prelude.{ℕ, ◌≡◌, ◌≢◌, ◌≤◌, ◌+◌, ◌
 use Rattle.std.specs.List.{All}
 use Rattle.std.specs.Str.{chars, IsUtf8}
 use Rattle.ide_text.specs.Text.{repaired, max_chars}
-use Rattle.script_lang.specs.Lines.{line_feed, carriage_return, number_sign}
+use Rattle.script_lang.specs.Lines.{max_bytes, line_feed, carriage_return, number_sign}
+use Rattle.write_history.specs.declared.change.Change.TheVariants as change
 use Rattle.java_tokens.specs.Identifier.{is_word}
 use Rattle.script_lang.specs.Fields.{space}
 use Rattle.script_lang.specs.Quotes.{quote, backslash, escape_of}
 use Rattle.script_lang.specs.declared.command.Command.{Command}
-use Rattle.script_lang.specs.declared.command.Command.TheVariants.{Create, Write, Settle, Word}
+use Rattle.script_lang.specs.declared.command.Command.TheVariants.{Change, Settle, Ask}
+use Rattle.script_lang.specs.declared.command.Query.TheVariants as query
 use Rattle.script_lang.specs.declared.line.Line.{Line}
+use Rattle.script_lang.specs.declared.line.Section.TheVariants.{Prelude}
 use Rattle.script_lang.specs.declared.refusal.ScriptRefusal.{ScriptRefusal}
 use Rattle.script_lang.specs.declared.refusal.ScriptRefusal.TheVariants.{BadLine, OutOfMemory}
 
@@ -42,12 +45,13 @@ pub record HasPathAndText (keyword line path text : List ℕ) : Type 0 where
   pub no_space : All (λ c. c ≢ space) path
   pub quoted : IsQuoted field text
 
--- a line's characters are the form of a command
+-- a line's characters are the form of a command; an intake has no form, since index data go in by a settle alone
 abbrev pub IsCommandLine : List ℕ → Command → Type 0
-IsCommandLine line (Create path text) = HasPathAndText (codes "create") line path text
-IsCommandLine line (Write path text) = HasPathAndText (codes "write") line path text
+IsCommandLine line (Change (change.Create path text)) = HasPathAndText (codes "create") line path text
+IsCommandLine line (Change (change.Write path text)) = HasPathAndText (codes "write") line path text
+IsCommandLine line (Change (change.Intake file stamp)) = ⊥
 IsCommandLine line Settle = line ≡ codes "settle"
-IsCommandLine line (Word name) = (line ≡ codes "word" ++ space ∷ name) × IsTrue (is_word name)
+IsCommandLine line (Ask (query.Word name)) = (line ≡ codes "word" ++ space ∷ name) × IsTrue (is_word name)
 
 -- a line's bytes are UTF-8, and a command's form
 abbrev pub HoldsCommand : List ℕ → Command → Type 0
@@ -72,21 +76,31 @@ abbrev pub HoldScript : ℕ → List (List ℕ) → List Line → Type 0
 HoldScript number [] script = script ≡ []
 HoldScript number (line ∷ lines) script = (kept : List ℕ) × DropsReturn line kept
     × ((IsPassedBy kept × HoldScript (number + 1) lines script)
-    ⊎ ((command : Command) × (rest : List Line) × HoldsCommand kept command × (script ≡ record { number = number; command = command } ∷ rest) × HoldScript (number + 1) lines rest))
+    ⊎ ((command : Command) × (rest : List Line) × HoldsCommand kept command × (script ≡ record { number = number; section = Prelude; command = command } ∷ rest) × HoldScript (number + 1) lines rest))
 
--- the bytes spell the script: its lines are numbered from 1
-abbrev pub IsScript : List ℕ → List Line → Type 0
-IsScript bytes script = (lines : List (List ℕ)) × AreLines bytes lines × HoldScript 1 lines script
+-- the bytes spell the script: they are few enough, and their lines are numbered from 1
+pub record IsScript (bytes : List ℕ) (script : List Line) : Type 0 where
+  pub few : length bytes ≤ max_bytes
+  pub lines : List (List ℕ)
+  pub cut : AreLines bytes lines
+  pub held : HoldScript 1 lines script
 
--- the line with this number is the first up to which the lines begin no script: those before it are one, and with it none goes on
+-- lines begin a script: some further lines, or none, make them one
+pub record BeginScript (lines : List (List ℕ)) : Type 0 where
+  pub more : List (List ℕ)
+  pub script : List Line
+  pub held : HoldScript 1 (lines ++ more) script
+
+-- the line with this number is the first up to which the lines begin no script: those before it begin one, and with it they don't
 pub record IsFirstBadLine (bytes : List ℕ) (number : ℕ) : Type 0 where
+  pub few : length bytes ≤ max_bytes
   pub front : List (List ℕ)
   pub line : List ℕ
   pub rest : List (List ℕ)
   pub lines : AreLines bytes (front ++ line ∷ rest)
   pub numbered : number ≡ length front + 1
-  pub before : (script : List Line) × HoldScript 1 front script
-  pub none : (more : List (List ℕ)) (script : List Line) → HoldScript 1 (front ++ line ∷ more) script → ⊥
+  pub before : BeginScript front
+  pub none : BeginScript (front ++ line ∷ []) → ⊥
 
 -- why bytes were refused: want of memory, or their first bad line
 abbrev pub IsRefused : List ℕ → ScriptRefusal → Type 0

@@ -6,6 +6,7 @@ pub mod Lines
 pub mod Fields
 pub mod Quotes
 pub mod Commands
--- What these cite from below: texts and words.
+pub mod Held
+-- What these cite from below: texts, words and changes.
 pub use Rattle.ide_text.specs.Text
 pub use Rattle.java_tokens.specs.Identifier

@@ -1,13 +1,19 @@
 -- The lines of a script's bytes.
 use Rattle.std.specs.Prelude.{ℕ, ◌-◌, ◌==◌, Bool, true, false, List, [], ◌∷◌, length, take, slice_get, Option, Some, None, if◌then◌else◌}
 
--- U+000A ends a line, U+000D may stand before its end, `#` begins a line that is passed by
+-- the most bytes that a script may have
+abbrev pub max_bytes : ℕ
+max_bytes = 16777216
+
+-- U+000A ends a line
 abbrev pub line_feed : ℕ
 line_feed = 10
 
+-- U+000D may stand before a line's end
 abbrev pub carriage_return : ℕ
 carriage_return = 13
 
+-- `#` begins a line that is passed by
 abbrev pub number_sign : ℕ
 number_sign = 35
 

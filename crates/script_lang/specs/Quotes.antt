@@ -5,10 +5,11 @@ use Rattle.ide_text.specs.Text.{repaired, max_chars}
 use Rattle.script_lang.specs.declared.quoted.Place.{Place}
 use Rattle.script_lang.specs.declared.quoted.Place.TheVariants.{Outside, Inside, Escaping, Behind}
 
--- the character that begins and ends a text, and the one that begins an escape
+-- the character that begins and ends a text
 abbrev pub quote : ℕ
 quote = 34
 
+-- the character that begins an escape
 abbrev pub backslash : ℕ
 backslash = 92
 

@@ -5,6 +5,7 @@ use Rattle.script_lang.specs.Lines.{lines_of, without_return, is_passed_by}
 use Rattle.script_lang.specs.Commands.{command_of}
 use Rattle.script_lang.specs.declared.command.Command.{Command}
 use Rattle.script_lang.specs.declared.line.Line.{Line}
+use Rattle.script_lang.specs.declared.line.Section.TheVariants.{Prelude}
 use Rattle.script_lang.specs.declared.line.Content.{Content}
 use Rattle.script_lang.specs.declared.line.Content.TheVariants.{PassedBy, Holds, Bad}
 use Rattle.script_lang.specs.declared.refusal.ScriptRefusal.{ScriptRefusal}
@@ -30,7 +31,7 @@ content_of line = content_of_bytes (without_return line)
 abbrev pub line_before : ℕ → Content → Result (List Line) ScriptRefusal → Result (List Line) ScriptRefusal
 line_before number Bad rest = Err (BadLine number)
 line_before number PassedBy rest = rest
-line_before number (Holds command) (Ok lines) = Ok (record { number = number; command = command } ∷ lines)
+line_before number (Holds command) (Ok lines) = Ok (record { number = number; section = Prelude; command = command } ∷ lines)
 line_before number (Holds command) (Err refusal) = Err refusal
 
 -- the script of some lines, the first of which has this number

@@ -5,20 +5,26 @@ ghost use Rattle.script_lang.specs.Commands.{command_of, command_with, keyword_o
 
 use crate::field::parts_at_space;
 use crate::quoted::text_of_field;
-use ide_text::{Name, Text};
+use ide_text::{Name, SharedText};
 use java_tokens::is_word;
 use std::alloc::{AllocError, Global};
+use write_history::Change;
 
 /// What a line of a script asks for.
 #[derive(Drop)]
 pub enum Command {
-    /// Make a file with a text.
-    Create { path: Name, text: Text },
-    /// Give a file another text.
-    Write { path: Name, text: Text },
+    /// A change to the workspace, which is no intake.
+    Change(Change),
     /// Index every unready file.
     Settle,
-    /// Ask for the files that have a word.
+    /// The answer to a question.
+    Ask(Query),
+}
+
+/// A question about the workspace.
+#[derive(Drop)]
+pub enum Query {
+    /// The files that have a word.
     Word { name: Name },
 }
 
@@ -73,10 +79,12 @@ fn command_with(alloc: Global, keyword: Keyword, rest: &str) -> Result<Option<Co
 {
     match keyword {
         Keyword::Create => {
-            Ok(path_and_text(alloc, rest)?.map(|(path, text)| Command::Create { path, text }))
+            let fields = path_and_text(alloc, rest)?;
+            Ok(fields.map(|(path, text)| Command::Change(Change::Create { path, text })))
         }
         Keyword::Write => {
-            Ok(path_and_text(alloc, rest)?.map(|(path, text)| Command::Write { path, text }))
+            let fields = path_and_text(alloc, rest)?;
+            Ok(fields.map(|(path, text)| Command::Change(Change::Write { path, text })))
         }
         Keyword::Word => word_command(alloc, rest),
     }
@@ -89,13 +97,12 @@ fn word_command(alloc: Global, field: &str) -> Result<Option<Command>, AllocErro
     if !is_word(field) {
         return Ok(None);
     }
-    Ok(Some(Command::Word {
-        name: Name::of(alloc, field)?,
-    }))
+    let name = Name::of(alloc, field)?;
+    Ok(Some(Command::Ask(Query::Word { name })))
 }
 
 /// The path and the text that stand in two fields.
-fn path_and_text(alloc: Global, fields: &str) -> Result<Option<(Name, Text)>, AllocError>
+fn path_and_text(alloc: Global, fields: &str) -> Result<Option<(Name, SharedText)>, AllocError>
     ensures { IfOk result (λ found. found ≡ path_and_text (chars fields.now)) }
 {
     let Some((path, text)) = parts_at_space(fields) else {

@@ -8,7 +8,7 @@ mod quoted;
 mod refusal;
 mod script;
 
-pub use command::Command;
-pub use line::Line;
+pub use command::{Command, Query};
+pub use line::{Line, Section};
 pub use refusal::ScriptRefusal;
-pub use script::{MAX_BYTES, Script, parse};
+pub use script::{MAX_BYTES, Script, is_within_limit, parse};

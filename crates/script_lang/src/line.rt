@@ -7,11 +7,24 @@ use crate::Command;
 use crate::command::command_of;
 use std::alloc::{AllocError, Global};
 
+/// The part of a script in which a line stands.
+#[derive(Clone, Copy, Debug, PartialEq, Eq)]
+pub enum Section {
+    /// The lines before any other section.
+    Prelude,
+    /// A lane, counted from 1.
+    Lane { number: u32 },
+    /// The lines that follow all lanes.
+    Finally,
+}
+
 /// A line that holds a command.
 #[derive(Drop)]
 pub struct Line {
     /// The line's number in the script, from 1.
     pub number: u32,
+    /// The part of the script in which it stands: no line begins another one than the prelude yet.
+    pub section: Section,
     /// What it asks for.
     pub command: Command,
 }

@@ -3,7 +3,7 @@ ghost use Rattle.std.specs.Prelude.{◌≡◌, ℕ, IfOk, Some, None, option_map
 ghost use Rattle.std.specs.Str.{chars};
 ghost use Rattle.script_lang.specs.Quotes.{escape_of, step_of, unquoted_from, text_of_field};
 
-use ide_text::{Text, TextRefusal};
+use ide_text::{SharedText, Text, TextRefusal};
 use std::alloc::{AllocError, Global};
 
 /// Where the reading of a text in quotes stands.
@@ -20,14 +20,14 @@ pub(crate) enum Place {
 }
 
 /// The text that a field in quotes stands for.
-pub(crate) fn text_of_field(alloc: Global, field: &str) -> Result<Option<Text>, AllocError>
+pub(crate) fn text_of_field(alloc: Global, field: &str) -> Result<Option<SharedText>, AllocError>
     ensures { IfOk result (λ text. text ≡ text_of_field (chars field.now)) }
 {
     let Some(unquoted) = unquoted(alloc, field)? else {
         return Ok(None);
     };
-    match Text::from_utf8(alloc, unquoted.as_bytes()) {
-        Ok(text) => Ok(Some(text)),
+    match Text::from_string(alloc, unquoted) {
+        Ok(text) => Ok(Some(SharedText::new(alloc, text)?)),
         Err(TextRefusal::OutOfMemory) => Err(AllocError),
         // A `String` is UTF-8, so a text that is refused is too long.
         Err(TextRefusal::TooLong { .. }) => Ok(None),
@@ -40,7 +40,7 @@ fn unquoted(alloc: Global, field: &str) -> Result<Option<String>, AllocError>
     ensures { IfOk result (λ text. option_map (λ s. chars (string_bytes s)) text
         ≡ unquoted_from Place.Outside (chars field.now)) }
 {
-    let mut text = String::new(alloc);
+    let mut text = String::with_capacity(alloc, field.len())?;
     let mut place = Place::Outside;
     for c in field.chars() {
         let Some((next, meant)) = step(place, c) else {

@@ -1,11 +1,13 @@
 //! A script: its commands with their line numbers, read from bytes.
-ghost use Rattle.std.specs.Prelude.{◌≡◌, ◌≤◌, ◌<◌, ◌==◌, List, IfOk, IfErr, MatchResult, Ok, Some, length, slice_get};
+ghost use Rattle.std.specs.Prelude.{◌≡◌, ◌≤◌, ◌<◌, ◌==◌, List, IfOk, IfErr, MatchResult, Ok, Some, length, nat_le, slice_get};
 ghost use Rattle.script_lang.specs.Script.{script_of, IsRefusalOf};
 ghost use Rattle.script_lang.specs.Grammar.{IsScript, IsRefused};
+ghost use Rattle.script_lang.specs.Held.{IsOfLine};
+ghost use Rattle.script_lang.specs.Lines.{max_bytes};
 ghost use Rattle.script_lang.specs.declared.line.Line.{Line};
 
 use crate::line::{Content, content_of, first_line};
-use crate::{Line, ScriptRefusal};
+use crate::{Line, ScriptRefusal, Section};
 use std::alloc::Global;
 use std::marker::Model;
 
@@ -19,12 +21,15 @@ pub struct Script {
 }
 
 impl Model for Script {
-    ghost use Rattle.std.specs.Prelude.{List};
+    ghost use Rattle.std.specs.Prelude.{List, All};
+    ghost use Rattle.script_lang.specs.Held.{IsOfLine};
     ghost use Rattle.script_lang.specs.declared.line.Line.{Line};
 
     ghost Value = { List Line };
 
     ghost view = { λ s. s.lines.items };
+
+    ghost invariant = { λ s. All (λ line. IsOfLine line.command) s.lines.items };
 }
 
 impl Script {
@@ -45,17 +50,23 @@ impl Script {
     /// The command at a place, from 0, with its line number.
     pub fn get(&self, i: usize) -> &Line
         requires { i < length self.now }
-        ensures { slice_get self.now i ≡ Some result.now }
+        ensures line { slice_get self.now i ≡ Some result.now }
+        ensures command { IsOfLine result.now.command }
     {
         &self.lines[i]
     }
 }
 
+/// Whether bytes are few enough for a script.
+pub fn is_within_limit(bytes: &[u8]) -> bool
+    ensures { result ≡ nat_le (length bytes.now) max_bytes }
+{
+    bytes.len() <= MAX_BYTES
+}
+
 /// The script that the bytes spell. Linear in the bytes.
 pub fn parse(alloc: Global, bytes: &[u8]) -> Result<Script, ScriptRefusal>
-    requires { length bytes.now ≤ MAX_BYTES }
-    ensures ok { IfOk result (λ script. script_of bytes.now ≡ Ok script) }
-    ensures err { IfErr result (λ refusal. IsRefusalOf (script_of bytes.now) refusal) }
+    requires { length bytes.now ≤ max_bytes }
 
     // What is answered is in the grammar, and a script of the grammar is answered unless memory runs out.
     ensures script { IfOk result (λ script. IsScript bytes.now script) }
@@ -70,7 +81,7 @@ pub fn parse(alloc: Global, bytes: &[u8]) -> Result<Script, ScriptRefusal>
 
 /// The script of the bytes, line by line.
 fn script_of(alloc: Global, bytes: &[u8]) -> Result<Script, ScriptRefusal>
-    requires { length bytes.now ≤ MAX_BYTES }
+    requires { length bytes.now ≤ max_bytes }
     ensures ok { IfOk result (λ script. script_of bytes.now ≡ Ok script) }
     ensures err { IfErr result (λ refusal. IsRefusalOf (script_of bytes.now) refusal) }
 {
@@ -81,7 +92,11 @@ fn script_of(alloc: Global, bytes: &[u8]) -> Result<Script, ScriptRefusal>
         number += 1;
         match content_of(alloc, line)? {
             Content::PassedBy => {}
-            Content::Holds(command) => lines.push(Line { number, command })?,
+            Content::Holds(command) => lines.push(Line {
+                number,
+                section: Section::Prelude,
+                command,
+            })?,
             Content::Bad => return Err(ScriptRefusal::BadLine { number }),
         }
         rest = after;

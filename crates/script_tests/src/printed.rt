@@ -1,15 +1,16 @@
 //! What `parse` answers, on one line.
 use crate::marks::mark;
 use ide_text::{Name, Text};
-use script_lang::{Command, Line, MAX_BYTES, ScriptRefusal, parse};
+use script_lang::{Command, Line, Query, ScriptRefusal, is_within_limit, parse};
 use std::alloc::{AllocError, Global};
+use write_history::Change;
 
 /// Longer texts are shown by their length.
 const SHOWN_CHARS: u32 = 100;
 
 /// Each command after its line's number, with texts in angle brackets, or the refusal.
 pub fn shown(alloc: Global, bytes: &[u8]) -> Result<String, AllocError> {
-    if bytes.len() > MAX_BYTES {
+    if !is_within_limit(bytes) {
         return String::from_str(alloc, "too many bytes");
     }
     let script = match parse(alloc, bytes) {
@@ -28,18 +29,9 @@ pub fn shown(alloc: Global, bytes: &[u8]) -> Result<String, AllocError> {
 fn push_line(alloc: Global, out: &mut String, line: &Line) -> Result<(), AllocError> {
     out.push_str(format!(in alloc; "{} ", line.number)?.as_str())?;
     match &line.command {
-        Command::Create { path, text } => {
-            out.push_str("create ")?;
-            push_name(out, path)?;
-            push_text(alloc, out, text)?;
-        }
-        Command::Write { path, text } => {
-            out.push_str("write ")?;
-            push_name(out, path)?;
-            push_text(alloc, out, text)?;
-        }
+        Command::Change(change) => push_change(alloc, out, change)?,
         Command::Settle => out.push_str("settle")?,
-        Command::Word { name } => {
+        Command::Ask(Query::Word { name }) => {
             out.push_str("word ")?;
             push_name(out, name)?;
         }
@@ -47,10 +39,27 @@ fn push_line(alloc: Global, out: &mut String, line: &Line) -> Result<(), AllocEr
     out.push(';')
 }
 
+/// A change.
+fn push_change(alloc: Global, out: &mut String, change: &Change) -> Result<(), AllocError> {
+    match change {
+        Change::Create { path, text } => {
+            out.push_str("create ")?;
+            push_name(out, path)?;
+            push_text(alloc, out, text.as_text())
+        }
+        Change::Write { path, text } => {
+            out.push_str("write ")?;
+            push_name(out, path)?;
+            push_text(alloc, out, text.as_text())
+        }
+        Change::Intake { .. } => out.push_str("intake"),
+    }
+}
+
 /// A name or a path.
 fn push_name(out: &mut String, name: &Name) -> Result<(), AllocError> {
-    for at in 0..name.len() {
-        out.push(mark(name.char_at(at)))?;
+    for c in name.as_str().chars() {
+        out.push(mark(c))?;
     }
     Ok(())
 }

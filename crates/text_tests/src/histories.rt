@@ -1,5 +1,5 @@
 //! A history with an entry of each kind: what it keeps, and how it is printed.
-use ide_text::{Name, Text};
+use ide_text::{Name, SharedText, Text};
 use std::alloc::{AllocError, Global};
 use std::test::Fail;
 use write_history::{Change, Entry, History, MAX_ENTRIES, Refusal, line_of};
@@ -13,9 +13,9 @@ static LINES: [&str; 4] = [
 ];
 
 /// The text of so many letters.
-fn text_of(alloc: Global, letters: &str) -> Result<Text, AllocError> {
+fn text_of(alloc: Global, letters: &str) -> Result<SharedText, AllocError> {
     match Text::from_utf8(alloc, letters.as_bytes()) {
-        Ok(text) => Ok(text),
+        Ok(text) => SharedText::new(alloc, text),
         Err(_) => Err(AllocError),
     }
 }

@@ -1,5 +1,6 @@
 //! Tables of bytes with the text that they spell, and of texts with their places and names.
 use ide_text::{MAX_CHARS, Name, Text, TextRefusal};
+use indexmap::IndexMap;
 use std::alloc::{AllocError, Global};
 use std::cmp::Ordering;
 use std::test::Fail;
@@ -174,15 +175,16 @@ fn places_of_a_text(rt: HostRuntime) -> Result<(), Fail> {
     Ok(())
 }
 
-// In a text of ASCII characters and in another.
+// In a text of ASCII characters, and in one with characters of two, three and four bytes.
 #[test]
 fn names_of_a_text(rt: HostRuntime) -> Result<(), Fail> {
     for (bytes, second) in [
-        (b"int \xc3\xa9t\xc3\xa9;".as_slice(), "\u{e9}t\u{e9}"),
+        (b"int \xc3\xa9\xe2\x82\xac\xf0\x9f\x98\x80;".as_slice(), "\u{e9}\u{20ac}\u{1f600}"),
         (b"int ete;", "ete"),
     ] {
         let text = Text::from_utf8(rt.alloc(), bytes)?;
         assert_eq!(rt; text.len(), 8);
+        let mut again = Name::of(rt.alloc(), "before")?;
         for (from, to, wanted) in [(0, 3, "int"), (4, 7, second), (8, 8, ""), (0, 0, "")] {
             assert!(rt; from <= to && to <= text.len());
             let name = Name::of_text(rt.alloc(), &text, from, to)?;
@@ -191,7 +193,9 @@ fn names_of_a_text(rt: HostRuntime) -> Result<(), Fail> {
             assert!(rt; name.copy()?.same(&same));
             assert_eq!(rt; name.len(), (to - from) as usize);
             assert_eq!(rt; name.is_empty(), wanted.is_empty());
-            assert_eq!(rt; name.as_slice(), same.as_slice());
+            assert_eq!(rt; name.as_str(), wanted);
+            again.refill(&text, from, to)?;
+            assert_eq!(rt; again.as_str(), wanted);
             assert_eq!(rt; format!(in rt.alloc(); "{name}")?.as_str(), wanted);
             assert_eq!(rt; format!(in rt.alloc(); "{name:?}")?.as_str(), wanted);
         }
@@ -226,6 +230,38 @@ fn order_of_names(rt: HostRuntime) -> Result<(), Fail> {
             assert_eq!(rt; one.same(&other), i == j);
             assert_eq!(rt; one < other, i.cmp(&j) == Ordering::Less);
         }
+    }
+    Ok(())
+}
+
+// A name is found by its hash, whichever way it was made.
+#[test]
+fn names_as_keys(rt: HostRuntime) -> Result<(), Fail> {
+    let text = Text::from_utf8(rt.alloc(), "a é日𝒳 é".as_bytes())?;
+    let mut places = IndexMap::new(rt.alloc());
+    assert_eq!(rt; text.len(), 7);
+    for (from, to) in [(0, 1), (2, 5), (6, 7), (2, 3)] {
+        assert!(rt; from <= to && to <= text.len());
+        places.insert(Name::of_text(rt.alloc(), &text, from, to)?, from)?;
+    }
+    assert_eq!(rt; places.len(), 3);
+    for (name, from) in [("a", Some(0)), ("é日𝒳", Some(2)), ("é", Some(2)), ("", None)] {
+        assert_eq!(rt; places.get(&Name::of(rt.alloc(), name)?).copied(), from);
+    }
+    Ok(())
+}
+
+#[test]
+fn texts_of_refusals(rt: HostRuntime) -> Result<(), Fail> {
+    for (refusal, shown) in [
+        (TextRefusal::NotText { at: 7 }, "no UTF-8 from byte 7 on"),
+        (
+            TextRefusal::TooLong { count: 1_048_577 },
+            "1048577 characters are too many for a text",
+        ),
+        (TextRefusal::OutOfMemory, "out of memory"),
+    ] {
+        assert_eq!(rt; format!(in rt.alloc(); "{refusal}")?.as_str(), shown);
     }
     Ok(())
 }

@@ -11,7 +11,7 @@ struct Case {
     words: &'static str,
 }
 
-static CASES: [Case; 35] = [
+static CASES: [Case; 36] = [
     Case {
         text: "",
         tokens: "",
@@ -197,6 +197,12 @@ static CASES: [Case; 35] = [
         tokens: "8 0 1; 8 1 1; 8 2 1; 1 3 1; 8 4 1; 8 5 1; ",
         words: "é 1, ",
     },
+    // Characters of two, three and four bytes in words.
+    Case {
+        text: "é 日本 𝒳y /* 日本 é1 */",
+        tokens: "1 0 1; 1 2 2; 1 5 2; 7 8 11; ",
+        words: "é 1, é1 2, 日本 3, 𝒳y 1, ",
+    },
 ];
 
 fn text_of(alloc: Global, bytes: &str) -> Result<Text, TextRefusal> {
@@ -233,6 +239,22 @@ fn words_of_texts(rt: HostRuntime) -> Result<(), Fail> {
         assert_eq!(rt; list.is_empty(), list.len() == 0);
         let wanted = case.words;
         assert_eq!(rt; shown.as_str(), wanted);
+    }
+    Ok(())
+}
+
+// Enough words that the table in which they are found grows several times.
+#[test]
+fn many_words(rt: HostRuntime) -> Result<(), Fail> {
+    let mut text = String::new(rt.alloc());
+    for n in 0..500 {
+        write!(text, "w{n} /* w{n} v{n} */ ")?;
+    }
+    let list = words(rt.alloc(), &text_of(rt.alloc(), text.as_str())?)?;
+    assert_eq!(rt; list.len(), 1000);
+    for (name, mask) in list.as_slice() {
+        let in_code = name.as_str().starts_with('w');
+        assert_eq!(rt; *mask, if in_code { 3 } else { 2 });
     }
     Ok(())
 }

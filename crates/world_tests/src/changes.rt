@@ -4,7 +4,7 @@ ghost use Rattle.write_history.specs.Fold.{effect_of};
 ghost use Rattle.ide_world.specs.Prepared.{IsEdit, IsOfWorld};
 ghost use Rattle.world_tests.specs.Kinds.{IsCreation, IsRewriting};
 
-use ide_text::{Name, Text, TextRefusal};
+use ide_text::{Name, SharedText, Text, TextRefusal};
 use ide_world::{Job, State, empty, install, job, make, prepare, prepare_intake, reserve};
 use std::alloc::{AllocError, Global};
 use write_history::{Change, Refusal};
@@ -29,23 +29,19 @@ pub fn rewriting(alloc: Global, path: &str, text: &str) -> Result<Change, AllocE
     })
 }
 
-fn text_of(alloc: Global, text: &str) -> Result<Text, AllocError> {
+fn text_of(alloc: Global, text: &str) -> Result<SharedText, AllocError> {
     match Text::from_utf8(alloc, text.as_bytes()) {
-        Ok(text) => Ok(text),
+        Ok(text) => SharedText::new(alloc, text),
         Err(_) => Err(AllocError),
     }
 }
 
 /// Makes a change, or tells why not.
-pub fn change(
-    alloc: Global,
-    state: &mut State,
-    change: &Change,
-) -> Result<Option<Refusal>, AllocError>
+pub fn change(state: &mut State, change: &Change) -> Result<Option<Refusal>, AllocError>
     requires { IsEdit change.now }
     ensures { IfOk result (λ refusal. refusal ≡ None → state.new.world ≡ effect_of state.old.world change.now) }
 {
-    match prepare(alloc, state, change) {
+    match prepare(state, change) {
         Ok(ready) => {
             reserve(state, &ready)?;
             install(state, ready);
@@ -82,14 +78,14 @@ fn take_in(alloc: Global, state: &mut State, job: Job) -> Result<Option<Refusal>
 pub fn stale(alloc: Global) -> Result<Option<Refusal>, AllocError> {
     let mut state = empty(alloc)?;
     let create = creation(alloc, "A.java", "class A {}")?;
-    if change(alloc, &mut state, &create)?.is_some() {
+    if change(&mut state, &create)?.is_some() {
         return Ok(None);
     }
     let Some(job) = job(&state, 1)? else {
         return Ok(None);
     };
     let write = rewriting(alloc, "A.java", "class B {}")?;
-    if change(alloc, &mut state, &write)?.is_some() {
+    if change(&mut state, &write)?.is_some() {
         return Ok(None);
     }
     take_in(alloc, &mut state, job)

@@ -38,7 +38,7 @@ fn lawful_paths(rt: HostRuntime) -> Result<(), Fail> {
     let alloc = rt.alloc();
     let mut state = empty(alloc)?;
     for (path, is_lawful) in &PATHS {
-        let refusal = change(alloc, &mut state, &creation(alloc, path, "")?)?;
+        let refusal = change(&mut state, &creation(alloc, path, "")?)?;
         let wanted = if *is_lawful {
             None
         } else {
@@ -55,13 +55,13 @@ fn refused_changes(rt: HostRuntime) -> Result<(), Fail> {
     let mut state = empty(alloc)?;
     let create = creation(alloc, "A.java", "class A {}")?;
     let write = rewriting(alloc, "A.java", "class B {}")?;
-    let refusal = change(alloc, &mut state, &write)?;
+    let refusal = change(&mut state, &write)?;
     assert_eq!(rt; refusal, Some(Refusal::NoSuchFile));
-    let refusal = change(alloc, &mut state, &create)?;
+    let refusal = change(&mut state, &create)?;
     assert_eq!(rt; refusal, None);
-    let refusal = change(alloc, &mut state, &create)?;
+    let refusal = change(&mut state, &create)?;
     assert_eq!(rt; refusal, Some(Refusal::PathTaken));
-    let refusal = change(alloc, &mut state, &write)?;
+    let refusal = change(&mut state, &write)?;
     assert_eq!(rt; refusal, None);
     Ok(())
 }
@@ -70,11 +70,11 @@ fn refused_changes(rt: HostRuntime) -> Result<(), Fail> {
 fn workspace(alloc: Global) -> Result<State, Fail> {
     let mut state = empty(alloc)?;
     let first = creation(alloc, "A.java", "class A { int foo; } // foo \"bar\"")?;
-    change(alloc, &mut state, &first)?;
+    change(&mut state, &first)?;
     let other = creation(alloc, "N.txt", "foo")?;
-    change(alloc, &mut state, &other)?;
+    change(&mut state, &other)?;
     let second = creation(alloc, "B.java", "/* bar */ \"foo\"")?;
-    change(alloc, &mut state, &second)?;
+    change(&mut state, &second)?;
     Ok(state)
 }
 
@@ -124,7 +124,7 @@ fn rewritten_words(rt: HostRuntime) -> Result<(), Fail> {
     index(alloc, &mut state, 1)?;
     index(alloc, &mut state, 3)?;
     let write = rewriting(alloc, "A.java", "class C {}")?;
-    assert_eq!(rt; change(alloc, &mut state, &write)?, None);
+    assert_eq!(rt; change(&mut state, &write)?, None);
     assert_eq!(rt; answer(alloc, &state, "C")?.as_str(), "not ready A.java");
     assert_eq!(rt; index(alloc, &mut state, 1)?, None);
     for (name, wanted) in [("A", ""), ("C", "A.java 1, "), ("foo", "B.java 4, ")] {

@@ -1,13 +1,13 @@
 -- A file whose stamp is what it was has the content that it had.
-use Rattle.std.proofs.Common.{ℕ, ◌≡◌, ◌+◌, ◌<◌, ◌≤◌, Bool, true, false, List, [], ◌∷◌, ◌++◌, refl, ap, sym, ◌∙◌, subst, arith, Some, ⊎_elim}
+use Rattle.std.proofs.Common.{ℕ, ◌≡◌, ◌+◌, ◌<◌, ◌≤◌, Bool, true, false, List, [], ◌∷◌, ◌++◌, refl, ap, sym, ◌∙◌, subst, arith, Some, None, ⊎_elim}
 use Rattle.std.specs.Prelude.{if◌then◌else◌, ◌&&◌, ◌==◌, find}
 use Rattle.std.proofs.lemmas.Bool.{cases_Bool, eqb-true}
 use Rattle.write_history.specs.declared.change.Change.{Change}
 use Rattle.write_history.specs.declared.change.Change.TheVariants.{Create, Write, Intake}
 use Rattle.write_history.specs.declared.change.Entry.{Entry}
 use Rattle.write_history.specs.World.{World, File, empty_world, is_live_at, is_live_id, file_with_id}
-use Rattle.write_history.specs.Effect.{with_first, rewritten, taken_in}
-use Rattle.write_history.specs.Fold.{effect_of, fold, fold_from}
+use Rattle.write_history.specs.Effect.{refusal_of, with_first, rewritten, taken_in}
+use Rattle.write_history.specs.Fold.{effect_of, fold, fold_from, IsLegal, IsLegalFrom}
 use Rattle.write_history.specs.Numbered.{AreNumbered}
 use Rattle.write_history.specs.Apart.{stamps_of}
 use Rattle.write_history.proofs.ApartLemmas.{AreBelow, AreBelow-fold}
@@ -67,6 +67,18 @@ fold_from-append : (earlier later : List Entry) (world : World) → fold_from wo
 fold_from-append [] later world = refl
 fold_from-append (entry ∷ earlier) later world = fold_from-append earlier later (effect_of world entry.change)
 
+-- the world of a longer history
+pub fold-append : (earlier later : List Entry) → fold (earlier ++ later) ≡ fold_from (fold earlier) later
+fold-append earlier later = fold_from-append earlier later empty_world
+
+IsLegalFrom-append : (world : World) (history : List Entry) (entry : Entry) → IsLegalFrom world history → refusal_of (fold_from world history) entry.change ≡ None → IsLegalFrom world (history ++ entry ∷ [])
+IsLegalFrom-append world [] entry h accepted = (accepted, tt)
+IsLegalFrom-append world (first ∷ history) entry h accepted = (h.0, IsLegalFrom-append (effect_of world first.change) history entry h.1 accepted)
+
+-- a history stays legal with an entry that isn't refused
+pub IsLegal-append : (history : List Entry) (entry : Entry) → IsLegal history → refusal_of (fold history) entry.change ≡ None → IsLegal (history ++ entry ∷ [])
+IsLegal-append = IsLegalFrom-append empty_world
+
 last_holds : (a b : Bool) → (a && b) ≡ true → b ≡ true
 last_holds a b = elim a as (λ v. (v && b) ≡ true → b ≡ true) [ true ↦ λ h. h | false ↦ λ h. absurd (cc) ]
 
@@ -121,7 +133,7 @@ same_content-fold earlier later id old new e e' s =
     let world : World = fold earlier in
     let n : ℕ = world.next_stamp in
     let kept : IsKept n world.files (fold_from world later) = IsKept-fold_from n world.files later world (record { files = AreKept-itself n world.files; next = omega arith }) in
-    let goes_on : fold (earlier ++ later) ≡ fold_from world later = fold_from-append earlier later empty_world in
+    let goes_on : fold (earlier ++ later) ≡ fold_from world later = fold-append earlier later in
     same_content id n 1 world.files (fold (earlier ++ later)).files old new
     (subst (λ (w : World). AreKept n world.files w.files) (sym goes_on) kept.files)
     (AreBelow-fold earlier) (AreNumbered-fold earlier) (AreNumbered-fold (earlier ++ later)) e e' s

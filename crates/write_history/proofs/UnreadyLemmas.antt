@@ -2,14 +2,11 @@
 use Rattle.std.proofs.Common.{ℕ, ◌≡◌, ◌≢◌, ◌+◌, ◌≤◌, Bool, true, false, not, List, [], ◌∷◌, refl, ap, ◌∙◌, arith, subst, filter}
 use Rattle.std.specs.Prelude.{if◌then◌else◌, ◌&&◌, ◌==◌, is_some}
 use Rattle.std.proofs.lemmas.Bool.{eq-eqb, ne_eqb}
+use Rattle.list_laws.proofs.BoolLemmas.{bool_cases}
 use Rattle.write_history.specs.Path.{is_java}
 use Rattle.write_history.specs.World.{World, File, is_unready, is_indexed, is_live_id, document_of}
 use Rattle.write_history.specs.Effect.{with_first, taken_in}
 use Rattle.write_history.specs.Numbered.{AreNumbered}
-
--- by whether a test holds
-bool_cases : (b : Bool) (P : Bool → Type 0) → (b ≡ true → P true) → (b ≡ false → P false) → P b
-bool_cases b P = elim b as (λ v. (v ≡ true → P true) → (v ≡ false → P false) → P v) [ true ↦ λ holds fails. holds refl | false ↦ λ holds fails. fails refl ]
 
 -- the first file that passes has a number among theirs
 first_is_numbered : (test : File → Bool) (id : ℕ) (files : List File) (file : File) (others : List File) → AreNumbered id files → filter test files ≡ file ∷ others → id ≤ file.id

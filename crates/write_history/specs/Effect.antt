@@ -8,10 +8,11 @@ use Rattle.write_history.specs.declared.refusal.Refusal.TheVariants.{NoSuchFile,
 use Rattle.write_history.specs.Path.{is_path}
 use Rattle.write_history.specs.World.{World, File, file_at, file_with_id}
 
--- the most files that are ever made, and the most entries of a history
+-- the most files that are ever made
 abbrev pub max_files : ℕ
 max_files = 65536
 
+-- the most entries of a history
 abbrev pub max_entries : ℕ
 max_entries = 1048576
 

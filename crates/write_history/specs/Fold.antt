@@ -31,27 +31,30 @@ effect_of world (Intake file stamp) = record {
   entries = world.entries + 1;
 }
 
--- the world after a change, or why it is refused
+-- the world, unless there is a reason to refuse it
 abbrev pub outcome : Option Refusal → World → Result World Refusal
 outcome None world = Ok world
 outcome (Some refusal) world = Err refusal
 
+-- the world after a change, or why it is refused
 abbrev pub apply : World → Change → Result World Refusal
 apply world change = outcome (refusal_of world change) (effect_of world change)
 
--- the world after the changes of a history
+-- the world after the changes of entries, one after another
 abbrev pub fold_from : World → List Entry → World
 fold_from world [] = world
 fold_from world (entry ∷ entries) = fold_from (effect_of world entry.change) entries
 
+-- the world that a history makes of the empty one
 abbrev pub fold : List Entry → World
 fold entries = fold_from empty_world entries
 
--- no entry is refused where it stands
+-- no entry is refused where it stands, from a world on
 abbrev pub IsLegalFrom : World → List Entry → Type 0
 IsLegalFrom world [] = Unit {0}
 IsLegalFrom world (entry ∷ entries) = (refusal_of world entry.change ≡ None) × IsLegalFrom (effect_of world entry.change) entries
 
+-- no entry of a history is refused where it stands
 abbrev pub IsLegal : List Entry → Type 0
 IsLegal entries = IsLegalFrom empty_world entries
 

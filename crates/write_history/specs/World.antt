@@ -19,6 +19,7 @@ pub record Document : Type 0 where
   pub committed : List ℕ
   pub saved : Bool
 
+-- the files and documents of a workspace, and its counters
 pub record World : Type 0 where
   -- each file that was ever made, in order of ids
   pub files : List File
@@ -32,17 +33,19 @@ pub record World : Type 0 where
 abbrev pub empty_world : World
 empty_world = record { files = []; documents = []; next_id = 1; next_stamp = 1; entries = 0 }
 
--- a live file at a path, or with an id
+-- the file is live and has this path
 abbrev pub is_live_at : List ℕ → File → Bool
 is_live_at path file = file.live && bytes_eq file.path path
 
+-- the file is live and has this id
 abbrev pub is_live_id : ℕ → File → Bool
 is_live_id id file = file.live && file.id == id
 
--- the live file at a path, or with an id
+-- the live file at a path
 abbrev pub file_at : World → List ℕ → Option File
 file_at world path = find (is_live_at path) world.files
 
+-- the live file with an id
 abbrev pub file_with_id : World → ℕ → Option File
 file_with_id world id = find (is_live_id id) world.files
 

@@ -5,13 +5,13 @@ use Rattle.java_tokens.proofs.gather.add_words.Goals as goal
 -- the last run is added
 pub returns-in_default : goal.returns-in_default
 returns-in_default c =
-    turn_last c.loop-c.masks.entries c.add_run.new.masks.entries c.args.place c.loop-c.at c.run_end-end.result c.args.piece.now
+    turn_last c.loop-c.masks c.add_run.new.masks c.args.place c.loop-c.at c.run_end-end.result c.args.piece.now
     c.run_end-end.ensures c.in_default.ensures.none c.in_ok-add_run.ensures
     ∙ c.loop-c.invariant
 
 -- a run is added, and those behind it are left
 pub loop-c-preserved : goal.loop-c-preserved
 loop-c-preserved c =
-    turn_next c.loop-c.masks.entries c.add_run.new.masks.entries c.args.place c.loop-c.at c.run_end-end.result _ c.in-Some.c c.args.piece.now
+    turn_next c.loop-c.masks c.add_run.new.masks c.args.place c.loop-c.at c.run_end-end.result _ c.in-Some.c c.args.piece.now
     c.run_end-end.ensures c.in-Some.ensures.some (ap (λ n. c.run_end-end.result + n) c.gap_at.ensures.value) c.in_ok-add_run.ensures
     ∙ c.loop-c.invariant

@@ -9,7 +9,7 @@ use Rattle.java_tokens.proofs.gather.masks_of.Given as goal
 abbrev pub invariant-loop-token : goal.invariant-loop-token
 invariant-loop-token l = record {
   inside : l.at ≤ length l.piece;
-  so_far : fold with_occurrence l.masks.entries (flat_map (occurrences_at l.text) (tokens_past 0 l.at (drop l.at l.piece))) ≡ words_of l.text;
+  so_far : fold with_occurrence l.masks (flat_map (occurrences_at l.text) (tokens_past 0 l.at (drop l.at l.piece))) ≡ words_of l.text;
 }
 
 abbrev pub decreases-loop-token : goal.decreases-loop-token

@@ -11,7 +11,7 @@ use Rattle.script_lang.proofs.quoted.unquoted.Goals as goal
 use Rattle.script_lang.proofs.quoted.unquoted.Goals.{in-Behind, in_default-place}
 
 pub loop-c-init : goal.loop-c-init
-loop-c-init c = read_then-nil _ _ c.new-text.ensures.bytes
+loop-c-init c = read_then-nil _ _ c.in_ok-text.ensures.bytes
 
 pub returns-in_default : goal.returns-in_default
 returns-in_default c =

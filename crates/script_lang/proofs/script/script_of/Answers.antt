@@ -1,5 +1,6 @@
 use Rattle.std.proofs.Common.{◌∙◌, sym, arith}
 use Rattle.script_lang.proofs.ScriptLemmas.{script_from-passed_by, script_from-holds, script_from-bad, script_from-end}
+use Rattle.script_lang.proofs.GrammarScript.{AreOfLines-script_of}
 use Rattle.script_lang.proofs.script.script_of.Goals as goal
 
 pub returns-in-Bad-clause-err : goal.returns-in-Bad-clause-err
@@ -20,3 +21,6 @@ loop-line-preserved c = record {
 
 pub returns-clause-ok : goal.returns-clause-ok
 returns-clause-ok c = script_from-end _ _ _ _ c.in_default.ensures.cut c.loop-line.invariant.read
+
+pub invariant_of-result : goal.invariant_of-result
+invariant_of-result c = AreOfLines-script_of _ _ (script_from-end _ _ _ _ c.in_default.ensures.cut c.loop-line.invariant.read)

@@ -11,5 +11,5 @@ unreachable-requires c =
 pub returns : goal.returns
 returns c =
     let lowest = task_of_lowest (fold c.args.self.now) c.args.id c.requires in
-    made_of_lowest c.self.inside.state.world (fold c.args.self.now) c.args.id (record { file = c.in-Some.job.file; stamp = c.in-Some.job.stamp; content = c.in-Some.job.text.value }) lowest.0 c.make.result
+    made_of_lowest c.self.inside.state.world (fold c.args.self.now) c.args.id (record { file = c.in-Some.job.file; stamp = c.in-Some.job.stamp; content = c.in-Some.job.text }) lowest.0 c.make.result
     (c.self.invariant.world ∙ ap fold c.self.view_is) (rw c.in-Some.is at c.in_ok-job.ensures.task) lowest.1 lowest.3 (rw c.in-Some.is at c.in_ok-job.ensures.of_world) c.make.ensures.file c.make.ensures.stamp c.make.ensures.text

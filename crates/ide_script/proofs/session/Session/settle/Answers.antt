@@ -25,13 +25,13 @@ pub loop-id-smaller : goal.loop-id-smaller
 loop-id-smaller c =
     let turn = rw c.in_default-2.is at c.in_ok-why.ensures in
     subst (λ (es : List Entry). length (unready_files (fold es)) < length (unready_files (fold c.loop-id.self))) (sym turn.goes_on)
-    (fewer_unready c.intake_readies_one.ensures c.loop-id.self c.args.line turn.file turn.lowest)
+    (fewer_unready c.histories_go_on.ensures.fold c.intake_readies_one.ensures c.loop-id.self c.args.line turn.file turn.lowest)
 
 pub loop-id-preserved : goal.loop-id-preserved
 loop-id-preserved c =
     let turn = rw c.in_default-2.is at c.in_ok-why.ensures in
     let entry : Entry = entry_of c.args.line (intake_of turn.file) in
-    let goes_on = settle_step-accepted c.intake_readies_one.ensures c.loop-id.self c.args.line turn.file turn.lowest turn.reason in
+    let goes_on = settle_step-accepted c.histories_go_on.ensures.fold c.intake_readies_one.ensures c.loop-id.self c.args.line turn.file turn.lowest turn.reason in
     record {
       added = ap (λ es. es ++ (settle_step es c.args.line).added) turn.goes_on
           ∙ append_assoc c.loop-id.self (entry ∷ []) (settle_step (c.loop-id.self ++ entry ∷ []) c.args.line).added

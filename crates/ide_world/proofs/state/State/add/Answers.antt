@@ -59,4 +59,4 @@ returns c =
     same_world (inside.next_stamp + 1) (inside.entries + 1)
     (ap (files_from 1) grown ∙ files_from-append 1 rows row ∙ ap (λ id. files_from 1 rows ++ file_of id row ∷ []) (omega arith))
     (omega (arith, ap length grown, length-append rows (row ∷ [])))
-    ∙ ap (λ h. effect_of h.world (Create c.args.path c.args.text.value)) c.self.view_is
+    ∙ ap (λ h. effect_of h.world (Create c.args.path c.args.text)) c.self.view_is

@@ -14,6 +14,6 @@ returns-clause-room c =
     let made = c.args.made.now in
     let new = c.make_room.new.postings in
     on_ok_weaker c.make_room.result (λ room java k d within.
-    has_word-room new (get_or (words_of made.text.value) k d).0 made.file
+    has_word-room new (get_or (words_of made.text) k d).0 made.file
     ∙ subst (λ words. (i : ℕ) (e : List ℕ × ℕ) → i < length words → IsTrue (has_room new (get_or words i e).0 made.file)) made.of_text room k d within)
     c.make_room.ensures.room

@@ -30,7 +30,7 @@ take_words-requires-clause-room c = λ java.
     let within = id_of_row c.self.inside c.args.self.now c.self.view_is made.file c.requires.file in
     let found = file_of_row c.self.inside c.args.self.now c.self.view_is made.file row within.0 within.1 c.index_mut-row.ensures.value in
     subst (All (λ word. IsTrue (has_room c.self.inside.postings word.0 made.file))) (sym made.of_text)
-    (room_for_words c.self.inside c.args.self.now c.self.view_is made.file made.text.value (file_of (1 + (made.file - 1)) row) found c.requires.room java)
+    (room_for_words c.self.inside c.args.self.now c.self.view_is made.file made.text (file_of (1 + (made.file - 1)) row) found c.requires.room java)
 
 pub take_words-requires-clause-kept : goal.take_words-requires-clause-kept
 take_words-requires-clause-kept c = λ name.
@@ -46,7 +46,7 @@ invariant_of-self c =
     let row = c.index_mut-row.result.now in
     let within = id_of_row c.self.inside c.args.self.now c.self.view_is made.file c.requires.file in
     let found = file_of_row c.self.inside c.args.self.now c.self.view_is made.file row within.0 within.1 c.index_mut-row.ensures.value in
-    let content = subst (λ o. IfSome o (λ file. file.content ≡ made.text.value)) found c.requires.content in
+    let content = subst (λ o. IfSome o (λ file. file.content ≡ made.text)) found c.requires.content in
     sound_taken_in c.self.inside _ made.file made.stamp row made.words c.self.invariant (record {
       above = within.0;
       within = within.1;

@@ -6,7 +6,7 @@ use Rattle.ide_world.proofs.state.State.unready_row.Goals as goal
 
 pub returns-in_err-row-clause-task : goal.returns-in_err-row-clause-task
 returns-in_err-row-clause-task c =
-    ap (option_map (λ row. record { file = c.args.id; stamp = row.now.stamp; content = row.now.content.value })) c.from_residual.ensures
+    ap (option_map (λ row. record { file = c.args.id; stamp = row.now.stamp; content = row.now.content })) c.from_residual.ensures
     ∙ task_of_none c.self.inside c.args.self.now c.self.view_is c.args.id c.in_err-row.ensures
 
 pub returns-then-is_unready-clause-task : goal.returns-then-is_unready-clause-task

@@ -73,6 +73,6 @@ returns c =
     let found = (place_of_live inside c.self.invariant c.args.self.now c.self.view_is path c.id_at-id.result c.id_at-id.ensures c.requires.file).at in
     let first = IsFirst-from_position (is_live_at path) (λ row. bytes_eq row.path path) (λ id row. refl) 1 rows place row found c.index_mut-row.ensures.value in
     same_world (inside.next_stamp + 1) (inside.entries + 1)
-    (sym (with_first-files_from (is_live_at path) (rewritten c.args.text.value inside.next_stamp) 1 rows place row new first refl))
+    (sym (with_first-files_from (is_live_at path) (rewritten c.args.text inside.next_stamp) 1 rows place row new first refl))
     (ap (λ n. n + 1) (length-set rows place new))
-    ∙ ap (λ h. effect_of h.world (Write path c.args.text.value)) c.self.view_is
+    ∙ ap (λ h. effect_of h.world (Write path c.args.text)) c.self.view_is

@@ -1,0 +1,113 @@
+#!/usr/bin/env python3
+"""Times the built program `ide` on scripts of real Java sources.
+
+    bench/real.py FOLDER              the program of this repository
+    bench/real.py FOLDER OLD NEW ..   several built programs in one run, with their ratios to the first
+
+FOLDER is any folder of Java sources. One that everybody can have is the base module of a JDK:
+
+    apt-get update && apt-get install -y openjdk-17-source
+    unzip -q /usr/lib/jvm/openjdk-17/lib/src.zip 'java.base/*' -d /tmp/jdk
+
+Its files are parted into scripts of at most 16,700,000 bytes: a `create` line for each file, a `settle`, and `word` for
+100 of the words. Each program takes each script three times, in turn; the least time counts, and the most memory
+(the peak resident set). Run `./ide < examples/first.ide` once before, so that the program is built. Times on shared
+machines say little by themselves: read the ratios.
+"""
+import os
+import pathlib
+import re
+import subprocess
+import sys
+import tempfile
+import time
+
+TOP = pathlib.Path(__file__).resolve().parent.parent
+PROGRAM = TOP / "crates/ide/out/ide"
+LIMIT = 16_700_000
+ESCAPES = str.maketrans({'"': '\\"', "\\": "\\\\", "\n": "\\n", "\r": "\\r", "\t": "\\t"})
+
+
+def create(folder, path):
+    """The line that creates a file, or nothing where it is no text or too long."""
+    try:
+        text = path.read_bytes().decode()
+    except UnicodeDecodeError:
+        return b""
+    name = re.sub(r'[\s":\\]', "_", str(path.relative_to(folder)))
+    if len(text) > 1_048_576 or len(name) > 255:
+        return b""
+    return f'create {name} "{text.translate(ESCAPES)}"\n'.encode()
+
+
+def words_of(text, count=100):
+    """So many of the words of a script, taken from all over it."""
+    found = sorted(set(re.findall(rb"[A-Za-z_][A-Za-z0-9_]{3,}", text)))
+    return found[:: max(1, len(found) // count)][:count]
+
+
+def scripts(folder):
+    """The scripts that the sources make, each as large as it may be."""
+    script = b""
+    for path in sorted(folder.rglob("*.java")):
+        line = create(folder, path)
+        if len(script) + len(line) > LIMIT:
+            yield finished(script)
+            script = b""
+        script += line
+    if script:
+        yield finished(script)
+
+
+def finished(script):
+    return script + b"settle\n" + b"".join(b"word " + word + b"\n" for word in words_of(script))
+
+
+def make(folder, scratch):
+    """Writes the scripts into a folder. In a process of its own: the memory of the one that starts a program counts
+    as the program's own peak."""
+    if os.fork() == 0:
+        for number, script in enumerate(scripts(folder), 1):
+            (scratch / f"{number:03}.ide").write_bytes(script)
+        os._exit(0)
+    if os.wait()[1] != 0:
+        sys.exit("the scripts could not be made")
+    return sorted(scratch.iterdir())
+
+
+def run(program, script):
+    """Seconds and megabytes that the program takes on a script."""
+    with open(script, "rb") as source:
+        start = time.perf_counter()
+        child = subprocess.Popen([program], stdin=source, stdout=subprocess.DEVNULL, stderr=subprocess.PIPE)
+        _, status, usage = os.wait4(child.pid, 0)
+        took = time.perf_counter() - start
+    if status != 0:
+        sys.exit(f"{program} ended with {status}: {child.stderr.read().decode()}")
+    return took, usage.ru_maxrss / 1000
+
+
+def compare(script, programs):
+    """Times each program on a script, in turn, and prints a row for each."""
+    size = script.stat().st_size / 1e6
+    print(f"script {script.stem}: {size:.2f} MB")
+    turns = [[run(program, script) for program in programs] for _ in range(3)]
+    first = None
+    for at, program in enumerate(programs):
+        seconds = min(turn[at][0] for turn in turns)
+        memory = max(turn[at][1] for turn in turns)
+        first = first or (seconds, memory)
+        ratios = f"{seconds / first[0]:5.2f} {memory / first[1]:5.2f}"
+        print(f"  {seconds:7.3f} s {memory:7.1f} MB {size / seconds:6.1f} MB/s  {ratios}  {program}")
+
+
+def main():
+    if len(sys.argv) < 2:
+        sys.exit(__doc__)
+    with tempfile.TemporaryDirectory() as scratch:
+        for script in make(pathlib.Path(sys.argv[1]), pathlib.Path(scratch)):
+            compare(script, sys.argv[2:] or [PROGRAM])
+
+
+if __name__ == "__main__":
+    main()

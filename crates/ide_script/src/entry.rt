@@ -1,0 +1,90 @@
+//! What `main` does once it has the real objects.
+ghost use Rattle.std.specs.Prelude.{◌≡◌, ◌≢◌, ◌<◌, [], map, string_bytes, vec_len, IfOk, OnOk, OnErr};
+ghost use Rattle.std.specs.Io.KnownBytes.{append_known};
+ghost use Rattle.ide_io.specs.Fault.{HasFault};
+ghost use Rattle.ide_io.specs.Known.{TakesAtMost};
+ghost use Rattle.script_lang.specs.Lines.{max_bytes};
+ghost use Rattle.ide_script.specs.Words.{given_words};
+ghost use Rattle.ide_script.specs.Status.{number_of, fault_line};
+ghost use Rattle.ide_script.specs.Run.{EndsWith, TellsEndOnce, TellsStatus};
+
+use crate::{Status, run_ide};
+use ide_io::{Failed, Sink, Source, Tree, write_all};
+use itoa::Buffer;
+use std::alloc::{AllocError, Global};
+use std::sync::Wait;
+use std::thread::Threads;
+
+/// Runs the program on the words that the system gave, writes the line of the status to `error`, and gives the number with
+/// which the process ends.
+pub fn run_main<R: Threads + Wait, S: Source, T: Tree, K: Sink, E: Sink>(
+    rt: &R,
+    alloc: Global,
+    words: Vec<String>,
+    script: &mut S,
+    tree: &mut T,
+    out: &mut K,
+    error: &mut E,
+) -> u8
+    ensures ends { EndsWith S.left S.ends S.faults K.taken K.faults E.taken E.faults script.old script.new out.old out.new error.old error.new
+        (given_words (map string_bytes words.items)) result }
+    ensures within { result ≢ number_of Status.ScriptTooLong → TakesAtMost max_bytes (S.left script.old) (S.left script.new) }
+    ensures end_once { TellsEndOnce (S.ends script.old) (S.ends script.new) }
+    ensures tree_unasked { tree.new ≡ tree.old }
+{
+    let status = match with_name(alloc, words) {
+        Ok(words) => run_ide(rt, alloc, &words, script, tree, out),
+        Err(_) => Status::OutOfMemory,
+    };
+    finish(status, error)
+}
+
+/// The words that the system gave, or the program's name where it gave none.
+fn with_name(alloc: Global, given: Vec<String>) -> Result<Vec<String>, AllocError>
+    ensures words { IfOk result (λ words. map string_bytes words.items ≡ given_words (map string_bytes given.items)) }
+    ensures some { IfOk result (λ words. 0 < vec_len words) }
+    ensures err { OnErr result (given.items ≡ []) }
+{
+    let mut words = given;
+    if words.is_empty() {
+        words.push(String::from_str(alloc, "ide")?)?;
+    }
+    Ok(words)
+}
+
+/// Writes the line of a status to `error`, and gives the number of the status.
+pub fn finish<E: Sink>(status: Status, error: &mut E) -> u8
+    ensures number { result ≡ number_of status }
+    ensures line { TellsStatus E.taken E.faults error.old error.new status }
+{
+    let _ = write_line(status, error);
+    status.number()
+}
+
+/// Writes the line of a status. It takes no memory.
+fn write_line<E: Sink>(status: Status, error: &mut E) -> Result<(), Failed>
+    ensures ok { OnOk result (E.taken error.new ≡ append_known (E.taken error.old) (fault_line status)) }
+    ensures fault { OnErr result (HasFault (E.faults error.old) (E.faults error.new)) }
+{
+    match status {
+        Status::Done => Ok(()),
+        Status::BadScript { line } => write_bad_line(line, error),
+        Status::Usage => write_all(error, b"ide: usage\n"),
+        Status::SourceFault => write_all(error, b"ide: source fault\n"),
+        Status::TreeFault => write_all(error, b"ide: tree fault\n"),
+        Status::SinkFault => write_all(error, b"ide: sink fault\n"),
+        Status::OutOfMemory => write_all(error, b"ide: out of memory\n"),
+        Status::ScriptTooLong => write_all(error, b"ide: script too long\n"),
+    }
+}
+
+/// Writes the line of a script's bad line.
+fn write_bad_line<E: Sink>(line: u32, error: &mut E) -> Result<(), Failed>
+    ensures ok { OnOk result (E.taken error.new ≡ append_known (E.taken error.old) (fault_line (Status.BadScript line))) }
+    ensures fault { OnErr result (HasFault (E.faults error.old) (E.faults error.new)) }
+{
+    let mut digits = Buffer::new();
+    write_all(error, b"ide: bad script line ")?;
+    write_all(error, digits.format(line).as_bytes())?;
+    write_all(error, b"\n")
+}

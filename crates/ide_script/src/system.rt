@@ -1,0 +1,40 @@
+//! The program over the command line, the standard streams and the current folder.
+use crate::{Status, finish, run_main};
+use ide_io::{FolderTree, StderrSink, StdinSource, StdoutSink};
+use std::io::Stderr;
+use std::process::ExitCode;
+use std::rt::{Env, Files};
+use std::sync::Wait;
+use std::thread::Threads;
+use std::{env, io};
+
+/// Plays the script of standard input, writes its transcript to standard output, and the line of a status other than
+/// `Done` to standard error.
+pub fn start<R: AllocGlobal + Env + Files + Input + Print + Threads + Wait>(
+    rt: &R,
+    stderr: &Stderr,
+) -> ExitCode {
+    let mut error = StderrSink::new(io::writer(stderr));
+    let number = match words(rt) {
+        Ok(words) => run_main(
+            rt,
+            rt.alloc(),
+            words,
+            &mut StdinSource::<R>::new(rt.reader()),
+            &mut FolderTree::new(rt),
+            &mut StdoutSink::new(io::writer(rt)),
+            &mut error,
+        ),
+        Err(status) => finish(status, &mut error),
+    };
+    ExitCode::from(number)
+}
+
+/// The words of the command line. A word that isn't UTF-8 is a faulty command line.
+fn words<R: AllocGlobal + Env>(rt: &R) -> Result<Vec<String>, Status> {
+    match env::args(rt) {
+        Ok(given) => given.collect(rt.alloc()).map_err(|_| Status::OutOfMemory),
+        Err(error) if error.kind() == io::ErrorKind::InvalidData => Err(Status::Usage),
+        Err(_) => Err(Status::OutOfMemory),
+    }
+}

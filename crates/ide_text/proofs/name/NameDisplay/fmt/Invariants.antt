@@ -1,8 +1,0 @@
-use Rattle.std.proofs.Common.{take, encode_utf8_all}
-use Rattle.std.specs.Fmt.{HasWritten, IsPlainFormatter}
-use Rattle.ide_text.proofs.name.NameDisplay.fmt.Given as goal
-
--- what is written so far
-abbrev pub invariant-loop-c : goal.invariant-loop-c
-invariant-loop-c g l =
-    IsPlainFormatter l.initial.f → HasWritten g.W.Write.write_str_gives l.initial.f (encode_utf8_all (take l.c-index l.c-items)) l.f

@@ -1,0 +1,96 @@
+//! Words and their masks, while they are gathered.
+ghost use Rattle.std.specs.Prelude.{◌≡◌, ◌-◌, ◌≤◌, OnOk, IfOk, length, take, drop, []};
+ghost use Rattle.std.specs.Str.{bytes_eq};
+ghost use Rattle.indexmap.specs.IndexMap.{IsUnique};
+ghost use Rattle.java_tokens.specs.Words.{bit_of, in_order_of, with_occurrence};
+
+use crate::piece::Piece;
+use crate::place::Place;
+use ide_text::Name;
+use indexmap::IndexMap;
+use std::alloc::{AllocError, Global};
+use std::marker::Model;
+
+/// Words with the union of the bits of the places where each stands, found by hash. Seen as the list of them in
+/// order, as they will be given out.
+#[derive(Drop)]
+pub(crate) struct Masks {
+    rows: IndexMap<Name, u8>,
+    /// The name of the word at hand, in memory that is used again for each.
+    name: Name,
+}
+
+impl Model for Masks {
+    ghost use Rattle.std.specs.Prelude.{List, ℕ};
+    ghost use Rattle.std.specs.Str.{bytes_eq};
+    ghost use Rattle.indexmap.specs.IndexMap.{IsUnique};
+    ghost use Rattle.java_tokens.specs.Words.{WordRow, in_order_of};
+
+    ghost Value = { List WordRow };
+
+    ghost view = { λ m. in_order_of m.rows.entries };
+
+    ghost invariant = { λ m. IsUnique bytes_eq m.rows };
+}
+
+impl Masks {
+    /// No words.
+    pub(crate) fn new(alloc: Global) -> Masks
+        ensures { result ≡ [] }
+    {
+        Masks {
+            rows: IndexMap::new(alloc),
+            name: Name::from(String::new(alloc)),
+        }
+    }
+
+    /// Adds one occurrence: the characters of a piece from one place up to another.
+    pub(crate) fn add(
+        &mut self,
+        piece: &Piece,
+        from: u32,
+        to: u32,
+        place: Place,
+    ) -> Result<(), AllocError>
+        requires ordered { from ≤ to }
+        requires inside { to ≤ length piece.now }
+        ensures { OnOk result (self.new ≡ with_occurrence self.old (take (to - from) (drop from piece.now), bit_of place)) }
+    {
+        piece.read_name(&mut self.name, from, to)?;
+        add_name(&mut self.rows, &self.name, place)
+    }
+
+    /// The words in order, each with its mask.
+    pub(crate) fn into_rows(self, alloc: Global) -> Result<Vec<(Name, u8)>, AllocError>
+        ensures { IfOk result (λ rows. rows.items ≡ self) }
+    {
+        let mut rows = self.rows;
+        rows.sort_keys()?;
+        all_rows(alloc, rows)
+    }
+}
+
+/// Adds one occurrence of a name. It is looked up once where it was seen before.
+fn add_name(rows: &mut IndexMap<Name, u8>, name: &Name, place: Place) -> Result<(), AllocError>
+    ensures words { OnOk result (in_order_of rows.new.entries ≡ with_occurrence (in_order_of rows.old.entries) (name.now, bit_of place)) }
+    ensures unique { IsUnique bytes_eq rows.new }
+{
+    match rows.get_mut(name) {
+        Some(mask) => *mask |= place.bit(),
+        None => {
+            rows.insert(name.copy()?, place.bit())?;
+        }
+    }
+    Ok(())
+}
+
+/// The rows of a map, in its order.
+fn all_rows(alloc: Global, map: IndexMap<Name, u8>) -> Result<Vec<(Name, u8)>, AllocError>
+    ensures { IfOk result (λ rows. rows.items ≡ map.entries) }
+{
+    let mut rows = Vec::with_capacity(alloc, map.len())?;
+    for row in map {
+        rows.push(row)?;
+    }
+    Ok(rows)
+}
