@@ -1,14 +1,16 @@
 //! Whether a text is a word or an identifier.
 ghost use Rattle.std.specs.Prelude.{◌≡◌, ◌+◌, ◌≤◌, length};
-ghost use Rattle.std.specs.Str.{chars};
+ghost use Rattle.std.specs.List.{list_any};
+ghost use Rattle.std.specs.Str.{bytes_eq, chars};
 ghost use Rattle.java_tokens.specs.Chars.{begins_word, first_passes};
 ghost use Rattle.java_tokens.specs.Identifier.{is_word, is_identifier};
+ghost use Rattle.java_tokens.specs.Tokens.{characters_of};
 ghost use Rattle.java_tokens.specs.Words.{is_identifier_token};
 
 use crate::chars::{begins_word, continues_word};
 use crate::kind::Kind;
 use crate::piece::Piece;
-use crate::reserved::{is_reserved, is_reserved_text};
+use crate::reserved::{is_reserved, is_reserved_text, spells_any};
 use crate::token::Token;
 use ide_text::Text;
 
@@ -33,6 +35,14 @@ pub fn is_identifier_at(text: &Text, token: &Token) -> bool
     ensures { result ≡ is_identifier_token text.now token.now }
 {
     token.is(Kind::Word) && !is_reserved(&Piece::part(text, token.at, token.len))
+}
+
+/// Whether a token of a text has the characters of one of these ASCII words.
+pub fn is_any_of(text: &Text, token: &Token, words: &[&str]) -> bool
+    requires { token.now.at + token.now.len ≤ length text.now }
+    ensures { result ≡ list_any (λ word. bytes_eq word.now (characters_of text.now token.now)) words.now }
+{
+    spells_any(&Piece::part(text, token.at, token.len), words)
 }
 
 /// Whether the first character of a text may begin a word.

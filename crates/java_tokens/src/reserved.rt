@@ -61,7 +61,7 @@ fn reserved_from(first: char) -> &'static [&'static str]
 }
 
 /// Whether the characters are those of one of these ASCII words.
-fn spells_any(piece: &Piece, words: &[&str]) -> bool
+pub fn spells_any(piece: &Piece, words: &[&str]) -> bool
     ensures { result ≡ list_any (λ word. bytes_eq word.now piece.now) words.now }
 {
     for word in words {

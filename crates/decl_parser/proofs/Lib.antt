@@ -1,0 +1,10 @@
+pub mod ForestLemmas
+pub mod UnitLemmas
+pub mod HeaderLemmas
+pub mod ListingLemmas
+pub mod Rising
+pub mod Sound
+pub mod Continuing
+pub mod StubLemmas
+pub mod ListingLawful
+pub mod ForestRising

@@ -1,0 +1,8 @@
+use Rattle.std.proofs.Common.{◌≡◌, drop, None}
+use Rattle.decl_parser.specs.declared.role.Role.TheVariants.{Other}
+use Rattle.decl_parser.specs.Rule.{field_after}
+use Rattle.decl_parser.proofs.field.field_name.Given as goal
+
+-- the nodes that are left decide
+abbrev pub invariant-loop-node : goal.invariant-loop-node
+invariant-loop-node l = field_after l.before l.name (drop l.node-index l.header) ≡ field_after Other None l.header

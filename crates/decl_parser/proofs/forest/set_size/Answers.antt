@@ -1,0 +1,18 @@
+use Rattle.std.proofs.Common.{◌≡◌, ◌-◌, ◌<◌, ◌≤◌, length, ap, ◌∙◌, arith, slice_set}
+use Rattle.decl_parser.proofs.ForestLemmas.{changed-set, changed-beyond}
+use Rattle.decl_parser.proofs.forest.set_size.Goals as goal
+
+pub returns-then-place-len : goal.returns-then-place-len
+returns-then-place-len c =
+    let nodes = c.args.nodes.now.items in
+    let n = c.index.result.now in
+    let inside : c.args.place < length nodes = omega arith in
+    let size : c.saturating_sub-size.result ≡ length nodes - c.args.place - 1 = omega arith in
+    ap (λ s. slice_set nodes c.args.place (record { token = n.token; role = n.role; size = s })) size
+    ∙ changed-set (λ n. record { token = n.token; role = n.role; size = length nodes - c.args.place - 1 }) nodes c.args.place n c.index.ensures inside
+
+pub returns-else-place-len : goal.returns-else-place-len
+returns-else-place-len c =
+    let nodes = c.args.nodes.now.items in
+    let beyond : length nodes ≤ c.args.place = omega arith in
+    changed-beyond (λ n. record { token = n.token; role = n.role; size = length nodes - c.args.place - 1 }) nodes c.args.place beyond

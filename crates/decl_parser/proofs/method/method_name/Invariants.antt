@@ -1,0 +1,10 @@
+use Rattle.std.proofs.Common.{◌≡◌, length, true}
+use Rattle.decl_parser.specs.Rule.{method_after}
+use Rattle.decl_parser.proofs.method.method_name.Given as goal
+
+-- the nodes that are left decide
+abbrev pub invariant-loop-node : goal.invariant-loop-node
+invariant-loop-node l = method_after l.only l.rest ≡ method_after true l.header
+
+abbrev pub decreases-loop-node : goal.decreases-loop-node
+decreases-loop-node l = length l.rest

@@ -1,0 +1,10 @@
+use Rattle.std.proofs.Common.{◌≡◌, length}
+use Rattle.decl_parser.specs.Rule.{type_head, type_after}
+use Rattle.decl_parser.proofs.type_head.type_head.Given as goal
+
+-- the nodes that are left decide
+abbrev pub invariant-loop-node : goal.invariant-loop-node
+invariant-loop-node l = type_after l.before l.rest ≡ type_head l.header
+
+abbrev pub decreases-loop-node : goal.decreases-loop-node
+decreases-loop-node l = length l.rest

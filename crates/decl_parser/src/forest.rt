@@ -1,0 +1,110 @@
+//! From tokens to the forest of groups: partners of brackets, and brackets without one.
+ghost use Rattle.std.specs.Prelude.{◌≡◌, ◌+◌, ◌-◌, ◌≤◌, ◌++◌, ◌∷◌, [], All, IfOk, OnOk, length};
+ghost use Rattle.java_tokens.specs.Tokens.{IsInside};
+ghost use Rattle.decl_parser.specs.Forest.{Scan, with_size, without_bracket, close, close_rest, step, forest_of};
+
+use crate::bracket::Bracket;
+use crate::node::Node;
+use crate::open_brackets::{Open, OpenBrackets};
+use crate::role::{Role, role_of};
+use ide_text::Text;
+use java_tokens::Token;
+use std::alloc::{AllocError, Global};
+
+/// The forest of groups of a text, from its tokens. Linear in them.
+#[tactic(auto, unfolding(crate::specs::Forest::forest_of))]
+pub(crate) fn forest(alloc: Global, text: &Text, tokens: &[Token]) -> Result<Vec<Node>, AllocError>
+    requires { All (IsInside text.now) tokens.now }
+    ensures { IfOk result (λ nodes. nodes.items ≡ forest_of text.now tokens.now) }
+{
+    let mut nodes = Vec::new(alloc);
+    let mut unclosed = OpenBrackets::new(alloc);
+    for token in tokens {
+        add_token(text, *token, &mut nodes, &mut unclosed)?;
+    }
+    close_at_end(&mut nodes, &mut unclosed);
+    Ok(nodes)
+}
+
+/// Goes on by one token.
+#[tactic(auto, unfolding(crate::specs::Forest::step))]
+fn add_token(
+    text: &Text,
+    token: Token,
+    nodes: &mut Vec<Node>,
+    unclosed: &mut OpenBrackets,
+) -> Result<(), AllocError>
+    requires { token.at + token.len ≤ length text.now }
+    ensures { OnOk result (step text.now (record { nodes = nodes.old.items; unclosed = unclosed.old }) token
+        ≡ record { nodes = nodes.new.items; unclosed = unclosed.new }) }
+{
+    let role = role_of(text, &token);
+    let node = Node {
+        token,
+        role,
+        size: 0,
+    };
+    if let Some(bracket) = role.opened() {
+        unclosed.push(Open {
+            place: nodes.len(),
+            bracket,
+        })?;
+        nodes.push(node)?;
+    } else if let Some(bracket) = role.closed() {
+        if unclosed.finds(bracket) {
+            close_group(nodes, unclosed, bracket);
+        }
+    } else if !role.is(Role::Comment) {
+        nodes.push(node)?;
+    }
+    Ok(())
+}
+
+/// Closes the innermost open bracket of a kind; those opened since stay without a partner.
+#[tactic(auto, unfolding(crate::specs::Forest::close))]
+fn close_group(nodes: &mut Vec<Node>, unclosed: &mut OpenBrackets, bracket: Bracket)
+    ensures { close bracket nodes.old.items unclosed.old ≡ record { nodes = nodes.new.items; unclosed = unclosed.new } }
+{
+    while let Some(innermost) = unclosed.pop() {
+        if innermost.bracket.is(bracket) {
+            set_size(nodes, innermost.place);
+            return;
+        }
+        take_out(nodes, innermost.place);
+    }
+}
+
+/// Closes the brackets that are open at the end of the text.
+#[tactic(auto, unfolding(crate::specs::Forest::close_rest))]
+fn close_at_end(nodes: &mut Vec<Node>, unclosed: &mut OpenBrackets)
+    ensures { nodes.new.items ≡ close_rest nodes.old.items unclosed.old }
+{
+    while let Some(innermost) = unclosed.pop() {
+        set_size(nodes, innermost.place);
+    }
+}
+
+/// Lets the group at a place reach to the last node.
+fn set_size(nodes: &mut Vec<Node>, place: usize)
+    ensures { nodes.new.items ≡ with_size place nodes.old.items }
+{
+    let size = nodes.len().saturating_sub(place).saturating_sub(1);
+    if place < nodes.len() {
+        nodes[place] = Node {
+            size,
+            ..nodes[place]
+        };
+    }
+}
+
+/// Marks the bracket at a place as one without a partner.
+fn take_out(nodes: &mut Vec<Node>, place: usize)
+    ensures { nodes.new.items ≡ without_bracket place nodes.old.items }
+{
+    if place < nodes.len() {
+        nodes[place] = Node {
+            role: Role::Lone,
+            ..nodes[place]
+        };
+    }
+}
