@@ -1,10 +1,11 @@
 -- Rising ids, and what is among them after one was put in or taken out.
-use Rattle.std.proofs.Common.{⊎_elim, subst, ◌≡◌, ℕ, zero, suc, ◌<◌, ◌≤◌, Bool, true, false, ◌||◌, ◌&&◌, eqb, cond, List, [], ◌∷◌, length, get_or, refl, sym, ap, ◌∙◌, arith}
+use Rattle.std.proofs.Common.{⊎_elim, subst, ◌≡◌, ℕ, zero, suc, ◌<◌, ◌≤◌, Bool, true, false, ◌||◌, ◌&&◌, eqb, ltb, cond, List, [], ◌∷◌, length, get_or, refl, sym, ap, ◌∙◌, arith}
 use Rattle.std.specs.Prelude.{not}
 use Rattle.std.specs.Ordering.{nat_cmp}
+use Rattle.std.specs.declared.cmp.Ordering.{Ordering}
 use Rattle.std.specs.declared.cmp.Ordering.TheVariants.{Less, Equal, Greater}
-use Rattle.std.specs.List.{insert, remove, AllByRecursion}
-use Rattle.std.specs.Prelude.{Ok, Err}
+use Rattle.std.specs.List.{insert, remove, list_any, AllByRecursion}
+use Rattle.std.specs.Prelude.{Result, Ok, Err}
 use Rattle.std.specs.List.Sorted.{IsStrictlySortedBy, IsBinarySearchResult}
 use Rattle.std.proofs.lemmas.List.Sorted.{searched}
 use Rattle.std.proofs.lemmas.Map.Keys.{non_decreasing_from_sorted}

@@ -1,5 +1,5 @@
-use Rattle.std.proofs.Common.{◌≡◌, ◌≤◌, true, false, length, take, subst, ap, ◌∙◌}
-use Rattle.std.specs.Ordering.{is_le}
+use Rattle.std.proofs.Common.{◌≡◌, ℕ, ◌≤◌, Bool, true, false, List, length, take, drop, sym, subst, ap, ◌∙◌}
+use Rattle.std.specs.Ordering.{is_lt, is_le}
 use Rattle.std.specs.List.{filter}
 use Rattle.std.specs.List.Sorted.{IsPartitionPoint}
 use Rattle.file_index.specs.KeyRows.{AreInOrder, row_cmp}

@@ -1,4 +1,5 @@
-use Rattle.file_index.specs.KeyRows.{row_cmp}
+use Rattle.std.proofs.Common.{sym, subst}
+use Rattle.file_index.specs.KeyRows.{AreInOrder, row_cmp}
 use Rattle.file_index.proofs.KeyRowLemmas.{none_in_order}
 use Rattle.file_index.proofs.key_rows.KeyRows.new.Goals as goal
 
