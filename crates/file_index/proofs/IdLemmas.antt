@@ -1,11 +1,10 @@
 -- Rising ids, and what is among them after one was put in or taken out.
-use Rattle.std.proofs.Common.{⊎_elim, subst, ◌≡◌, ℕ, zero, suc, ◌<◌, ◌≤◌, Bool, true, false, ◌||◌, ◌&&◌, eqb, ltb, cond, List, [], ◌∷◌, length, get_or, refl, sym, ap, ◌∙◌, arith}
+use Rattle.std.proofs.Common.{⊎_elim, subst, ◌≡◌, ℕ, zero, suc, ◌<◌, ◌≤◌, Bool, true, false, ◌||◌, ◌&&◌, eqb, cond, List, [], ◌∷◌, length, get_or, refl, sym, ap, ◌∙◌, arith}
 use Rattle.std.specs.Prelude.{not}
 use Rattle.std.specs.Ordering.{nat_cmp}
-use Rattle.std.specs.declared.cmp.Ordering.{Ordering}
 use Rattle.std.specs.declared.cmp.Ordering.TheVariants.{Less, Equal, Greater}
-use Rattle.std.specs.List.{insert, remove, list_any, AllByRecursion}
-use Rattle.std.specs.Prelude.{Result, Ok, Err}
+use Rattle.std.specs.List.{insert, remove, AllByRecursion}
+use Rattle.std.specs.Prelude.{Ok, Err}
 use Rattle.std.specs.List.Sorted.{IsStrictlySortedBy, IsBinarySearchResult}
 use Rattle.std.proofs.lemmas.List.Sorted.{searched}
 use Rattle.std.proofs.lemmas.Map.Keys.{non_decreasing_from_sorted}
@@ -47,9 +46,10 @@ unfolding IsStrictlySortedBy
 insert_rises [] zero id rises below above inside = (tt, tt)
 insert_rises [] (suc at) id rises below above inside = absurd (omega arith)
 insert_rises (x ∷ xs) zero id rises below above inside = (all_above id (x ∷ xs) (λ k l. above k (omega arith) l), rises)
-insert_rises (x ∷ xs) (suc at) id rises below above inside =
-    (all_inserted (λ y. nat_cmp x y ≡ Less) xs at id (less_is x id (below 0 (omega arith))) rises.0,
-    insert_rises xs at id rises.1 (λ k l. below (suc k) (omega arith)) (λ k l m. above (suc k) (omega arith) (omega arith)) (omega arith))
+insert_rises (x ∷ xs) (suc at) id rises below above inside = (
+  all_inserted (λ y. nat_cmp x y ≡ Less) xs at id (less_is x id (below 0 (omega arith))) rises.0,
+  insert_rises xs at id rises.1 (λ k l. below (suc k) (omega arith)) (λ k l m. above (suc k) (omega arith) (omega arith)) (omega arith),
+)
 
 -- ids still rise with one less
 pub remove_rises : (ids : List ℕ) (at : ℕ) → IsStrictlySortedBy nat_cmp ids → IsStrictlySortedBy nat_cmp (remove ids at)
@@ -126,6 +126,7 @@ module _ (slice ids new : List ℕ) (at id : ℕ) (same : slice ≡ ids) (rises 
       there [] i inside is = absurd (omega arith)
       there (x ∷ xs) zero inside is = ap (λ b. b || has_id j xs) (eq-eqb j x (sym is))
       there (x ∷ xs) (suc i) inside is = ap (λ b. eqb j x || b) (there xs i (omega arith) is) ∙ or_last (eqb j x) true
+
       by : (b : Bool) → eqb j id ≡ b → has_id j ids ≡ (has_id j ids || b)
       by true e = let found = found_at place in there ids at found.0 (found.1 ∙ sym (eqb-true j id e)) ∙ sym (or_last (has_id j ids) true)
       by false e = sym (or_last (has_id j ids) false)
@@ -136,14 +137,18 @@ module _ (slice ids new : List ℕ) (at id : ℕ) (same : slice ≡ ids) (rises 
     where
       gap : (at ≤ length ids) × ((k : ℕ) → k < at → get_or ids k 0 < id) × ((k : ℕ) → at ≤ k → k < length ids → id < get_or ids k 0)
       gap = searched ids id (Err at) (subst (λ l. IsBinarySearchResult (λ y. nat_cmp y id) l (Err at)) same place) (rising ids rises)
+
       absent : (l : List ℕ) → ((k : ℕ) → k < length l → get_or l k 0 ≡ j → ⊥) → has_id j l ≡ false
       absent [] away = refl
       absent (x ∷ xs) away = ap (λ b. b || has_id j xs) (ne_eqb j x (λ e. away 0 (omega arith) (sym e))) ∙ absent xs (λ k l. away (suc k) (omega arith))
+
       apart : j ≡ id → (k : ℕ) → k < length ids → get_or ids k 0 ≡ j → ⊥
       apart e k l is = ⊎_elim (λ before. let m = gap.1 k before in omega (arith, e, is)) (λ after. let m = gap.2 k after l in omega (arith, e, is)) (cases_lt k at)
+
       and_last : (a : Bool) → a ≡ (a && true)
       and_last true = refl
       and_last false = refl
+
       by : (b : Bool) → eqb j id ≡ b → has_id j ids ≡ (has_id j ids && not b)
       by true e = let none = absent ids (apart (eqb-true j id e)) in none ∙ sym (ap (λ b. b && false) none)
       by false e = and_last (has_id j ids)

@@ -114,24 +114,27 @@ module _ {K V : Type 0} (key_cmp : K → K → Ordering) (place_of : V → ℕ) 
       → take after (drop from rows) ≡ filter (λ (row : K × V). key_eq key row.0) rows
   run_is key_eq ties from after inside inside2 lower upper =
       filter_front test (drop from rows) after
-          (λ k d l. is_test (get_or (drop from rows) k d) ∙ between_is (key_cmp (get_or (drop from rows) k d).0 key) (not_below k d (omega (arith, l, inside2))) (upper.0 k d (omega arith) l))
-          (λ k d l m. is_test (get_or (drop from rows) k d) ∙ above_differs (key_cmp (get_or (drop from rows) k d).0 key) (upper.1 k d l m))
-          inside2
+      (λ k d l. is_test (get_or (drop from rows) k d) ∙ between_is (key_cmp (get_or (drop from rows) k d).0 key) (not_below k d (omega (arith, l, inside2))) (upper.0 k d (omega arith) l))
+      (λ k d l m. is_test (get_or (drop from rows) k d) ∙ above_differs (key_cmp (get_or (drop from rows) k d).0 key) (upper.1 k d l m))
+      inside2
       ∙ filter_past test rows from (λ k d l. is_test (get_or rows k d) ∙ below_differs (key_cmp (get_or rows k d).0 key) (lower.0 k d (omega arith) l)) inside
     where
       test : K × V → Bool
       test row = key_eq key row.0
+
       is_test : (row : K × V) → key_eq key row.0 ≡ is_eq (ordering_reverse (key_cmp row.0 key))
       is_test row = ties key row.0 ∙ ap is_eq (total.antisymm key row.0)
+
       not_below : (k : ℕ) (d : K × V) → k < length (drop from rows) → is_lt (key_cmp (get_or (drop from rows) k d).0 key) ≡ false
       not_below k d l = ap (λ (row : K × V). is_lt (key_cmp row.0 key)) (get_or-drop from rows k d) ∙ lower.1 (from + k) d (omega arith) (omega (arith, l, length-drop from rows))
 
--- rows whose keys rise are in order
-pub in_order_by_key : {K V : Type 0} (key_cmp : K → K → Ordering) (place_of : V → ℕ) (rows : List (K × V)) → IsStrictlySortedBy key_cmp (keys_of rows) → AreInOrder key_cmp place_of rows
-unfolding IsStrictlySortedBy
-in_order_by_key key_cmp place_of [] rises = tt
-in_order_by_key key_cmp place_of (r ∷ rs) rises = (below rs rises.0, in_order_by_key key_cmp place_of rs rises.1)
-  where
-    below : (ss : List (K × V)) → AllByRecursion (λ k. key_cmp r.0 k ≡ Less) (keys_of ss) → AllByRecursion (λ s. row_cmp key_cmp place_of r s ≡ Less) ss
-    below [] all = tt
-    below (s ∷ ss) all = (ap (λ o. ordering_then o (nat_cmp (place_of r.1) (place_of s.1))) all.0, below ss all.1)
+module _ {K V : Type 0} (key_cmp : K → K → Ordering) (place_of : V → ℕ) where
+  below_rows : (r : K × V) (rows : List (K × V)) → AllByRecursion (λ k. key_cmp r.0 k ≡ Less) (keys_of rows) → AllByRecursion (λ s. row_cmp key_cmp place_of r s ≡ Less) rows
+  below_rows r [] all = tt
+  below_rows r (s ∷ ss) all = (ap (λ o. ordering_then o (nat_cmp (place_of r.1) (place_of s.1))) all.0, below_rows r ss all.1)
+
+  -- rows whose keys rise are in order
+  pub in_order_by_key : (rows : List (K × V)) → IsStrictlySortedBy key_cmp (keys_of rows) → AreInOrder key_cmp place_of rows
+  unfolding IsStrictlySortedBy
+  in_order_by_key [] rises = tt
+  in_order_by_key (r ∷ rs) rises = (below_rows r rs rises.0, in_order_by_key rs rises.1)

@@ -1,15 +1,14 @@
 -- The rows of all files after those of one file changed.
-use Rattle.std.proofs.Common.{◌⊎◌, ◌≡◌, ℕ, ◌<◌, Bool, true, false, cond, eqb, ltb, List, [], ◌∷◌, ◌++◌, map, Some, None, refl, sym, ap, ◌∙◌, arith, append_assoc, subst, ⊎_elim}
-use Rattle.std.specs.Prelude.{Option, not, is_some}
+use Rattle.std.proofs.Common.{◌⊎◌, ◌≡◌, ℕ, ◌<◌, Bool, true, false, cond, eqb, ltb, List, [], ◌∷◌, ◌++◌, Some, None, refl, sym, ap, ◌∙◌, arith, append_assoc, subst, ⊎_elim}
+use Rattle.std.specs.Prelude.{not, is_some}
 use Rattle.std.specs.Ordering.{nat_cmp, is_eq, is_lt, match_ordering}
 use Rattle.std.specs.declared.cmp.Ordering.{Ordering}
 use Rattle.std.specs.declared.cmp.Ordering.TheVariants.{Less, Equal, Greater}
-use Rattle.std.specs.Map.{lookup, keys_of, set_value, remove_entry}
+use Rattle.std.specs.Map.{lookup, keys_of, remove_entry}
 use Rattle.std.specs.BTreeMap.{is_at, insert_entry}
-use Rattle.std.specs.List.{filter, flat_map, AllByRecursion}
+use Rattle.std.specs.List.{filter, AllByRecursion}
 use Rattle.std.specs.List.Sorted.{IsStrictlySortedBy}
 use Rattle.std.proofs.lemmas.Bool.{eq-eqb, ne_eqb, lt-ltb, le-ltb, cases_order, false≢true}
-use Rattle.std.proofs.lemmas.List.{append-nil}
 use Rattle.std.proofs.lemmas.List.Elements.{filter-append}
 use Rattle.std.proofs.lemmas.Map.Keys.{sorted_head, sorted_tail}
 use Rattle.file_index.specs.Rows.{rows_in, rows_of, with_rows, without_file}
@@ -29,6 +28,7 @@ less_from a b e = ⊎_elim (λ same. absurd (no (sym (cmp_same a b same) ∙ e))
   where
     no : Equal ≡ Less → ⊥
     no e = false≢true (sym (ap is_eq e))
+
     no2 : Greater ≡ Less → ⊥
     no2 e = false≢true (ap is_lt e)
 
@@ -94,12 +94,16 @@ module _ {K V : Type 0} where
       where
         lower : ℕ → Bool
         lower k = ltb k file
+
         upper : ℕ → Bool
         upper k = ltb file k
+
         placed : Ordering → List (ℕ × List (K × V))
         placed o = match_ordering o ((file, new) ∷ e ∷ es) ((e.0, new) ∷ es) (e ∷ insert_entry nat_cmp es file new)
+
         goal : Type 0
         goal = rows_of (insert_entry nat_cmp (e ∷ es) file new) ≡ with_rows file new (rows_of (e ∷ es))
+
         here : file ≡ e.0 → goal
         here same =
             let over : AllByRecursion (λ k. file < k) (keys_of es) = subst (λ f. AllByRecursion (λ k. f < k) (keys_of es)) (sym same) (behind e es sorted) in
@@ -107,12 +111,14 @@ module _ {K V : Type 0} where
             ∙ ap (λ f. rows_in f new ++ rows_of es) (sym same)
             ∙ ap (λ l. rows_in file new ++ l) (sym (gone_first upper e es (le-ltb file e.0 (omega (arith, same))) ∙ kept_of upper es (all_over file (keys_of es) over)))
             ∙ ap (λ l. l ++ (rows_in file new ++ filter (λ row. upper row.0) (rows_of (e ∷ es)))) (sym (gone_first lower e es (le-ltb e.0 file (omega (arith, same))) ∙ gone_of lower es (not_below file (keys_of es) over)))
+
         before : file < e.0 → goal
         before less =
             let over : AllByRecursion (λ k. file < k) (keys_of (e ∷ es)) = (less, above_more file e.0 (keys_of es) less (behind e es sorted)) in
             ap (λ o. rows_of (placed o)) (cmp_less file e.0 less)
             ∙ ap (λ l. rows_in file new ++ l) (sym (kept_of upper (e ∷ es) (all_over file (keys_of (e ∷ es)) over)))
             ∙ ap (λ l. l ++ (rows_in file new ++ filter (λ row. upper row.0) (rows_of (e ∷ es)))) (sym (gone_of lower (e ∷ es) (not_below file (keys_of (e ∷ es)) over)))
+
         after : rows_of (insert_entry nat_cmp es file new) ≡ with_rows file new (rows_of es) → e.0 < file → goal
         after rest more =
             let low = filter (λ row. lower row.0) (rows_of es) in
@@ -130,13 +136,16 @@ module _ {K V : Type 0} where
       where
         others : ℕ → Bool
         others k = not (eqb k file)
+
         goal : Type 0
         goal = rows_of (remove_entry (is_at (nat_cmp file)) (e ∷ es)) ≡ without_file file (rows_of (e ∷ es))
+
         here : file ≡ e.0 → goal
         here same =
             let over : AllByRecursion (λ k. file < k) (keys_of es) = subst (λ f. AllByRecursion (λ k. f < k) (keys_of es)) (sym same) (behind e es sorted) in
             ap (λ o. rows_of (cond (is_eq o) es (e ∷ remove_entry (is_at (nat_cmp file)) es))) (cmp_same file e.0 same)
             ∙ sym (gone_first others e es (ap not (eq-eqb e.0 file (sym same))) ∙ kept_of others es (all_other file (keys_of es) over))
+
         other : rows_of (remove_entry (is_at (nat_cmp file)) es) ≡ without_file file (rows_of es) → (file < e.0) ⊎ (e.0 < file) → goal
         other rest apart =
             ap (λ b. rows_of (cond b es (e ∷ remove_entry (is_at (nat_cmp file)) es))) (⊎_elim (λ l. ap is_eq (cmp_less file e.0 l)) (λ m. ap is_eq (cmp_more file e.0 m)) apart)

@@ -1,10 +1,10 @@
 -- A walk over the files that may have rows under a key meets each of them.
-use Rattle.std.proofs.Common.{◌⊎◌, ◌≡◌, ℕ, ◌<◌, Bool, true, false, ◌||◌, cond, eqb, List, [], ◌∷◌, ◌++◌, map, Some, None, refl, sym, ap, subst, ◌∙◌, arith, ⊎_elim}
+use Rattle.std.proofs.Common.{◌≡◌, ℕ, ◌<◌, Bool, true, false, ◌||◌, cond, eqb, List, [], ◌∷◌, ◌++◌, map, Some, refl, sym, ap, subst, ◌∙◌, arith, ⊎_elim}
 use Rattle.std.specs.Ordering.{nat_cmp, is_eq}
 use Rattle.std.specs.Option.{unwrap_or}
 use Rattle.std.specs.Map.{lookup, keys_of}
 use Rattle.std.specs.BTreeMap.{is_at}
-use Rattle.std.specs.List.{filter, list_any, AllByRecursion, flat_map}
+use Rattle.std.specs.List.{filter, AllByRecursion, flat_map}
 use Rattle.std.specs.List.Sorted.{IsStrictlySortedBy}
 use Rattle.std.proofs.lemmas.Bool.{cases_order, eq-eqb, ne_eqb, false≢true, false_from_ne_true, or_parts}
 use Rattle.std.proofs.lemmas.List.{map-append}
@@ -115,24 +115,30 @@ module _ {K V : Type 0} (eq : K → K → Bool) (key : K) where
       where
         Rest : Type 0
         Rest = (ids : List ℕ) → IsStrictlySortedBy nat_cmp ids → Walks ids es → Misses es ids → Meets es ids
+
         over : AllByRecursion (λ k. e.0 < k) (keys_of es)
         over = behind e es files_rise
+
         skipped : (ids : List ℕ) → AllByRecursion (λ j. e.0 < j) ids → IsStrictlySortedBy nat_cmp ids → Walks ids (e ∷ es) → Misses (e ∷ es) ids → Rest → Meets (e ∷ es) ids
         skipped ids above rise walks misses rest = ap (λ l. l ++ flat_map (λ f. found f.0 f.1) es) (walks.0 (absent_below e.0 ids above)) ∙ rest ids rise walks.1 (fewer_files e es ids above misses)
+
         go : (ids : List ℕ) → IsStrictlySortedBy nat_cmp ids → Walks ids (e ∷ es) → Misses (e ∷ es) ids → Rest → Meets (e ∷ es) ids
         go [] rise walks misses rest = skipped [] tt rise walks misses rest
         go (id ∷ ids) rise walks misses rest = ⊎_elim here (λ apart. ⊎_elim before (after (go ids (sorted_tail nat_cmp id ids rise))) apart) (cases_order e.0 id)
           where
             above : AllByRecursion (λ j. id < j) ids
             above = rest_above id ids rise
+
             here : e.0 ≡ id → Meets (e ∷ es) (id ∷ ids)
             here same =
                 let over_id : AllByRecursion (λ k. id < k) (keys_of es) = subst (λ f. AllByRecursion (λ k. f < k) (keys_of es)) same over in
                 let above_e : AllByRecursion (λ j. e.0 < j) ids = subst (λ f. AllByRecursion (λ j. f < j) ids) (sym same) above in
                 ap (λ l. l ++ flat_map (λ f. found f.0 f.1) es) (sym shows.0 ∙ ap look same)
                 ∙ ap (λ l. look id ++ l) (rest ids (sorted_tail nat_cmp id ids rise) (fewer_ids id ids es over_id walks.1) (fewer_files e es ids above_e misses.1))
+
             before : e.0 < id → Meets (e ∷ es) (id ∷ ids)
             before less = skipped (id ∷ ids) (less, above_more e.0 id ids less above) rise walks misses rest
+
             after : (Walks ids (e ∷ es) → Misses (e ∷ es) ids → Rest → Meets (e ∷ es) ids) → id < e.0 → Meets (e ∷ es) (id ∷ ids)
             after next less =
                 let over_id : AllByRecursion (λ k. id < k) (keys_of (e ∷ es)) = (less, above_more id e.0 (keys_of es) less over) in
@@ -147,15 +153,19 @@ module _ {K V : Type 0} (eq : K → K → Bool) (key : K) where
     where
       look : ℕ → List (ℕ × V)
       look id = found id (rows_in_file id files)
+
       own : AllByRecursion (λ e. rows_in_file e.0 files ≡ e.1) files
       own = own_rows files files_rise
+
       shows : (es : List (ℕ × List (K × V))) → AllByRecursion (λ e. rows_in_file e.0 files ≡ e.1) es → Shows look es
       shows [] is = tt
       shows (e ∷ es) is = (ap (found e.0) is.0, shows es is.1)
+
       walks : (es : List (ℕ × List (K × V))) → AllByRecursion (λ e. rows_in_file e.0 files ≡ e.1) es → Walks look ids es
       walks [] is = tt
       walks (e ∷ es) is =
           ((λ absent. none_found e.0 e.1 (false_from_ne_true (has_key eq key e.1) (λ has. false≢true (sym absent ∙ all e.0 (ap (has_key eq key) is.0 ∙ has))))), walks es is.1)
+
       misses : (js : List ℕ) → Misses look files js
       misses [] = tt
       misses (j ∷ js) = ((λ absent. ap (found j) (no_rows j files absent)), misses js)

@@ -40,7 +40,11 @@ pub trait Indexer: Copy + Drop {
     fn version(&self) -> u8;
 
     /// The rows of an input.
-    fn rows(&self, alloc: Global, input: &Self::Input) -> Result<KeyRows<Self::Key, Self::Value>, AllocError>
+    fn rows(
+        &self,
+        alloc: Global,
+        input: &Self::Input,
+    ) -> Result<KeyRows<Self::Key, Self::Value>, AllocError>
         ensures { IfOk result (λ rows. rows ≡ rows_of input.now) };
 
     /// The same key once more.

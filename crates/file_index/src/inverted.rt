@@ -129,10 +129,8 @@ fn take_out_all<K: Ord + Hash + Drop, V: Place>(
     file: u32,
     old: &KeyRows<K, V>,
 )
-    ensures {
-        (k : K) (j : ℕ) → is_placed K.eq postings.new k j
-            ≡ (is_placed K.eq postings.old k j && not (j == file && has_key K.eq k old.now && not (has_key K.eq k (rows_in_file file files.now))))
-    }
+    ensures { (k : K) (j : ℕ) → is_placed K.eq postings.new k j
+        ≡ (is_placed K.eq postings.old k j && not (j == file && has_key K.eq k old.now && not (has_key K.eq k (rows_in_file file files.now)))) }
 {
     for (key, _) in old.as_slice() {
         if !files.has_key(file, key) {

@@ -108,7 +108,10 @@ pub(crate) fn copy_rows<I: Indexer>(
 {
     let mut copies = Vec::new(alloc);
     for (key, value) in rows.as_slice() {
-        copies.push((indexer.copy_key(alloc, key)?, indexer.copy_value(alloc, value)?))?;
+        copies.push((
+            indexer.copy_key(alloc, key)?,
+            indexer.copy_value(alloc, value)?,
+        ))?;
     }
     Ok(KeyRows::from_ordered(copies))
 }

@@ -29,11 +29,7 @@ impl<'a, K: Ord, V: Place> Model for RowWalk<'a, K, V> {
 
 impl<'a, K: Ord, V: Place> RowWalk<'a, K, V> {
     /// A walk over the rows that these files have under a key.
-    pub(crate) fn new(
-        files: &'a Files<K, V>,
-        ids: &'a [u32],
-        key: &'a K,
-    ) -> RowWalk<'a, K, V>
+    pub(crate) fn new(files: &'a Files<K, V>, ids: &'a [u32], key: &'a K) -> RowWalk<'a, K, V>
         ensures { result ≡ walked K.eq key.now files.now ids.now }
     {
         RowWalk {

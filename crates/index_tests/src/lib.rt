@@ -1,5 +1,7 @@
-//! Tests of the crates of indexes: rows under keys after changes.
+//! Tests of the crates of indexes: rows under keys after changes, and the bytes of stubs.
 #![tactic(auto)]
 
+#[cfg(test)]
+mod bytes;
 #[cfg(test)]
 mod rows;

@@ -1,4 +1,3 @@
-use Rattle.std.specs.Map.{keys_of}
 use Rattle.std.specs.Ordering.{nat_cmp}
 use Rattle.file_index.proofs.KeyRowLemmas.{none_in_order}
 use Rattle.file_index.proofs.files.Files.new.Goals as goal

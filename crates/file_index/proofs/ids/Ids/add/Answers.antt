@@ -1,4 +1,4 @@
-use Rattle.std.proofs.Common.{◌≡◌, ℕ, ◌||◌, eqb, sym, ap, subst, ◌∙◌}
+use Rattle.std.proofs.Common.{◌≡◌, ◌||◌, eqb, ap, subst, ◌∙◌}
 use Rattle.file_index.specs.Places.{has_id}
 use Rattle.file_index.proofs.IdLemmas.{added_rises, found_has, has_id-insert}
 use Rattle.file_index.proofs.ids.Ids.add.Goals as goal

@@ -1,4 +1,4 @@
-use Rattle.std.proofs.Common.{◌≡◌, true, sym, ap, ◌∙◌}
+use Rattle.std.proofs.Common.{sym, ap, ◌∙◌}
 use Rattle.file_index.specs.KeyRows.{has_key}
 use Rattle.file_index.specs.Rows.{rows_in_file}
 use Rattle.file_index.proofs.inverted.Inverted.copy.Goals as goal

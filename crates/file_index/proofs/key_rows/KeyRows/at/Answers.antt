@@ -1,5 +1,5 @@
-use Rattle.std.proofs.Common.{◌≡◌, ℕ, ◌≤◌, Bool, true, false, List, length, take, drop, sym, subst, ap, ◌∙◌}
-use Rattle.std.specs.Ordering.{is_lt, is_le}
+use Rattle.std.proofs.Common.{◌≡◌, ◌≤◌, true, false, length, take, subst, ap, ◌∙◌}
+use Rattle.std.specs.Ordering.{is_le}
 use Rattle.std.specs.List.{filter}
 use Rattle.std.specs.List.Sorted.{IsPartitionPoint}
 use Rattle.file_index.specs.KeyRows.{AreInOrder, row_cmp}
@@ -16,7 +16,7 @@ returns g c =
     let rows = c.as_slice-rows.result.now in
     let in_order : AreInOrder g.K.Ord.cmp g.V.Place.place_of rows = rw c.as_slice-rows.ensures.rows c.as_slice-rows.ensures.in_order in
     let run = run_is g.K.Ord.cmp g.V.Place.place_of g.met.K.Ord.total rows c.args.key.now g.K.PartialEq.eq g.met.K.Ord.matches_eq c.first_from.result c.first_after.result c.first_from.ensures.bound
-        (subst (λ l. c.first_after.result ≤ length l) c.split_at.ensures.back c.first_after.ensures.bound)
-        c.first_from.ensures.parts
-        (subst (λ l. IsPartitionPoint (λ row. is_le (g.K.Ord.cmp row.0 c.args.key.now) ≡ true) (λ row. is_le (g.K.Ord.cmp row.0 c.args.key.now) ≡ false) l c.first_after.result) c.split_at.ensures.back c.first_after.ensures.parts) in
+    (subst (λ l. c.first_after.result ≤ length l) c.split_at.ensures.back c.first_after.ensures.bound)
+    c.first_from.ensures.parts
+    (subst (λ l. IsPartitionPoint (λ row. is_le (g.K.Ord.cmp row.0 c.args.key.now) ≡ true) (λ row. is_le (g.K.Ord.cmp row.0 c.args.key.now) ≡ false) l c.first_after.result) c.split_at.ensures.back c.first_after.ensures.parts) in
     c.split_at-2.ensures.front ∙ ap (λ l. take c.first_after.result l) c.split_at.ensures.back ∙ run ∙ ap (λ l. filter (λ row. g.K.PartialEq.eq c.args.key.now row.0) l) c.as_slice-rows.ensures.rows

@@ -1,4 +1,4 @@
-use Rattle.std.proofs.Common.{sym, subst, ap, ◌∙◌, length}
+use Rattle.std.proofs.Common.{ap, ◌∙◌, length}
 use Rattle.std.specs.Prelude.{not, ◌==◌}
 use Rattle.file_index.proofs.KeyRowLemmas.{any_from_filter}
 use Rattle.file_index.proofs.key_rows.KeyRows.has_key.Goals as goal

@@ -1,5 +1,4 @@
-use Rattle.std.proofs.Common.{sym, subst}
-use Rattle.file_index.specs.KeyRows.{AreInOrder, row_cmp}
+use Rattle.file_index.specs.KeyRows.{row_cmp}
 use Rattle.file_index.proofs.KeyRowLemmas.{none_in_order}
 use Rattle.file_index.proofs.key_rows.KeyRows.new.Goals as goal
 
