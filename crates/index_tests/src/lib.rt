@@ -1,7 +1,0 @@
-//! Tests of the crates of indexes: rows under keys after changes, and the bytes of stubs.
-#![tactic(auto)]
-
-#[cfg(test)]
-mod bytes;
-#[cfg(test)]
-mod rows;
