@@ -1,0 +1,4 @@
+pub mod IdLemmas
+pub mod KeyRowLemmas
+pub mod TableLemmas
+pub mod WalkLemmas

@@ -1,0 +1,133 @@
+//! The rows of each file.
+ghost use Rattle.std.specs.Prelude.{◌≡◌, ℕ, [], Bool, true, if◌then◌else◌, is_some, unwrap_or, OnOk, IfOk, ◌==◌, false};
+ghost use Rattle.std.specs.Ordering.{nat_cmp};
+ghost use Rattle.std.specs.List.Sorted.{IsStrictlySortedBy};
+ghost use Rattle.file_index.specs.KeyRows.{has_key, rows_with};
+ghost use Rattle.file_index.specs.Places.{has_id};
+ghost use Rattle.file_index.specs.Rows.{is_known, rows_of, rows_at, rows_in_file, with_rows, without_file};
+
+use crate::key_rows::copy_rows;
+use crate::{Indexer, KeyRows, Place, RowWalk};
+use std::alloc::{AllocError, Global};
+use std::collections::BTreeMap;
+use std::marker::Model;
+
+/// The files that are known, by rising ids, with their rows.
+#[derive(Drop)]
+pub(crate) struct Files<K: Ord, V: Place> {
+    rows: BTreeMap<u32, KeyRows<K, V>>,
+}
+
+impl<K: Ord, V: Place> Model for Files<K, V> {
+    ghost use Rattle.std.specs.Prelude.{List, ℕ};
+
+    ghost Value = { List (ℕ × List (K × V)) };
+
+    ghost use Rattle.std.specs.Ordering.{nat_cmp};
+    ghost use Rattle.std.specs.Map.{keys_of};
+    ghost use Rattle.std.specs.List.Sorted.{IsStrictlySortedBy};
+
+    ghost view = { λ f. f.rows.entries };
+
+    ghost invariant = { λ f. IsStrictlySortedBy nat_cmp (keys_of f.rows.entries) };
+}
+
+impl<K: Ord, V: Place> Files<K, V> {
+    /// No files.
+    pub(crate) fn new(alloc: Global) -> Files<K, V>
+        ensures { result ≡ [] }
+    {
+        Files {
+            rows: BTreeMap::new(alloc),
+        }
+    }
+
+    /// The rows of a file with a key.
+    pub(crate) fn at(&self, file: u32, key: &K) -> &[(K, V)]
+        ensures { result.now ≡ rows_with K.eq key.now (rows_in_file file self.now) }
+    {
+        match self.rows.get(&file) {
+            Some(rows) => rows.at(key),
+            None => &[],
+        }
+    }
+
+    /// Whether a row of a file has a key.
+    pub(crate) fn has_key(&self, file: u32, key: &K) -> bool
+        ensures { result ≡ has_key K.eq key.now (rows_in_file file self.now) }
+    {
+        match self.rows.get(&file) {
+            Some(rows) => rows.has_key(key),
+            None => false,
+        }
+    }
+
+    /// A walk over the rows under a key, given the ids of all files that have any.
+    pub(crate) fn walk<'a>(&'a self, ids: &'a [u32], key: &'a K) -> RowWalk<'a, K, V>
+        requires rises { IsStrictlySortedBy nat_cmp ids.now }
+        requires all { (file : ℕ) → has_key K.eq key.now (rows_in_file file self.now) ≡ true → has_id file ids.now ≡ true }
+        ensures { result ≡ rows_at K.eq key.now (rows_of self.now) }
+    {
+        let _ = &self.rows;
+        RowWalk::new(self, ids, key)
+    }
+
+    /// Lets a file be known; one that isn't yet comes in without rows.
+    pub(crate) fn make_known(&mut self, alloc: Global, file: u32) -> Result<(), AllocError>
+    where
+        K: Drop,
+        V: Drop,
+        ensures same { rows_of self.new ≡ rows_of self.old }
+        ensures each { (j : ℕ) → rows_in_file j self.new ≡ rows_in_file j self.old }
+        ensures known { OnOk result (is_known file self.new ≡ true) }
+        ensures stays { (j : ℕ) → is_known j self.old ≡ true → is_known j self.new ≡ true }
+    {
+        if !self.rows.contains_key(&file) {
+            self.rows.insert(file, KeyRows::new(alloc))?;
+        }
+        Ok(())
+    }
+
+    /// Gives a file that is known these rows, and returns those that it had.
+    pub(crate) fn put(&mut self, file: u32, new: KeyRows<K, V>) -> KeyRows<K, V>
+    where
+        K: Drop,
+        V: Drop,
+        requires { is_known file self.old ≡ true }
+        ensures old { result ≡ rows_in_file file self.old }
+        ensures rows { rows_of self.new ≡ with_rows file new (rows_of self.old) }
+        ensures each { (j : ℕ) → rows_in_file j self.new ≡ (if j == file then new else rows_in_file j self.old) }
+        ensures stays { (j : ℕ) → is_known j self.old ≡ true → is_known j self.new ≡ true }
+    {
+        match self.rows.insert(file, new) {
+            Ok(Some(old)) => old,
+            Ok(None) => unreachable!(),
+            Err(_) => unreachable!(),
+        }
+    }
+
+    /// Takes a file out, and returns its rows if it was known.
+    pub(crate) fn take(&mut self, file: u32) -> Option<KeyRows<K, V>>
+        ensures old { unwrap_or result [] ≡ rows_in_file file self.old }
+        ensures rows { rows_of self.new ≡ without_file file (rows_of self.old) }
+        ensures each { (j : ℕ) → rows_in_file j self.new ≡ (if j == file then [] else rows_in_file j self.old) }
+        ensures stays { (j : ℕ) → (j == file) ≡ false → is_known j self.old ≡ true → is_known j self.new ≡ true }
+    {
+        self.rows.remove(&file)
+    }
+}
+
+/// The same files once more.
+pub(crate) fn copy_files<I: Indexer>(
+    alloc: Global,
+    indexer: &I,
+    files: &Files<I::Key, I::Value>,
+) -> Result<Files<I::Key, I::Value>, AllocError>
+    ensures { IfOk result (λ copy. copy ≡ files.now) }
+{
+    let mut rows = BTreeMap::new(alloc);
+    for (file, own) in &files.rows {
+        rows.insert(*file, copy_rows(alloc, indexer, own)?)?;
+    }
+    Ok(Files { rows })
+}

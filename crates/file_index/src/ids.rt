@@ -1,0 +1,81 @@
+//! Rising lists of file ids.
+ghost use Rattle.std.specs.Prelude.{◌≡◌, ℕ, [], ◌∷◌, ◌||◌, ◌&&◌, not, ◌==◌, length, OnErr, OnOk, IfOk};
+ghost use Rattle.std.specs.Ordering.{nat_cmp};
+ghost use Rattle.std.specs.List.Sorted.{IsStrictlySortedBy};
+ghost use Rattle.file_index.specs.Places.{has_id};
+
+use std::alloc::{AllocError, Global};
+use std::marker::Model;
+
+/// The ids of files, each once, which rise.
+#[derive(Drop)]
+pub(crate) struct Ids {
+    ids: Vec<u32>,
+}
+
+impl Model for Ids {
+    ghost use Rattle.std.specs.Prelude.{List, ℕ};
+    ghost use Rattle.std.specs.Ordering.{nat_cmp};
+    ghost use Rattle.std.specs.List.Sorted.{IsStrictlySortedBy};
+
+    ghost Value = { List ℕ };
+
+    ghost view = { λ l. l.ids.items };
+
+    ghost invariant = { λ l. IsStrictlySortedBy nat_cmp l.ids.items };
+}
+
+impl Ids {
+    /// One id.
+    pub(crate) fn of(alloc: Global, id: u32) -> Result<Ids, AllocError>
+        ensures { IfOk result (λ ids. ids ≡ id ∷ []) }
+    {
+        let mut ids = Vec::new(alloc);
+        ids.push(id)?;
+        Ok(Ids { ids })
+    }
+
+    /// The ids.
+    pub(crate) fn as_slice(&self) -> &[u32]
+        ensures ids { result.now ≡ self.now }
+        ensures rises { IsStrictlySortedBy nat_cmp self.now }
+    {
+        &self.ids
+    }
+
+    /// Whether there is no id.
+    pub(crate) fn is_empty(&self) -> bool
+        ensures { result ≡ (length self.now == 0) }
+    {
+        self.ids.is_empty()
+    }
+
+    /// Puts an id in, if it isn't there.
+    pub(crate) fn add(&mut self, id: u32) -> Result<(), AllocError>
+        ensures added { OnOk result ((j : ℕ) → has_id j self.new ≡ (has_id j self.old || j == id)) }
+        ensures unchanged { OnErr result (self.new ≡ self.old) }
+    {
+        if let Err(at) = self.ids.binary_search(&id) {
+            self.ids.insert(at, id)?;
+        }
+        Ok(())
+    }
+
+    /// Takes an id out, if it is there.
+    pub(crate) fn take(&mut self, id: u32)
+        ensures { (j : ℕ) → has_id j self.new ≡ (has_id j self.old && not (j == id)) }
+    {
+        if let Ok(at) = self.ids.binary_search(&id) {
+            self.ids.remove(at);
+        }
+    }
+
+    /// The same ids once more.
+    pub(crate) fn copy(&self) -> Result<Ids, AllocError>
+        ensures { IfOk result (λ copy. copy ≡ self.now) }
+    {
+        Ok(Ids {
+            ids: self.ids.clone()?,
+        })
+    }
+}

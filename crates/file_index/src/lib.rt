@@ -1,0 +1,15 @@
+//! Inverted indexes: the rows that an input gives, and which files have rows under a key.
+#![tactic(auto)]
+
+mod files;
+mod ids;
+mod indexer;
+mod inverted;
+mod key_rows;
+mod postings;
+mod row_walk;
+
+pub use indexer::{Indexer, Place};
+pub use inverted::Inverted;
+pub use key_rows::KeyRows;
+pub use row_walk::RowWalk;

@@ -1,0 +1,103 @@
+-- Bytes read from left to right, up to the first field that is cut by their end, or unlawful where it stands.
+use Rattle.std.specs.Prelude.{ℕ, zero, suc, ◌+◌, ◌-◌, Bool, true, false, ◌&&◌, ◌||◌, List, [], ◌∷◌, length, take, drop, Option, Some, None, Result, Ok, Err, nat_lt, nat_le, ◌==◌, if◌then◌else◌}
+use Rattle.std.specs.Int.{w32, from_be_bytes}
+use Rattle.std.specs.Str.{chars, is_utf8}
+use Rattle.ide_text.specs.Text.{max_chars}
+use Rattle.stub_tree.specs.declared.stub.Stub.{Stub}
+use Rattle.stub_tree.specs.Stub.{is_type}
+use Rattle.stub_tree.specs.Lawful.{max_depth}
+use Rattle.stub_codec.specs.Spelling.{version}
+
+-- A fault is told by the number of bytes from the faulty field's first on.
+infixl 10 ◌>>=◌
+-- what follows a step that met no fault
+abbrev pub ◌>>=◌ : {A B : Type 0} → Result A ℕ → (A → Result B ℕ) → Result B ℕ
+(Ok x) >>= f = f x
+(Err left) >>= f = Err left
+
+-- a field is unlawful unless the test passes: the fault is at its first byte
+abbrev pub checked : Bool → List ℕ → Result (Unit {0}) ℕ
+checked true bytes = Ok tt
+checked false bytes = Err (length bytes)
+
+-- a byte, and the bytes behind it
+abbrev pub byte_at : List ℕ → Result (ℕ × List ℕ) ℕ
+byte_at [] = Err 0
+byte_at (b ∷ rest) = Ok (b, rest)
+
+-- a number of four bytes, the greatest first
+unfoldable pub number_at : List ℕ → Result (ℕ × List ℕ) ℕ
+number_at bytes = if nat_lt (length bytes) 4 then Err (length bytes) else Ok (from_be_bytes w32 (take 4 bytes), drop 4 bytes)
+
+-- the characters of so many bytes of UTF-8
+unfoldable pub characters_at : ℕ → List ℕ → Result (List ℕ × List ℕ) ℕ
+characters_at len bytes = do
+  whole ← checked (nat_le len (length bytes)) bytes
+  text ← checked (is_utf8 (take len bytes)) bytes
+  Ok (chars (take len bytes), drop len bytes)
+
+-- a name: the number of its bytes, at least one, and the bytes
+unfoldable pub name_at : List ℕ → Result (List ℕ × List ℕ) ℕ
+name_at bytes = do
+  len ← number_at bytes
+  some ← checked (nat_lt 0 len.0) bytes
+  characters_at len.0 len.1
+
+-- so many of a kind, one after another, each of which may depend on the one before it
+unfoldable pub many_at : {A : Type 0} → (Option A → List ℕ → Result (A × List ℕ) ℕ) → ℕ → Option A → List ℕ → Result (List A × List ℕ) ℕ
+many_at one_at zero before bytes = Ok ([], bytes)
+many_at one_at (suc count) before bytes = do
+  first ← one_at before bytes
+  others ← many_at one_at count (Some first.0) first.1
+  Ok (first.0 ∷ others.0, others.1)
+
+-- the supers of a type; of any other declaration none are read
+unfoldable pub supers_at : Bool → List ℕ → Result (List (List ℕ) × List ℕ) ℕ
+supers_at false bytes = Ok ([], bytes)
+supers_at true bytes = do
+  count ← number_at bytes
+  many_at (λ _. name_at) count.0 None count.1
+
+-- whether a byte is the code of a kind, and of a type's
+abbrev pub is_kind : ℕ → Bool
+is_kind kind = nat_le 1 kind && nat_le kind 9
+
+abbrev pub is_type_kind : ℕ → Bool
+is_type_kind kind = nat_le 1 kind && nat_le kind 5
+
+-- whether a depth may follow: none but 0 at first; later at most one more, and more only behind a type
+abbrev pub may_be_depth : Option Stub → ℕ → Bool
+may_be_depth None depth = depth == 0
+may_be_depth (Some before) depth = nat_le depth max_depth && (nat_le depth before.depth || (depth == before.depth + 1 && is_type before))
+
+-- whether an offset may follow: it is one of a text, and greater than the one before it
+abbrev pub may_be_offset : Option Stub → ℕ → Bool
+may_be_offset None at = nat_lt at max_chars
+may_be_offset (Some before) at = nat_lt at max_chars && nat_lt before.at at
+
+-- one declaration, behind the one before it
+unfoldable pub stub_at : Option Stub → List ℕ → Result (Stub × List ℕ) ℕ
+stub_at before bytes = do
+  kind ← byte_at bytes
+  known ← checked (is_kind kind.0) bytes
+  depth ← byte_at kind.1
+  shallow ← checked (may_be_depth before depth.0) kind.1
+  at ← number_at depth.1
+  behind ← checked (may_be_offset before at.0) depth.1
+  name ← name_at at.1
+  supers ← supers_at (is_type_kind kind.0) name.1
+  Ok (record { kind = kind.0; depth = depth.0; at = at.0; name = name.0; supers = supers.0 }, supers.1)
+
+-- all of the bytes
+unfoldable pub all_of : List ℕ → Result (List Stub) ℕ
+all_of bytes = do
+  first ← byte_at bytes
+  known ← checked (first.0 == version) bytes
+  count ← number_at first.1
+  stubs ← many_at stub_at count.0 None count.1
+  ended ← checked (length stubs.1 == 0) stubs.1
+  Ok stubs.0
+
+-- the place of a fault that is told by the number of bytes from it on
+abbrev pub place_of : List ℕ → ℕ → ℕ
+place_of bytes left = length bytes - left

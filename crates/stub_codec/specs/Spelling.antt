@@ -1,0 +1,42 @@
+-- The one spelling of each lawful list of stubs.
+use Rattle.std.specs.Prelude.{◌≡◌, ℕ, Bool, true, ◌&&◌, List, [], ◌∷◌, ◌++◌, length, if◌then◌else◌, encode_utf8_all}
+use Rattle.std.specs.List.{flat_map, list_all}
+use Rattle.std.specs.Int.{w32, to_be_bytes}
+use Rattle.std.specs.Str.{all_scalars}
+use Rattle.stub_tree.specs.declared.stub.Stub.{Stub}
+use Rattle.stub_tree.specs.Stub.{is_type}
+use Rattle.stub_tree.specs.Lawful.{IsLawfulList}
+
+-- the version of the spelling, its first byte
+abbrev pub version : ℕ
+version = 1
+
+-- a number: four bytes, the greatest first
+abbrev pub number : ℕ → List ℕ
+number n = to_be_bytes w32 n
+
+-- a name: the number of its bytes of UTF-8, and these bytes
+abbrev pub name : List ℕ → List ℕ
+name characters = number (length (encode_utf8_all characters)) ++ encode_utf8_all characters
+
+-- of a type the number of its supers, and each of them; of any other declaration nothing
+abbrev pub supers : Stub → List ℕ
+supers s = if is_type s then number (length s.supers) ++ flat_map name s.supers else []
+
+-- one declaration: a byte for its kind, one for its depth, its offset, its name, its supers
+abbrev pub stub : Stub → List ℕ
+stub s = s.kind ∷ s.depth ∷ (number s.at ++ (name s.name ++ supers s))
+
+-- the bytes of a list: the version, the number of its stubs, and each of them; nothing follows
+abbrev pub spelling : List Stub → List ℕ
+spelling stubs = version ∷ (number (length stubs) ++ flat_map stub stubs)
+
+-- whether a stub's names are texts of Unicode: scalar values
+abbrev pub has_scalars : Stub → Bool
+has_scalars s = all_scalars s.name && list_all all_scalars s.supers
+
+-- The bytes are those of the list.
+pub record IsStubBytes (stubs : List Stub) (bytes : List ℕ) : Type 0 where
+  pub lawful : IsLawfulList stubs
+  pub scalars : list_all has_scalars stubs ≡ true
+  pub spelled : bytes ≡ spelling stubs
