@@ -58,10 +58,11 @@ supers_at true bytes = do
   count ← number_at bytes
   many_at (λ _. name_at) count.0 None count.1
 
--- whether a byte is the code of a kind, and of a type's
+-- a byte is the code of a kind
 abbrev pub is_kind : ℕ → Bool
 is_kind kind = nat_le 1 kind && nat_le kind 9
 
+-- the kind of a type, which has supers
 abbrev pub is_type_kind : ℕ → Bool
 is_type_kind kind = nat_le 1 kind && nat_le kind 5
 
