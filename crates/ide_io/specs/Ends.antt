@@ -6,6 +6,3 @@ use Rattle.ide_io.specs.Fault.{next_count}
 abbrev pub ends_after : ℕ → ℕ → ℕ → ℕ
 ends_after count room ends = if count == 0 && nat_lt 0 room then next_count ends else ends
 
--- the count of an object that was just made
-abbrev pub no_ends : ℕ
-no_ends = 0

@@ -8,6 +8,7 @@ use Rattle.std.specs.Str.Lossy.{utf8_valid_len}
 use Rattle.std.proofs.lemmas.Str.{is_utf8-from_IsUtf8, IsUtf8-from_is_utf8, encodes-chars, chars-encodes, scalars-chars}
 use Rattle.std.proofs.lemmas.List.{take_more}
 use Rattle.std.proofs.lemmas.Bool.{false≢true, le-leb, lt-leb, ne_eqb}
+use Rattle.list_laws.proofs.BoolLemmas.{bool_cases}
 use Rattle.ide_text.specs.declared.text.TextRefusal.TheVariants.{NotText, TooLong}
 use Rattle.ide_text.specs.Text.{line_feed, carriage_return, max_chars, repaired, repaired_after, repaired_char, sized_text, text_of, HasNoReturn}
 use Rattle.ide_text.specs.Place.{since_break}
@@ -62,10 +63,6 @@ sized_text-many cs h = ap (λ b. if b then Ok cs else Err (TooLong (length cs)))
 HasNoReturn-append : (xs ys : List ℕ) → HasNoReturn xs → HasNoReturn ys → HasNoReturn (xs ++ ys)
 HasNoReturn-append [] ys h k = k
 HasNoReturn-append (x ∷ xs) ys h k = (h.0, HasNoReturn-append xs ys h.1 k)
-
--- by whether a test holds
-bool_cases : (b : Bool) (P : Bool → Type 0) → (b ≡ true → P true) → (b ≡ false → P false) → P b
-bool_cases b P = elim b as (λ v. (v ≡ true → P true) → (v ≡ false → P false) → P v) [ true ↦ λ yes no'. yes refl | false ↦ λ yes no'. no' refl ]
 
 HasNoReturn-repaired_char : (after_return : Bool) (c : ℕ) → HasNoReturn (repaired_char after_return c)
 HasNoReturn-repaired_char after_return c = bool_cases (c == carriage_return) (λ b. HasNoReturn (if b then line_feed ∷ [] else (if after_return && c == line_feed then [] else c ∷ [])))

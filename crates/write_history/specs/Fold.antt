@@ -1,9 +1,8 @@
 -- What a change makes of the world, and a history of it.
-use Rattle.std.specs.Prelude.{ℕ, ◌≡◌, ◌+◌, true, List, [], ◌∷◌, ◌++◌, take, Option, Some, None, Result, Ok, Err}
+use Rattle.std.specs.Prelude.{◌≡◌, ◌+◌, true, List, [], ◌∷◌, ◌++◌, None}
 use Rattle.write_history.specs.declared.change.Change.{Change}
 use Rattle.write_history.specs.declared.change.Change.TheVariants.{Create, Write, Intake}
 use Rattle.write_history.specs.declared.change.Entry.{Entry}
-use Rattle.write_history.specs.declared.refusal.Refusal.{Refusal}
 use Rattle.write_history.specs.World.{World, empty_world, is_live_at, is_live_id}
 use Rattle.write_history.specs.Effect.{refusal_of, rewritten, taken_in, with_first}
 
@@ -31,15 +30,6 @@ effect_of world (Intake file stamp) = record {
   entries = world.entries + 1;
 }
 
--- the world, unless there is a reason to refuse it
-abbrev pub outcome : Option Refusal → World → Result World Refusal
-outcome None world = Ok world
-outcome (Some refusal) world = Err refusal
-
--- the world after a change, or why it is refused
-abbrev pub apply : World → Change → Result World Refusal
-apply world change = outcome (refusal_of world change) (effect_of world change)
-
 -- the world after the changes of entries, one after another
 abbrev pub fold_from : World → List Entry → World
 fold_from world [] = world
@@ -58,6 +48,3 @@ IsLegalFrom world (entry ∷ entries) = (refusal_of world entry.change ≡ None)
 abbrev pub IsLegal : List Entry → Type 0
 IsLegal entries = IsLegalFrom empty_world entries
 
--- the world at a prefix of a history
-abbrev pub world_at : List Entry → ℕ → World
-world_at entries n = fold (take n entries)
