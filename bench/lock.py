@@ -5,9 +5,10 @@
     bench/lock.py 1000000     with so many turns more in the longer run
 
 Run `rt run` in crates/lock_bench once before, so that the program is built. Each mode runs at two numbers of turns;
-what a turn costs is the difference, so that starting the program and its threads isn't counted. Rounds go through all
-modes in turn, and a mode's number is the least of its rounds. Times on shared machines say little by themselves: read the
-ratios between the columns of one run.
+what the turns cost is the difference, so that starting the program and its threads isn't counted. Rounds go through all
+modes in turn, and a mode's row is its middle round. Times on shared machines say little by themselves: read the ratios
+between the columns of one run. Where readers use hardly more processor seconds than seconds, their threads ran one after
+another, and the row says little of readers at once.
 """
 import os
 import pathlib
@@ -20,7 +21,7 @@ TOP = pathlib.Path(__file__).resolve().parent.parent
 PROGRAM = TOP / "crates/lock_bench/out/lock_bench"
 MODES = ["read", "write", "readers"]
 FEW = 1000
-ROUNDS = 5
+ROUNDS = 7
 
 
 def processor():
@@ -46,28 +47,27 @@ def difference(mode, more):
 
 
 def measure(more):
-    """For each mode, the round that took the least time."""
-    best = {}
+    """For each mode, the round that is in the middle by its seconds."""
+    rounds = {prefix + mode: [] for mode in MODES for prefix in ("", "plain-")}
     for _ in range(ROUNDS):
-        for mode in [prefix + mode for mode in MODES for prefix in ("", "plain-")]:
-            found = difference(mode, more)
-            best[mode] = min(best.get(mode, found), found)
-    return best
+        for mode, found in rounds.items():
+            found.append(difference(mode, more))
+    return {mode: sorted(found)[ROUNDS // 2] for mode, found in rounds.items()}
 
 
 def cells(seconds, used, count):
-    return f"{count / seconds / 1e6:8.2f} M/s {seconds / count * 1e9:7.1f} ns {used / count * 1e9:7.1f} ns"
+    return f"{count / seconds / 1e6:8.2f} {seconds:8.3f} {used:8.3f}"
 
 
 def main():
-    more = int(sys.argv[1]) if sys.argv[1:] else 1_000_000
+    more = int(sys.argv[1]) if sys.argv[1:] else 4_000_000
     load = ", ".join(f"{x:.1f}" for x in os.getloadavg())
     print(f"{more} turns more, in each of four threads for readers; load {load} on {os.cpu_count()} processors")
-    print("operations a second, and time and processor time of one operation: the lock, std's RwLock, the ratio of their times")
-    best = measure(more)
+    print("             the lock: M/s, seconds, processor s |  std's RwLock: the same   | ratio of seconds")
+    found = measure(more)
     for mode in MODES:
-        ours, plain = best[mode], best["plain-" + mode]
-        print(f"  {mode:8} {cells(*ours)}  |  {cells(*plain)}  |  {ours[0] / plain[0]:6.2f}")
+        ours, plain = found[mode], found["plain-" + mode]
+        print(f"  {mode:8}         {cells(*ours)} | {cells(*plain)} | {ours[0] / plain[0]:6.2f}")
 
 
 if __name__ == "__main__":
