@@ -1,0 +1,6 @@
+use Rattle.action_lock.specs.Passes.{IsPassOf, view_of}
+use Rattle.lock_bench.specs.Kept.{HasKept}
+use Rattle.lock_bench.proofs.ours.write_turns.Given as goal
+
+abbrev pub invariant-loop : goal.invariant-loop
+invariant-loop g l = record { pass : IsPassOf l.lock l.pass; kept : HasKept (view_of l.initial.pass) (view_of l.pass) }
