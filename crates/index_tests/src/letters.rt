@@ -11,7 +11,9 @@ pub(crate) struct Letters;
 
 impl Indexer for Letters {
     type Input = KeyRows<char, u8>;
+
     type Key = char;
+
     type Value = u8;
 
     ghost rows_of = { λ rows. rows };
@@ -25,10 +27,7 @@ impl Indexer for Letters {
         alloc: Global,
         input: &KeyRows<char, u8>,
     ) -> Result<KeyRows<char, u8>, AllocError> {
-        Ok(KeyRows::from_ordered(Vec::from_slice(
-            alloc,
-            input.as_slice(),
-        )?))
+        Ok(KeyRows::from_ordered(Vec::from_slice(alloc, input.as_slice())?))
     }
 
     fn copy_key(&self, _alloc: Global, key: &char) -> Result<char, AllocError> {

@@ -47,4 +47,3 @@ IsLegalFrom world (entry ∷ entries) = (refusal_of world entry.change ≡ None)
 -- no entry of a history is refused where it stands
 abbrev pub IsLegal : List Entry → Type 0
 IsLegal entries = IsLegalFrom empty_world entries
-
