@@ -243,6 +243,7 @@ fn as_many_braces_as_a_text_may_have(rt: HostRuntime) -> Result<(), Fail> {
 fn lists_of_stubs(rt: HostRuntime) -> Result<(), Fail> {
     let text = Text::from_utf8(rt.alloc(), b"enum A { B }")?;
     let made = stubs(rt.alloc(), &text)?;
+    assert!(rt; made.len() == 2);
     let mut names = Names::new(rt.alloc());
     names.push(made.at(0).name.copy()?)?;
     names.push(made.at(1).name.copy()?)?;

@@ -35,6 +35,10 @@ fn push_line(alloc: Global, out: &mut String, line: &Line) -> Result<(), AllocEr
             out.push_str("word ")?;
             push_name(out, name)?;
         }
+        Command::Ask(Query::Outline { path }) => {
+            out.push_str("outline ")?;
+            push_name(out, path)?;
+        }
     }
     out.push(';')
 }

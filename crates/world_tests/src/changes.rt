@@ -61,7 +61,7 @@ pub fn index(alloc: Global, state: &mut State, id: u32) -> Result<Option<Refusal
 }
 
 fn take_in(alloc: Global, state: &mut State, job: Job) -> Result<Option<Refusal>, AllocError>
-    requires { IsOfWorld state.old.world (record { file = job.file; stamp = job.stamp; content = job.text.value }) }
+    requires { IsOfWorld state.old.world (record { file = job.file; stamp = job.stamp; content = job.text }) }
 {
     let made = make(alloc, job)?;
     match prepare_intake(state, made) {
