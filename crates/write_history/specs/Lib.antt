@@ -1,10 +1,6 @@
 -- The world and its changes
 pub mod Path
 pub mod World
+pub mod Changes
 pub mod Effect
 pub mod Fold
-pub mod Numbered
-pub mod Apart
--- The kept history and its print
-pub mod Kept
-pub mod Print

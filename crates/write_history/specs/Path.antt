@@ -28,6 +28,3 @@ is_part part = not (bytes_eq part []) && not (bytes_eq part (codes ".")) && not 
 abbrev pub is_path : List ℕ → Bool
 is_path path = nat_lt 0 (length path) && nat_le (length path) max_path && list_all (λ c. not (is_barred c)) path && list_all is_part (parts_of path)
 
--- a path that ends in `.java`: only such files are indexed and searched
-abbrev pub is_java : List ℕ → Bool
-is_java path = bytes_eq (drop (length path - 5) path) (codes ".java")

@@ -1,48 +1,32 @@
-//! A change to the workspace, and an accepted one as the history keeps it.
+//! A change to the workspace.
 ghost use Rattle.std.specs.Prelude.{◌≡◌, IfOk};
 
 use ide_text::{Name, SharedText};
 use std::alloc::AllocError;
 
-/// What a change does to the workspace.
+/// What a change does to the workspace. Offsets and lengths count characters from 0.
 #[derive(Drop)]
 pub enum Change {
     /// A new file.
     Create { path: Name, text: SharedText },
     /// New content for a live file.
     Write { path: Name, text: SharedText },
+    /// The file goes, and its document where it is open.
+    Delete { path: Name },
+    /// The file gets a document.
+    OpenDoc { path: Name },
+    /// A piece goes into the document before an offset.
+    Insert { path: Name, at: u32, text: SharedText },
+    /// The characters of the document from one offset up to another go.
+    Erase { path: Name, from: u32, to: u32 },
+    /// The document's text becomes the one that searches see.
+    Commit { path: Name },
+    /// The document's text becomes the file's content.
+    Save { path: Name },
+    /// The document goes.
+    CloseDoc { path: Name },
     /// The index data of a file, made from its content at a stamp, go in.
     Intake { file: u32, stamp: u64 },
-}
-
-impl Change {
-    /// The same change once more, which shares its text.
-    pub fn copy(&self) -> Result<Change, AllocError>
-        ensures { IfOk result (λ copy. copy ≡ self.now) }
-    {
-        match self {
-            Change::Create { path, text } => Ok(Change::Create {
-                path: path.copy()?,
-                text: text.share()?,
-            }),
-            Change::Write { path, text } => Ok(Change::Write {
-                path: path.copy()?,
-                text: text.share()?,
-            }),
-            Change::Intake { file, stamp } => Ok(Change::Intake {
-                file: *file,
-                stamp: *stamp,
-            }),
-        }
-    }
-}
-
-/// An accepted change, with the number of the pass that made it and the line of the script that asked for it.
-#[derive(Drop)]
-pub struct Entry {
-    /// 0 for the prelude.
-    pub seat: u32,
-    /// From 1; 0 where no line of the script asked for it.
-    pub line: u32,
-    pub change: Change,
+    /// The file gets another path.
+    Move { path: Name, to: Name },
 }

@@ -2,12 +2,9 @@
 #![tactic(auto)]
 
 mod change;
-mod history;
-pub mod laws;
-mod print;
+mod entry;
 mod refusal;
 
-pub use change::{Change, Entry};
-pub use history::{History, MAX_ENTRIES};
-pub use print::line_of;
+pub use change::Change;
+pub use entry::{Changes, Entry, MAX_CHANGES};
 pub use refusal::Refusal;

@@ -1,0 +1,2 @@
+//! The documents of open files: a text that is edited, the text as last committed, and whether the file has it.
+#![tactic(auto)]

@@ -1,0 +1,6 @@
+//! Which files are to be indexed, and whether all of them are.
+#![tactic(auto)]
+
+mod mark;
+
+pub use mark::Mark;
