@@ -3,7 +3,10 @@
 
     bench/bench.py            all measures
     bench/bench.py creates    N files, a settle and some words, at N, 2N and 4N
-    bench/bench.py edits      the cost of write, settle and word of one small file in workspaces of three sizes
+    bench/bench.py edits      the cost of write, settle and class of one small file, and of insert, commit and class in
+                              an open document of 1,000 characters, in workspaces of 1,000 and 15,000 files
+    bench/bench.py limits     a history, files and documents at their limits, at a half and at all of them
+    bench/bench.py demo       `ide demo` with 5,000 and 10,000 files
     bench/bench.py one        one file of 1,000,000 characters, of ordinary code and of hostile texts
 
 Run `./ide < examples/first.ide` once before, so that the program is built. Times on shared machines say
@@ -26,13 +29,13 @@ def text(i, size):
     return (body + "/" + "/" + "x" * max(0, size - len(body) - 3) + "}")[:size]
 
 
-def run(script):
-    """Seconds that the program takes on a script; the least of three runs."""
+def run(script, words=()):
+    """Seconds that the program takes on a script, with these words; the least of three runs."""
     data = script.encode()
     best = None
     for _ in range(3):
         start = time.perf_counter()
-        done = subprocess.run([PROGRAM], input=data, stdout=subprocess.PIPE, stderr=subprocess.PIPE)
+        done = subprocess.run([PROGRAM, *words], input=data, stdout=subprocess.PIPE, stderr=subprocess.PIPE)
         took = time.perf_counter() - start
         if done.returncode != 0:
             sys.exit(f"the program ended with {done.returncode}: {done.stderr.decode()}")
@@ -59,12 +62,39 @@ def creates(files=500, size=5000, words=100):
 
 
 def edits(turns=20000, size=500):
-    print(f"files of {size} characters and a settle; then {turns} turns of write, settle and word of one small file")
-    for n in (200, 2000, 20000):
-        base = workspace(n, size)
-        turn = "".join(f'write f7.java "class D{i} {{}}"\nsettle\nword D{i}\n' for i in range(turns))
-        alone, more = run(base), run(base + turn)
-        row(f"{n} files", base, alone, f"  {(more - alone) / turns * 1e6:6.1f} us a turn")
+    print(f"files of {size} characters and a settle; then {turns} turns")
+    write = "".join(f'write f7.java "class D{i} {{}}"\nsettle\nclass D{i}\n' for i in range(turns))
+    head = f'create Doc.java "{text(0, 1000)}"\nopen Doc.java\n'
+    insert = head + "".join(f'insert Doc.java 6 "{i % 10}"\ncommit Doc.java\nclass C0\nerase Doc.java 6 7\n' for i in range(turns))
+    for what, turn in (("write, settle, class", write), ("insert, commit, class, erase", insert)):
+        print(f"  {what}")
+        for n in (1000, 15000):
+            base = workspace(n, size)
+            alone, more = run(base), run(base + turn)
+            row(f"{n} files", base, alone, f"  {(more - alone) / turns * 1e6:6.1f} us a turn")
+
+
+def limits():
+    print("limits: half of each and all of it, with one more refused")
+    for n in (524288, 1048576):
+        script = 'create A ""\n' + 'write A ""\n' * n
+        row(f"{n} writes", script, run(script))
+    for n in (32768, 65536):
+        script = "".join(f'create f{i} ""\n' for i in range(n)) + 'create z ""\n'
+        row(f"{n} files", script, run(script))
+    for n in (512, 1024):
+        script = "".join(f'create f{i} ""\nopen f{i}\n' for i in range(n)) + 'create z ""\nopen z\n'
+        row(f"{n} documents", script, run(script))
+    for n in (524288, 1048576):
+        script = f'create A "{"x" * n}"\nopen A\ninsert A 0 "y"\nerase A 0 1\ninsert A 0 "y"\n'
+        row(f"{n} characters", script, run(script))
+
+
+def demo():
+    print("ide demo, five edits a file")
+    for n in (5000, 10000):
+        words = ["demo", "--files", str(n), "--edits", str(5 * n)]
+        print(f"  {n} files       {run('', words):7.3f} s")
 
 
 def one(size=1_000_000):
@@ -85,7 +115,7 @@ def one(size=1_000_000):
 
 
 def main():
-    measures = {"creates": creates, "edits": edits, "one": one}
+    measures = {"creates": creates, "edits": edits, "one": one, "limits": limits, "demo": demo}
     for name in sys.argv[1:] or measures:
         measures[name]()
 

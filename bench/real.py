@@ -2,6 +2,7 @@
 """Times the built program `ide` on scripts of real Java sources.
 
     bench/real.py FOLDER              the program of this repository
+    bench/real.py --load FOLDER       the same files by `load`, a half and all of them, with 100 questions of all forms
     bench/real.py FOLDER OLD NEW ..   several built programs in one run, with their ratios to the first
 
 FOLDER is any folder of Java sources. One that everybody can have is the base module of a JDK:
@@ -75,11 +76,11 @@ def make(folder, scratch):
     return sorted(scratch.iterdir())
 
 
-def run(program, script):
-    """Seconds and megabytes that the program takes on a script."""
+def run(program, script, folder=None):
+    """Seconds and megabytes that the program takes on a script, in a folder."""
     with open(script, "rb") as source:
         start = time.perf_counter()
-        child = subprocess.Popen([program], stdin=source, stdout=subprocess.DEVNULL, stderr=subprocess.PIPE)
+        child = subprocess.Popen([program], stdin=source, stdout=subprocess.DEVNULL, stderr=subprocess.PIPE, cwd=folder)
         _, status, usage = os.wait4(child.pid, 0)
         took = time.perf_counter() - start
     if status != 0:
@@ -101,9 +102,35 @@ def compare(script, programs):
         print(f"  {seconds:7.3f} s {memory:7.1f} MB {size / seconds:6.1f} MB/s  {ratios}  {program}")
 
 
+def loads(folder, paths):
+    """A script that loads files of a folder, and asks 100 questions of all forms."""
+    names = [str(path.relative_to(folder)) for path in paths]
+    types = [path.stem for path in paths]
+    asks = []
+    for at in range(0, len(types), max(1, len(types) // 20)):
+        name = types[at] if re.fullmatch(r"\w+", types[at]) else "Object"
+        asks += [f"class {name}", f"supers {name}", "method close", f"word {name}", f"outline {names[at]}"]
+    return "".join(f"load {name}\n" for name in names) + "settle\n" + "\n".join(asks[:100] + ["status", ""])
+
+
+def load(folder):
+    """Times loads of a half of the files of a folder, and of all of them."""
+    paths = [p for p in sorted(folder.rglob("*.java")) if not re.search(r'[\s":\\]', str(p.relative_to(folder)))]
+    for some in (paths[::2], paths):
+        size = sum(path.stat().st_size for path in some) / 1e6
+        with tempfile.NamedTemporaryFile("w", suffix=".ide") as script:
+            script.write(loads(folder, some))
+            script.flush()
+            turns = [run(PROGRAM, script.name, folder) for _ in range(3)]
+        seconds, memory = min(turn[0] for turn in turns), max(turn[1] for turn in turns)
+        print(f"  {len(some):6} files {size:7.2f} MB  {seconds:7.3f} s {size / seconds:6.1f} MB/s {memory:7.1f} MB")
+
+
 def main():
     if len(sys.argv) < 2:
         sys.exit(__doc__)
+    if sys.argv[1] == "--load":
+        return load(pathlib.Path(sys.argv[2]))
     with tempfile.TemporaryDirectory() as scratch:
         for script in make(pathlib.Path(sys.argv[1]), pathlib.Path(scratch)):
             compare(script, sys.argv[2:] or [PROGRAM])

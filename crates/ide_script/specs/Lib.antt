@@ -1,16 +1,17 @@
--- What the program does with a script, and what it prints
-pub mod Serial
-pub mod Transcript
--- The command line, and how a run ends
-pub mod CommandLine
+-- Where a script leads, and how a run ends
+pub mod Play
 pub mod Status
 pub mod Run
 -- How a run keeps its place
 pub mod Progress
 pub mod Settle
--- What these cite from below: scripts, answers, the history, and the outside
+-- What these cite from below: words, scripts, transcripts, the history, and the outside
+pub use Rattle.command_line.specs.Words
+pub use Rattle.demo.specs.Script
 pub use Rattle.script_lang.specs.Grammar
-pub use Rattle.ide_world.specs.Reply
+pub use Rattle.transcripts.specs.Loads
+pub use Rattle.transcripts.specs.Serial
+pub use Rattle.transcripts.specs.Transcript
 pub use Rattle.write_history.specs.World
 pub use Rattle.write_history.specs.Effect
 pub use Rattle.write_history.specs.Fold

@@ -4,9 +4,8 @@ ghost use Rattle.std.specs.Io.KnownBytes.{append_known};
 ghost use Rattle.ide_io.specs.Fault.{HasFault};
 ghost use Rattle.ide_io.specs.Known.{TakesAtMost};
 ghost use Rattle.script_lang.specs.Lines.{max_bytes};
-ghost use Rattle.ide_script.specs.CommandLine.{given_words};
 ghost use Rattle.ide_script.specs.Status.{number_of, fault_line};
-ghost use Rattle.ide_script.specs.Run.{EndsWith, TellsEndOnce, TellsStatus};
+ghost use Rattle.ide_script.specs.Run.{EndsWith, TellsEndOnce, TellsStatus, given_words};
 
 use crate::{Status, run_ide};
 use ide_io::{Failed, Sink, Source, Tree, write_all};
@@ -26,11 +25,10 @@ pub fn run_main<R: Threads + Wait, S: Source, T: Tree, K: Sink, E: Sink>(
     out: &mut K,
     error: &mut E,
 ) -> u8
-    ensures ends { EndsWith S.left S.ends S.faults K.taken K.faults E.taken E.faults script.old script.new out.old out.new error.old error.new
+    ensures ends { EndsWith S.left S.ends S.faults T.files T.faults K.taken K.faults E.taken E.faults script.old script.new tree.old tree.new out.old out.new error.old error.new
         (given_words (map string_bytes words.items)) result }
     ensures within { result ≢ number_of Status.ScriptTooLong → TakesAtMost max_bytes (S.left script.old) (S.left script.new) }
     ensures end_once { TellsEndOnce (S.ends script.old) (S.ends script.new) }
-    ensures tree_unasked { tree.new ≡ tree.old }
 {
     let status = match with_name(alloc, words) {
         Ok(words) => run_ide(rt, alloc, &words, script, tree, out),

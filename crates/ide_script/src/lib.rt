@@ -2,18 +2,17 @@
 #![tactic(auto)]
 
 mod entry;
+mod loads;
 mod playing;
-mod print;
-mod record;
+mod refusal;
 mod run;
 mod session;
 mod status;
 mod system;
 
 pub use entry::{finish, run_main};
-pub use playing::{Played, play};
-pub use print::transcript;
-pub use record::{Answer, Record, Records};
+pub use playing::{play, play_without_loads};
+pub use refusal::PlayRefusal;
 pub use run::run_ide;
 pub use status::Status;
 pub use system::start;

@@ -1,26 +1,23 @@
 //! A run in progress: the state of the workspace and the history that led to it.
-ghost use Rattle.std.specs.Prelude.{◌≡◌, ◌+◌, [], ◌∷◌, ◌++◌, Some, IfOk, OnOk, option_map, length};
+ghost use Rattle.std.specs.Prelude.{◌≡◌, ◌+◌, ℕ, List, [], ◌∷◌, ◌++◌, Some, IfOk, OnOk, length};
 ghost use Rattle.write_history.specs.World.{lowest_unready};
 ghost use Rattle.write_history.specs.Fold.{fold, IsLegal};
-ghost use Rattle.ide_world.specs.Prepared.{IsEdit, IsReadyFor};
 ghost use Rattle.script_lang.specs.Held.{IsOfLine};
-ghost use Rattle.ide_script.specs.Serial.{change_step, settle_step, word_step, outline_step, query_step, step_of, entry_of};
-ghost use Rattle.ide_script.specs.Settle.{IsOfLowest, TakesIn};
+ghost use Rattle.transcripts.specs.Serial.{change_step, group_step, load_step, settle_step, query_step, step_of, entry_of};
 
-use crate::Answer;
 use ide_text::Name;
 use ide_world::{
-    Made, OutlineRefusal, Ready, State, WordRefusal, ask_outline, ask_word, install, job,
-    lowest_unready, make, prepare, prepare_intake, reserve,
+    Made, Ready, Refusal, State, install, job, lowest_unready, make, path, prepare, prepare_group,
+    prepare_intake, reserve,
 };
-use script_lang::{Command, Line, Query};
+use queries::Query;
+use query_engine::{AskRefusal, NoWatch, ask};
+use script_lang::{Command, Line};
 use std::alloc::{AllocError, Global};
 use std::marker::Model;
-use write_history::laws::{histories_go_on, intake_readies_one};
-use write_history::{Change, Entry, History, Refusal};
-
-/// The seat of the prelude.
-const PRELUDE: u32 = 0;
+use transcripts::{Answer, Loaded};
+use write_history::laws::histories_go_on;
+use write_history::{Change, Changes, Entry, History};
 
 /// The state and its history, seen by contracts as the entries of the history.
 #[derive(Drop)]
@@ -32,7 +29,7 @@ pub(crate) struct Session {
 
 impl Model for Session {
     ghost use Rattle.std.specs.Prelude.{List};
-    ghost use Rattle.write_history.specs.declared.change.Entry.{Entry};
+    ghost use Rattle.write_history.specs.declared.entry.Entry.{Entry};
 
     ghost Value = { List Entry };
 
@@ -69,53 +66,95 @@ impl Session {
     }
 
     /// Does what the command of a line asks for, and gives its answer.
-    pub(crate) fn perform(&mut self, line: &Line) -> Result<Answer, AllocError>
+    pub(crate) fn perform(
+        &mut self,
+        seat: u32,
+        line: &Line,
+        load: &Loaded,
+    ) -> Result<Answer, AllocError>
         requires { IsOfLine line.now.command }
-        ensures answer { IfOk result (λ answer. answer ≡ (step_of self.old line.now.number line.now.command).answer) }
-        ensures history { OnOk result (self.new ≡ self.old ++ (step_of self.old line.now.number line.now.command).added) }
+        ensures answer { IfOk result (λ answer. answer ≡ (step_of load.now self.old seat line.now.number line.now.command).answer) }
+        ensures history { OnOk result (self.new ≡ self.old ++ (step_of load.now self.old seat line.now.number line.now.command).added) }
     {
         match &line.command {
-            Command::Change(change) => {
-                let change = change.copy()?;
-                self.change(line.number, change)
-            }
-            Command::Settle => self.settle(line.number),
+            Command::Change(change) => self.change(seat, line.number, change.copy()?),
+            Command::Group(changes) => self.group(seat, line.number, changes.copy()?),
+            Command::Load { path } => self.load(seat, line.number, path, load),
+            Command::Settle => self.settle(seat, line.number),
             Command::Ask(query) => self.ask(query),
+            Command::Soft { attempts: _, query } => self.ask(query),
         }
     }
 
     /// A change is accepted, or refused by its first reason.
-    fn change(&mut self, line: u32, change: Change) -> Result<Answer, AllocError>
+    fn change(&mut self, seat: u32, line: u32, change: Change) -> Result<Answer, AllocError>
         requires { IsEdit change }
-        ensures answer { IfOk result (λ answer. answer ≡ (change_step self.old line change).answer) }
-        ensures history { OnOk result (self.new ≡ self.old ++ (change_step self.old line change).added) }
+        ensures answer { IfOk result (λ answer. answer ≡ (change_step self.old seat line change).answer) }
+        ensures history { OnOk result (self.new ≡ self.old ++ (change_step self.old seat line change).added) }
     {
         match prepare(&self.state, &change) {
-            Ok(ready) => {
-                let at = self.accept(ready, line, change)?;
-                Ok(Answer::Accepted { at })
-            }
+            Ok(ready) => self.accept(ready, seat, line, Changes::one(change)),
             Err(Refusal::OutOfMemory) => Err(AllocError),
-            Err(why) => Ok(Answer::Refused {
-                at: self.history.len(),
-                why,
-            }),
+            Err(why) => Ok(self.refused(None, why)),
+        }
+    }
+
+    /// The changes of a group are accepted together, or the first that is refused gives its place and reason.
+    fn group(&mut self, seat: u32, line: u32, changes: Changes) -> Result<Answer, AllocError>
+        requires { All IsEdit changes }
+        ensures answer { IfOk result (λ answer. answer ≡ (group_step self.old seat line changes).answer) }
+        ensures history { OnOk result (self.new ≡ self.old ++ (group_step self.old seat line changes).added) }
+    {
+        match prepare_group(&self.state, changes.as_slice()) {
+            Ok(ready) => self.accept(ready, seat, line, changes),
+            Err(refusal) if refusal.why == Refusal::OutOfMemory => Err(AllocError),
+            Err(refusal) => Ok(self.refused(Some(refusal.place), refusal.why)),
+        }
+    }
+
+    /// What a refused command is answered.
+    fn refused(&self, place: Option<u32>, why: Refusal) -> Answer
+        ensures { result ≡ Answer.Refused (length self.now) place why }
+    {
+        Answer::Refused {
+            at: self.history.len(),
+            place,
+            why,
+        }
+    }
+
+    /// A load creates a file of what was read for it.
+    fn load(&mut self, seat: u32, line: u32, path: &Name, load: &Loaded) -> Result<Answer, AllocError>
+        ensures answer { IfOk result (λ answer. answer ≡ (load_step self.old seat line path.now load.now).answer) }
+        ensures history { OnOk result (self.new ≡ self.old ++ (load_step self.old seat line path.now load.now).added) }
+    {
+        if !is_lawful_path(path) {
+            return Ok(self.refused(None, Refusal::BadPath));
+        }
+        match load {
+            Loaded::Nothing => Ok(Answer::NotText { at: 0 }),
+            Loaded::NotText { at } => Ok(Answer::NotText { at: *at }),
+            Loaded::TooLong { count } => Ok(Answer::TooLong { count: *count }),
+            Loaded::Text { text } => {
+                let change = Change::Create {
+                    path: path.copy()?,
+                    text: text.share()?,
+                };
+                self.change(seat, line, change)
+            }
         }
     }
 
     /// Every unready file is taken in, in order of ids.
-    fn settle(&mut self, line: u32) -> Result<Answer, AllocError>
-        ensures answer { IfOk result (λ answer. answer ≡ (settle_step self.old line).answer) }
-        ensures history { OnOk result (self.new ≡ self.old ++ (settle_step self.old line).added) }
+    fn settle(&mut self, seat: u32, line: u32) -> Result<Answer, AllocError>
+        ensures answer { IfOk result (λ answer. answer ≡ (settle_step self.old seat line).answer) }
+        ensures history { OnOk result (self.new ≡ self.old ++ (settle_step self.old seat line).added) }
     {
         histories_go_on();
         intake_readies_one();
         while let Some(id) = lowest_unready(&self.state) {
-            if let Some(why) = self.take_in(line, id)? {
-                return Ok(Answer::Refused {
-                    at: self.history.len(),
-                    why,
-                });
+            if let Some(why) = self.take_in(seat, line, id)? {
+                return Ok(self.refused(None, why));
             }
         }
         Ok(Answer::Smart {
@@ -123,51 +162,10 @@ impl Session {
         })
     }
 
-    /// The answer to a question.
-    fn ask(&self, query: &Query) -> Result<Answer, AllocError>
-        ensures { IfOk result (λ answer. answer ≡ (query_step self.now query.now).answer) }
-    {
-        match query {
-            Query::Word { name } => self.word(name),
-            Query::Outline { path } => self.outline(path),
-        }
-    }
-
-    /// The files that have a word.
-    fn word(&self, name: &Name) -> Result<Answer, AllocError>
-        ensures { IfOk result (λ answer. answer ≡ (word_step self.now name.now).answer) }
-    {
-        let at = self.history.len();
-        match ask_word(self.alloc, &self.state, name) {
-            Ok(rows) => Ok(Answer::Words { at, rows }),
-            Err(WordRefusal::NotReady { path }) => Ok(Answer::NotReady { at, path }),
-            Err(WordRefusal::OutOfMemory) => Err(AllocError),
-        }
-    }
-
-    /// The declarations of a file.
-    fn outline(&self, path: &Name) -> Result<Answer, AllocError>
-        ensures { IfOk result (λ answer. answer ≡ (outline_step self.now path.now).answer) }
-    {
-        let at = self.history.len();
-        match ask_outline(self.alloc, &self.state, path) {
-            Ok(rows) => Ok(Answer::Outline {
-                at,
-                path: path.copy()?,
-                rows,
-            }),
-            Err(OutlineRefusal::NoSuchFile) => Ok(Answer::Refused {
-                at,
-                why: Refusal::NoSuchFile,
-            }),
-            Err(OutlineRefusal::OutOfMemory) => Err(AllocError),
-        }
-    }
-
     /// Takes in the lowest unready file, or gives the reason to refuse it.
-    fn take_in(&mut self, line: u32, id: u32) -> Result<Option<Refusal>, AllocError>
-        requires { option_map (λ file. file.id) (lowest_unready (fold self.old)) ≡ Some id }
-        ensures { IfOk result (TakesIn self.old self.new line) }
+    fn take_in(&mut self, seat: u32, line: u32, id: u32) -> Result<Option<Refusal>, AllocError>
+        requires { lowest_unready (fold self.old) ≡ Some id }
+        ensures { IfOk result (TakesIn self.old self.new seat line id) }
     {
         let made = self.make_lowest(id)?;
         let change = Change::Intake {
@@ -176,17 +174,18 @@ impl Session {
         };
         match prepare_intake(&self.state, made) {
             Ok(ready) => {
-                self.accept(ready, line, change)?;
+                self.accept(ready, seat, line, Changes::one(change))?;
                 Ok(None)
             }
+            Err(Refusal::OutOfMemory) => Err(AllocError),
             Err(why) => Ok(Some(why)),
         }
     }
 
     /// The index data of the lowest unready file.
     fn make_lowest(&self, id: u32) -> Result<Made, AllocError>
-        requires { option_map (λ file. file.id) (lowest_unready (fold self.now)) ≡ Some id }
-        ensures { IfOk result (λ made. IsOfLowest (fold self.now) made.file made.stamp made.text) }
+        requires { lowest_unready (fold self.now) ≡ Some id }
+        ensures { IfOk result (λ made. IsMadeOf (fold self.now) id made) }
     {
         let Some(job) = job(&self.state, id)? else {
             unreachable!()
@@ -194,22 +193,68 @@ impl Session {
         make(self.alloc, job)
     }
 
-    /// Puts a ready change in as the entry of a line, and gives its position.
-    fn accept(&mut self, ready: Ready, line: u32, change: Change) -> Result<u64, AllocError>
-        requires ready { IsReadyFor (fold self.old) ready }
-        requires change { ready.change ≡ change }
-        ensures position { IfOk result (λ position. position ≡ length self.old + 1) }
-        ensures history { OnOk result (self.new ≡ self.old ++ entry_of line change ∷ []) }
+    /// The answer to a question.
+    fn ask(&self, query: &Query) -> Result<Answer, AllocError>
+        ensures { IfOk result (λ answer. answer ≡ (query_step self.now query.now).answer) }
+    {
+        let at = self.history.len();
+        match ask(self.alloc, &self.state, query, &mut NoWatch::new()) {
+            Ok(found) => Ok(answer_of(query, at, found)),
+            Err(AskRefusal::NoSuchFile) => Ok(self.refused(None, Refusal::NoSuchFile)),
+            Err(AskRefusal::NotReady { file }) => self.not_ready(file),
+            Err(AskRefusal::Cancelled) => unreachable!(),
+            Err(AskRefusal::OutOfMemory) => Err(AllocError),
+        }
+    }
+
+    /// What a question is answered while a file is unready.
+    fn not_ready(&self, file: u32) -> Result<Answer, AllocError>
+        requires { IsSome (file_of (fold self.now) file) }
+        ensures { IfOk result (λ answer. answer ≡ Answer.NotReady (length self.now) (path_of (fold self.now) file)) }
+    {
+        let Some(path) = path(&self.state, file) else {
+            unreachable!()
+        };
+        Ok(Answer::NotReady {
+            at: self.history.len(),
+            path: path.copy()?,
+        })
+    }
+
+    /// Puts ready changes in as the entry of a line, and answers with its position.
+    fn accept(&mut self, ready: Ready, seat: u32, line: u32, changes: Changes) -> Result<Answer, AllocError>
+        requires { IsReadyFor (fold self.old) ready changes }
+        ensures answer { IfOk result (λ answer. answer ≡ Answer.Accepted (length self.old + 1)) }
+        ensures history { OnOk result (self.new ≡ self.old ++ entry_of seat line changes ∷ []) }
     {
         histories_go_on();
         reserve(&mut self.state, &ready)?;
         self.history.reserve()?;
         install(&mut self.state, ready);
         self.history.push(Entry {
-            seat: PRELUDE,
+            seat,
             line,
-            change,
+            changes,
         });
-        Ok(self.history.len())
+        Ok(Answer::Accepted {
+            at: self.history.len(),
+        })
+    }
+}
+
+/// What a question is answered where it is: the declarations of an outline are told as such.
+fn answer_of(query: &Query, at: u64, found: Found) -> Answer
+    ensures { result ≡ found_answer query.now at found }
+{
+    match (found, query) {
+        (Found::Rows { rows }, Query::Outline { .. }) => Answer::Outline { at, rows },
+        (Found::Rows { rows }, _) => Answer::Rows { at, rows },
+        (Found::Words { rows }, _) => Answer::Words { at, rows },
+        (Found::Counts { files, docs, unready }, _) => Answer::Status {
+            at,
+            files,
+            docs,
+            unready,
+        },
     }
 }

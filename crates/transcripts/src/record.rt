@@ -2,53 +2,47 @@
 ghost use Rattle.std.specs.Prelude.{◌≡◌, [], ◌∷◌, ◌++◌, OnOk, OnErr, length};
 
 use ide_text::Name;
-use ide_world::{OutlineRows, WordRows};
+use query_engine::{RowList, WordRows};
 use std::alloc::{AllocError, Global};
 use std::marker::Model;
-use write_history::Refusal;
+use write_history::{History, Refusal};
 
 /// What a command was answered. `at` is the length of the history's prefix at which it holds.
 #[derive(Drop)]
 pub enum Answer {
-    /// The change is the entry at this position.
-    Accepted {
-        at: u64,
-    },
-    Refused {
-        at: u64,
-        why: Refusal,
-    },
+    /// The change or group is the entry at this position.
+    Accepted { at: u64 },
+    /// The first reason; of a group also the place of the change that it refuses, from 1.
+    Refused { at: u64, place: Option<u32>, why: Refusal },
+    /// The bytes of a load aren't UTF-8 from this one on.
+    NotText { at: usize },
+    /// The bytes of a load have this many characters, line breaks repaired.
+    TooLong { count: usize },
     /// No file is unready.
-    Smart {
-        at: u64,
-    },
+    Smart { at: u64 },
     /// The unready file with the lowest id has this path.
-    NotReady {
-        at: u64,
-        path: Name,
-    },
+    NotReady { at: u64, path: Name },
+    /// The declarations that a question finds.
+    Rows { at: u64, rows: RowList },
+    /// The declarations of one file.
+    Outline { at: u64, rows: RowList },
     /// The files that have a word.
-    Words {
-        at: u64,
-        rows: WordRows,
-    },
-    /// The declarations of the file at this path.
-    Outline {
-        at: u64,
-        path: Name,
-        rows: OutlineRows,
-    },
+    Words { at: u64, rows: WordRows },
+    /// The numbers of live files, open documents and unready files.
+    Status { at: u64, files: u32, docs: u32, unready: u32 },
 }
 
 /// The answer to the command on a line of the script.
 #[derive(Drop)]
 pub struct Record {
+    /// The seat of its section.
+    pub seat: u32,
     /// From 1.
     pub line: u32,
     pub answer: Answer,
 }
 
-/// The records in order of the script's lines.
+/// Records in order of the script's lines.
 #[derive(Drop)]
 pub struct Records {
     records: Vec<Record>,
@@ -56,7 +50,7 @@ pub struct Records {
 
 impl Model for Records {
     ghost use Rattle.std.specs.Prelude.{List};
-    ghost use Rattle.ide_script.specs.declared.record.Record.{Record};
+    ghost use Rattle.transcripts.specs.declared.record.Record.{Record};
 
     ghost Value = { List Record };
 
@@ -88,4 +82,12 @@ impl Records {
     {
         &self.records
     }
+}
+
+/// What a script leaves: the one history, the answers to the commands before the last section, and those to its own.
+#[derive(Drop)]
+pub struct Played {
+    pub history: History,
+    pub records: Records,
+    pub last: Records,
 }

@@ -1,7 +1,0 @@
-use Rattle.std.proofs.Common.{◌≡◌, ◌++◌}
-use Rattle.ide_script.specs.Transcript.{indent}
-use Rattle.ide_script.proofs.print.push_indent.Given as goal
-
--- two spaces for each depth so far
-abbrev pub invariant-loop-level : goal.invariant-loop-level
-invariant-loop-level l = l.out.items ≡ l.fn.out.items ++ indent l._level

@@ -1,0 +1,64 @@
+//! Reading what the loads of a prelude ask for.
+ghost use Rattle.std.specs.Prelude.{◌≡◌, ◌≢◌, IfOk, Err};
+ghost use Rattle.ide_io.specs.Fault.{HasFault};
+ghost use Rattle.transcripts.specs.Loads.{AreLoadsOf, IsLoadOf, loaded_of};
+
+use crate::PlayRefusal;
+use ide_io::{ReadFileError, Tree};
+use ide_text::{Name, SharedText, Text, TextRefusal};
+use script_lang::{Command, Line};
+use std::alloc::{AllocError, Global};
+use transcripts::Loaded;
+use write_history::is_lawful_path;
+
+/// Reads the file of each load of a lawful path, in the order of the lines. A tree that fails ends it.
+pub(crate) fn read_loads<T: Tree>(
+    alloc: Global,
+    lines: &[Line],
+    tree: &mut T,
+) -> Result<Vec<Loaded>, PlayRefusal>
+    ensures loads { IfOk result (λ loads. AreLoadsOf (T.files tree.old) lines.now loads.items) }
+    ensures fault { result ≡ Err PlayRefusal.TreeFault → HasFault (T.faults tree.old) (T.faults tree.new) }
+    ensures quiet { result ≢ Err PlayRefusal.TreeFault → T.faults tree.new ≡ T.faults tree.old }
+{
+    let mut loads = Vec::new(alloc);
+    for line in lines {
+        let load = read_load(alloc, &line.command, tree)?;
+        loads.push(load)?;
+    }
+    Ok(loads)
+}
+
+/// Reads the file of a command, where it is a load of a lawful path.
+fn read_load<T: Tree>(
+    alloc: Global,
+    command: &Command,
+    tree: &mut T,
+) -> Result<Loaded, PlayRefusal>
+    ensures load { IfOk result (λ load. IsLoadOf (T.files tree.old) command.now load) }
+    ensures files { T.files tree.new ≡ T.files tree.old }
+    ensures fault { result ≡ Err PlayRefusal.TreeFault → HasFault (T.faults tree.old) (T.faults tree.new) }
+    ensures quiet { result ≢ Err PlayRefusal.TreeFault → T.faults tree.new ≡ T.faults tree.old }
+{
+    match command {
+        Command::Load { path } if is_lawful_path(path) => {
+            let bytes = tree.read_file(alloc, path)?;
+            Ok(loaded(alloc, &bytes)?)
+        }
+        _ => Ok(Loaded::Nothing),
+    }
+}
+
+/// What bytes give as a text.
+fn loaded(alloc: Global, bytes: &[u8]) -> Result<Loaded, AllocError>
+    ensures { IfOk result (λ load. load ≡ loaded_of bytes.now) }
+{
+    match Text::from_utf8(alloc, bytes) {
+        Ok(text) => Ok(Loaded::Text {
+            text: SharedText::new(alloc, text)?,
+        }),
+        Err(TextRefusal::NotText { at }) => Ok(Loaded::NotText { at }),
+        Err(TextRefusal::TooLong { count }) => Ok(Loaded::TooLong { count }),
+        Err(TextRefusal::OutOfMemory) => Err(AllocError),
+    }
+}

@@ -1,0 +1,34 @@
+//! Why a script isn't played to its end.
+use ide_io::ReadFileError;
+use std::alloc::{AllocError, AllocFailed};
+
+/// Why a script isn't played to its end.
+#[derive(Clone, Copy, Debug, PartialEq, Eq)]
+pub enum PlayRefusal {
+    /// The tree failed at a load.
+    TreeFault,
+    /// Memory ran out.
+    OutOfMemory,
+}
+
+impl From<AllocError> for PlayRefusal {
+    ghost use Rattle.std.specs.Prelude.{◌≡◌};
+    ghost use Rattle.ide_script.specs.declared.refusal.PlayRefusal.TheVariants.{OutOfMemory};
+
+    ghost from_gives = { λ _ refusal. refusal ≡ OutOfMemory };
+
+    fn from(_: AllocError) -> PlayRefusal {
+        PlayRefusal::OutOfMemory
+    }
+}
+
+impl<T: Drop> From<AllocFailed<T>> for PlayRefusal {
+    ghost use Rattle.std.specs.Prelude.{◌≡◌};
+    ghost use Rattle.ide_script.specs.declared.refusal.PlayRefusal.TheVariants.{OutOfMemory};
+
+    ghost from_gives = { λ _ refusal. refusal ≡ OutOfMemory };
+
+    fn from(_: AllocFailed<T>) -> PlayRefusal {
+        PlayRefusal::OutOfMemory
+    }
+}

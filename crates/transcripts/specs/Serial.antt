@@ -1,0 +1,180 @@
+-- Going through a script in the order of its lines, with one history.
+use Rattle.std.specs.Prelude.{ℕ, ◌+◌, List, [], ◌∷◌, ◌++◌, length, Option, Some, None, Result, Ok, Err, if◌then◌else◌}
+use Rattle.std.specs.Option.{option_map_or}
+use Rattle.write_history.specs.declared.change.Change.{Change}
+use Rattle.write_history.specs.declared.change.Change.TheVariants.{Create, Intake}
+use Rattle.write_history.specs.declared.entry.Entry.{Entry}
+use Rattle.write_history.specs.declared.refusal.Refusal.{Refusal}
+use Rattle.write_history.specs.declared.refusal.Refusal.TheVariants as why
+use Rattle.write_history.specs.Path.{is_path}
+use Rattle.write_history.specs.World.{World, file_of, unready_ids}
+use Rattle.write_history.specs.Effect.{stamp_of}
+use Rattle.write_history.specs.Fold.{fold, list_refusal, ListRefusal}
+use Rattle.script_lang.specs.declared.command.Command.{Command}
+use Rattle.script_lang.specs.declared.command.Command.TheVariants as command
+use Rattle.script_lang.specs.declared.line.Line.{Line}
+use Rattle.script_lang.specs.Parts.{Parts}
+use Rattle.queries.specs.declared.query.Query.{Query}
+use Rattle.queries.specs.declared.query.Query.TheVariants as query
+use Rattle.query_engine.specs.declared.answer.Answer as found
+use Rattle.query_engine.specs.declared.answer.Answer.TheVariants as found
+use Rattle.query_engine.specs.declared.answer.AskRefusal as refused
+use Rattle.query_engine.specs.declared.answer.AskRefusal.TheVariants as refused
+use Rattle.query_engine.specs.Reply.{reply}
+use Rattle.transcripts.specs.declared.loaded.Loaded.{Loaded}
+use Rattle.transcripts.specs.declared.loaded.Loaded.TheVariants as loaded
+use Rattle.transcripts.specs.declared.record.Answer.{Answer}
+use Rattle.transcripts.specs.declared.record.Answer.TheVariants.{Accepted, Refused, NotText, TooLong, Smart, NotReady, Rows, Outline, Words, Status}
+use Rattle.transcripts.specs.declared.record.Record.{Record}
+
+-- what a command adds to the history, and what it is answered
+pub record Step : Type 0 where
+  pub added : List Entry
+  pub answer : Answer
+
+-- the entry that a line of a section makes of changes
+abbrev pub entry_of : ℕ → ℕ → List Change → Entry
+entry_of seat line changes = record { seat = seat; line = line; changes = changes }
+
+-- an answer adds nothing
+abbrev pub told : Answer → Step
+told answer = record { added = []; answer = answer }
+
+-- an entry is added where none of its changes is refused; the place of a refused change is told as said
+abbrev pub step_unless : Option ListRefusal → (ℕ → Option ℕ) → List Entry → Entry → Step
+step_unless None told_place history entry = record { added = entry ∷ []; answer = Accepted (length history + 1) }
+step_unless (Some refusal) told_place history entry = told (Refused (length history) (told_place refusal.place) refusal.why)
+
+-- what changes that go in together add and are answered
+abbrev pub changes_step : (ℕ → Option ℕ) → List Entry → ℕ → ℕ → List Change → Step
+changes_step told_place history seat line changes = step_unless (list_refusal (fold history) changes) told_place history (entry_of seat line changes)
+
+-- one change: no place is told
+abbrev pub change_step : List Entry → ℕ → ℕ → Change → Step
+change_step history seat line change = changes_step (λ place. None) history seat line (change ∷ [])
+
+-- a group of changes: the place of the refused one is told
+abbrev pub group_step : List Entry → ℕ → ℕ → List Change → Step
+group_step history seat line changes = changes_step Some history seat line changes
+
+-- a load creates a file of what was read, where that is a text
+abbrev pub create_of : List Entry → ℕ → ℕ → List ℕ → Loaded → Step
+create_of history seat line path (loaded.Text content) = change_step history seat line (Create path content)
+create_of history seat line path (loaded.NotText at) = told (NotText at)
+create_of history seat line path (loaded.TooLong count) = told (TooLong count)
+create_of history seat line path loaded.Nothing = told (NotText 0)
+
+-- a load of what was read; for an unlawful path nothing is read
+abbrev pub load_step : List Entry → ℕ → ℕ → List ℕ → Loaded → Step
+load_step history seat line path load =
+    if is_path path then create_of history seat line path load else told (Refused (length history) None why.BadPath)
+
+-- an entry before what the others add
+abbrev pub with_entry : Entry → Step → Step
+with_entry entry step = record { added = entry ∷ step.added; answer = step.answer }
+
+-- a settle goes on with the next file unless this one's intake is refused
+abbrev pub settle_unless : Option ListRefusal → List Entry → Entry → Step → Step
+settle_unless None history entry rest = with_entry entry rest
+settle_unless (Some refusal) history entry rest = told (Refused (length history) None refusal.why)
+
+-- the intake of the file with an id at its stamp
+abbrev pub intake_of : World → ℕ → List Change
+intake_of world id = Intake id (stamp_of (file_of world id)) ∷ []
+
+-- one intake for each of these files, in order
+abbrev pub intakes : List Entry → ℕ → ℕ → List ℕ → Step
+intakes history seat line [] = told (Smart (length history))
+intakes history seat line (id ∷ ids) =
+    settle_unless (list_refusal (fold history) (intake_of (fold history) id)) history (entry_of seat line (intake_of (fold history) id))
+    (intakes (history ++ entry_of seat line (intake_of (fold history) id) ∷ []) seat line ids)
+
+-- a settle takes in every unready file, in order of ids
+abbrev pub settle_step : List Entry → ℕ → ℕ → Step
+settle_step history seat line = intakes history seat line (unready_ids (fold history))
+
+-- the path of the live file with an id
+abbrev pub path_of : World → ℕ → List ℕ
+path_of world id = option_map_or (λ file. file.path) (file_of world id) []
+
+-- the declarations that a question found: those of an outline are told as such
+abbrev pub rows_answer : Query → ℕ → List Row → Answer
+rows_answer (query.Outline path) at rows = Outline at rows
+rows_answer (query.Class name) at rows = Rows at rows
+rows_answer (query.Supers name) at rows = Rows at rows
+rows_answer (query.Method name) at rows = Rows at rows
+rows_answer (query.Word name) at rows = Rows at rows
+rows_answer query.Status at rows = Rows at rows
+
+-- what a question is answered
+abbrev pub answer_of : Query → World → ℕ → Result found.Answer refused.AskRefusal → Answer
+answer_of query world at (Ok (found.Rows rows)) = rows_answer query at rows
+answer_of query world at (Ok (found.Words rows)) = Words at rows
+answer_of query world at (Ok (found.Counts files docs unready)) = Status at files docs unready
+answer_of query world at (Err refused.NoSuchFile) = Refused at None why.NoSuchFile
+answer_of query world at (Err (refused.NotReady file)) = NotReady at (path_of world file)
+answer_of query world at (Err refused.Cancelled) = Refused at None why.OutOfMemory
+answer_of query world at (Err refused.OutOfMemory) = Refused at None why.OutOfMemory
+
+-- a question adds nothing
+abbrev pub query_step : List Entry → Query → Step
+query_step history query = told (answer_of query (fold history) (length history) (reply (fold history) query))
+
+-- what a command of a line of a section does, where this is what a load of it reads
+abbrev pub step_of : Loaded → List Entry → ℕ → ℕ → Command → Step
+step_of load history seat line (command.Change change) = change_step history seat line change
+step_of load history seat line (command.Group changes) = group_step history seat line changes
+step_of load history seat line (command.Load path) = load_step history seat line path load
+step_of load history seat line command.Settle = settle_step history seat line
+step_of load history seat line (command.Ask query) = query_step history query
+step_of load history seat line (command.Soft attempts query) = query_step history query
+
+-- a history and the records of the commands so far
+pub record Done : Type 0 where
+  pub history : List Entry
+  pub records : List Record
+
+-- what stands after a step of a line
+abbrev pub after_step : Done → ℕ → ℕ → Step → Done
+after_step done seat line step =
+    record { history = done.history ++ step.added; records = done.records ++ record { seat = seat; line = line; answer = step.answer } ∷ [] }
+
+-- going on with the lines of a section that has no load
+abbrev pub section_from : ℕ → Done → List Line → Done
+section_from seat done [] = done
+section_from seat done (line ∷ lines) =
+    section_from seat (after_step done seat line.number (step_of loaded.Nothing done.history seat line.number line.command)) lines
+
+-- going on with the lines of the prelude, of each of which this was read
+abbrev pub prelude_from : Done → List Line → List Loaded → Done
+prelude_from done [] loads = done
+prelude_from done (line ∷ lines) [] = done
+prelude_from done (line ∷ lines) (load ∷ loads) =
+    prelude_from (after_step done 0 line.number (step_of load done.history 0 line.number line.command)) lines loads
+
+-- going on with lanes one after another, the first of which has this seat
+abbrev pub lanes_from : ℕ → Done → List (List Line) → Done
+lanes_from seat done [] = done
+lanes_from seat done (lane ∷ lanes) = lanes_from (seat + 1) (section_from seat done lane) lanes
+
+-- a history, the records before the last section, and those of the last section
+pub record Ended : Type 0 where
+  pub history : List Entry
+  pub records : List Record
+  pub last : List Record
+
+-- the last section, after all others
+abbrev pub end_of : Done → Done → Ended
+end_of before last = record { history = last.history; records = before.records; last = last.records }
+
+-- prelude and lanes, from the empty history
+abbrev pub before_last : List Loaded → Parts → Done
+before_last loads script = lanes_from 1 (prelude_from (record { history = []; records = [] }) script.prelude loads) script.lanes
+
+-- the last section, from a history on
+abbrev pub last_from : List Entry → List Line → Done
+last_from history lines = section_from 0 (record { history = history; records = [] }) lines
+
+-- a whole script, where this was read for each line of its prelude
+abbrev pub run_of : List Loaded → Parts → Ended
+run_of loads script = end_of (before_last loads script) (last_from (before_last loads script).history script.last)

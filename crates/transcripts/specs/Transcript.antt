@@ -1,0 +1,148 @@
+-- The transcript: the history, then one record for each command.
+use Rattle.std.specs.Prelude.{ℕ, zero, suc, ◌+◌, List, [], ◌∷◌, ◌++◌, length, codes, encode_utf8_all, bit_and, ◌==◌, if◌then◌else◌, Option, Some, None}
+use Rattle.std.specs.List.{flat_map}
+use Rattle.std.specs.Fmt.{decimal}
+use Rattle.write_history.specs.declared.entry.Entry.{Entry}
+use Rattle.write_history.specs.Print.{entry_line, why_text}
+use Rattle.stub_tree.specs.declared.stub_kind.StubKind.TheVariants as declares
+use Rattle.stub_tree.specs.Stub.{code_of}
+use Rattle.query_engine.specs.declared.rows.Row.{Row}
+use Rattle.query_engine.specs.declared.rows.WordRow.{WordRow}
+use Rattle.transcripts.specs.declared.record.Answer.{Answer}
+use Rattle.transcripts.specs.declared.record.Answer.TheVariants.{Accepted, Refused, NotText, TooLong, Smart, NotReady, Rows, Outline, Words, Status}
+use Rattle.transcripts.specs.declared.record.Record.{Record}
+use Rattle.transcripts.specs.Serial.{Ended, run_of}
+
+-- a place where a word stands is named where its bit is set
+abbrev pub place_if : ℕ → ℕ → List ℕ → List (List ℕ)
+place_if mask bit place = if bit_and mask bit == 0 then [] else place ∷ []
+
+-- the places of a mask: 1 in code, 2 in a comment, 4 in a string
+abbrev pub places_of : ℕ → List (List ℕ)
+places_of mask = place_if mask 1 (codes "code") ++ place_if mask 2 (codes "comment") ++ place_if mask 4 (codes "string")
+
+-- the places joined by `+`
+abbrev pub joined : List (List ℕ) → List ℕ
+joined [] = []
+joined (place ∷ []) = place
+joined (place ∷ other ∷ places) = place ++ codes "+" ++ joined (other ∷ places)
+
+-- the text of a mask
+abbrev pub mask_text : ℕ → List ℕ
+mask_text mask = joined (places_of mask)
+
+-- the line of a file that has a word
+abbrev pub word_line : WordRow → List ℕ
+word_line row = codes "  " ++ encode_utf8_all row.path ++ codes " " ++ mask_text row.mask ++ codes "\n"
+
+-- the word for a kind of declaration
+abbrev pub kind_text : ℕ → List ℕ
+kind_text kind =
+    if kind == code_of declares.Class then codes "class"
+    else if kind == code_of declares.Interface then codes "interface"
+    else if kind == code_of declares.Enum then codes "enum"
+    else if kind == code_of declares.Record then codes "record"
+    else if kind == code_of declares.Annotation then codes "annotation"
+    else if kind == code_of declares.Method then codes "method"
+    else if kind == code_of declares.Constructor then codes "constructor"
+    else if kind == code_of declares.Field then codes "field"
+    else codes "constant"
+
+-- two spaces for each depth
+abbrev pub indent : ℕ → List ℕ
+indent zero = []
+indent (suc depth) = indent depth ++ codes "  "
+
+-- a super after a space
+abbrev pub super_text : List ℕ → List ℕ
+super_text name = codes " " ++ encode_utf8_all name
+
+-- the supers of a type after a colon, where there are any
+abbrev pub supers_text : List (List ℕ) → List ℕ
+supers_text [] = []
+supers_text (name ∷ names) = codes " :" ++ flat_map super_text (name ∷ names)
+
+-- where the name of a declaration stands
+abbrev pub place_text : Row → List ℕ
+place_text row = codes "  " ++ encode_utf8_all row.path ++ codes ":" ++ decimal row.line ++ codes ":" ++ decimal row.column
+
+-- the kind and the name of a declaration
+abbrev pub declared_text : Row → List ℕ
+declared_text row = codes " " ++ kind_text row.kind ++ codes " " ++ encode_utf8_all row.name
+
+-- the line of a declaration that a question found
+abbrev pub found_line : Row → List ℕ
+found_line row = place_text row ++ declared_text row ++ codes "\n"
+
+-- the line of a declaration of a file, indented by its depth, with its supers
+abbrev pub outline_line : Row → List ℕ
+outline_line row = indent row.depth ++ place_text row ++ declared_text row ++ supers_text row.supers ++ codes "\n"
+
+-- of a group's refusal the place of the refused change
+abbrev pub place_of_refusal : Option ℕ → List ℕ
+place_of_refusal None = []
+place_of_refusal (Some place) = codes "in " ++ decimal place ++ codes " "
+
+-- the prefix at which an answer holds, where it has one
+abbrev pub prefix_text : Answer → List ℕ
+prefix_text (Accepted at) = codes "at " ++ decimal at ++ codes " "
+prefix_text (Refused at place why) = codes "at " ++ decimal at ++ codes " "
+prefix_text (NotText at) = []
+prefix_text (TooLong count) = []
+prefix_text (Smart at) = codes "at " ++ decimal at ++ codes " "
+prefix_text (NotReady at path) = codes "at " ++ decimal at ++ codes " "
+prefix_text (Rows at rows) = codes "at " ++ decimal at ++ codes " "
+prefix_text (Outline at rows) = codes "at " ++ decimal at ++ codes " "
+prefix_text (Words at rows) = codes "at " ++ decimal at ++ codes " "
+prefix_text (Status at files docs unready) = codes "at " ++ decimal at ++ codes " "
+
+-- an answer without its prefix and its rows
+abbrev pub head_text : Answer → List ℕ
+head_text (Accepted at) = codes "accepted"
+head_text (Refused at place why) = codes "refused " ++ place_of_refusal place ++ why_text why
+head_text (NotText at) = codes "not-text " ++ decimal at
+head_text (TooLong count) = codes "too-long " ++ decimal count
+head_text (Smart at) = codes "smart"
+head_text (NotReady at path) = codes "not-ready " ++ encode_utf8_all path
+head_text (Rows at rows) = codes "rows " ++ decimal (length rows)
+head_text (Outline at rows) = codes "rows " ++ decimal (length rows)
+head_text (Words at rows) = codes "rows " ++ decimal (length rows)
+head_text (Status at files docs unready) = codes "status files " ++ decimal files ++ codes " open " ++ decimal docs ++ codes " unready " ++ decimal unready
+
+-- the rows of an answer
+abbrev pub rows_text : Answer → List ℕ
+rows_text (Accepted at) = []
+rows_text (Refused at place why) = []
+rows_text (NotText at) = []
+rows_text (TooLong count) = []
+rows_text (Smart at) = []
+rows_text (NotReady at path) = []
+rows_text (Rows at rows) = flat_map found_line rows
+rows_text (Outline at rows) = flat_map outline_line rows
+rows_text (Words at rows) = flat_map word_line rows
+rows_text (Status at files docs unready) = []
+
+-- the record of a command: its line's number, its answer, then the rows
+abbrev pub record_text : Record → List ℕ
+record_text reply = decimal reply.line ++ codes " " ++ prefix_text reply.answer ++ head_text reply.answer ++ codes "\n" ++ rows_text reply.answer
+
+-- the lines of entries, the first of which has this position
+abbrev pub entry_lines : ℕ → List Entry → List ℕ
+entry_lines position [] = []
+entry_lines position (entry ∷ entries) = entry_line position entry ++ entry_lines (position + 1) entries
+
+-- the history with its length
+abbrev pub history_text : List Entry → List ℕ
+history_text entries = codes "history " ++ decimal (length entries) ++ codes "\n" ++ entry_lines 1 entries
+
+-- the whole transcript of a history and its records
+abbrev pub transcript_of : Ended → List ℕ
+transcript_of ended = history_text ended.history ++ flat_map record_text (ended.records ++ ended.last)
+
+-- the record of a command as a summary tells it: without its line's number and its prefix
+abbrev pub summary_text : Record → List ℕ
+summary_text reply = head_text reply.answer ++ codes "\n" ++ rows_text reply.answer
+
+-- the summary: the records of the last section
+abbrev pub summary_of : Ended → List ℕ
+summary_of ended = flat_map summary_text ended.last

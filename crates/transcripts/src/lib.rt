@@ -1,0 +1,11 @@
+//! What a script is answered, and how the transcript prints it: the history, then a record for each command.
+#![tactic(auto)]
+
+mod loaded;
+mod print;
+mod record;
+mod rows;
+
+pub use loaded::Loaded;
+pub use print::{summary, transcript};
+pub use record::{Answer, Played, Record, Records};
