@@ -1,1 +1,4 @@
 pub mod PathLemmas
+pub mod PutLemmas
+pub mod FoldLemmas
+pub mod StampLemmas

@@ -4,6 +4,7 @@ pub mod World
 pub mod Changes
 pub mod Effect
 pub mod Fold
+pub mod Stamps
 -- The kept history and its print
 pub mod Kept
 pub mod Print

@@ -5,6 +5,7 @@ mod change;
 mod changes;
 mod entry;
 mod history;
+pub mod laws;
 mod path;
 mod print;
 mod refusal;

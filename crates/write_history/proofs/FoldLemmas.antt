@@ -1,0 +1,57 @@
+-- A longer history goes on from the shorter one, and what each accepted change keeps, a legal history keeps.
+use Rattle.std.proofs.Common.{◌≡◌, List, [], ◌∷◌, ◌++◌, refl, ap, sym, ◌∙◌, subst, Some, None}
+use Rattle.std.specs.Prelude.{Option, option_map}
+use Rattle.write_history.specs.declared.change.Change.{Change}
+use Rattle.write_history.specs.declared.entry.Entry.{Entry}
+use Rattle.write_history.specs.declared.refusal.Refusal.{Refusal}
+use Rattle.write_history.specs.World.{World, empty_world}
+use Rattle.write_history.specs.Effect.{refusal_of}
+use Rattle.write_history.specs.Fold.{effect_of, effects_of, ListRefusal, one_later, refusal_or, list_refusal, counted, after_list, fold, fold_from, IsLegal, IsLegalFrom}
+
+fold_from-append : (earlier later : List Entry) (world : World) → fold_from world (earlier ++ later) ≡ fold_from (fold_from world earlier) later
+fold_from-append [] later world = refl
+fold_from-append (entry ∷ earlier) later world = fold_from-append earlier later (after_list world entry.changes)
+
+-- a longer history goes on from the world of the shorter one
+pub fold-append : (earlier later : List Entry) → fold (earlier ++ later) ≡ fold_from (fold earlier) later
+fold-append earlier later = fold_from-append earlier later empty_world
+
+IsLegalFrom-append : (world : World) (earlier later : List Entry) → IsLegalFrom world earlier → IsLegalFrom (fold_from world earlier) later → IsLegalFrom world (earlier ++ later)
+IsLegalFrom-append world [] later h k = k
+IsLegalFrom-append world (entry ∷ earlier) later h k = (h.0, IsLegalFrom-append (after_list world entry.changes) earlier later h.1 k)
+
+IsLegalFrom-split : (world : World) (earlier later : List Entry) → IsLegalFrom world (earlier ++ later) → IsLegalFrom world earlier × IsLegalFrom (fold_from world earlier) later
+IsLegalFrom-split world [] later h = (tt, h)
+IsLegalFrom-split world (entry ∷ earlier) later h = let r = IsLegalFrom-split (after_list world entry.changes) earlier later h.1 in ((h.0, r.0), r.1)
+
+-- a history stays legal with an entry that isn't refused
+pub IsLegal-append : (entries : List Entry) (entry : Entry) → IsLegal entries → list_refusal (fold entries) entry.changes ≡ None → IsLegal (entries ++ entry ∷ [])
+IsLegal-append entries entry h accepted = IsLegalFrom-append empty_world entries (entry ∷ []) h (accepted, tt)
+
+-- a legal history is legal up to each place, and legal from there on
+pub IsLegal-split : (earlier later : List Entry) → IsLegal (earlier ++ later) → IsLegal earlier × IsLegalFrom (fold earlier) later
+IsLegal-split earlier later h = IsLegalFrom-split empty_world earlier later h
+
+accepted_first : (o : Option Refusal) (later : Option ListRefusal) → refusal_or o later ≡ None → (o ≡ None) × (later ≡ None)
+accepted_first (Some why) later h = absurd (cc)
+accepted_first None None h = (refl, refl)
+accepted_first None (Some refusal) h = absurd (cc)
+
+-- of a list that isn't refused the first change isn't, nor are the others behind it
+pub list_accepted : (world : World) (change : Change) (changes : List Change) → list_refusal world (change ∷ changes) ≡ None → (refusal_of world change ≡ None) × (list_refusal (effect_of world change) changes ≡ None)
+list_accepted world change changes h = accepted_first (refusal_of world change) (list_refusal (effect_of world change) changes) h
+
+module _ (P : World → Type 0)
+    (change_keeps : (world : World) (change : Change) → refusal_of world change ≡ None → P world → P (effect_of world change))
+    (count_keeps : (world : World) → P world → P (counted world)) where
+  -- what each accepted change keeps, a list that isn't refused keeps
+  pub along_changes : (changes : List Change) (world : World) → list_refusal world changes ≡ None → P world → P (effects_of world changes)
+  along_changes [] world h p = p
+  along_changes (change ∷ changes) world h p =
+      let a = list_accepted world change changes h in
+      along_changes changes (effect_of world change) a.1 (change_keeps world change a.0 p)
+
+  -- and so does a legal history
+  pub along : (entries : List Entry) (world : World) → IsLegalFrom world entries → P world → P (fold_from world entries)
+  along [] world h p = p
+  along (entry ∷ entries) world h p = along entries (after_list world entry.changes) h.1 (count_keeps (effects_of world entry.changes) (along_changes entry.changes world h.0 p))
