@@ -2,3 +2,5 @@ pub mod PathLemmas
 pub mod PutLemmas
 pub mod FoldLemmas
 pub mod StampLemmas
+pub mod SoundLemmas
+pub mod UnreadyLemmas

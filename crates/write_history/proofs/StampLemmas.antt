@@ -1,6 +1,6 @@
 -- Each stamp is drawn once, from a counter that never falls; a deleted file stays deleted.
-use Rattle.std.proofs.Common.{ℕ, ◌≡◌, ◌≢◌, ◌⊎◌, inl, inr, ◌+◌, ◌<◌, ◌≤◌, List, [], ◌∷◌, ◌++◌, length, refl, ap, sym, ◌∙◌, subst, arith, Some, None}
-use Rattle.std.specs.Prelude.{Option}
+use Rattle.std.proofs.Common.{ℕ, suc, ◌≡◌, ◌≢◌, ◌⊎◌, inl, inr, ◌+◌, ◌*◌, ◌<◌, ◌≤◌, List, [], ◌∷◌, ◌++◌, length, refl, ap, sym, ◌∙◌, subst, arith, Some, None}
+use Rattle.std.specs.Prelude.{Option, All}
 use Rattle.write_history.specs.declared.change.Change.{Change}
 use Rattle.write_history.specs.declared.change.Change.TheVariants.{Create, Write, Delete, OpenDoc, Insert, Erase, Commit, Save, CloseDoc, Intake, Move}
 use Rattle.write_history.specs.declared.entry.Entry.{Entry}
@@ -48,6 +48,18 @@ next_stamp-effects_of (change ∷ changes) world =
     let one = drawn_at_most_one change in
     let rest = next_stamp-effects_of changes (effect_of world change) in
     omega arith
+
+next_stamp-fold_from : (entries : List Entry) (world : World) → All (λ entry. length entry.changes ≤ 64) entries → (fold_from world entries).next_stamp ≤ world.next_stamp + 64 * length entries
+next_stamp-fold_from [] world few = omega arith
+next_stamp-fold_from (entry ∷ entries) world few =
+    let here = next_stamp-effects_of entry.changes world in
+    let first : length entry.changes ≤ 64 = few 0 entry (omega arith) in
+    let rest = next_stamp-fold_from entries (after_list world entry.changes) (λ k d l. few (suc k) d (omega arith)) in
+    omega arith
+
+-- the counter of a history is at most 64 an entry, and the first stamp
+pub next_stamp-fold : (entries : List Entry) → All (λ entry. length entry.changes ≤ 64) entries → (fold entries).next_stamp ≤ 64 * length entries + 1
+next_stamp-fold entries few = let r = next_stamp-fold_from entries empty_world few in omega arith
 
 -- how many ids are given after an accepted change
 pub next_id-effect_of : (world : World) (change : Change) → refusal_of world change ≡ None → next_id (effect_of world change) ≡ next_id world + files_made change
