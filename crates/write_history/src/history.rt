@@ -1,5 +1,6 @@
 //! The list of the accepted changes, with room for the next one.
-ghost use Rattle.std.specs.Prelude.{◌≡◌, ◌≤◌, ◌<◌, ◌+◌, ◌-◌, ◌∷◌, [], ◌++◌, length, slice_get, Some, OnOk, OnErr, IsOk};
+ghost use Rattle.std.specs.Prelude.{◌≡◌, ◌≤◌, ◌<◌, ◌+◌, ◌-◌, ◌∷◌, [], ◌++◌, length, slice_get, Some, OnOk, OnErr, IsOk, All};
+ghost use Rattle.write_history.specs.Changes.{AreFew};
 
 use crate::Entry;
 use std::alloc::{AllocError, Global};
@@ -18,9 +19,14 @@ impl Model for History {
     ghost use Rattle.std.specs.Prelude.{◌-◌, vec_len, vec_capacity};
     ghost use Rattle.write_history.specs.Kept.{Kept};
 
+    ghost use Rattle.std.specs.List.{All};
+    ghost use Rattle.write_history.specs.Changes.{AreFew};
+
     ghost Value = { Kept };
 
     ghost view = { λ h. record { entries = h.entries.items; spare = vec_capacity h.entries - vec_len h.entries } };
+
+    ghost invariant = { λ h. All (λ entry. AreFew entry.changes) h.entries.items };
 }
 
 impl History {
@@ -57,7 +63,8 @@ impl History {
 
     /// The number of entries.
     pub fn len(&self) -> u64
-        ensures { result ≡ length self.now.entries }
+        ensures value { result ≡ length self.now.entries }
+        ensures few { All (λ entry. AreFew entry.changes) self.now.entries }
     {
         self.entries.len() as u64
     }
