@@ -1,5 +1,5 @@
 -- A longer history goes on from the shorter one, and what each accepted change keeps, a legal history keeps.
-use Rattle.std.proofs.Common.{◌≡◌, List, [], ◌∷◌, ◌++◌, refl, ap, sym, ◌∙◌, subst, Some, None}
+use Rattle.std.proofs.Common.{◌≡◌, ◌+◌, length, arith, List, [], ◌∷◌, ◌++◌, refl, ap, sym, ◌∙◌, subst, Some, None}
 use Rattle.std.specs.Prelude.{Option, option_map}
 use Rattle.write_history.specs.declared.change.Change.{Change}
 use Rattle.write_history.specs.declared.entry.Entry.{Entry}
@@ -55,3 +55,44 @@ module _ (P : World → Type 0)
   pub along : (entries : List Entry) (world : World) → IsLegalFrom world entries → P world → P (fold_from world entries)
   along [] world h p = p
   along (entry ∷ entries) world h p = along entries (after_list world entry.changes) h.1 (count_keeps (effects_of world entry.changes) (along_changes entry.changes world h.0 p))
+
+-- ---- lists of changes
+
+-- a longer list goes on from where the shorter one leads
+pub effects_of-append : (earlier later : List Change) (world : World) → effects_of world (earlier ++ later) ≡ effects_of (effects_of world earlier) later
+effects_of-append [] later world = refl
+effects_of-append (change ∷ earlier) later world = effects_of-append earlier later (effect_of world change)
+
+-- as many places later
+abbrev pub later_by : List Change → Option ListRefusal → Option ListRefusal
+later_by changes None = None
+later_by changes (Some refusal) = Some (record { place = length changes + refusal.place; why = refusal.why })
+
+later_by-none : (o : Option ListRefusal) → o ≡ later_by [] o
+later_by-none None = refl
+later_by-none (Some refusal) = ap (λ n. Some (record { place = n; why = refusal.why })) (omega arith)
+
+later_by-more : (change : Change) (changes : List Change) (o : Option ListRefusal) → option_map one_later (later_by changes o) ≡ later_by (change ∷ changes) o
+later_by-more change changes None = refl
+later_by-more change changes (Some refusal) = ap (λ n. Some (record { place = n; why = refusal.why })) (omega arith)
+
+-- behind changes of which none is refused a list is refused as it is where they lead, so many places later
+pub list_refusal-append : (earlier later : List Change) (world : World) → list_refusal world earlier ≡ None → list_refusal world (earlier ++ later) ≡ later_by earlier (list_refusal (effects_of world earlier) later)
+list_refusal-append [] later world h = later_by-none (list_refusal world later)
+list_refusal-append (change ∷ earlier) later world h =
+    let a = list_accepted world change earlier h in
+    ap (λ o. refusal_or o (list_refusal (effect_of world change) (earlier ++ later))) a.0
+    ∙ ap (option_map one_later) (list_refusal-append earlier later (effect_of world change) a.1)
+    ∙ later_by-more change earlier (list_refusal (effects_of (effect_of world change) earlier) later)
+
+-- a change that isn't refused behind others
+pub list_refusal-accepted : (earlier : List Change) (change : Change) (world : World) → list_refusal world earlier ≡ None → refusal_of (effects_of world earlier) change ≡ None → list_refusal world (earlier ++ change ∷ []) ≡ None
+list_refusal-accepted earlier change world h accepted =
+    list_refusal-append earlier (change ∷ []) world h ∙ ap (λ o. later_by earlier (refusal_or o None)) accepted
+
+-- the first change that is refused, behind others
+pub list_refusal-refused : (earlier : List Change) (change : Change) (later : List Change) (world : World) (why : Refusal) → list_refusal world earlier ≡ None → refusal_of (effects_of world earlier) change ≡ Some why
+    → list_refusal world (earlier ++ change ∷ later) ≡ Some (record { place = length earlier + 1; why = why })
+list_refusal-refused earlier change later world why h refused =
+    list_refusal-append earlier (change ∷ later) world h
+    ∙ ap (λ o. later_by earlier (refusal_or o (list_refusal (effect_of (effects_of world earlier) change) later))) refused

@@ -4,3 +4,4 @@ pub mod FoldLemmas
 pub mod StampLemmas
 pub mod SoundLemmas
 pub mod UnreadyLemmas
+pub mod CountLemmas

@@ -65,11 +65,11 @@ length-put_at place file [] l = absurd (omega arith)
 length-put_at zero file (other ∷ files) l = refl
 length-put_at (suc place) file (other ∷ files) l = ap suc (length-put_at place file files (omega arith))
 
-length-put_last : (file : Option File) (files : List (Option File)) → length (put_at (length files) file files) ≡ length files + 1
+pub length-put_last : (file : Option File) (files : List (Option File)) → length (put_at (length files) file files) ≡ length files + 1
 length-put_last file [] = refl
 length-put_last file (other ∷ files) = let r = length-put_last file files in omega arith
 
-length-with_file : (n : ℕ) (file : Option File) (files : List (Option File)) → 1 ≤ n → n ≤ length files → length (with_file n file files) ≡ length files
+pub length-with_file : (n : ℕ) (file : Option File) (files : List (Option File)) → 1 ≤ n → n ≤ length files → length (with_file n file files) ≡ length files
 length-with_file zero file files first last = absurd (omega arith)
 length-with_file (suc place) file files first last = length-put_at place file files (omega arith)
 

@@ -18,7 +18,6 @@ pub struct History {
 impl Model for History {
     ghost use Rattle.std.specs.Prelude.{◌-◌, vec_len, vec_capacity};
     ghost use Rattle.write_history.specs.Kept.{Kept};
-
     ghost use Rattle.std.specs.List.{All};
     ghost use Rattle.write_history.specs.Changes.{AreFew};
 

@@ -1,5 +1,5 @@
 //! Laws of the world that callers rest on: functions that do nothing, whose contracts are the laws.
-ghost use Rattle.std.specs.Prelude.{◌≡◌, ◌<◌, ◌≤◌, ◌+◌, ◌*◌, ◌==◌, true, false, [], ◌∷◌, ◌++◌, length, ℕ, List, Some, None, if◌then◌else◌};
+ghost use Rattle.std.specs.Prelude.{◌≡◌, ◌<◌, ◌≤◌, ◌+◌, ◌*◌, ◌==◌, true, false, [], ◌∷◌, ◌++◌, length, ℕ, List, Bool, Option, Some, None, if◌then◌else◌};
 ghost use Rattle.std.specs.List.{All};
 ghost use Rattle.write_history.specs.declared.entry.Entry.{Entry};
 ghost use Rattle.write_history.specs.declared.change.Change.{Change};
@@ -8,6 +8,8 @@ ghost use Rattle.write_history.specs.World.{World, File, file_of, next_id, id_at
 ghost use Rattle.write_history.specs.Changes.{max_changes};
 ghost use Rattle.write_history.specs.Effect.{Put, put_of, refusal_of, stamp_of};
 ghost use Rattle.write_history.specs.Fold.{after_put, effect_of, effects_of, after_list, list_refusal, fold, fold_from, IsLegal, IsLegalFrom};
+ghost use Rattle.write_history.specs.Counts.{counted_as};
+ghost use Rattle.write_history.specs.declared.refusal.Refusal.{Refusal};
 ghost use Rattle.write_history.specs.Stamps.{stamps_drawn, files_made, IsAsStamped, KeepsOrRenews};
 
 /// A longer history goes on from the world of the shorter one. It is legal where the shorter one is and none of its
@@ -25,6 +27,31 @@ pub fn puts_change_one_file()
     ensures put { (world : World) (put : Put) (id : ℕ) → 1 ≤ put.id → put.id ≤ next_id world → file_of (after_put world put) id ≡ (if id == put.id then put.file else file_of world id) }
     ensures first { (world : World) (change : Change) → refusal_of world change ≡ None → 1 ≤ (put_of world change).id }
     ensures last { (world : World) (change : Change) → refusal_of world change ≡ None → (put_of world change).id ≤ next_id world }
+{}
+
+/// A put takes what the old file adds to a count away, and adds what the new one does. One at an id that was given
+/// makes no file more, and one at the next id makes one.
+pub fn puts_are_counted()
+    ensures count { (test : Option File → Bool) (world : World) (put : Put) → test None ≡ false → 1 ≤ put.id → put.id ≤ next_id world
+        → count_of test (after_put world put) + counted_as test (file_of world put.id) ≡ count_of test world + counted_as test put.file }
+    ensures same { (world : World) (put : Put) → 1 ≤ put.id → put.id < next_id world → next_id (after_put world put) ≡ next_id world }
+    ensures more { (world : World) (put : Put) → put.id ≡ next_id world → next_id (after_put world put) ≡ next_id world + 1 }
+{}
+
+/// Worlds with the same files and counters are the same.
+pub fn worlds_are_what_they_hold()
+    ensures { (world : World) (other : World) → next_id world ≡ next_id other → ((id : ℕ) → file_of world id ≡ file_of other id)
+        → world.next_stamp ≡ other.next_stamp → world.entries ≡ other.entries → world ≡ other }
+{}
+
+/// A longer list of changes goes on from where the shorter one leads, and the first refused change is refused at its
+/// place.
+pub fn lists_go_on()
+    ensures effects { (world : World) (earlier : List Change) (later : List Change) → effects_of world (earlier ++ later) ≡ effects_of (effects_of world earlier) later }
+    ensures accepted { (world : World) (earlier : List Change) (change : Change) → list_refusal world earlier ≡ None
+        → refusal_of (effects_of world earlier) change ≡ None → list_refusal world (earlier ++ change ∷ []) ≡ None }
+    ensures refused { (world : World) (earlier : List Change) (change : Change) (later : List Change) (why : Refusal) → list_refusal world earlier ≡ None
+        → refusal_of (effects_of world earlier) change ≡ Some why → list_refusal world (earlier ++ change ∷ later) ≡ Some (record { place = length earlier + 1; why = why }) }
 {}
 
 /// Ids are places, and a place is never given twice: their number grows with an accepted create alone, and a deleted
