@@ -8,14 +8,16 @@ use Rattle.list_laws.proofs.BoolLemmas.{bool_cases}
 
 module _ {A : Type 0} where
   -- where none is found, none passes
-  pub position-None : (test : A → Bool) (xs : List A) → position test xs ≡ None → (k : ℕ) (d : A) → k < length xs → test (get_or xs k d) ≡ false
+  pub position-None : (test : A → Bool) (xs : List A) → position test xs ≡ None → (k : ℕ) (d : A) → k < length xs
+      → test (get_or xs k d) ≡ false
   position-None test xs e k d less = bool_cases (ltb (position_or_len test xs) (length xs)) (λ b. cond b (Some (position_or_len test xs)) None ≡ None → test (get_or xs k d) ≡ false)
       (λ found h. absurd (cc))
       (λ none h. let end : length xs ≤ position_or_len test xs = ltb-false (position_or_len test xs) (length xs) none in fails_before_first test xs k d (omega arith))
       e
 
   -- the first element that passes is the one that is found
-  pub position_first : (test : A → Bool) (xs : List A) (place : ℕ) (d : A) → place < length xs → test (get_or xs place d) ≡ true → ((k : ℕ) → k < place → test (get_or xs k d) ≡ false) → position test xs ≡ Some place
+  pub position_first : (test : A → Bool) (xs : List A) (place : ℕ) (d : A) → place < length xs → test (get_or xs place d) ≡ true
+      → ((k : ℕ) → k < place → test (get_or xs k d) ≡ false) → position test xs ≡ Some place
   position_first test xs place d inside passes before = by (position test xs) refl
     where
       apart : (a b : ℕ) → (a < b → ⊥) → (b < a → ⊥) → a ≡ b

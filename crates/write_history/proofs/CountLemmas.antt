@@ -1,5 +1,5 @@
 -- How many files pass a test after a put, and worlds that hold the same.
-use Rattle.std.proofs.Common.{ℕ, zero, suc, ◌≡◌, ◌+◌, ◌<◌, ◌≤◌, Bool, true, false, List, [], ◌∷◌, length, get_or, filter, refl, ap, sym, ◌∙◌, subst, arith, None}
+use Rattle.std.proofs.Common.{ℕ, zero, suc, ◌≡◌, ◌+◌, ◌<◌, ◌≤◌, Bool, true, false, List, [], ◌∷◌, length, get_or, filter, refl, ap, ◌∙◌, arith, None}
 use Rattle.std.specs.Prelude.{if◌then◌else◌, Option}
 use Rattle.write_history.specs.World.{World, File, file_in, file_of, next_id, count_of}
 use Rattle.write_history.specs.Effect.{Put, put_at, with_file}
@@ -8,7 +8,8 @@ use Rattle.write_history.specs.Counts.{counted_as}
 use Rattle.write_history.proofs.PutLemmas.{length-put_last, length-with_file}
 
 module _ (test : Option File → Bool) where
-  length-filter : (file : Option File) (files : List (Option File)) → length (filter test (file ∷ files)) ≡ counted_as test file + length (filter test files)
+  length-filter : (file : Option File) (files : List (Option File))
+      → length (filter test (file ∷ files)) ≡ counted_as test file + length (filter test files)
   length-filter file files = elim (test file) as (λ b. length (if b then file ∷ filter test files else filter test files) ≡ (if b then 1 else 0) + length (filter test files)) [ true ↦ omega arith | false ↦ omega arith ]
 
   count-put_at : (place : ℕ) (file : Option File) (files : List (Option File)) → test None ≡ false → place ≤ length files
@@ -48,14 +49,16 @@ next_id-more world put e =
     let n : put.id ≡ suc (length world.files) = omega arith in
     ap (λ k. length (with_file k put.file world.files) + 1) n ∙ ap (λ k. k + 1) (length-put_last put.file world.files)
 
-same_files : (files others : List (Option File)) → length files ≡ length others → ((k : ℕ) → get_or files k None ≡ get_or others k None) → files ≡ others
+same_files : (files others : List (Option File)) → length files ≡ length others
+    → ((k : ℕ) → get_or files k None ≡ get_or others k None) → files ≡ others
 same_files [] [] e h = refl
 same_files [] (o ∷ others) e h = absurd (omega arith)
 same_files (f ∷ files) [] e h = absurd (omega arith)
 same_files (f ∷ files) (o ∷ others) e h = λ i. h 0 i ∷ same_files files others (omega arith) (λ k. h (suc k)) i
 
 -- worlds with the same files and counters are the same
-pub same_world : (world other : World) → next_id world ≡ next_id other → ((id : ℕ) → file_of world id ≡ file_of other id) → world.next_stamp ≡ other.next_stamp → world.entries ≡ other.entries → world ≡ other
+pub same_world : (world other : World) → next_id world ≡ next_id other → ((id : ℕ) → file_of world id ≡ file_of other id)
+    → world.next_stamp ≡ other.next_stamp → world.entries ≡ other.entries → world ≡ other
 same_world world other ids files stamps entries =
     let e : world.files ≡ other.files = same_files world.files other.files (omega arith) (λ k. files (suc k)) in
     λ i. record { files = e i; next_stamp = stamps i; entries = entries i }

@@ -1,16 +1,12 @@
 -- The parts of a path are what a cut at each slash gives.
-use Rattle.std.proofs.Common.{◌≡◌, ℕ, zero, suc, ◌<◌, Bool, true, false, not, List, [], ◌∷◌, ◌++◌, length, take, drop, eqb, cond, codes, encode_utf8_all, refl, ap, sym, ◌∙◌, ⊎_elim, arith, append-nil, length-append, lit<}
-use Rattle.std.specs.Prelude.{◌==◌, ◌&&◌, ◌||◌, None, map, MatchBool}
+use Rattle.std.proofs.Common.{◌≡◌, ℕ, zero, suc, ◌<◌, Bool, true, false, not, List, [], ◌∷◌, ◌++◌, length, eqb, cond, codes, encode_utf8_all, refl, ap, sym, ◌∙◌, ⊎_elim, arith, append-nil, lit<}
+use Rattle.std.specs.Prelude.{◌==◌, ◌&&◌, ◌||◌, map}
 use Rattle.std.specs.Char.{encode_utf8, is_ascii}
 use Rattle.std.specs.List.{list_any, list_all, slice_split, onto_first}
 use Rattle.std.specs.Str.{chars, bytes_eq, IsUtf8, IsAscii}
-use Rattle.std.specs.Str.Pattern.{HasSuffixMatch, FindsTextSuffix}
-use Rattle.std.specs.Cmp.Lexicographic.{bytes_decides, nat_list_eq_equiv}
 use Rattle.std.proofs.lemmas.Bool.{false≢true, cases_Bool, eqb-true, ltb-true, and_parts}
-use Rattle.std.proofs.lemmas.List.{take-append-drop}
 use Rattle.std.proofs.lemmas.List.Splits.{slice_split-cons_yes, slice_split-cons_no}
-use Rattle.std.proofs.lemmas.Str.{encode_ascii, length-encode, len_utf8_bounds, encodes-IsAscii, encodes-append, encodes-chars, chars-IsAscii, chars-append, IsUtf8-take}
-use Rattle.std.proofs.Math.Seq.{drop-append_seam}
+use Rattle.std.proofs.lemmas.Str.{encode_ascii, length-encode, len_utf8_bounds, encodes-IsAscii, encodes-chars}
 use Rattle.ide_text.proofs.Utf8Lemmas.{list_any-encode, bytes_eq-encodes}
 use Rattle.write_history.specs.Path as path
 use Rattle.write_history.specs.Path.{parts_of, is_part}
@@ -50,7 +46,8 @@ onto-one x [] = refl
 onto-one x (part ∷ parts) = refl
 
 -- bytes among which no slash stands go before the first part
-split-front : (xs ys : List ℕ) → 0 < length xs → list_any (λ b. b == 47) xs ≡ false → slice_split (λ b. eqb b 47) (xs ++ ys) ≡ onto xs (slice_split (λ b. eqb b 47) ys)
+split-front : (xs ys : List ℕ) → 0 < length xs → list_any (λ b. b == 47) xs ≡ false
+    → slice_split (λ b. eqb b 47) (xs ++ ys) ≡ onto xs (slice_split (λ b. eqb b 47) ys)
 split-front [] ys some none = absurd (omega arith)
 split-front (x ∷ []) ys some none =
     slice_split-cons_no (λ b. eqb b 47) x ys (both_false _ _ none).0 ∙ onto-one x (slice_split (λ b. eqb b 47) ys)
@@ -60,7 +57,8 @@ split-front (x ∷ x' ∷ xs) ys some none =
     ∙ onto-onto_first x (x' ∷ xs) (slice_split (λ b. eqb b 47) ys)
 
 -- a part with one character more, in UTF-8
-map-onto_first : (c : ℕ) (parts : List (List ℕ)) → onto (encode_utf8 c) (map encode_utf8_all parts) ≡ map encode_utf8_all (onto_first c parts)
+map-onto_first : (c : ℕ) (parts : List (List ℕ))
+    → onto (encode_utf8 c) (map encode_utf8_all parts) ≡ map encode_utf8_all (onto_first c parts)
 map-onto_first c [] = ap (λ bs. bs ∷ []) (sym (append-nil (encode_utf8 c)))
 map-onto_first c (part ∷ parts) = refl
 

@@ -1,16 +1,15 @@
 -- After a legal history stamps are below the next one, and live files have paths of their own.
-use Rattle.std.proofs.Common.{ℕ, ◌≡◌, ◌≢◌, ◌⊎◌, inl, inr, ◌+◌, ◌<◌, ◌≤◌, Bool, true, false, List, [], ◌∷◌, ◌++◌, refl, ap, sym, ◌∙◌, subst, arith, Some, None}
+use Rattle.std.proofs.Common.{ℕ, ◌≡◌, ◌≢◌, ◌⊎◌, inl, inr, ◌+◌, ◌<◌, ◌≤◌, List, [], ◌++◌, refl, ap, sym, ◌∙◌, subst, arith, Some, None}
 use Rattle.std.specs.Prelude.{Option, is_none, is_some}
-use Rattle.list_laws.proofs.BoolLemmas.{bool_cases}
 use Rattle.write_history.specs.declared.change.Change.{Change}
 use Rattle.write_history.specs.declared.entry.Entry.{Entry}
-use Rattle.write_history.specs.World.{World, File, empty_world, file_of, next_id, id_at}
+use Rattle.write_history.specs.World.{World, File, empty_world, file_of, id_at}
 use Rattle.write_history.specs.Effect.{Put, put_of, refusal_of}
 use Rattle.write_history.specs.Fold.{after_put, effect_of, fold, IsLegal}
 use Rattle.write_history.specs.Stamps.{files_made, IsAsStamped, KeepsOrRenews}
 use Rattle.write_history.proofs.PutLemmas.{IsAccepted, makes, ends, edits, is_accepted, is_place, by_place, Found, found, none_at_free, live_is_made}
 use Rattle.write_history.proofs.FoldLemmas.{along, IsLegal-split}
-use Rattle.write_history.proofs.StampLemmas.{IsLater, later-fold}
+use Rattle.write_history.proofs.StampLemmas.{later-fold}
 
 -- ---- stamps
 
@@ -32,11 +31,13 @@ StampsBelow-more : (n m : ℕ) (file : Option File) → n ≤ m → StampsBelow 
 StampsBelow-more n m None l h = tt
 StampsBelow-more n m (Some file) l h = (omega (arith, h.0), IndexedBelow-more n m file.indexed l h.1)
 
-indexed_below : (n m : ℕ) (old new : File) → n ≤ m → StampsBelow n (Some old) → (new.indexed ≡ old.indexed) ⊎ (new.indexed ≡ Some old.stamp) → IndexedBelow m new.indexed
+indexed_below : (n m : ℕ) (old new : File) → n ≤ m → StampsBelow n (Some old)
+    → (new.indexed ≡ old.indexed) ⊎ (new.indexed ≡ Some old.stamp) → IndexedBelow m new.indexed
 indexed_below n m old new l h (inl same) = subst (IndexedBelow m) (sym same) (IndexedBelow-more n m old.indexed l h.1)
 indexed_below n m old new l h (inr now) = subst (IndexedBelow m) (sym now) (IndexedBelow-more n m (Some old.stamp) l h.0)
 
-stamps_below_here : (world : World) (put : Put) (made : ℕ) → IsAccepted world put made → StampsBelow world.next_stamp (file_of world put.id) → StampsBelow (world.next_stamp + put.drawn) put.file
+stamps_below_here : (world : World) (put : Put) (made : ℕ) → IsAccepted world put made
+    → StampsBelow world.next_stamp (file_of world put.id) → StampsBelow (world.next_stamp + put.drawn) put.file
 stamps_below_here world put made (makes new one id file stamp indexed free) h =
     let next = world.next_stamp + put.drawn in
     subst (StampsBelow next) (sym file) (omega (arith, stamp.0, stamp.1), subst (IndexedBelow next) (sym indexed) tt)
@@ -46,7 +47,8 @@ stamps_below_here world put made (edits old new none found file stamp path index
     let was : StampsBelow world.next_stamp (Some old) = subst (StampsBelow world.next_stamp) found h in
     subst (StampsBelow next) (sym file) (below stamp was.0, indexed_below world.next_stamp next old new (omega arith) was indexed)
   where
-    below : IsAsStamped old new ⊎ ((new.stamp ≡ world.next_stamp) × (put.drawn ≡ 1)) → old.stamp < world.next_stamp → new.stamp < world.next_stamp + put.drawn
+    below : IsAsStamped old new ⊎ ((new.stamp ≡ world.next_stamp) × (put.drawn ≡ 1)) → old.stamp < world.next_stamp
+        → new.stamp < world.next_stamp + put.drawn
     below (inl same) l = omega (arith, same.stamp)
     below (inr drawn) l = omega (arith, drawn.0, drawn.1)
 
@@ -57,7 +59,8 @@ abbrev pub IsApart : World → Type 0
 IsApart world = (i j : ℕ) (file other : File) → file_of world i ≡ Some file → file_of world j ≡ Some other → file.path ≡ other.path → i ≡ j
 
 -- the file of a put has the path of no other
-new_path : (world : World) (put : Put) (made : ℕ) → IsAccepted world put made → IsApart world → (id : ℕ) (file other : File) → id ≢ put.id → put.file ≡ Some file → file_of world id ≡ Some other → file.path ≢ other.path
+new_path : (world : World) (put : Put) (made : ℕ) → IsAccepted world put made → IsApart world → (id : ℕ) (file other : File)
+    → id ≢ put.id → put.file ≡ Some file → file_of world id ≡ Some other → file.path ≢ other.path
 new_path world put made (makes new one next is stamp indexed free) apart id file other n e e' same =
     let p : new ≡ file = cc in
     none_at_free world new.path id other free e' (sym same ∙ sym (ap (λ (x : File). x.path) p))
@@ -96,7 +99,8 @@ id_at-live world id file apart e = by (id_at world file.path) refl
         is ∙ ap Some same
 
 -- what is at a path is a live file with that path
-pub live-id_at : (world : World) (path : List ℕ) (id : ℕ) → id_at world path ≡ Some id → (file : File) × (file_of world id ≡ Some file) × (file.path ≡ path)
+pub live-id_at : (world : World) (path : List ℕ) (id : ℕ) → id_at world path ≡ Some id
+    → (file : File) × (file_of world id ≡ Some file) × (file.path ≡ path)
 live-id_at world path id e =
     let f : Found world path = found world path (ap is_none e) in
     let is : Some f.id ≡ Some id = sym f.is ∙ e in
@@ -142,16 +146,20 @@ pub IsApart-fold : (entries : List Entry) → IsLegal entries → IsApart (fold 
 IsApart-fold entries legal = (IsSound-fold entries legal).apart
 
 -- the stamp of a live file is below the next one
-pub stamp_below : (entries : List Entry) (id : ℕ) (file : File) → IsLegal entries → file_of (fold entries) id ≡ Some file → file.stamp < (fold entries).next_stamp
+pub stamp_below : (entries : List Entry) (id : ℕ) (file : File) → IsLegal entries → file_of (fold entries) id ≡ Some file
+    → file.stamp < (fold entries).next_stamp
 stamp_below entries id file legal e = (subst (StampsBelow (fold entries).next_stamp) e ((IsSound-fold entries legal).below id)).0
 
 -- and so is the one at which it was indexed
-pub indexed_stamp_below : (entries : List Entry) (id : ℕ) (file : File) (stamp : ℕ) → IsLegal entries → file_of (fold entries) id ≡ Some file → file.indexed ≡ Some stamp → stamp < (fold entries).next_stamp
+pub indexed_stamp_below : (entries : List Entry) (id : ℕ) (file : File) (stamp : ℕ) → IsLegal entries
+    → file_of (fold entries) id ≡ Some file → file.indexed ≡ Some stamp → stamp < (fold entries).next_stamp
 indexed_stamp_below entries id file stamp legal e indexed =
     subst (IndexedBelow (fold entries).next_stamp) indexed (subst (StampsBelow (fold entries).next_stamp) e ((IsSound-fold entries legal).below id)).1
 
 -- a live file with the stamp of an earlier place is as it was there
-pub same_stamp-fold : (earlier later : List Entry) (id : ℕ) (old new : File) → IsLegal (earlier ++ later) → file_of (fold earlier) id ≡ Some old → file_of (fold (earlier ++ later)) id ≡ Some new → new.stamp ≡ old.stamp → IsAsStamped old new
+pub same_stamp-fold : (earlier later : List Entry) (id : ℕ) (old new : File) → IsLegal (earlier ++ later)
+    → file_of (fold earlier) id ≡ Some old → file_of (fold (earlier ++ later)) id ≡ Some new → new.stamp ≡ old.stamp
+    → IsAsStamped old new
 same_stamp-fold earlier later id old new legal e e' same =
     let IsNew : ℕ → Type 0 = λ stamp. (fold earlier).next_stamp ≤ stamp in
     let below = stamp_below earlier id old (IsLegal-split earlier later legal).0 e in

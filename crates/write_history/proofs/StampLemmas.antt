@@ -1,12 +1,12 @@
 -- Each stamp is drawn once, from a counter that never falls; a deleted file stays deleted.
-use Rattle.std.proofs.Common.{ℕ, suc, ◌≡◌, ◌≢◌, ◌⊎◌, inl, inr, ◌+◌, ◌*◌, ◌<◌, ◌≤◌, List, [], ◌∷◌, ◌++◌, length, refl, ap, sym, ◌∙◌, subst, arith, Some, None}
+use Rattle.std.proofs.Common.{ℕ, suc, ◌≡◌, ◌⊎◌, inl, inr, ◌+◌, ◌*◌, ◌<◌, ◌≤◌, List, [], ◌∷◌, ◌++◌, length, refl, ap, sym, ◌∙◌, subst, arith, Some, None}
 use Rattle.std.specs.Prelude.{Option, All}
 use Rattle.write_history.specs.declared.change.Change.{Change}
 use Rattle.write_history.specs.declared.change.Change.TheVariants.{Create, Write, Delete, OpenDoc, Insert, Erase, Commit, Save, CloseDoc, Intake, Move}
 use Rattle.write_history.specs.declared.entry.Entry.{Entry}
 use Rattle.write_history.specs.World.{World, File, empty_world, file_of, next_id}
 use Rattle.write_history.specs.Effect.{Put, put_of, refusal_of}
-use Rattle.write_history.specs.Fold.{after_put, effect_of, effects_of, after_list, fold, fold_from, IsLegal, IsLegalFrom}
+use Rattle.write_history.specs.Fold.{effect_of, effects_of, after_list, fold, fold_from, IsLegal, IsLegalFrom}
 use Rattle.write_history.specs.Stamps.{stamps_drawn, files_made, IsAsStamped, KeepsOrRenews}
 use Rattle.write_history.proofs.PutLemmas.{IsAccepted, makes, ends, edits, is_accepted, is_place, by_place, next_id-after_put}
 use Rattle.write_history.proofs.FoldLemmas.{along, fold-append, IsLegal-split}
@@ -41,7 +41,8 @@ drawn_at_most_one (Intake file stamp) = omega arith
 drawn_at_most_one (Move path to) = omega arith
 
 -- a list of changes draws a stamp a change at most
-pub next_stamp-effects_of : (changes : List Change) (world : World) → (effects_of world changes).next_stamp ≤ world.next_stamp + length changes
+pub next_stamp-effects_of : (changes : List Change) (world : World)
+    → (effects_of world changes).next_stamp ≤ world.next_stamp + length changes
 next_stamp-effects_of [] world = omega arith
 next_stamp-effects_of (change ∷ changes) world =
     let drawn = next_stamp-effect_of world change in
@@ -49,7 +50,8 @@ next_stamp-effects_of (change ∷ changes) world =
     let rest = next_stamp-effects_of changes (effect_of world change) in
     omega arith
 
-next_stamp-fold_from : (entries : List Entry) (world : World) → All (λ entry. length entry.changes ≤ 64) entries → (fold_from world entries).next_stamp ≤ world.next_stamp + 64 * length entries
+next_stamp-fold_from : (entries : List Entry) (world : World) → All (λ entry. length entry.changes ≤ 64) entries
+    → (fold_from world entries).next_stamp ≤ world.next_stamp + 64 * length entries
 next_stamp-fold_from [] world few = omega arith
 next_stamp-fold_from (entry ∷ entries) world few =
     let here = next_stamp-effects_of entry.changes world in
@@ -58,11 +60,13 @@ next_stamp-fold_from (entry ∷ entries) world few =
     omega arith
 
 -- the counter of a history is at most 64 an entry, and the first stamp
-pub next_stamp-fold : (entries : List Entry) → All (λ entry. length entry.changes ≤ 64) entries → (fold entries).next_stamp ≤ 64 * length entries + 1
+pub next_stamp-fold : (entries : List Entry) → All (λ entry. length entry.changes ≤ 64) entries
+    → (fold entries).next_stamp ≤ 64 * length entries + 1
 next_stamp-fold entries few = let r = next_stamp-fold_from entries empty_world few in omega arith
 
 -- how many ids are given after an accepted change
-pub next_id-effect_of : (world : World) (change : Change) → refusal_of world change ≡ None → next_id (effect_of world change) ≡ next_id world + files_made change
+pub next_id-effect_of : (world : World) (change : Change) → refusal_of world change ≡ None
+    → next_id (effect_of world change) ≡ next_id world + files_made change
 next_id-effect_of world change h = next_id-after_put world (put_of world change) (files_made change) (is_accepted world change h)
 
 entries-effects_of : (changes : List Change) (world : World) → (effects_of world changes).entries ≡ world.entries
@@ -91,7 +95,8 @@ module _ (IsNew : ℕ → Type 0) where
   KeepsOrRenews-new None new h = h
   KeepsOrRenews-new (Some old) new h = inr h
 
-  both : (old mid new : File) → IsAsStamped old mid ⊎ IsNew mid.stamp → IsAsStamped mid new ⊎ IsNew new.stamp → IsAsStamped old new ⊎ IsNew new.stamp
+  both : (old mid new : File) → IsAsStamped old mid ⊎ IsNew mid.stamp → IsAsStamped mid new ⊎ IsNew new.stamp
+      → IsAsStamped old new ⊎ IsNew new.stamp
   both old mid new p (inr h) = inr h
   both old mid new (inl same) (inl more) = inl (record { stamp = more.stamp ∙ same.stamp; content = more.content ∙ same.content; path = more.path ∙ same.path })
   both old mid new (inr h) (inl more) = inr (subst IsNew (sym more.stamp) h)
@@ -100,13 +105,15 @@ module _ (IsNew : ℕ → Type 0) where
   still_new mid new h (inr k) = k
   still_new mid new h (inl more) = subst IsNew (sym more.stamp) h
 
-  KeepsOrRenews-trans : (old mid new : Option File) → KeepsOrRenews IsNew old mid → KeepsOrRenews IsNew mid new → KeepsOrRenews IsNew old new
+  KeepsOrRenews-trans : (old mid new : Option File) → KeepsOrRenews IsNew old mid → KeepsOrRenews IsNew mid new
+      → KeepsOrRenews IsNew old new
   KeepsOrRenews-trans old mid None p q = tt
   KeepsOrRenews-trans old None (Some new) p q = KeepsOrRenews-new old new q
   KeepsOrRenews-trans None (Some mid) (Some new) p q = still_new mid new p q
   KeepsOrRenews-trans (Some old) (Some mid) (Some new) p q = both old mid new p q
 
-  renewed_here : (world : World) (put : Put) (made : ℕ) → IsAccepted world put made → IsNew world.next_stamp → KeepsOrRenews IsNew (file_of world put.id) put.file
+  renewed_here : (world : World) (put : Put) (made : ℕ) → IsAccepted world put made → IsNew world.next_stamp
+      → KeepsOrRenews IsNew (file_of world put.id) put.file
   renewed_here world put made (makes new one id file stamp indexed free) h =
       subst (KeepsOrRenews IsNew (file_of world put.id)) (sym file) (KeepsOrRenews-new (file_of world put.id) new (subst IsNew (sym stamp.0) h))
   renewed_here world put made (ends old none found file) h = subst (KeepsOrRenews IsNew (file_of world put.id)) (sym file) tt
@@ -116,7 +123,8 @@ module _ (IsNew : ℕ → Type 0) where
       subst (KeepsOrRenews IsNew (file_of world put.id)) (sym file) (KeepsOrRenews-new (file_of world put.id) new (subst IsNew (sym stamp.0) h))
 
   -- an accepted change keeps what has an id as it was stamped, or ends it, or gives it the next stamp
-  pub KeepsOrRenews-effect_of : (world : World) (change : Change) (id : ℕ) → refusal_of world change ≡ None → IsNew world.next_stamp → KeepsOrRenews IsNew (file_of world id) (file_of (effect_of world change) id)
+  pub KeepsOrRenews-effect_of : (world : World) (change : Change) (id : ℕ) → refusal_of world change ≡ None
+      → IsNew world.next_stamp → KeepsOrRenews IsNew (file_of world id) (file_of (effect_of world change) id)
   KeepsOrRenews-effect_of world change id accepted h =
       let put = put_of world change in
       let a = is_accepted world change accepted in
@@ -126,7 +134,8 @@ module _ (IsNew : ℕ → Type 0) where
       (λ n. KeepsOrRenews-itself (file_of world id))
 
 -- a file that was deleted stays so
-pub gone-effect_of : (world : World) (change : Change) (id : ℕ) → refusal_of world change ≡ None → id < next_id world → file_of world id ≡ None → file_of (effect_of world change) id ≡ None
+pub gone-effect_of : (world : World) (change : Change) (id : ℕ) → refusal_of world change ≡ None → id < next_id world
+    → file_of world id ≡ None → file_of (effect_of world change) id ≡ None
 gone-effect_of world change id accepted less gone =
     let put = put_of world change in
     let a = is_accepted world change accepted in
@@ -145,7 +154,8 @@ pub record IsLater (start world : World) : Type 0 where
   pub kept : (id : ℕ) → KeepsOrRenews (λ stamp. start.next_stamp ≤ stamp) (file_of start id) (file_of world id)
   pub gone : (id : ℕ) → id < next_id start → file_of start id ≡ None → file_of world id ≡ None
 
-IsLater-effect_of : (start world : World) (change : Change) → refusal_of world change ≡ None → IsLater start world → IsLater start (effect_of world change)
+IsLater-effect_of : (start world : World) (change : Change) → refusal_of world change ≡ None → IsLater start world
+    → IsLater start (effect_of world change)
 IsLater-effect_of start world change accepted h =
     let drawn = next_stamp-effect_of world change in
     let made = next_id-effect_of world change accepted in
