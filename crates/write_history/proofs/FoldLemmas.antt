@@ -1,6 +1,7 @@
 -- A longer history goes on from the shorter one, and what each accepted change keeps, a legal history keeps.
 use Rattle.std.proofs.Common.{◌≡◌, ◌+◌, length, arith, List, [], ◌∷◌, ◌++◌, refl, ap, ◌∙◌, Some, None}
 use Rattle.std.specs.Prelude.{Option, option_map}
+use Rattle.std.specs.List.{AllByRecursion}
 use Rattle.write_history.specs.declared.change.Change.{Change}
 use Rattle.write_history.specs.declared.entry.Entry.{Entry}
 use Rattle.write_history.specs.declared.refusal.Refusal.{Refusal}
@@ -46,20 +47,36 @@ pub list_accepted : (world : World) (change : Change) (changes : List Change) �
     → (refusal_of world change ≡ None) × (list_refusal (effect_of world change) changes ≡ None)
 list_accepted world change changes h = accepted_first (refusal_of world change) (list_refusal (effect_of world change) changes) h
 
-module _ (P : World → Type 0)
-    (change_keeps : (world : World) (change : Change) → refusal_of world change ≡ None → P world → P (effect_of world change))
+module _ (P : World → Type 0) (IsGiven : Change → Type 0)
+    (change_keeps : (world : World) (change : Change) → refusal_of world change ≡ None → IsGiven change → P world → P (effect_of world change))
     (count_keeps : (world : World) → P world → P (counted world)) where
-  -- what each accepted change keeps, a list that isn't refused keeps
-  pub along_changes : (changes : List Change) (world : World) → list_refusal world changes ≡ None → P world → P (effects_of world changes)
-  along_changes [] world h p = p
-  along_changes (change ∷ changes) world h p =
+  along_changes : (changes : List Change) (world : World) → list_refusal world changes ≡ None → AllByRecursion IsGiven changes
+      → P world → P (effects_of world changes)
+  along_changes [] world h given p = p
+  along_changes (change ∷ changes) world h given p =
       let a = list_accepted world change changes h in
-      along_changes changes (effect_of world change) a.1 (change_keeps world change a.0 p)
+      along_changes changes (effect_of world change) a.1 given.1 (change_keeps world change a.0 given.0 p)
 
-  -- and so does a legal history
-  pub along : (entries : List Entry) (world : World) → IsLegalFrom world entries → P world → P (fold_from world entries)
-  along [] world h p = p
-  along (entry ∷ entries) world h p = along entries (after_list world entry.changes) h.1 (count_keeps (effects_of world entry.changes) (along_changes entry.changes world h.0 p))
+  -- what each accepted change keeps of which something is given, a legal history keeps
+  pub along_given : (entries : List Entry) (world : World) → IsLegalFrom world entries
+      → AllByRecursion (λ entry. AllByRecursion IsGiven entry.changes) entries → P world → P (fold_from world entries)
+  along_given [] world h given p = p
+  along_given (entry ∷ entries) world h given p =
+      along_given entries (after_list world entry.changes) h.1 given.1 (count_keeps (effects_of world entry.changes) (along_changes entry.changes world h.0 given.0 p))
+
+nothing_given : (changes : List Change) → AllByRecursion (λ change. Unit {0}) changes
+nothing_given [] = tt
+nothing_given (change ∷ changes) = (tt, nothing_given changes)
+
+none_given : (entries : List Entry) → AllByRecursion (λ entry. AllByRecursion (λ change. Unit {0}) entry.changes) entries
+none_given [] = tt
+none_given (entry ∷ entries) = (nothing_given entry.changes, none_given entries)
+
+-- what each accepted change keeps, a legal history keeps
+pub along : (P : World → Type 0)
+    → ((world : World) (change : Change) → refusal_of world change ≡ None → P world → P (effect_of world change))
+    → ((world : World) → P world → P (counted world)) → (entries : List Entry) (world : World) → IsLegalFrom world entries → P world → P (fold_from world entries)
+along P change_keeps count_keeps entries world h p = along_given P (λ change. Unit {0}) (λ w change accepted given q. change_keeps w change accepted q) count_keeps entries world h (none_given entries) p
 
 -- ---- lists of changes
 

@@ -5,3 +5,4 @@ pub mod StampLemmas
 pub mod SoundLemmas
 pub mod UnreadyLemmas
 pub mod CountLemmas
+pub mod TextLemmas

@@ -18,7 +18,7 @@ ascii_at (b ∷ word) ascii zero = ltb-true b 128 (and_parts _ _ ascii).0
 ascii_at (b ∷ word) ascii (suc i) = ascii_at word (and_parts _ _ ascii).1 i
 
 -- two tests that fail
-both_false : (a b : Bool) → (a || b) ≡ false → (a ≡ false) × (b ≡ false)
+pub both_false : (a b : Bool) → (a || b) ≡ false → (a ≡ false) × (b ≡ false)
 both_false true b h = absurd (false≢true (sym h))
 both_false false b h = (refl, h)
 

@@ -122,7 +122,8 @@ found_at world path (Some place) e h =
 pub found : (world : World) (path : List ℕ) → is_none (id_at world path) ≡ false → Found world path
 found world path h = found_at world path (position (has_path path) world.files) refl h
 
-edit_at-found : (world : World) (path : List ℕ) (drawn : ℕ) (edit : File → Option File) (f : Found world path)
+-- an edit of a file that is found
+pub edit_at-found : (world : World) (path : List ℕ) (drawn : ℕ) (edit : File → Option File) (f : Found world path)
     → edit_at world path drawn edit ≡ record { id = f.id; file = edit f.old; drawn = drawn }
 edit_at-found world path drawn edit f =
     let to : Option ℕ → Put = λ o. record { id = unwrap_or o 0; file = option_and_then edit (option_and_then (file_of world) o); drawn = drawn } in

@@ -6,6 +6,7 @@ pub mod Effect
 pub mod Fold
 pub mod Stamps
 pub mod Counts
+pub mod Texts
 -- The kept history and its print
 pub mod Kept
 pub mod Print

@@ -10,6 +10,9 @@ ghost use Rattle.write_history.specs.Effect.{Put, put_of, refusal_of, stamp_of};
 ghost use Rattle.write_history.specs.Fold.{after_put, effect_of, effects_of, after_list, list_refusal, fold, fold_from, IsLegal, IsLegalFrom};
 ghost use Rattle.write_history.specs.Counts.{counted_as};
 ghost use Rattle.write_history.specs.declared.refusal.Refusal.{Refusal};
+ghost use Rattle.ide_text.specs.Text.{max_chars};
+ghost use Rattle.document_buf.specs.Document.{Document};
+ghost use Rattle.write_history.specs.Texts.{GivesContent};
 ghost use Rattle.write_history.specs.Stamps.{stamps_drawn, files_made, IsAsStamped, KeepsOrRenews};
 
 /// A longer history goes on from the world of the shorter one. It is legal where the shorter one is and none of its
@@ -126,6 +129,27 @@ pub fn live_files_have_paths_of_their_own()
     ensures file { (world : World) (path : List ℕ) (id : ℕ) → id_at world path ≡ Some id
         → (file : File) × (file_of world id ≡ Some file) × (file.path ≡ path) }
     ensures none { (world : World) (id : ℕ) (file : File) → id_at world file.path ≡ None → file_of world id ≡ Some file → ⊥ }
+{}
+
+/// After a legal history a saved document has the file's content.
+pub fn saved_documents_have_the_content()
+    ensures { (entries : List Entry) (id : ℕ) (file : File) (document : Document) → IsLegal entries
+        → file_of (fold entries) id ≡ Some file → file.document ≡ Some document → document.saved ≡ true
+        → document.text ≡ file.content }
+{}
+
+/// Where no change gives a file a content that is too long, no text of the world is: an insert that would make one so
+/// is refused.
+pub fn texts_stay_within_their_length()
+    ensures content { (entries : List Entry) (id : ℕ) (file : File) → IsLegal entries
+        → All (λ entry. All (GivesContent (λ text. length text ≤ max_chars)) entry.changes) entries
+        → file_of (fold entries) id ≡ Some file → length file.content ≤ max_chars }
+    ensures text { (entries : List Entry) (id : ℕ) (file : File) (document : Document) → IsLegal entries
+        → All (λ entry. All (GivesContent (λ text. length text ≤ max_chars)) entry.changes) entries
+        → file_of (fold entries) id ≡ Some file → file.document ≡ Some document → length document.text ≤ max_chars }
+    ensures committed { (entries : List Entry) (id : ℕ) (file : File) (document : Document) → IsLegal entries
+        → All (λ entry. All (GivesContent (λ text. length text ≤ max_chars)) entry.changes) entries
+        → file_of (fold entries) id ≡ Some file → file.document ≡ Some document → length document.committed ≤ max_chars }
 {}
 
 /// The lowest unready file is the first of the unready ones, of which there are as many as are counted.
