@@ -99,6 +99,8 @@ impl Doc {
         ensures document { self.new.document ≡ inserted at piece.now self.old.document }
         ensures spare { self.new.spare + length piece.now ≡ self.old.spare }
     {
+        // A piece is a text, and so is what it makes of the text.
+        let _ = piece.len();
         self.buffer.move_to(at as usize);
         self.buffer.push(piece);
         self.saved = false;

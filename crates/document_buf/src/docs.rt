@@ -14,7 +14,7 @@ use std::marker::Model;
 #[derive(Drop)]
 pub struct Docs {
     docs: Vec<Option<Doc>>,
-    open: u32,
+    open_docs: u32,
 }
 
 impl Model for Docs {
@@ -33,11 +33,11 @@ impl Docs {
     /// No documents.
     pub fn new(alloc: Global) -> Docs
         ensures documents { (id : ℕ) → document_of result id ≡ None }
-        ensures open { open_of result ≡ 0 }
+        ensures count { open_of result ≡ 0 }
     {
         Docs {
             docs: Vec::new(alloc),
-            open: 0,
+            open_docs: 0,
         }
     }
 
@@ -55,14 +55,14 @@ impl Docs {
     pub fn open_count(&self) -> u32
         ensures { result ≡ open_of self.now }
     {
-        self.open
+        self.open_docs
     }
 
     /// Makes a place for a file's document, and, where it is open, room for a number of characters more.
     pub fn reserve(&mut self, id: u32, count: u32) -> Result<(), AllocError>
         requires { 0 < id }
         ensures same { SameDocuments self.old self.new }
-        ensures open { open_of self.new ≡ open_of self.old }
+        ensures count { open_of self.new ≡ open_of self.old }
         ensures keeps { KeepsRoom self.old self.new }
         ensures place { OnOk result (HasPlace self.new id) }
         ensures room { OnOk result (IsSome (document_of self.old id) → count ≤ room_of self.new id) }
@@ -78,7 +78,7 @@ impl Docs {
     fn make_place(&mut self, id: u32) -> Result<(), AllocError>
         requires { 0 < id }
         ensures same { SameDocuments self.old self.new }
-        ensures open { open_of self.new ≡ open_of self.old }
+        ensures count { open_of self.new ≡ open_of self.old }
         ensures keeps { KeepsRoom self.old self.new }
         ensures place { OnOk result (HasPlace self.new id) }
     {
@@ -95,10 +95,10 @@ impl Docs {
         ensures documents { Becomes self.old self.new id (Some doc.document) }
         ensures room { room_of self.new id ≡ doc.spare }
         ensures keeps { KeepsRoomBut self.old self.new id }
-        ensures open { open_of self.new ≡ open_of self.old + 1 }
+        ensures count { open_of self.new ≡ open_of self.old + 1 }
     {
         self.docs[id as usize] = Some(doc);
-        self.open += 1;
+        self.open_docs += 1;
     }
 
     /// Puts a piece into the text of an open document, before an offset. It costs the piece and the way from the last
@@ -111,7 +111,7 @@ impl Docs {
         ensures documents { Becomes self.old self.new id (option_map (inserted at piece.now) (document_of self.old id)) }
         ensures room { room_of self.new id + length piece.now ≡ room_of self.old id }
         ensures keeps { KeepsRoomBut self.old self.new id }
-        ensures open { open_of self.new ≡ open_of self.old }
+        ensures count { open_of self.new ≡ open_of self.old }
     {
         match &mut self.docs[id as usize] {
             Some(doc) => doc.insert(at, piece),
@@ -127,7 +127,7 @@ impl Docs {
         requires inside { IfSome (document_of self.old id) (λ document. to ≤ length document.text) }
         ensures documents { Becomes self.old self.new id (option_map (erased from to) (document_of self.old id)) }
         ensures keeps { KeepsRoom self.old self.new }
-        ensures open { open_of self.new ≡ open_of self.old }
+        ensures count { open_of self.new ≡ open_of self.old }
     {
         match &mut self.docs[id as usize] {
             Some(doc) => doc.erase(from, to),
@@ -141,7 +141,7 @@ impl Docs {
         requires { option_map (λ document. document.text) (document_of self.old id) ≡ Some text }
         ensures documents { Becomes self.old self.new id (option_map committed (document_of self.old id)) }
         ensures keeps { KeepsRoom self.old self.new }
-        ensures open { open_of self.new ≡ open_of self.old }
+        ensures count { open_of self.new ≡ open_of self.old }
     {
         match &mut self.docs[id as usize] {
             Some(doc) => doc.commit(text),
@@ -154,7 +154,7 @@ impl Docs {
         requires { IsSome (document_of self.old id) }
         ensures documents { Becomes self.old self.new id (option_map marked_saved (document_of self.old id)) }
         ensures keeps { KeepsRoom self.old self.new }
-        ensures open { open_of self.new ≡ open_of self.old }
+        ensures count { open_of self.new ≡ open_of self.old }
     {
         match &mut self.docs[id as usize] {
             Some(doc) => doc.mark_saved(),
@@ -169,7 +169,7 @@ impl Docs {
         ensures documents { Becomes self.old self.new id (option_map (replaced other.document.text) (document_of self.old id)) }
         ensures room { room_of self.new id ≡ other.spare }
         ensures keeps { KeepsRoomBut self.old self.new id }
-        ensures open { open_of self.new ≡ open_of self.old }
+        ensures count { open_of self.new ≡ open_of self.old }
     {
         match &mut self.docs[id as usize] {
             Some(doc) => doc.replace_text(other),
@@ -182,27 +182,34 @@ impl Docs {
         requires { IsSome (document_of self.old id) }
         ensures documents { Becomes self.old self.new id None }
         ensures keeps { KeepsRoomBut self.old self.new id }
-        ensures open { open_of self.new + 1 ≡ open_of self.old }
+        ensures count { open_of self.new + 1 ≡ open_of self.old }
     {
         self.docs[id as usize] = None;
-        self.open -= 1;
+        self.open_docs -= 1;
     }
 
     /// The same documents once more. Linear in their texts and in the highest id that has a place.
     pub fn copy(&self) -> Result<Docs, AllocError>
         ensures same { IfOk result (λ copy. SameDocuments self.now copy) }
-        ensures open { IfOk result (λ copy. open_of copy ≡ open_of self.now) }
+        ensures count { IfOk result (λ copy. open_of copy ≡ open_of self.now) }
     {
         let mut docs = Vec::with_capacity(*self.docs.allocator(), self.docs.len())?;
         for doc in &self.docs {
-            docs.push(match doc {
-                Some(doc) => Some(doc.copy()?),
-                None => None,
-            })?;
+            docs.push(copy_of(doc)?)?;
         }
         Ok(Docs {
             docs,
-            open: self.open,
+            open_docs: self.open_docs,
         })
     }
+}
+
+/// The same document once more, or none.
+fn copy_of(doc: &Option<Doc>) -> Result<Option<Doc>, AllocError>
+    ensures { IfOk result (λ copy. option_map (λ held. held.document) copy ≡ option_map (λ held. held.document) doc.now) }
+{
+    Ok(match doc {
+        Some(doc) => Some(doc.copy()?),
+        None => None,
+    })
 }

@@ -103,10 +103,11 @@ impl GapBuffer {
         ensures back { self.new.back ≡ drop at (joined_of self.old) }
         ensures spare { self.new.spare ≡ self.old.spare }
     {
-        if at < self.start {
+        let start = self.start;
+        if at < start {
             self.move_back(at);
         } else {
-            self.move_on(at - self.start);
+            self.move_on(at - start);
         }
     }
 

@@ -1,0 +1,18 @@
+use Rattle.std.proofs.Common.{◌≡◌, ◌++◌, take, drop, length, ap, sym, ◌∙◌, subst, arith}
+use Rattle.std.proofs.lemmas.Bool.{true≢false}
+use Rattle.ide_text.specs.Text.{IsText}
+use Rattle.ide_text.proofs.EditLemmas.{IsText-without_part}
+use Rattle.document_buf.specs.Gap.{joined_of}
+use Rattle.document_buf.proofs.GapLemmas.{drop_part}
+use Rattle.document_buf.proofs.doc.Doc.erase.Goals as goal
+
+pub invariant_of-self : goal.invariant_of-self
+invariant_of-self c =
+    let text = joined_of c.self.inside.buffer in
+    let front : c.erase.new.self.front ≡ take c.args.from text = c.erase.ensures.front ∙ c.move_to.ensures.front in
+    let back : c.erase.new.self.back ≡ drop c.args.to text = c.erase.ensures.back ∙ ap (drop _) c.move_to.ensures.back ∙ drop_part c.args.from c.args.to text c.requires.ordered in
+    record {
+      text = subst IsText (sym (λ i. front i ++ back i))
+        (IsText-without_part c.args.from c.args.to text c.self.invariant.text c.requires.ordered (omega (arith, ap (λ held. length held.document.text) c.self.view_is)));
+      unedited = λ h. absurd (true≢false h);
+    }
