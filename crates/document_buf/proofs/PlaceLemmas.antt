@@ -2,7 +2,7 @@
 use Rattle.std.proofs.Common.{ℕ, zero, suc, ◌≡◌, ◌≢◌, ◌+◌, ◌-◌, ◌<◌, ◌≤◌, ◌^◌, List, [], ◌∷◌, ◌++◌, length, get_or, set, refl, ap, subst, sym, ◌∙◌, Option, None, Some, arith}
 use Rattle.std.specs.Prelude.{filter, map, is_some, IsSome, option_map, if◌then◌else◌}
 use Rattle.std.specs.Vec.{with_item}
-use Rattle.std.proofs.lemmas.List.{length-set, get_or-set_other, get_or_default}
+use Rattle.std.proofs.lemmas.List.{length-set, length-map, set-get_or, get_or-set_other, get_or_default}
 use Rattle.std.proofs.lemmas.Bool.{false≢true}
 use Rattle.document_buf.specs.Held.{Held, HeldDoc, HasPlace, document_of}
 use Rattle.document_buf.specs.Document.{Document}
@@ -58,6 +58,10 @@ found inside held id read doc view is_open at is =
     open_within [] n h = absurd (false≢true h)
     open_within (first ∷ rest) zero h = omega arith
     open_within (first ∷ rest) (suc n) h = omega (arith, open_within rest n h)
+
+-- the same at a place that was made
+pub read_at : (places : List (Option HeldDoc)) (id : ℕ) (read : Option HeldDoc) (doc : HeldDoc) → id < length places → read ≡ get_or places id read → read ≡ Some doc → get_or places id None ≡ Some doc
+read_at places id read doc h at is = get_or_default places id None read h ∙ sym at ∙ is
 
 -- what stands at a place where a document is open, and where none is
 pub opened : (inside : Inside) (held : Held) (id : ℕ) → held_of inside ≡ held → IsSome (document_of held id) → (doc : HeldDoc) × (get_or inside.docs.items id None ≡ Some doc)
@@ -126,6 +130,20 @@ IsHeld-more inside id new held named h e = record {
   unnamed = stays_free inside.docs.items id (Some new) held.unnamed (omega arith);
 }
 
+-- a place that is written as it was read
+pub set_read : (places : List (Option HeldDoc)) (id : ℕ) (read : Option HeldDoc) → read ≡ get_or places id read → set places id read ≡ places
+set_read places id read at = ap (set places id) at ∙ set-get_or places id read
+
+pub IsHeld-read : (inside : Inside) (id : ℕ) (read : Option HeldDoc) → IsHeld inside → read ≡ get_or inside.docs.items id read
+    → IsHeld record { docs = with_item inside.docs id read; open_docs = inside.open_docs }
+IsHeld-read inside id read held at =
+    let same = set_read inside.docs.items id read at in
+    record {
+      counted = held.counted ∙ sym (ap count same);
+      few = omega (arith, held.few, ap length same);
+      unnamed = ap (λ ps. get_or ps 0 None) same ∙ held.unnamed;
+    }
+
 -- one more document still fits the count
 pub count_fits : (inside : Inside) (id : ℕ) (new : HeldDoc) → IsHeld inside → 0 < id → id < length inside.docs.items → get_or inside.docs.items id None ≡ None → inside.open_docs + 1 < 2 ^ 32
 count_fits inside id new held named h e =
@@ -141,3 +159,33 @@ pub record IsWidened (old new : List (Option HeldDoc)) : Type 0 where
 -- the documents at the places
 abbrev pub documents : List (Option HeldDoc) → List (Option Document)
 documents places = map (option_map (λ doc. doc.document)) places
+
+-- the document at a place, and past the places none
+document-at : (places : List (Option HeldDoc)) (id : ℕ) → option_map (λ doc. doc.document) (get_or places id None) ≡ get_or (documents places) id None
+document-at [] id = refl
+document-at (first ∷ rest) zero = refl
+document-at (first ∷ rest) (suc id) = document-at rest id
+
+-- as many documents are open as there are documents
+count-documents : (places : List (Option HeldDoc)) → count places ≡ length (filter is_some (documents places))
+count-documents [] = refl
+count-documents (Some doc ∷ rest) = ap suc (count-documents rest)
+count-documents (None ∷ rest) = count-documents rest
+
+-- where the documents are the same, each is
+pub same_document : (xs ys : List (Option HeldDoc)) → documents xs ≡ documents ys → (id : ℕ) → option_map (λ doc. doc.document) (get_or xs id None) ≡ option_map (λ doc. doc.document) (get_or ys id None)
+same_document xs ys e id = document-at xs id ∙ ap (λ ds. get_or ds id None) e ∙ sym (document-at ys id)
+
+-- and as many are open
+pub same_count : (xs ys : List (Option HeldDoc)) → documents xs ≡ documents ys → count xs ≡ count ys
+same_count xs ys e = count-documents xs ∙ ap (λ ds. length (filter is_some ds)) e ∙ sym (count-documents ys)
+
+-- documents at the places of others that are the same
+pub IsHeld-copied : (inside copied : Inside) → documents copied.docs.items ≡ documents inside.docs.items → copied.open_docs ≡ inside.open_docs → IsHeld inside → IsHeld copied
+IsHeld-copied inside copied e n held =
+    let len : length copied.docs.items ≡ length inside.docs.items = sym (length-map copied.docs.items (option_map (λ doc. doc.document))) ∙ ap length e ∙ length-map inside.docs.items (option_map (λ doc. doc.document)) in
+    record {
+      counted = n ∙ held.counted ∙ sym (same_count copied.docs.items inside.docs.items e);
+      few = omega (arith, held.few, len);
+      unnamed = none_of (get_or copied.docs.items 0 None) (same_document copied.docs.items inside.docs.items e 0 ∙ ap (option_map (λ doc. doc.document)) held.unnamed);
+    }
