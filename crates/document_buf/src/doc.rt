@@ -11,6 +11,13 @@ use std::marker::Model;
 /// A document that is open, or ready to be opened. Seen by contracts as the document and the room of its buffer.
 #[derive(Drop)]
 pub struct Doc {
+    /// Boxed, so that the place of an id without a document is small.
+    state: Box<DocState>,
+}
+
+/// What a document is made of.
+#[derive(Drop)]
+struct DocState {
     buffer: GapBuffer,
     committed: SharedText,
     saved: bool,
@@ -39,11 +46,14 @@ impl Doc {
         let text = content.as_text();
         let mut buffer = GapBuffer::with_room(alloc, text.len() as usize + room as usize)?;
         buffer.push(text);
-        Ok(Doc {
+        let state = DocState {
             buffer,
             committed: content.share()?,
             saved: true,
             edited: false,
+        };
+        Ok(Doc {
+            state: Box::new(alloc, state)?,
         })
     }
 
@@ -52,35 +62,35 @@ impl Doc {
         ensures len { result ≡ length self.now.document.text }
         ensures text { IsText self.now.document.text }
     {
-        self.buffer.len() as u32
+        self.state.buffer.len() as u32
     }
 
     /// How many characters more may be inserted without memory.
     pub fn spare(&self) -> usize
         ensures { result ≡ self.now.spare }
     {
-        self.buffer.spare()
+        self.state.buffer.spare()
     }
 
     /// The text. Linear in it.
     pub fn text(&self) -> Result<Text, AllocError>
         ensures { IfOk result (λ text. text ≡ self.now.document.text) }
     {
-        Text::joined(self.buffer.alloc(), self.buffer.front(), self.buffer.back())
+        Text::joined(self.state.buffer.alloc(), self.state.buffer.front(), self.state.buffer.back())
     }
 
     /// The text as last committed.
     pub fn committed(&self) -> &SharedText
         ensures { result.now ≡ self.now.document.committed }
     {
-        &self.committed
+        &self.state.committed
     }
 
     /// Whether the file has the text.
     pub fn saved(&self) -> bool
         ensures { result ≡ self.now.document.saved }
     {
-        self.saved
+        self.state.saved
     }
 
     /// Whether the text is the committed one. Constant time where nothing was edited since, or where the lengths
@@ -88,7 +98,7 @@ impl Doc {
     pub fn is_committed(&self) -> bool
         ensures { result ≡ bytes_eq self.now.document.text self.now.document.committed }
     {
-        !self.edited || self.buffer.is_text(self.committed.as_text())
+        !self.state.edited || self.state.buffer.is_text(self.state.committed.as_text())
     }
 
     /// Puts a piece in before an offset, in the time of the piece and of the way from the last edit.
@@ -101,10 +111,11 @@ impl Doc {
     {
         // A piece is a text, and so is what it makes of the text.
         let _ = piece.len();
-        self.buffer.move_to(at as usize);
-        self.buffer.push(piece);
-        self.saved = false;
-        self.edited = true;
+        let state = &mut *self.state;
+        state.buffer.move_to(at as usize);
+        state.buffer.push(piece);
+        state.saved = false;
+        state.edited = true;
     }
 
     /// Takes the characters from one offset up to another out, in the time of the way from the last edit.
@@ -114,10 +125,11 @@ impl Doc {
         ensures document { self.new.document ≡ erased from to self.old.document }
         ensures spare { self.old.spare ≤ self.new.spare }
     {
-        self.buffer.move_to(from as usize);
-        self.buffer.erase((to - from) as usize);
-        self.saved = false;
-        self.edited = true;
+        let state = &mut *self.state;
+        state.buffer.move_to(from as usize);
+        state.buffer.erase((to - from) as usize);
+        state.saved = false;
+        state.edited = true;
     }
 
     /// Takes the text as the committed one.
@@ -126,8 +138,8 @@ impl Doc {
         ensures document { self.new.document ≡ committed_now self.old.document }
         ensures spare { self.new.spare ≡ self.old.spare }
     {
-        self.committed = text;
-        self.edited = false;
+        self.state.committed = text;
+        self.state.edited = false;
     }
 
     /// Notes that the file has the text.
@@ -135,7 +147,7 @@ impl Doc {
         ensures document { self.new.document ≡ marked_saved self.old.document }
         ensures spare { self.new.spare ≡ self.old.spare }
     {
-        self.saved = true;
+        self.state.saved = true;
     }
 
     /// Takes the text and the buffer of another document, which the file has; the committed text stays.
@@ -143,10 +155,11 @@ impl Doc {
         ensures document { self.new.document ≡ replaced doc.document.text self.old.document }
         ensures spare { self.new.spare ≡ doc.spare }
     {
-        let Doc { buffer, .. } = doc;
-        self.buffer = buffer;
-        self.saved = true;
-        self.edited = true;
+        let Doc { state } = doc;
+        let DocState { buffer, .. } = Box::into_inner(state);
+        self.state.buffer = buffer;
+        self.state.saved = true;
+        self.state.edited = true;
     }
 
     /// Makes room for a number of characters more.
@@ -156,9 +169,9 @@ impl Doc {
         ensures keeps { self.old.spare ≤ self.new.spare }
     {
         let count = count as usize;
-        if self.buffer.spare() < count {
-            let wide = count.max(self.buffer.len() / 2);
-            self.buffer = self.buffer.with_spare(wide)?;
+        if self.state.buffer.spare() < count {
+            let wide = count.max(self.state.buffer.len() / 2);
+            self.state.buffer = self.state.buffer.with_spare(wide)?;
         }
         Ok(())
     }
@@ -167,11 +180,14 @@ impl Doc {
     pub(crate) fn copy(&self) -> Result<Doc, AllocError>
         ensures document { IfOk result (λ copy. copy.document ≡ self.now.document) }
     {
+        let state = DocState {
+            buffer: self.state.buffer.with_spare(0)?,
+            committed: self.state.committed.share()?,
+            saved: self.state.saved,
+            edited: self.state.edited,
+        };
         Ok(Doc {
-            buffer: self.buffer.with_spare(0)?,
-            committed: self.committed.share()?,
-            saved: self.saved,
-            edited: self.edited,
+            state: Box::new(self.state.buffer.alloc(), state)?,
         })
     }
 }
