@@ -1,16 +1,11 @@
 -- Texts with a piece put in or taken out are texts, and when two texts are the same.
-use Rattle.std.proofs.Common.{ℕ, zero, suc, ◌≡◌, ◌≢◌, ◌+◌, ◌-◌, ◌<◌, ◌≤◌, Bool, true, false, List, [], ◌∷◌, ◌++◌, length, take, drop, get_or, bytes_eq, encode_utf8_all, refl, ap, sym, ◌∙◌, Some, arith, length-append}
-use Rattle.std.specs.Prelude.{slice_get, ◌==◌}
+use Rattle.std.proofs.Common.{ℕ, zero, suc, ◌≡◌, ◌+◌, ◌-◌, ◌≤◌, true, List, [], ◌∷◌, ◌++◌, length, take, drop, bytes_eq, encode_utf8_all, ap, sym, ◌∙◌, arith, length-append}
 use Rattle.std.specs.Str.{chars, all_scalars}
-use Rattle.std.specs.Cmp.{first_so, second_so}
 use Rattle.std.specs.Cmp.Lexicographic.{bytes_decides}
-use Rattle.std.proofs.lemmas.List.{length-take, length-drop, take_all, take_rest, take_more_same}
+use Rattle.std.proofs.lemmas.List.{length-take, length-drop, take_all, take_rest}
 use Rattle.std.proofs.lemmas.Str.{encodes-append, chars-encodes}
-use Rattle.std.proofs.lemmas.Option.{get_or_from_slice_get}
 use native.Mathlib.Nat.{sub-zero}
-use Rattle.std.proofs.lemmas.Bool.{false≢true}
-use Rattle.list_laws.proofs.BoolLemmas.{bool_cases}
-use Rattle.ide_text.specs.Text.{max_chars, carriage_return, HasNoReturn, IsText}
+use Rattle.ide_text.specs.Text.{max_chars, HasNoReturn, IsText}
 use Rattle.ide_text.proofs.TextLemmas.{HasNoReturn-append, all_scalars-append}
 use Rattle.ide_text.proofs.Utf8Lemmas.{all_scalars-take, all_scalars-drop}
 
@@ -38,8 +33,8 @@ IsText-with_piece at piece text p t inside fits = record {
   few = omega (arith, length-append (take at text ++ piece) (drop at text), length-append (take at text) piece, length-take at text, length-drop at text);
   scalars = all_scalars-with_piece at piece text p.scalars t.scalars;
   no_return = HasNoReturn-append (take at text ++ piece) (drop at text)
-    (HasNoReturn-append (take at text) piece (HasNoReturn-take at text t.no_return) p.no_return)
-    (HasNoReturn-drop at text t.no_return);
+      (HasNoReturn-append (take at text) piece (HasNoReturn-take at text t.no_return) p.no_return)
+      (HasNoReturn-drop at text t.no_return);
 }
 
 -- a text with a part taken out is a text
@@ -56,30 +51,15 @@ pub chars-with_piece : (at : ℕ) (piece text bytes : List ℕ) → all_scalars 
     → chars bytes ≡ take at text ++ piece ++ drop at text
 chars-with_piece at piece text bytes scalar e =
     ap chars (e
-      ∙ (λ i. encode_utf8_all (take (sub-zero at i) text) ++ encode_utf8_all (take_rest piece 0 i) ++ encode_utf8_all (take_rest text at i))
-      ∙ ap (λ bs. bs ++ encode_utf8_all (drop at text)) (sym (encodes-append (take at text) piece))
-      ∙ sym (encodes-append (take at text ++ piece) (drop at text)))
+    ∙ (λ i. encode_utf8_all (take (sub-zero at i) text) ++ encode_utf8_all (take_rest piece 0 i) ++ encode_utf8_all (take_rest text at i))
+    ∙ ap (λ bs. bs ++ encode_utf8_all (drop at text)) (sym (encodes-append (take at text) piece))
+    ∙ sym (encodes-append (take at text ++ piece) (drop at text)))
     ∙ chars-encodes (take at text ++ piece ++ drop at text) scalar
 
 -- the same of two lists, one pushed after the other
 pub chars-two : (front back bytes : List ℕ) → all_scalars (front ++ back) ≡ true → bytes ≡ encode_utf8_all front ++ encode_utf8_all back → chars bytes ≡ front ++ back
 chars-two front back bytes scalar e = ap chars (e ∙ sym (encodes-append front back)) ∙ chars-encodes (front ++ back) scalar
 
--- lists that differ in length or at a place aren't the same
-differ : (xs ys : List ℕ) → xs ≢ ys → false ≡ bytes_eq xs ys
-differ xs ys h = bool_cases (bytes_eq xs ys) (λ b. false ≡ b) (λ e. absurd (h ((bytes_decides xs ys).0 e))) (λ _. refl)
-
-pub differ_in_length : (xs ys : List ℕ) → length xs ≢ length ys → false ≡ bytes_eq xs ys
-differ_in_length xs ys h = differ xs ys (λ e. h (ap length e))
-
-pub differ_at : (xs ys : List ℕ) (i c d : ℕ) → slice_get xs i ≡ Some c → slice_get ys i ≡ Some d → c ≢ d → false ≡ bytes_eq xs ys
-differ_at xs ys i c d x y h = differ xs ys (λ e. let f : slice_get xs i ≡ slice_get ys i = ap (λ zs. slice_get zs i) e in h (cc))
-
--- lists that are the same up to a place and at it are the same up to the next
-pub same_more : (xs ys : List ℕ) (i c d : ℕ) → i < length xs → i < length ys → slice_get xs i ≡ Some c → slice_get ys i ≡ Some d → c ≡ d → take i xs ≡ take i ys → take (i + 1) xs ≡ take (i + 1) ys
-same_more xs ys i c d l m x y e h =
-    take_more_same xs ys i 0 l m h (get_or_from_slice_get xs i c 0 x ∙ e ∙ sym (get_or_from_slice_get ys i d 0 y))
-
--- and to their end they are the same
+-- lists of one length that are the same up to it are the same
 pub same_to_end : (xs ys : List ℕ) (n : ℕ) → length xs ≡ n → length ys ≡ n → take n xs ≡ take n ys → true ≡ bytes_eq xs ys
 same_to_end xs ys n l m h = sym ((bytes_decides xs ys).1 (sym (take_all n xs (omega arith)) ∙ h ∙ take_all n ys (omega arith)))

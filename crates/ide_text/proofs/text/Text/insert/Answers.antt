@@ -10,7 +10,7 @@ with_piece-requires-clause-scalars c =
 
 pub invariant_of-self : goal.invariant_of-self
 invariant_of-self c = (
-    subst IsText (sym c.in_ok-self-inside.ensures.value)
-    (IsText-with_piece c.args.at (chars_of c.piece.inside.chars) (chars_of c.self.inside.chars) c.piece.invariant.0 c.self.invariant.0 (omega (arith, ap length c.self.view_is)) (omega (arith, ap length c.self.view_is, ap length c.piece.view_is))),
-    c.in_ok-self-inside.ensures.kept,
-  )
+  subst IsText (sym c.in_ok-self-inside.ensures.value)
+      (IsText-with_piece c.args.at (chars_of c.piece.inside.chars) (chars_of c.self.inside.chars) c.piece.invariant.0 c.self.invariant.0 (omega (arith, ap length c.self.view_is)) (omega (arith, ap length c.self.view_is, ap length c.piece.view_is))),
+  c.in_ok-self-inside.ensures.kept,
+)

@@ -1,4 +1,4 @@
-use Rattle.std.proofs.Common.{sym, arith}
+use Rattle.std.proofs.Common.{arith}
 use Rattle.ide_text.proofs.EditLemmas.{same_to_end}
 use Rattle.ide_text.proofs.text.Text.is_same.Goals as goal
 
