@@ -1,5 +1,5 @@
 -- Documents at their places: how many are open, and what a change of one place leaves.
-use Rattle.std.proofs.Common.{ℕ, zero, suc, ◌≡◌, ◌≢◌, ◌+◌, ◌-◌, ◌<◌, ◌≤◌, ◌^◌, List, [], ◌∷◌, ◌++◌, length, get_or, set, refl, ap, subst, sym, ◌∙◌, Option, None, Some, arith}
+use Rattle.std.proofs.Common.{ℕ, zero, suc, ◌≡◌, ◌≢◌, ◌+◌, ◌-◌, ◌<◌, ◌≤◌, ◌^◌, List, [], ◌∷◌, length, get_or, set, refl, ap, subst, sym, ◌∙◌, Option, None, Some, arith}
 use Rattle.std.specs.Prelude.{filter, map, is_some, IsSome, option_map, if◌then◌else◌}
 use Rattle.std.specs.Vec.{with_item}
 use Rattle.std.proofs.lemmas.List.{length-set, length-map, set-get_or, get_or-set_other, get_or_default}
@@ -147,8 +147,14 @@ IsHeld-read inside id read held at =
 -- one more document still fits the count
 pub count_fits : (inside : Inside) (id : ℕ) (new : HeldDoc) → IsHeld inside → 0 < id → id < length inside.docs.items → get_or inside.docs.items id None ≡ None → inside.open_docs + 1 < 2 ^ 32
 count_fits inside id new held named h e =
-    omega (arith, held.counted, held.few, count_more inside.docs.items id new h e, length-set inside.docs.items id (Some new),
-      count_lt (set inside.docs.items id (Some new)) 0 (omega (arith, length-set inside.docs.items id (Some new))) (ap one_if (stays_free inside.docs.items id (Some new) held.unnamed (omega arith))))
+    omega (
+      arith,
+      held.counted,
+      held.few,
+      count_more inside.docs.items id new h e,
+      length-set inside.docs.items id (Some new),
+      count_lt (set inside.docs.items id (Some new)) 0 (omega (arith, length-set inside.docs.items id (Some new))) (ap one_if (stays_free inside.docs.items id (Some new) held.unnamed (omega arith))),
+    )
 
 -- the places are those of before, and free ones after them
 pub record IsWidened (old new : List (Option HeldDoc)) : Type 0 where

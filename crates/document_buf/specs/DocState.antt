@@ -1,5 +1,5 @@
 -- What a document is made of.
-use Rattle.std.specs.Prelude.{ℕ, ◌≡◌, false}
+use Rattle.std.specs.Prelude.{◌≡◌, false}
 use Rattle.ide_text.specs.Text.{IsText}
 use Rattle.document_buf.specs.Held.{HeldDoc}
 use Rattle.document_buf.specs.Gap.{joined_of}

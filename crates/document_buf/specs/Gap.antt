@@ -1,8 +1,5 @@
 -- A list of characters in one buffer with a gap.
-use Rattle.std.specs.Prelude.{ℕ, ◌≡◌, ◌≤◌, ◌-◌, Bool, false, List, ◌++◌, take, drop, length}
-use Rattle.ide_text.specs.Text.{IsText}
-use Rattle.document_buf.specs.Document.{Document}
-use Rattle.document_buf.specs.Held.{HeldDoc}
+use Rattle.std.specs.Prelude.{ℕ, ◌≤◌, ◌-◌, List, ◌++◌, take, drop, length}
 use Rattle.document_buf.specs.declared.gap.GapBuffer.TheInside.{Inside}
 
 -- what stands before the gap and after it, and how wide the gap is

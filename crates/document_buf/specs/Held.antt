@@ -1,5 +1,5 @@
 -- The documents that are open, by the ids of their files, and the room that was made beside them.
-use Rattle.std.specs.Prelude.{ℕ, ◌≡◌, ◌<◌, ◌≤◌, ◌==◌, false, if◌then◌else◌, List, length, filter, Option, None, IsSome, is_some, option_map, slice_index_or}
+use Rattle.std.specs.Prelude.{ℕ, ◌≡◌, ◌<◌, ◌≤◌, ◌==◌, false, if◌then◌else◌, List, length, filter, Option, None, is_some, option_map, slice_index_or}
 use Rattle.std.specs.Option.{option_map_or}
 use Rattle.document_buf.specs.Document.{Document}
 

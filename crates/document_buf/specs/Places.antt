@@ -1,6 +1,6 @@
 -- How the documents stand at their places.
-use Rattle.std.specs.Prelude.{ℕ, ◌≡◌, ◌≤◌, ◌^◌, None, length, filter, is_some, slice_index_or}
-use Rattle.document_buf.specs.Held.{Held, HeldDoc, open_of}
+use Rattle.std.specs.Prelude.{◌≡◌, ◌≤◌, ◌^◌, None, length, slice_index_or}
+use Rattle.document_buf.specs.Held.{Held, open_of}
 use Rattle.document_buf.specs.declared.docs.Docs.TheInside.{Inside}
 
 -- what contracts see of the documents

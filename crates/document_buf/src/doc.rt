@@ -76,7 +76,11 @@ impl Doc {
     pub fn text(&self) -> Result<Text, AllocError>
         ensures { IfOk result (λ text. text ≡ self.now.document.text) }
     {
-        Text::joined(self.state.buffer.alloc(), self.state.buffer.front(), self.state.buffer.back())
+        Text::joined(
+            self.state.buffer.alloc(),
+            self.state.buffer.front(),
+            self.state.buffer.back(),
+        )
     }
 
     /// The text as last committed.

@@ -27,14 +27,23 @@ fn spelled(alloc: Global, chars: &[char]) -> Result<String, AllocError> {
 #[test]
 fn all_choices_of_three_places(rt: HostRuntime) -> Result<(), Fail> {
     let alloc = rt.alloc();
-    for (content, piece) in [(['a', 'b', 'c', 'd', 'e'], 'x'), (['a', '\u{e9}', 'c', '\u{1f600}', 'e'], '\u{20ac}')] {
+    for (content, piece) in [
+        (['a', 'b', 'c', 'd', 'e'], 'x'),
+        (['a', '\u{e9}', 'c', '\u{1f600}', 'e'], '\u{20ac}'),
+    ] {
         let text = text_of(alloc, &spelled(alloc, &content)?)?;
         let added = text_of(alloc, &spelled(alloc, &[piece])?)?;
         for number in 0..216 {
             let choice = choice_of(number);
             let wanted = list_after(alloc, &content, piece, choice)?;
-            assert!(rt; is_list(&document_after(alloc, &text, &added, choice)?, &wanted), "document, choice {number}");
-            assert!(rt; is_list(&text_after(&text, &added, choice)?, &wanted), "text, choice {number}");
+            assert!(rt;
+                is_list(&document_after(alloc, &text, &added, choice)?, &wanted),
+                "document, choice {number}"
+            );
+            assert!(rt;
+                is_list(&text_after(&text, &added, choice)?, &wanted),
+                "text, choice {number}"
+            );
         }
     }
     Ok(())

@@ -11,7 +11,12 @@ pub(crate) fn text_of(alloc: Global, text: &str) -> Result<Text, TextRefusal> {
 }
 
 /// Opens a document with this content where none is open.
-pub(crate) fn open(docs: &mut Docs, alloc: Global, id: u32, content: Text) -> Result<bool, AllocError>
+pub(crate) fn open(
+    docs: &mut Docs,
+    alloc: Global,
+    id: u32,
+    content: Text,
+) -> Result<bool, AllocError>
     requires { 0 < id }
 {
     docs.reserve(id, 0)?;
@@ -66,7 +71,12 @@ pub(crate) fn save(docs: &mut Docs, id: u32) -> bool {
 }
 
 /// Gives the document another text.
-pub(crate) fn replace(docs: &mut Docs, alloc: Global, id: u32, text: Text) -> Result<bool, AllocError> {
+pub(crate) fn replace(
+    docs: &mut Docs,
+    alloc: Global,
+    id: u32,
+    text: Text,
+) -> Result<bool, AllocError> {
     let doc = Doc::open(alloc, &SharedText::new(alloc, text)?, 0)?;
     let is_open = docs.get(id).is_some();
     if is_open {
@@ -85,7 +95,12 @@ pub(crate) fn close(docs: &mut Docs, id: u32) -> bool {
 }
 
 /// Whether a document is open with this text and this committed text, and its mark.
-pub(crate) fn shows(docs: &Docs, alloc: Global, id: u32, wanted: (&str, &str, bool)) -> Result<bool, TextRefusal> {
+pub(crate) fn shows(
+    docs: &Docs,
+    alloc: Global,
+    id: u32,
+    wanted: (&str, &str, bool),
+) -> Result<bool, TextRefusal> {
     let text = text_of(alloc, wanted.0)?;
     let committed = text_of(alloc, wanted.1)?;
     Ok(match docs.get(id) {

@@ -16,7 +16,12 @@ pub(crate) struct Choice {
 }
 
 /// A list after the edits: a place that stands past its end is left out.
-pub(crate) fn list_after(alloc: Global, chars: &[char], piece: char, choice: Choice) -> Result<Vec<char>, AllocError> {
+pub(crate) fn list_after(
+    alloc: Global,
+    chars: &[char],
+    piece: char,
+    choice: Choice,
+) -> Result<Vec<char>, AllocError> {
     let mut list = Vec::from_slice(alloc, chars)?;
     for at in [choice.first as usize, choice.second as usize] {
         if at <= list.len() {
@@ -33,7 +38,12 @@ pub(crate) fn list_after(alloc: Global, chars: &[char], piece: char, choice: Cho
 }
 
 /// The text of a document after the edits.
-pub(crate) fn document_after(alloc: Global, content: &Text, piece: &Text, choice: Choice) -> Result<Option<Text>, AllocError> {
+pub(crate) fn document_after(
+    alloc: Global,
+    content: &Text,
+    piece: &Text,
+    choice: Choice,
+) -> Result<Option<Text>, AllocError> {
     let mut docs = Docs::new(alloc);
     let done = open(&mut docs, alloc, 1, content.copy()?)?
         && put(&mut docs, 1, choice.first, piece)?
@@ -46,9 +56,16 @@ pub(crate) fn document_after(alloc: Global, content: &Text, piece: &Text, choice
 }
 
 /// A text after the edits.
-pub(crate) fn text_after(content: &Text, piece: &Text, choice: Choice) -> Result<Option<Text>, AllocError> {
+pub(crate) fn text_after(
+    content: &Text,
+    piece: &Text,
+    choice: Choice,
+) -> Result<Option<Text>, AllocError> {
     let mut text = content.copy()?;
-    if choice.first > text.len() || choice.second > text.len() || text.len() + 2 * piece.len() > 1000 {
+    if choice.first > text.len()
+        || choice.second > text.len()
+        || text.len() + 2 * piece.len() > 1000
+    {
         return Ok(None);
     }
     text.insert(choice.first, piece)?;

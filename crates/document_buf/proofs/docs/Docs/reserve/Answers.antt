@@ -11,7 +11,7 @@ invariant_of-self c =
     elim c.match-index_mut.branch [
       | in-Some w ↦ subst IsHeld (sym w.self-inside-is)
           (IsHeld-kept c.self.inside c.args.id w.in-Some.doc w.reserve.new.self c.self.invariant
-            (read_at c.self.inside.docs.items c.args.id c.index_mut.result.now w.in-Some.doc made c.index_mut.ensures.value w.in-Some.is))
+          (read_at c.self.inside.docs.items c.args.id c.index_mut.result.now w.in-Some.doc made c.index_mut.ensures.value w.in-Some.is))
       | in-None w ↦ subst IsHeld (sym w.self-inside-is)
           (IsHeld-read c.self.inside c.args.id c.index_mut.result.now c.self.invariant c.index_mut.ensures.value)
     ]
@@ -22,7 +22,7 @@ returns-clause-count c =
     elim c.match-index_mut.branch [
       | in-Some w ↦ ap (λ inside. open_of (held_of inside)) w.self-inside-is
           ∙ count_kept c.self.inside.docs.items c.args.id w.in-Some.doc w.reserve.new.self
-            (read_at c.self.inside.docs.items c.args.id c.index_mut.result.now w.in-Some.doc made c.index_mut.ensures.value w.in-Some.is)
+          (read_at c.self.inside.docs.items c.args.id c.index_mut.result.now w.in-Some.doc made c.index_mut.ensures.value w.in-Some.is)
           ∙ ap (λ held. count held.places) c.self.view_is
           ∙ c.in_ok-make_place.ensures.count
       | in-None w ↦ ap (λ inside. open_of (held_of inside)) w.self-inside-is
