@@ -1,5 +1,6 @@
 -- Rows by their ids: after a row took the place of another, and which are live.
-use Rattle.std.proofs.Common.{◌≡◌, ℕ, ◌+◌, ◌-◌, ◌<◌, ◌≤◌, zero, suc, Bool, true, false, cond, eqb, List, [], ◌∷◌, ◌++◌, length, get_or, set, filter, Some, None, IsTrue, refl, sym, ap, ◌∙◌, arith, ⊎_elim}
+use Rattle.std.proofs.Common.{◌≡◌, ℕ, ◌+◌, ◌-◌, ◌<◌, ◌≤◌, zero, suc, Bool, true, false, cond, eqb, List, [], ◌∷◌, ◌++◌, length, get_or, set, filter, Some, None, IsTrue, refl, sym, ap, ◌∙◌, arith, ⊎_elim, length-append}
+use mir.Val.{bool_byte}
 use Rattle.std.specs.Prelude.{Option, is_some, if◌then◌else◌, ◌==◌}
 use Rattle.std.proofs.lemmas.Bool.{cases_eq, cases_lt, eq-eqb, ne_eqb, false≢true}
 use Rattle.std.proofs.lemmas.List.{get_or-set_same, get_or-set_other, length-set}
@@ -62,7 +63,7 @@ row_in-with_row (suc place) row rows (suc other) above inside =
         (cases_eq a b)
 
 -- a live row stands at a place
-past_all : (rows : List (Option FileRow)) (place : ℕ) → length rows ≤ place → get_or rows place None ≡ None
+pub past_all : (rows : List (Option FileRow)) (place : ℕ) → length rows ≤ place → get_or rows place None ≡ None
 past_all [] place past = refl
 past_all (row ∷ rows) zero past = absurd (omega (arith, past))
 past_all (row ∷ rows) (suc place) past = past_all rows place (omega (arith, past))
@@ -79,15 +80,14 @@ row_in-next rows zero past = refl
 row_in-next rows (suc place) past = past_all rows place (omega (arith, past))
 
 -- how many are live after a row took the place of another, or came behind the last
-one : Option FileRow → ℕ
-one None = 0
-one (Some row) = 1
+abbrev pub one : Option FileRow → ℕ
+one row = cond (is_some row) 1 0
 
 live_cons : (row : Option FileRow) (rows : List (Option FileRow)) → live_count (row ∷ rows) ≡ one row + live_count rows
-live_cons None rows = refl
+live_cons None rows = omega arith
 live_cons (Some row) rows = omega arith
 
-pub live_put : (place : ℕ) (row : Option FileRow) (rows : List (Option FileRow)) → place ≤ length rows → live_count (put_at place row rows) + one (get_or rows place None) ≡ live_count rows + one row
+live_put : (place : ℕ) (row : Option FileRow) (rows : List (Option FileRow)) → place ≤ length rows → live_count (put_at place row rows) + one (get_or rows place None) ≡ live_count rows + one row
 live_put zero row [] inside = let e = live_cons row [] in omega (arith, e)
 live_put zero row (r ∷ rows) inside = let e = live_cons row rows in let f = live_cons r rows in omega (arith, e, f)
 live_put (suc place) row [] inside = absurd (omega (arith, inside))
@@ -97,7 +97,59 @@ live_put (suc place) row (r ∷ rows) inside =
     let g = live_put place row rows (omega (arith, inside)) in
     omega (arith, e, f, g)
 
+live_at : (place : ℕ) (rows : List (Option FileRow)) → one (get_or rows place None) ≤ live_count rows
+live_at place [] = omega arith
+live_at zero (r ∷ rows) = let e = live_cons r rows in omega (arith, e)
+live_at (suc place) (r ∷ rows) = let e = live_cons r rows in let f = live_at place rows in omega (arith, e, f)
+
+-- the count that is kept, when a row takes the place of an old one
+pub count_at : (place : ℕ) (rows : List (Option FileRow)) (old : Option FileRow) (live : ℕ) → live ≡ live_count rows → old ≡ get_or rows place None → one old ≤ live
+count_at place rows old live counted at = let e = live_at place rows in let f = ap one at in omega (arith, e, f, counted)
+
+pub count_put : (place : ℕ) (row : Option FileRow) (rows : List (Option FileRow)) (old : Option FileRow) (live : ℕ) → place ≤ length rows → live ≡ live_count rows → old ≡ get_or rows place None
+    → (live - one old) + one row ≡ live_count (put_at place row rows)
+count_put place row rows old live inside counted at =
+    let e = live_at place rows in
+    let f = ap one at in
+    let g = live_put place row rows inside in
+    omega (arith, e, f, g, counted)
+
 pub live_few : (rows : List (Option FileRow)) → live_count rows ≤ length rows
 live_few [] = omega arith
 live_few (None ∷ rows) = let e = live_few rows in omega (arith, e)
 live_few (Some row ∷ rows) = let e = live_few rows in omega (arith, e)
+
+-- a row that takes the place of an old one, with all that comes of it
+pub record IsPut (id : ℕ) (row old : Option FileRow) (rows : List (Option FileRow)) (live : ℕ) (new : List (Option FileRow)) : Type 0 where
+  pub goes : one old ≤ live
+  pub count : (live - one old) + one row ≡ live_count new
+  pub fits : length new ≤ 4294967295
+  pub each : (other : ℕ) → row_in new other ≡ (if id == other then row else row_in rows other)
+  pub kept : id ≤ length rows → new ≡ set rows (id - 1) row
+  pub made : id ≤ length rows → length new ≡ length rows
+
+pub is_put : (id : ℕ) (row old : Option FileRow) (seen rows : List (Option FileRow)) (live : ℕ) (new : List (Option FileRow)) → seen ≡ rows → 0 < id → id ≤ length rows + 1 → id ≤ 4294967295
+    → live ≡ live_count seen → length seen ≤ 4294967295 → old ≡ get_or seen (id - 1) None → new ≡ put_at (id - 1) row seen → IsPut id row old rows live new
+is_put id row old seen rows live new same above inside small counted few at put =
+    let long = ap length same in
+    let is : new ≡ with_row id row rows = put ∙ with_row-put_at id row seen above ∙ ap (with_row id row) same in
+    let kept : id ≤ length rows → new ≡ set rows (id - 1) row = λ within. is ∙ with_row-set id row rows above within in
+    record {
+      goes = count_at (id - 1) seen old live counted at;
+      count = count_put (id - 1) row seen old live (omega (arith, inside, long, above)) counted at ∙ ap live_count (sym put);
+      fits = ⊎_elim
+        (λ (more : length rows < id). let e = ap length (is ∙ with_row-push id row rows (omega (arith, more, inside))) in let f = length-append rows (row ∷ []) in omega (arith, e, f, small, more, inside))
+        (λ (within : id ≤ length rows). let e = ap length (kept within) in let f = length-set rows (id - 1) row in omega (arith, e, f, few, long))
+        (cases_lt (length rows) id);
+      each = λ other. ap (λ rs. row_in rs other) is ∙ row_in-with_row id row rows other above inside;
+      kept = kept;
+      made = λ within. ap length (kept within) ∙ length-set rows (id - 1) row;
+    }
+
+-- a test as a number
+pub byte_one : (b : Bool) (row : Option FileRow) → b ≡ is_some row → bool_byte b ≡ one row
+byte_one b row is = ap bool_byte is ∙ by (is_some row)
+  where
+    by : (b : Bool) → bool_byte b ≡ cond b 1 0
+    by true = refl
+    by false = refl

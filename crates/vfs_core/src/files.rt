@@ -165,6 +165,7 @@ impl Files {
         requires stamps { self.old.next_stamp < u64.MAX }
         ensures id { result ≡ length self.old.rows + 1 }
         ensures rows { self.new.rows ≡ self.old.rows ++ Some (new_row path content self.old.next_stamp) ∷ [] }
+        ensures each { (other : ℕ) → row_of self.new other ≡ (if result == other then Some (new_row path content self.old.next_stamp) else row_of self.old other) }
         ensures stamp { self.new.next_stamp ≡ self.old.next_stamp + 1 }
         ensures keeps_room { KeepsRoom self.old self.new }
     {
@@ -185,6 +186,7 @@ impl Files {
         requires live { IsSome (row_of self.old id) }
         requires stamps { self.old.next_stamp < u64.MAX }
         ensures rows { self.new.rows ≡ slice_set self.old.rows (id - 1) (option_map (rewritten content self.old.next_stamp) (row_of self.old id)) }
+        ensures each { (other : ℕ) → row_of self.new other ≡ (if id == other then option_map (rewritten content self.old.next_stamp) (row_of self.old id) else row_of self.old other) }
         ensures stamp { self.new.next_stamp ≡ self.old.next_stamp + 1 }
         ensures keeps_room { KeepsRoom self.old self.new }
     {
@@ -198,6 +200,7 @@ impl Files {
     pub fn remove(&mut self, id: u32)
         requires live { IsSome (row_of self.old id) }
         ensures rows { self.new.rows ≡ slice_set self.old.rows (id - 1) None }
+        ensures each { (other : ℕ) → row_of self.new other ≡ (if id == other then None else row_of self.old other) }
         ensures stamp { self.new.next_stamp ≡ self.old.next_stamp }
         ensures keeps_room { KeepsRoom self.old self.new }
     {
@@ -208,6 +211,7 @@ impl Files {
     pub fn set_indexed(&mut self, id: u32)
         requires live { IsSome (row_of self.old id) }
         ensures rows { self.new.rows ≡ slice_set self.old.rows (id - 1) (option_map indexed_now (row_of self.old id)) }
+        ensures each { (other : ℕ) → row_of self.new other ≡ (if id == other then option_map indexed_now (row_of self.old id) else row_of self.old other) }
         ensures stamp { self.new.next_stamp ≡ self.old.next_stamp }
         ensures keeps_room { KeepsRoom self.old self.new }
     {
@@ -224,6 +228,7 @@ impl Files {
         requires free { id_at self.old to ≡ None }
         requires stamps { self.old.next_stamp < u64.MAX }
         ensures rows { self.new.rows ≡ slice_set self.old.rows (id - 1) (option_map (renamed to self.old.next_stamp) (row_of self.old id)) }
+        ensures each { (other : ℕ) → row_of self.new other ≡ (if id == other then option_map (renamed to self.old.next_stamp) (row_of self.old id) else row_of self.old other) }
         ensures stamp { self.new.next_stamp ≡ self.old.next_stamp + 1 }
         ensures keeps_room { KeepsRoom self.old self.new }
     {

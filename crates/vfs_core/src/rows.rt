@@ -89,12 +89,7 @@ impl Rows {
     {
         let comes = row.is_some();
         let old = set(&mut self.rows, id as usize - 1, row);
-        if old.is_some() {
-            self.live -= 1;
-        }
-        if comes {
-            self.live += 1;
-        }
+        self.live = self.live - old.is_some() as u32 + comes as u32;
         old
     }
 
@@ -102,17 +97,22 @@ impl Rows {
     pub(crate) fn copy(&self) -> Result<Rows, AllocError>
         ensures { IfOk result (λ copy. copy.rows ≡ self.now.rows) }
     {
-        let live = self.live;
-        let mut rows = Vec::with_capacity(self.alloc, self.rows.len())?;
-        for row in &self.rows {
-            rows.push(copy_row(row)?)?;
-        }
         Ok(Rows {
             alloc: self.alloc,
-            rows,
-            live,
+            rows: copy_rows(self.alloc, &self.rows)?,
+            live: self.live,
         })
     }
+}
+
+fn copy_rows(alloc: Global, rows: &[Option<FileRow>]) -> Result<Vec<Option<FileRow>>, AllocError>
+    ensures { IfOk result (λ copy. copy.items ≡ rows.now) }
+{
+    let mut copy = Vec::with_capacity(alloc, rows.len())?;
+    for row in rows {
+        copy.push(copy_row(row)?)?;
+    }
+    Ok(copy)
 }
 
 /// Writes a row at a place, or pushes it behind the last, and gives back what stood there.
