@@ -2,9 +2,9 @@
 use Rattle.std.proofs.Common.{◌≡◌, ℕ, Bool, true, false, cond, List, [], ◌∷◌, ◌||◌, Some, None, IsTrue, bytes_eq, refl, sym, ap, ◌∙◌}
 use Rattle.std.specs.Prelude.{Option, is_some, unwrap_or, not, ◌&&◌, if◌then◌else◌}
 use Rattle.std.specs.List.{list_any}
-use Rattle.std.specs.Map.{keys_of}
+use Rattle.std.specs.Map.{lookup, keys_of}
 use Rattle.std.specs.BTreeMap.{BTreeMap, get, keys, is_at}
-use Rattle.std.specs.Cmp.Lexicographic.{slice_cmp, same_text}
+use Rattle.std.specs.Cmp.Lexicographic.{slice_cmp, same_text, nat_list_eq_equiv}
 use Rattle.std.specs.Ordering.{nat_cmp}
 use Rattle.std.proofs.lemmas.Bool.{false≢true}
 use Rattle.std.proofs.lemmas.Map.Text.{is_eq-slice_cmp}
@@ -56,14 +56,6 @@ id_kept-reserved old new path key other same absent h = id_kept-updated old new 
     by true e = nothing (get (slice_cmp nat_cmp) old path) absent ∙ ap (λ p. id_kept p old.entries) (sym same ∙ same_text key other (sym e))
     by false e = refl
 
--- an id that is kept for a path has a place
-pub kept_place : (ids : Ids) (path : List ℕ) (id : ℕ) → id_kept path ids.entries ≡ Some id → IsTrue (has_name (keys_of ids.entries) path)
-kept_place ids path id kept = sym (has_name-keys ids path) ∙ by (get (slice_cmp nat_cmp) ids path) kept
-  where
-    by : (o : Option (Option ℕ)) → unwrap_or o None ≡ Some id → is_some o ≡ true
-    by None e = absurd (false≢true (ap is_some e))
-    by (Some x) e = refl
-
 -- a path without an id that goes
 pub id_kept-swept : (old new : Ids) (path other : List ℕ) → id_kept path old.entries ≡ None → get (slice_cmp nat_cmp) new other ≡ cond (is_at (slice_cmp nat_cmp path) other) None (get (slice_cmp nat_cmp) old other)
     → id_kept other new.entries ≡ id_kept other old.entries
@@ -89,3 +81,25 @@ places-swept old new path other none h =
     by true (Some x) = refl
     by false None = refl
     by false (Some x) = refl
+
+-- an id that is kept for a path has a place, by the entries alone
+pub place_kept : (entries : List (List ℕ × Option ℕ)) (path : List ℕ) (id : ℕ) → id_kept path entries ≡ Some id → IsTrue (has_name (keys_of entries) path)
+place_kept entries path id kept =
+    sym (is_some-lookup (is_at (slice_cmp nat_cmp path)) entries ∙ names_by_order path (keys_of entries)) ∙ by (lookup (is_at (slice_cmp nat_cmp path)) entries) kept
+  where
+    by : (o : Option (Option ℕ)) → unwrap_or o None ≡ Some id → is_some o ≡ true
+    by None e = absurd (false≢true (ap is_some e))
+    by (Some x) e = refl
+
+-- a path is the same as itself
+pub same_path : (path : List ℕ) → bytes_eq path path ≡ true
+same_path path = nat_list_eq_equiv.refl path
+
+-- the place of a path without an id is gone
+pub swept_gone : (had same : Bool) (kept : Option ℕ) → same ≡ true → kept ≡ None → (had && (not same || is_some kept)) ≡ false
+swept_gone had same kept is none =
+    ap (λ b. had && (not b || is_some kept)) is ∙ ap (λ o. had && is_some o) none ∙ by had
+  where
+    by : (b : Bool) → (b && false) ≡ false
+    by true = refl
+    by false = refl

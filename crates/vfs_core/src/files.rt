@@ -146,7 +146,7 @@ impl Files {
         requires inside { id ≤ length self.old.rows + 1 }
         requires room { length self.old.rows < id → HasRowRoom self.old 1 }
         requires path { IfSome row (λ r. MayHave self.old id r.path) }
-        requires stamped { IsStamped self.old.next_stamp row }
+        requires stamped { IfSome row (λ r. IsStamped self.old.next_stamp (Some r)) }
         ensures rows { self.new.rows ≡ with_row id row self.old.rows }
         ensures each { (other : ℕ) → row_of self.new other ≡ (if id == other then row else row_of self.old other) }
         ensures stamp { self.new.next_stamp ≡ self.old.next_stamp }
