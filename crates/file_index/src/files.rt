@@ -1,5 +1,5 @@
 //! The rows of each file.
-ghost use Rattle.std.specs.Prelude.{◌≡◌, ℕ, List, [], Bool, true, if◌then◌else◌, is_some, unwrap_or, OnOk, IfOk, ◌==◌, false};
+ghost use Rattle.std.specs.Prelude.{◌≡◌, ℕ, List, [], Bool, true, if◌then◌else◌, is_some, unwrap_or, OnOk, IfOk, ◌==◌, false, length};
 ghost use Rattle.std.specs.Ordering.{nat_cmp};
 ghost use Rattle.std.specs.List.Sorted.{IsStrictlySortedBy};
 ghost use Rattle.file_index.specs.KeyRows.{has_key, rows_with};
@@ -123,6 +123,31 @@ impl<K: Ord, V: Place> Files<K, V> {
             return KeyRows::new(alloc);
         }
         self.put(file, KeyRows::new(alloc))
+    }
+
+    /// Lets a file without rows be known no more.
+    pub(crate) fn forget(&mut self, file: u32)
+    where
+        K: Drop,
+        V: Drop,
+        ensures rows { rows_of self.new ≡ rows_of self.old }
+        ensures each { (j : ℕ) → rows_in_file j self.new ≡ rows_in_file j self.old }
+        ensures stays { (j : ℕ) → (j == file) ≡ false → is_known j self.old ≡ true → is_known j self.new ≡ true }
+    {
+        let _ = &self.rows;
+        if self.has_none(file) {
+            self.take(file);
+        }
+    }
+
+    /// Whether a file has no rows.
+    fn has_none(&self, file: u32) -> bool
+        ensures { result ≡ (length (rows_in_file file self.now) == 0) }
+    {
+        match self.rows.get(&file) {
+            Some(rows) => rows.is_empty(),
+            None => true,
+        }
     }
 
     /// Takes a file out, and returns its rows if it was known.

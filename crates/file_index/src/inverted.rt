@@ -144,6 +144,15 @@ impl<I: Indexer> Inverted<I> {
         take_out_all(&mut self.postings, &self.files, file, given);
     }
 
+    /// Gives up the place of a file that has no rows.
+    pub fn forget(&mut self, file: u32)
+        ensures same { rows self.new ≡ rows self.old }
+        ensures each { (j : ℕ) → rows_in_file j self.new.files ≡ rows_in_file j self.old.files }
+        ensures keeps_room { KeepsRoomBut I.Key.eq file self.old self.new }
+    {
+        self.files.forget(file);
+    }
+
     /// The same index once more.
     pub fn copy(&self) -> Result<Inverted<I>, AllocError>
         ensures { IfOk result (λ copy. copy.files ≡ self.now.files) }
