@@ -39,7 +39,7 @@ impl<I: Indexer> Model for Inverted<I> {
 impl<I: Indexer> Inverted<I> {
     /// No rows.
     pub fn new(alloc: Global, indexer: I) -> Inverted<I>
-        ensures { rows result ≡ [] }
+        ensures { result.files ≡ [] }
     {
         Inverted {
             alloc,

@@ -31,6 +31,10 @@ parts_in shown file = record {
   words = rows_in_file file shown.words.files;
 }
 
+-- no file has rows but those from 1 to the last
+abbrev pub IsFilledTo : Shown → ℕ → Type 0
+IsFilledTo shown last = (parts_in shown 0 ≡ no_parts) × ((file : ℕ) → last < file → parts_in shown file ≡ no_parts)
+
 -- the base of a file that has an overlay
 abbrev pub hidden_in : List (ℕ × Option Parts) → ℕ → Option Parts
 hidden_in hidden file = unwrap_or (lookup (is_at (nat_cmp file)) hidden) None

@@ -58,7 +58,7 @@ impl FileData {
 
 /// The rows of a text. Linear in the text, but for the sorting of its rows.
 pub fn data_of(alloc: Global, text: &Text) -> Result<FileData, AllocError>
-    ensures { IfOk result (λ data. data ≡ parts_of text.now) }
+    ensures { IfOk result (λ made. made ≡ parts_of text.now) }
 {
     let stubs = SharedStubs::of(alloc, stubs(alloc, text)?)?;
     Ok(FileData {

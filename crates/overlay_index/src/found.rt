@@ -26,7 +26,7 @@ impl<'a> Model for StubWalk<'a> {
 impl<'a> StubWalk<'a> {
     /// A walk over these rows.
     pub(crate) fn of(rows: RowWalk<'a, Name, SharedStub>) -> StubWalk<'a>
-        ensures { result ≡ rows }
+        ensures { result ≡ rows.entry }
     {
         StubWalk { rows }
     }
@@ -62,7 +62,7 @@ impl<'a> Model for WordWalk<'a> {
 impl<'a> WordWalk<'a> {
     /// A walk over these rows.
     pub(crate) fn of(rows: RowWalk<'a, Name, u8>) -> WordWalk<'a>
-        ensures { result ≡ rows }
+        ensures { result ≡ rows.entry }
     {
         WordWalk { rows }
     }

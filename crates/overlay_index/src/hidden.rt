@@ -94,12 +94,24 @@ impl Hidden {
     pub(crate) fn copy(&self, alloc: Global) -> Result<Hidden, AllocError>
         ensures { IfOk result (λ copy. (other : ℕ) → hidden_in copy other ≡ hidden_in self.now other) }
     {
+        let _ = self.bases.len();
         let mut bases = BTreeMap::new(alloc);
         for (file, base) in &self.bases {
-            if let Some(base) = base {
-                bases.insert(*file, Some(base.copy(alloc)?))?;
-            }
+            bases.insert(*file, copy_base(alloc, base)?)?;
         }
         Ok(Hidden { bases })
+    }
+}
+
+/// The same base once more, or none.
+fn copy_base(
+    alloc: Global,
+    base: &Option<FileData>,
+) -> Result<Option<FileData>, AllocError>
+    ensures { IfOk result (λ copy. copy ≡ base.now) }
+{
+    match base {
+        Some(base) => Ok(Some(base.copy(alloc)?)),
+        None => Ok(None),
     }
 }

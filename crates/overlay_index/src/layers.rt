@@ -1,7 +1,7 @@
 //! Two layers of rows.
 ghost use Rattle.std.specs.Prelude.{◌≡◌, ◌==◌, ◌++◌, ◌∷◌, [], ℕ, true, false, is_some, Some, None, if◌then◌else◌, option_to_list, IfOk, OnOk};
-ghost use Rattle.overlay_index.specs.Parts.{no_parts};
-ghost use Rattle.overlay_index.specs.Layers.{base_of, overlay_of, shown_of, covered_of, HasRoom, KeepsRoom, KeepsRoomBut, IsShownTo};
+ghost use Rattle.overlay_index.specs.Parts.{Parts, no_parts};
+ghost use Rattle.overlay_index.specs.Layers.{base_of, overlay_of, shown_of, covered_of, parts_in, HasTableRoom, HasRoom, KeepsRoom, KeepsRoomBut, IsShownTo};
 ghost use Rattle.overlay_index.specs.Found.{values_of, found_to};
 
 use crate::data::FileData;
@@ -133,12 +133,9 @@ impl Layers {
         ensures overlay { (other : ℕ) → overlay_of self.new other ≡ overlay_of self.old other }
         ensures keeps_room { KeepsRoomBut file self.old self.new }
     {
-        if let Some(parts) = &gone.shown {
-            self.tables.release(file, parts);
-        }
-        if let Some(parts) = &gone.hidden {
-            self.tables.release(file, parts);
-        }
+        release_any(&mut self.tables, file, &gone.shown);
+        release_any(&mut self.tables, file, &gone.hidden);
+        self.tables.forget(file);
         self.hidden.sweep(file);
     }
 
@@ -146,28 +143,28 @@ impl Layers {
     pub fn type_rows<'a>(&'a self, name: &'a Name) -> StubWalk<'a>
         ensures { (last : ℕ) → IsShownTo self.now last → result ≡ found_to (λ id. values_of name.now (shown_of self.now id).types) last }
     {
-        StubWalk::of(self.tables.types.rows(name))
+        self.tables.type_rows(name)
     }
 
     /// The types that name a super, by the files and then by their offsets. It takes no memory.
     pub fn super_rows<'a>(&'a self, name: &'a Name) -> StubWalk<'a>
         ensures { (last : ℕ) → IsShownTo self.now last → result ≡ found_to (λ id. values_of name.now (shown_of self.now id).supers) last }
     {
-        StubWalk::of(self.tables.supers.rows(name))
+        self.tables.super_rows(name)
     }
 
     /// The methods under a name, by the files and then by their offsets. It takes no memory.
     pub fn method_rows<'a>(&'a self, name: &'a Name) -> StubWalk<'a>
         ensures { (last : ℕ) → IsShownTo self.now last → result ≡ found_to (λ id. values_of name.now (shown_of self.now id).methods) last }
     {
-        StubWalk::of(self.tables.methods.rows(name))
+        self.tables.method_rows(name)
     }
 
     /// The files that have a word, each with the word's mask in it. It takes no memory.
     pub fn word_rows<'a>(&'a self, name: &'a Name) -> WordWalk<'a>
         ensures { (last : ℕ) → IsShownTo self.now last → result ≡ found_to (λ id. values_of name.now (shown_of self.now id).words) last }
     {
-        WordWalk::of(self.tables.words.rows(name))
+        self.tables.word_rows(name)
     }
 
     /// The same layers once more.
@@ -180,5 +177,15 @@ impl Layers {
             tables: self.tables.copy()?,
             hidden: self.hidden.copy(self.alloc)?,
         })
+    }
+}
+
+/// Takes a file out from under the keys of these rows, if there are any, that none of its own has.
+fn release_any(tables: &mut Tables, file: u32, gone: &Option<FileData>)
+    ensures same { (other : ℕ) → parts_in tables.new other ≡ parts_in tables.old other }
+    ensures keeps_room { (other : ℕ) (given : Parts) → (other == file) ≡ false → HasTableRoom tables.old other given → HasTableRoom tables.new other given }
+{
+    if let Some(parts) = gone {
+        tables.release(file, parts);
     }
 }

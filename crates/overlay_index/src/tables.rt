@@ -1,11 +1,14 @@
 //! The tables of the rows that are shown.
 ghost use Rattle.std.specs.Prelude.{◌≡◌, ◌==◌, ℕ, false, if◌then◌else◌, IfOk, OnOk};
 ghost use Rattle.overlay_index.specs.Parts.{Parts, no_parts};
-ghost use Rattle.overlay_index.specs.Layers.{parts_in, HasTableRoom};
+ghost use Rattle.overlay_index.specs.Layers.{parts_in, HasTableRoom, IsFilledTo};
+ghost use Rattle.overlay_index.specs.Found.{values_of, found_to};
 
 use crate::data::FileData;
+use crate::found::{StubWalk, WordWalk};
 use crate::word_masks::WordMasks;
 use file_index::Inverted;
+use ide_text::Name;
 use std::alloc::{AllocError, Global};
 use std::marker::Model;
 use stub_index::{MethodNames, SuperNames, TypeNames};
@@ -96,6 +99,45 @@ impl Tables {
         self.supers.release(file, &parts.supers);
         self.methods.release(file, &parts.methods);
         self.words.release(file, &parts.words);
+    }
+
+    /// Gives up the places of a file that has no rows.
+    pub(crate) fn forget(&mut self, file: u32)
+        ensures same { (other : ℕ) → parts_in self.new other ≡ parts_in self.old other }
+        ensures keeps_room { (other : ℕ) (given : Parts) → (other == file) ≡ false → HasTableRoom self.old other given → HasTableRoom self.new other given }
+    {
+        self.types.forget(file);
+        self.supers.forget(file);
+        self.methods.forget(file);
+        self.words.forget(file);
+    }
+
+    /// The types under a name, file by file.
+    pub(crate) fn type_rows<'a>(&'a self, name: &'a Name) -> StubWalk<'a>
+        ensures { (last : ℕ) → IsFilledTo self.now last → result ≡ found_to (λ id. values_of name.now (parts_in self.now id).types) last }
+    {
+        StubWalk::of(self.types.rows(name))
+    }
+
+    /// The types that name a super, file by file.
+    pub(crate) fn super_rows<'a>(&'a self, name: &'a Name) -> StubWalk<'a>
+        ensures { (last : ℕ) → IsFilledTo self.now last → result ≡ found_to (λ id. values_of name.now (parts_in self.now id).supers) last }
+    {
+        StubWalk::of(self.supers.rows(name))
+    }
+
+    /// The methods under a name, file by file.
+    pub(crate) fn method_rows<'a>(&'a self, name: &'a Name) -> StubWalk<'a>
+        ensures { (last : ℕ) → IsFilledTo self.now last → result ≡ found_to (λ id. values_of name.now (parts_in self.now id).methods) last }
+    {
+        StubWalk::of(self.methods.rows(name))
+    }
+
+    /// The files that have a word, file by file.
+    pub(crate) fn word_rows<'a>(&'a self, name: &'a Name) -> WordWalk<'a>
+        ensures { (last : ℕ) → IsFilledTo self.now last → result ≡ found_to (λ id. values_of name.now (parts_in self.now id).words) last }
+    {
+        WordWalk::of(self.words.rows(name))
     }
 
     /// The same rows once more.

@@ -24,11 +24,7 @@ impl Indexer for WordMasks {
     }
 
     fn rows(&self, alloc: Global, words: &WordList) -> Result<KeyRows<Name, u8>, AllocError> {
-        let mut rows = Vec::with_capacity(alloc, words.len())?;
-        for (name, mask) in words.as_slice() {
-            rows.push((name.copy()?, *mask))?;
-        }
-        Ok(KeyRows::from_ordered(rows))
+        Ok(KeyRows::from_ordered(copy_words(alloc, words.as_slice())?))
     }
 
     fn copy_key(&self, _alloc: Global, key: &Name) -> Result<Name, AllocError> {
@@ -38,4 +34,15 @@ impl Indexer for WordMasks {
     fn copy_value(&self, _alloc: Global, mask: &u8) -> Result<u8, AllocError> {
         Ok(*mask)
     }
+}
+
+/// The same words once more.
+fn copy_words(alloc: Global, words: &[(Name, u8)]) -> Result<Vec<(Name, u8)>, AllocError>
+    ensures { IfOk result (λ copy. copy.items ≡ words.now) }
+{
+    let mut copies = Vec::with_capacity(alloc, words.len())?;
+    for (name, mask) in words {
+        copies.push((name.copy()?, *mask))?;
+    }
+    Ok(copies)
 }
