@@ -1,6 +1,11 @@
 -- What a name finds, file after file.
-use Rattle.std.proofs.Common.{◌≡◌, ◌≢◌, ℕ, zero, suc, ◌+◌, ◌<◌, ◌≤◌, Bool, true, false, ◌||◌, cond, eqb, List, [], ◌∷◌, ◌++◌, map, filter, refl, sym, ap, ◌∙◌, arith, ⊎_elim}
-use Rattle.std.specs.Ordering.{nat_cmp}
+use Rattle.std.proofs.Common.{◌≡◌, ◌≢◌, ℕ, zero, suc, ◌+◌, ◌<◌, ◌≤◌, Bool, true, false, ◌||◌, cond, eqb, List, [], ◌∷◌, ◌++◌, map, filter, refl, sym, ap, ◌∙◌, arith, ⊎_elim, Some}
+use Rattle.std.specs.Prelude.{option_to_list}
+use Rattle.std.specs.Ordering.{nat_cmp, is_eq}
+use Rattle.std.specs.Map.{keys_of}
+use Rattle.std.specs.Cmp.Lexicographic.{texts_ties, bytes_decides}
+use Rattle.std.proofs.lemmas.Map.Keys.{sorted_head, sorted_tail}
+use Rattle.java_tokens.specs.Words.{WordRow, name_cmp, mask_in, AreInOrder}
 use Rattle.std.specs.declared.cmp.Ordering.TheVariants.{Less}
 use Rattle.std.specs.Str.{bytes_eq}
 use Rattle.std.specs.List.{AllByRecursion}
@@ -66,3 +71,23 @@ module _ {V : Type 0} (name : List ℕ) (files : List (ℕ × List (List ℕ × 
   pub walk_finds : (result : List (ℕ × V)) → ((ids : List ℕ) → IsStrictlySortedBy nat_cmp ids → HasAllFiles bytes_eq name files ids → result ≡ walked bytes_eq name files ids)
       → (last : ℕ) → rows_in_file 0 files ≡ [] → ((file : ℕ) → last < file → rows_in_file file files ≡ []) → result ≡ found_from (λ id. values_of name (rows_in_file id files)) 1 last
   walk_finds result by_files last first rest = by_files (ids_from 1 last) (ids_rise 1 last) (all_files last first rest) ∙ walked_is_found 1 last
+
+module _ (name : List ℕ) where
+  none_above : (word : List ℕ) (ws : List WordRow) → bytes_eq name word ≡ true → AllByRecursion (λ key. name_cmp word key ≡ Less) (keys_of ws) → filter (λ (row : WordRow). bytes_eq name row.0) ws ≡ []
+  none_above word [] same all = refl
+  none_above word (w ∷ ws) same all =
+      let less : name_cmp name w.0 ≡ Less = ap (λ n. name_cmp n w.0) ((bytes_decides name word).0 same) ∙ all.0 in
+      ap (λ b. cond b (w ∷ filter (λ (row : WordRow). bytes_eq name row.0) ws) (filter (λ (row : WordRow). bytes_eq name row.0) ws)) (texts_ties name w.0 ∙ ap is_eq less)
+      ∙ none_above word ws same all.1
+
+  -- a word stands once among words in order
+  pub mask_found : (ws : List WordRow) → AreInOrder ws → values_of name ws ≡ option_to_list (mask_in ws name)
+  mask_found [] rise = refl
+  mask_found (w ∷ ws) rise = by (bytes_eq name w.0) refl (mask_found ws (sorted_tail name_cmp w.0 (keys_of ws) rise))
+    where
+      by : (b : Bool) → bytes_eq name w.0 ≡ b → values_of name ws ≡ option_to_list (mask_in ws name)
+          → map (λ (row : WordRow). row.1) (cond b (w ∷ filter (λ (row : WordRow). bytes_eq name row.0) ws) (filter (λ (row : WordRow). bytes_eq name row.0) ws)) ≡ option_to_list (cond (is_eq (name_cmp name w.0)) (Some w.1) (mask_in ws name))
+      by true e behind =
+          ap (λ l. w.1 ∷ map (λ (row : WordRow). row.1) l) (none_above w.0 ws e (sorted_head name_cmp w.0 (keys_of ws) rise))
+          ∙ ap (λ b. option_to_list (cond b (Some w.1) (mask_in ws name))) (sym e ∙ texts_ties name w.0)
+      by false e behind = behind ∙ ap (λ b. option_to_list (cond b (Some w.1) (mask_in ws name))) (sym e ∙ texts_ties name w.0)
