@@ -1,23 +1,25 @@
 //! A run in progress: the state of the workspace and the history that led to it.
-ghost use Rattle.std.specs.Prelude.{◌≡◌, ◌+◌, ℕ, List, [], ◌∷◌, ◌++◌, Some, IfOk, OnOk, length};
-ghost use Rattle.write_history.specs.World.{lowest_unready};
+ghost use Rattle.std.specs.Prelude.{◌≡◌, ◌+◌, ℕ, true, List, [], ◌∷◌, ◌++◌, Some, IfOk, OnOk, IsSome, length};
+ghost use Rattle.std.specs.List.{list_all};
+ghost use Rattle.write_history.specs.World.{lowest_unready, file_of};
 ghost use Rattle.write_history.specs.Fold.{fold, IsLegal};
 ghost use Rattle.script_lang.specs.Held.{IsOfLine};
-ghost use Rattle.transcripts.specs.Serial.{change_step, group_step, load_step, settle_step, query_step, step_of, entry_of};
+ghost use Rattle.ide_world.specs.Ready.{is_edit, IsReadyFor, Makes};
+ghost use Rattle.transcripts.specs.Serial.{change_step, group_step, load_step, settle_step, query_step, step_of, entry_of, path_of, found_answer};
+ghost use Rattle.ide_script.specs.Settle.{TakesIn, IsMadeOf};
 
 use ide_text::Name;
 use ide_world::{
-    Made, Ready, Refusal, State, install, job, lowest_unready, make, path, prepare, prepare_group,
-    prepare_intake, reserve,
+    Made, Ready, State, install, job, make, prepare, prepare_group, prepare_intake, reserve,
 };
 use queries::Query;
-use query_engine::{AskRefusal, NoWatch, ask};
+use query_engine::{Answer as Found, AskRefusal, ask_unwatched};
 use script_lang::{Command, Line};
 use std::alloc::{AllocError, Global};
 use std::marker::Model;
 use transcripts::{Answer, Loaded};
-use write_history::laws::histories_go_on;
-use write_history::{Change, Changes, Entry, History};
+use write_history::laws::{histories_go_on, intake_readies_one};
+use write_history::{Change, Changes, Entry, History, Refusal, is_lawful_path};
 
 /// The state and its history, seen by contracts as the entries of the history.
 #[derive(Drop)]
@@ -88,11 +90,11 @@ impl Session {
 
     /// A change is accepted, or refused by its first reason.
     fn change(&mut self, seat: u32, line: u32, change: Change) -> Result<Answer, AllocError>
-        requires { IsEdit change }
+        requires { is_edit change ≡ true }
         ensures answer { IfOk result (λ answer. answer ≡ (change_step self.old seat line change).answer) }
         ensures history { OnOk result (self.new ≡ self.old ++ (change_step self.old seat line change).added) }
     {
-        match prepare(&self.state, &change) {
+        match prepare(self.alloc, &self.state, &change) {
             Ok(ready) => self.accept(ready, seat, line, Changes::one(change)),
             Err(Refusal::OutOfMemory) => Err(AllocError),
             Err(why) => Ok(self.refused(None, why)),
@@ -101,11 +103,11 @@ impl Session {
 
     /// The changes of a group are accepted together, or the first that is refused gives its place and reason.
     fn group(&mut self, seat: u32, line: u32, changes: Changes) -> Result<Answer, AllocError>
-        requires { All IsEdit changes }
+        requires { list_all is_edit changes ≡ true }
         ensures answer { IfOk result (λ answer. answer ≡ (group_step self.old seat line changes).answer) }
         ensures history { OnOk result (self.new ≡ self.old ++ (group_step self.old seat line changes).added) }
     {
-        match prepare_group(&self.state, changes.as_slice()) {
+        match prepare_group(self.alloc, &self.state, changes.as_slice()) {
             Ok(ready) => self.accept(ready, seat, line, changes),
             Err(refusal) if refusal.why == Refusal::OutOfMemory => Err(AllocError),
             Err(refusal) => Ok(self.refused(Some(refusal.place), refusal.why)),
@@ -152,7 +154,7 @@ impl Session {
     {
         histories_go_on();
         intake_readies_one();
-        while let Some(id) = lowest_unready(&self.state) {
+        while let Some(id) = self.state.lowest_unready() {
             if let Some(why) = self.take_in(seat, line, id)? {
                 return Ok(self.refused(None, why));
             }
@@ -172,7 +174,7 @@ impl Session {
             file: made.file,
             stamp: made.stamp,
         };
-        match prepare_intake(&self.state, made) {
+        match prepare_intake(self.alloc, &self.state, made) {
             Ok(ready) => {
                 self.accept(ready, seat, line, Changes::one(change))?;
                 Ok(None)
@@ -185,7 +187,7 @@ impl Session {
     /// The index data of the lowest unready file.
     fn make_lowest(&self, id: u32) -> Result<Made, AllocError>
         requires { lowest_unready (fold self.now) ≡ Some id }
-        ensures { IfOk result (λ made. IsMadeOf (fold self.now) id made) }
+        ensures { IfOk result (λ made. IsMadeOf (fold self.now) id made.file made.stamp made.text) }
     {
         let Some(job) = job(&self.state, id)? else {
             unreachable!()
@@ -198,7 +200,7 @@ impl Session {
         ensures { IfOk result (λ answer. answer ≡ (query_step self.now query.now).answer) }
     {
         let at = self.history.len();
-        match ask(self.alloc, &self.state, query, &mut NoWatch::new()) {
+        match ask_unwatched(self.alloc, &self.state, query) {
             Ok(found) => Ok(answer_of(query, at, found)),
             Err(AskRefusal::NoSuchFile) => Ok(self.refused(None, Refusal::NoSuchFile)),
             Err(AskRefusal::NotReady { file }) => self.not_ready(file),
@@ -212,18 +214,19 @@ impl Session {
         requires { IsSome (file_of (fold self.now) file) }
         ensures { IfOk result (λ answer. answer ≡ Answer.NotReady (length self.now) (path_of (fold self.now) file)) }
     {
-        let Some(path) = path(&self.state, file) else {
+        let Some(row) = self.state.row(file) else {
             unreachable!()
         };
         Ok(Answer::NotReady {
             at: self.history.len(),
-            path: path.copy()?,
+            path: row.path.copy()?,
         })
     }
 
     /// Puts ready changes in as the entry of a line, and answers with its position.
     fn accept(&mut self, ready: Ready, seat: u32, line: u32, changes: Changes) -> Result<Answer, AllocError>
-        requires { IsReadyFor (fold self.old) ready changes }
+        requires ready { IsReadyFor (fold self.old) ready }
+        requires makes { Makes (fold self.old) ready changes }
         ensures answer { IfOk result (λ answer. answer ≡ Answer.Accepted (length self.old + 1)) }
         ensures history { OnOk result (self.new ≡ self.old ++ entry_of seat line changes ∷ []) }
     {

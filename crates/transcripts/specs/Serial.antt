@@ -16,9 +16,10 @@ use Rattle.script_lang.specs.declared.line.Line.{Line}
 use Rattle.script_lang.specs.Parts.{Parts}
 use Rattle.queries.specs.declared.query.Query.{Query}
 use Rattle.queries.specs.declared.query.Query.TheVariants as query
-use Rattle.query_engine.specs.declared.answer.Answer as found
+use Rattle.query_engine.specs.declared.answer.Row.{Row}
+use Rattle.query_engine.specs.declared.answer.Answer.{Answer as Found}
 use Rattle.query_engine.specs.declared.answer.Answer.TheVariants as found
-use Rattle.query_engine.specs.declared.answer.AskRefusal as refused
+use Rattle.query_engine.specs.declared.answer.AskRefusal.{AskRefusal}
 use Rattle.query_engine.specs.declared.answer.AskRefusal.TheVariants as refused
 use Rattle.query_engine.specs.Reply.{reply}
 use Rattle.transcripts.specs.declared.loaded.Loaded.{Loaded}
@@ -106,15 +107,23 @@ rows_answer (query.Method name) at rows = Rows at rows
 rows_answer (query.Word name) at rows = Rows at rows
 rows_answer query.Status at rows = Rows at rows
 
+-- what a question found, told at a prefix
+abbrev pub found_answer : Query → ℕ → Found → Answer
+found_answer query at (found.Rows rows) = rows_answer query at rows
+found_answer query at (found.Words rows) = Words at rows
+found_answer query at (found.Counts files docs unready) = Status at files docs unready
+
+-- why a question was refused, told at a prefix; the last two aren't among the answers of the definition
+abbrev pub refused_answer : World → ℕ → AskRefusal → Answer
+refused_answer world at refused.NoSuchFile = Refused at None why.NoSuchFile
+refused_answer world at (refused.NotReady file) = NotReady at (path_of world file)
+refused_answer world at refused.Cancelled = Refused at None why.OutOfMemory
+refused_answer world at refused.OutOfMemory = Refused at None why.OutOfMemory
+
 -- what a question is answered
-abbrev pub answer_of : Query → World → ℕ → Result found.Answer refused.AskRefusal → Answer
-answer_of query world at (Ok (found.Rows rows)) = rows_answer query at rows
-answer_of query world at (Ok (found.Words rows)) = Words at rows
-answer_of query world at (Ok (found.Counts files docs unready)) = Status at files docs unready
-answer_of query world at (Err refused.NoSuchFile) = Refused at None why.NoSuchFile
-answer_of query world at (Err (refused.NotReady file)) = NotReady at (path_of world file)
-answer_of query world at (Err refused.Cancelled) = Refused at None why.OutOfMemory
-answer_of query world at (Err refused.OutOfMemory) = Refused at None why.OutOfMemory
+abbrev pub answer_of : Query → World → ℕ → Result Found AskRefusal → Answer
+answer_of query world at (Ok answer) = found_answer query at answer
+answer_of query world at (Err refusal) = refused_answer world at refusal
 
 -- a question adds nothing
 abbrev pub query_step : List Entry → Query → Step

@@ -6,8 +6,8 @@ use Rattle.write_history.specs.declared.entry.Entry.{Entry}
 use Rattle.write_history.specs.Print.{entry_line, why_text}
 use Rattle.stub_tree.specs.declared.stub_kind.StubKind.TheVariants as declares
 use Rattle.stub_tree.specs.Stub.{code_of}
-use Rattle.query_engine.specs.declared.rows.Row.{Row}
-use Rattle.query_engine.specs.declared.rows.WordRow.{WordRow}
+use Rattle.query_engine.specs.declared.answer.Row.{Row}
+use Rattle.query_engine.specs.declared.answer.WordRow.{WordRow}
 use Rattle.transcripts.specs.declared.record.Answer.{Answer}
 use Rattle.transcripts.specs.declared.record.Answer.TheVariants.{Accepted, Refused, NotText, TooLong, Smart, NotReady, Rows, Outline, Words, Status}
 use Rattle.transcripts.specs.declared.record.Record.{Record}

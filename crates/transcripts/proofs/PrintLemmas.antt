@@ -1,0 +1,37 @@
+-- Printing the entries of a history, one after another.
+use Rattle.std.proofs.Common.{ℕ, suc, codes, ◌≡◌, ◌+◌, ◌-◌, List, ◌∷◌, ◌++◌, drop, ap, sym, ◌∙◌, subst, arith, append_assoc, slice_get, Some}
+use Rattle.write_history.specs.declared.entry.Entry.{Entry}
+use Rattle.write_history.specs.Print.{entry_line}
+use Rattle.transcripts.specs.Transcript.{entry_lines, indent}
+use Rattle.std.proofs.lemmas.List.{drop_more}
+use Rattle.std.proofs.lemmas.Option.{slice_get_within, get_or_from_slice_get}
+
+-- the rest of a list from a place on begins with what stands there
+drop_at : {X : Type 0} (xs : List X) (i : ℕ) (x : X) → slice_get xs i ≡ Some x → drop i xs ≡ x ∷ drop (i + 1) xs
+drop_at xs i x h = drop_more xs i x (slice_get_within xs i x h) ∙ ap (λ y. y ∷ drop (i + 1) xs) (get_or_from_slice_get xs i x x h)
+
+before_position : (n : ℕ) → n + 1 - 1 ≡ n
+before_position n = omega arith
+
+-- one turn: the line of the entry at a position goes last, and the lines of the rest follow it
+pub entries_turn : (out new line all : List ℕ) (entries : List Entry) (n : ℕ) (entry : Entry) → slice_get entries (n + 1 - 1) ≡ Some entry → new ≡ out ++ line → line ≡ entry_line (n + 1) entry
+    → out ++ entry_lines (n + 1) (drop n entries) ≡ all → new ++ entry_lines (n + 1 + 1) (drop (n + 1) entries) ≡ all
+entries_turn out new line all entries n entry is grown printed rest =
+    let here : drop n entries ≡ entry ∷ drop (n + 1) entries = drop_at entries n entry (subst (λ i. slice_get entries i ≡ Some entry) (before_position n) is) in
+    ap (λ bs. bs ++ entry_lines (n + 1 + 1) (drop (n + 1) entries)) (grown ∙ ap (λ l. out ++ l) printed)
+    ∙ append_assoc out (entry_line (n + 1) entry) (entry_lines (n + 1 + 1) (drop (n + 1) entries))
+    ∙ sym (ap (λ es. out ++ entry_lines (n + 1) es) here) ∙ rest
+
+-- two more spaces
+pub indent-more : (depth : ℕ) → indent (depth + 1) ≡ indent depth ++ codes "  "
+indent-more depth = ap indent (one_more depth)
+  where
+    one_more : (n : ℕ) → n + 1 ≡ suc n
+    one_more n = omega arith
+
+-- five pieces, one after another
+pub five_pieces : (out a b c d e out1 out2 out3 out4 out5 : List ℕ) → out1 ≡ out ++ a → out2 ≡ out1 ++ b → out3 ≡ out2 ++ c → out4 ≡ out3 ++ d → out5 ≡ out4 ++ e → out5 ≡ out ++ (a ++ b ++ c ++ d ++ e)
+five_pieces out a b c d e out1 out2 out3 out4 out5 e1 e2 e3 e4 e5 =
+    e5
+    ∙ ap (λ o. o ++ e) (e4 ∙ ap (λ o. o ++ d) (e3 ∙ ap (λ o. o ++ c) (e2 ∙ ap (λ o. o ++ b) e1 ∙ append_assoc out a b) ∙ append_assoc out (a ++ b) c) ∙ append_assoc out (a ++ b ++ c) d)
+    ∙ append_assoc out (a ++ b ++ c ++ d) e
