@@ -1,10 +1,4 @@
 pub mod LineLemmas
 pub mod CharLemmas
 pub mod QuoteLemmas
-pub mod CommandLemmas
-pub mod ScriptLemmas
 pub mod OptionLemmas
-pub mod GrammarLines
-pub mod GrammarQuotes
-pub mod GrammarCommands
-pub mod GrammarScript

@@ -1,7 +1,7 @@
 use Rattle.std.proofs.Common.{◌∙◌, ◌+◌, sym, arith, add-one}
 use Rattle.std.proofs.lemmas.List.{take_rest}
 use Rattle.script_lang.proofs.LineLemmas.{lines_of-at, lines_of-filled}
-use Rattle.script_lang.proofs.line.first_line.Goals as goal
+use Rattle.script_lang.proofs.split.first_line.Goals as goal
 
 pub returns-then-b-eq10-clause-cut : goal.returns-then-b-eq10-clause-cut
 returns-then-b-eq10-clause-cut c =
