@@ -1,5 +1,5 @@
 -- The fields of a line.
-use Rattle.std.specs.Prelude.{ℕ, ◌==◌, List, [], ◌∷◌, Option, Some, None, if◌then◌else◌, option_map, bytes_eq, nat_le}
+use Rattle.std.specs.Prelude.{ℕ, ◌==◌, ◌&&◌, ◌||◌, not, Bool, false, length, List, [], ◌∷◌, Option, Some, None, if◌then◌else◌, option_map, bytes_eq, nat_le}
 use Rattle.std.specs.Option.{option_and_then, option_zip}
 use Rattle.std.specs.Fmt.{decimal}
 use Rattle.std.specs.Str.Parse.{digits_value}
@@ -46,3 +46,8 @@ number_if n field = if bytes_eq field (decimal n) then (if nat_le n max_number t
 -- the number whose decimal digits the field is
 unfoldable pub number_of : List ℕ → Option ℕ
 number_of field = number_if (digits_value 10 field) field
+
+-- whether bytes begin with neither a sign nor a zero before other bytes
+abbrev pub is_plain : List ℕ → Bool
+is_plain [] = false
+is_plain (b ∷ bs) = not (b == 43) && (not (b == 48) || (length bs == 0))

@@ -1,7 +1,7 @@
 //! The fields of a line.
 ghost use Rattle.std.specs.Prelude.{◌≡◌, IfOk, option_map};
 ghost use Rattle.std.specs.Str.{chars};
-ghost use Rattle.script_lang.specs.Fields.{parts_at_space, path_of, last_path, number_of};
+ghost use Rattle.script_lang.specs.Fields.{parts_at_space, path_of, last_path, number_of, is_plain};
 
 use ide_text::Name;
 use std::alloc::{AllocError, Global};
@@ -33,12 +33,22 @@ pub(crate) fn last_path(alloc: Global, field: &str) -> Result<Option<Name>, Allo
     }
 }
 
-/// The number whose decimal digits a field is: no zero stands before them.
+/// The number whose decimal digits a field is: no sign and no zero stands before them.
 pub(crate) fn number_of(field: &str) -> Option<u32>
     ensures { result ≡ number_of (chars field.now) }
 {
-    match field.as_bytes() {
-        [b'+', ..] | [b'0', _, ..] => None,
-        _ => field.parse().ok(),
+    if !is_plain(field.as_bytes()) {
+        return None;
+    }
+    field.parse().ok()
+}
+
+/// Whether bytes begin with neither a sign nor a zero before other bytes.
+fn is_plain(digits: &[u8]) -> bool
+    ensures { result ≡ is_plain digits.now }
+{
+    match digits.split_first() {
+        Some((first, rest)) => *first != b'+' && (*first != b'0' || rest.is_empty()),
+        None => false,
     }
 }

@@ -228,11 +228,18 @@ impl Reader {
         ensures ok { IfOk result (λ sections. finished self ≡ Ok sections) }
         ensures err { IfErr result (λ refusal. IsRefusalOf (finished self) refusal) }
     {
-        match self.group {
+        let Reader {
+            section,
+            prelude,
+            lanes,
+            here,
+            group,
+        } = self;
+        match group {
             Some(group) => Err(ScriptRefusal::BadLine {
                 number: group.number,
             }),
-            None => Ok(closed_sections(alloc, self.section, self.prelude, self.lanes, self.here)?),
+            None => Ok(closed_sections(alloc, section, prelude, lanes, here)?),
         }
     }
 }
