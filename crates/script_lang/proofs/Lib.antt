@@ -5,3 +5,10 @@ pub mod OptionLemmas
 pub mod KeywordLemmas
 pub mod FieldLemmas
 pub mod ContentLemmas
+pub mod ReadingLemmas
+pub mod GrammarLines
+pub mod GrammarQuotes
+pub mod GrammarFields
+pub mod GrammarCommands
+pub mod GrammarContents
+pub mod GrammarReading

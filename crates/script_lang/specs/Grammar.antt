@@ -1,11 +1,11 @@
 -- The grammar of scripts: the form of each line by its pieces, and the order of lines by cases.
-use Rattle.std.specs.Prelude.{ℕ, ◌≡◌, ◌≢◌, ◌≤◌, ◌+◌, ◌⊎◌, IsTrue, List, [], ◌∷◌, ◌++◌, length, Option, Some, None, codes}
+use Rattle.std.specs.Prelude.{ℕ, ◌≡◌, ◌≢◌, ◌<◌, ◌≤◌, ◌+◌, ◌⊎◌, IsTrue, List, [], ◌∷◌, ◌++◌, length, Option, Some, None, codes}
 use Rattle.std.specs.Fmt.{decimal}
 use Rattle.std.specs.List.{All}
 use Rattle.std.specs.Str.{chars, IsUtf8}
 use Rattle.ide_text.specs.Text.{repaired, max_chars}
 use Rattle.java_tokens.specs.Identifier.{is_word}
-use Rattle.write_history.specs.Changes.{AreFew}
+use Rattle.write_history.specs.Changes.{max_changes, AreFew}
 use Rattle.write_history.specs.declared.change.Change.{Change}
 use Rattle.write_history.specs.declared.change.Change.TheVariants as change
 use Rattle.script_lang.specs.Commands.{max_attempts}
@@ -179,8 +179,8 @@ HoldRest section None number (content.End ∷ lines) script = ⊥
 HoldRest section None number (content.Bad ∷ lines) script = ⊥
 HoldRest section (Some group) number [] script = ⊥
 HoldRest section (Some group) number (content.PassedBy ∷ lines) script = HoldRest section (Some group) (number + 1) lines script
-HoldRest section (Some group) number (content.Holds (command.Change change) ∷ lines) script =
-    HoldRest section (Some (record { number = group.number; changes = group.changes ++ change ∷ [] })) (number + 1) lines script
+HoldRest section (Some group) number (content.Holds (command.Change change) ∷ lines) script = (length group.changes < max_changes)
+    × HoldRest section (Some (record { number = group.number; changes = group.changes ++ change ∷ [] })) (number + 1) lines script
 HoldRest section (Some group) number (content.End ∷ lines) script = AreFew group.changes
     × ((rest : Rest) × (script ≡ first_comes group.number (command.Group group.changes) rest) × HoldRest section None (number + 1) lines rest)
 HoldRest section (Some group) number (other ∷ lines) script = ⊥

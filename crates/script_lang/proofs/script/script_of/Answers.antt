@@ -1,0 +1,27 @@
+use Rattle.std.proofs.Common.{◌∙◌, ◌≡◌, sym, ap, arith, Ok}
+use Rattle.script_lang.specs.Reading.{script_of, IsRefusalOf}
+use Rattle.script_lang.proofs.ReadingLemmas.{reads_more, reads_bad, reads_end}
+use Rattle.script_lang.proofs.GrammarReading.{dummy}
+use Rattle.script_lang.proofs.script.script_of.Goals as goal
+
+pub returns-in_default-2-clause-err : goal.returns-in_default-2-clause-err
+returns-in_default-2-clause-err c =
+    reads_bad _ _ _ _ _ _ _ c.in-Some.ensures.cut c.in_ok-content.ensures (sym c.in_default-2.is ∙ c.in_ok-next.ensures) c.loop-line.invariant.read
+
+pub loop-line-preserved : goal.loop-line-preserved
+loop-line-preserved c = record {
+  counted = (let h = c.in-Some.ensures.shorter in omega arith);
+  read = reads_more _ _ _ _ _ _ _ _ c.in-Some.ensures.cut c.in_ok-content.ensures (sym c.in-Some-2.is ∙ c.in_ok-next.ensures) c.loop-line.invariant.read;
+}
+
+pub returns-in_err-finished-clause-err : goal.returns-in_err-finished-clause-err
+returns-in_err-finished-clause-err c =
+    let h = c.from_residual-in_err-finished.ensures in
+    let e = c.in_err-finished.ensures.err in ?
+
+pub returns-clause-ok : goal.returns-clause-ok
+returns-clause-ok c =
+    reads_end _ _ _ _ c.in_default.ensures.cut c.loop-line.invariant.read ∙ c.in_ok-finished.ensures.ok
+
+pub invariant_of-result : goal.invariant_of-result
+invariant_of-result c = ?
