@@ -1,101 +1,91 @@
 -- A script is read line by line just where the grammar has it.
-use Rattle.std.proofs.Common.{◌≡◌, ◌≢◌, ◌⊎◌, inl, inr, ℕ, zero, suc, ◌+◌, ◌<◌, ◌≤◌, true, false, Bool, eqb, ltb, cond, List, [], ◌∷◌, ◌++◌, length, Option, Some, None, option_map, Result, Ok, Err, refl, ap, sym, ◌∙◌, subst, arith, append_assoc}
-use Rattle.std.specs.Option.{option_map_or}
-use Rattle.std.specs.List.{All}
-use Rattle.std.proofs.lemmas.Bool.{cases_Bool, eqb-false, ne_eqb, ltb-true, lt-ltb}
-use Rattle.std.proofs.lemmas.List.{append-nil, length-append}
-use Rattle.std.proofs.lemmas.Option.{none-some, same_Some, cond_some}
-use Rattle.write_history.specs.Changes.{max_changes, AreFew}
-use Rattle.write_history.specs.declared.change.Change.{Change}
+use Rattle.std.proofs.Common.{◌≡◌, ◌≢◌, ◌⊎◌, inl, inr, ℕ, ◌+◌, ◌≤◌, List, [], ◌∷◌, ◌++◌, length, Option, Some, None, Result, Ok, Err, refl, ap, sym, ◌∙◌, subst, arith}
+use Rattle.std.proofs.lemmas.Option.{none-some}
 use Rattle.script_lang.specs.Contents.{content_of}
-use Rattle.script_lang.specs.Grammar.{IsLine, AreContents, Rest, nothing, first_comes, lane_comes, last_comes, HoldRest}
-use Rattle.script_lang.specs.Parts.{Parts}
-use Rattle.script_lang.specs.Reading.{OpenGroup, State, may_stand, next_lane, may_end, with_line, with_section, prelude_at, lanes_at, last_at, after_open, after, parts_at, read_from}
-use Rattle.script_lang.specs.declared.command.Command.{Command}
-use Rattle.script_lang.specs.declared.command.Command.TheVariants as command
+use Rattle.script_lang.specs.Grammar.{IsLine, AreContents, Rest, nothing, HoldRest}
+use Rattle.script_lang.specs.Reading.{OpenGroup, State, after_open, after, read_from}
 use Rattle.script_lang.specs.declared.content.Content.{Content}
 use Rattle.script_lang.specs.declared.content.Content.TheVariants as content
-use Rattle.script_lang.specs.declared.line.Line.{Line}
-use Rattle.script_lang.specs.declared.line.Section.{Section}
-use Rattle.script_lang.specs.declared.line.Section.TheVariants.{Prelude, Lane, Finally}
 use Rattle.script_lang.specs.declared.refusal.ScriptRefusal.{ScriptRefusal}
 use Rattle.script_lang.specs.declared.refusal.ScriptRefusal.TheVariants.{BadLine}
 use Rattle.script_lang.proofs.GrammarContents.{IsLine-content_of, content_of-IsLine}
-use Rattle.script_lang.proofs.OptionLemmas.{option_map-some}
+use Rattle.script_lang.proofs.GrammarTurns.{IsRoomy, no_group, turn_held, turn_read, IsRoomy-after}
+use Rattle.script_lang.proofs.JoinedLemmas.{joined}
 use Rattle.script_lang.proofs.ReadingLemmas.{read_from-more, read_from-bad}
 
-pub dummy : Unit {0}
-dummy = tt
+-- the first of some lines that are read may follow
+abbrev pub Follows : State → ℕ → List ℕ → List (List ℕ) → State → Type 0
+Follows s number line lines end = (next : State) × (after s number (content_of line) ≡ Some next) × (read_from next (number + 1) lines ≡ Ok end)
 
--- the lanes of what was read and what is to come, where these are the commands of the section at hand
-abbrev lanes_joined : Section → List (List Line) → List Line → Rest → List (List Line)
-lanes_joined Prelude lanes here rest = lanes ++ rest.lanes
-lanes_joined (Lane number) lanes here rest = (lanes ++ here ∷ []) ++ rest.lanes
-lanes_joined Finally lanes here rest = lanes
-
--- and the last section
-abbrev last_joined : Section → List Line → Rest → List Line
-last_joined Prelude here rest = rest.last
-last_joined (Lane number) here rest = rest.last
-last_joined Finally here rest = here
-
--- what was read, and what is to come
-abbrev joined_at : Section → List Line → List (List Line) → List Line → Rest → Parts
-joined_at section prelude lanes here rest =
-    record { prelude = prelude_at section prelude here; lanes = lanes_joined section lanes here rest; last = last_joined section here rest }
-
-abbrev pub joined : State → Rest → Parts
-joined s rest = joined_at s.section s.prelude s.lanes (s.here ++ rest.here) rest
-
-same_parts : (p q : Parts) → p.prelude ≡ q.prelude → p.lanes ≡ q.lanes → p.last ≡ q.last → p ≡ q
-same_parts p q a b c = λ i. record { prelude = a i; lanes = b i; last = c i }
-
--- nothing is to come
-joined-nothing : (s : State) → joined s nothing ≡ parts_at s.section s.prelude s.lanes s.here
-joined-nothing s = by_section s.section
+pub read_first : (s : State) (number : ℕ) (line : List ℕ) (lines : List (List ℕ)) (end : State) → read_from s number (line ∷ lines) ≡ Ok end → Follows s number line lines end
+read_first s number line lines end e = by_next (after s number (content_of line)) refl
   where
-    none : s.here ++ [] ≡ s.here
-    none = append-nil s.here
-    by_section : (section : Section) → joined_at section s.prelude s.lanes (s.here ++ []) nothing ≡ parts_at section s.prelude s.lanes s.here
-    by_section Prelude = same_parts _ _ none (append-nil s.lanes) refl
-    by_section (Lane number) = same_parts _ _ refl (append-nil (s.lanes ++ (s.here ++ []) ∷ []) ∙ ap (λ l. s.lanes ++ l ∷ []) none) refl
-    by_section Finally = same_parts _ _ refl refl none
+    by_next : (o : Option State) → after s number (content_of line) ≡ o → Follows s number line lines end
+    by_next None is =
+        let f : Err (BadLine number) ≡ Ok end = sym (read_from-bad s number line lines is) ∙ e in
+        absurd cc
+    by_next (Some next) is = (next, is, sym (read_from-more s next number line lines is) ∙ e)
 
--- a command more
-joined-line : (section : Section) (prelude : List Line) (lanes : List (List Line)) (here : List Line) (line : Line) (rest : Rest)
-    → joined_at section prelude lanes (here ++ line ∷ rest.here) rest ≡ joined_at section prelude lanes ((here ++ line ∷ []) ++ rest.here) rest
-joined-line section prelude lanes here line rest =
-    ap (λ l. joined_at section prelude lanes l rest) (sym (append_assoc here (line ∷ []) rest.here))
+-- no bad line may follow
+never_bad : (opened : Option OpenGroup) (s next : State) (number : ℕ) → after_open opened s number content.Bad ≡ Some next → ⊥
+never_bad None s next number e = none-some next e
+never_bad (Some group) s next number e = none-some next e
 
--- another section
-joined-lane : (s : State) (lane : Section) (rest : Rest) → next_lane s.section ≡ Some lane → joined s (lane_comes rest) ≡ joined (with_section s lane) rest
-joined-lane s lane rest e = by_section s.section e
-  where
-    none : s.here ++ [] ≡ s.here
-    none = append-nil s.here
-    at : Section → Section → Type 0
-    at section next = joined_at section s.prelude s.lanes (s.here ++ []) (lane_comes rest)
-        ≡ joined_at next (prelude_at section s.prelude s.here) (lanes_at section s.lanes s.here) ([] ++ rest.here) rest
-    number_lane : (section : Section) (number : ℕ) → ((k : ℕ) → at section (Lane k)) → Lane number ≡ lane → at section lane
-    number_lane section number all f = subst (at section) f (all number)
-    by_section : (section : Section) → next_lane section ≡ Some lane → at section lane
-    by_section Prelude f =
-        number_lane Prelude 1 (λ k. same_parts _ _ none (sym (append_assoc s.lanes (rest.here ∷ []) rest.lanes)) refl) (same_Some (Lane 1) lane f)
-    by_section (Lane number) f =
-        let made = cond_some (ltb number 16) (Lane (number + 1)) lane f in
-        number_lane (Lane number) (number + 1)
-        (λ k. same_parts _ _ refl
-          (ap (λ l. (s.lanes ++ l ∷ []) ++ rest.here ∷ rest.lanes) none ∙ sym (append_assoc (s.lanes ++ s.here ∷ []) (rest.here ∷ []) rest.lanes)) refl)
-        made.1
-    by_section Finally f = absurd (none-some lane f)
+follows_not_bad : (s next : State) (number : ℕ) (line : List ℕ) → after s number (content_of line) ≡ Some next → content_of line ≢ content.Bad
+follows_not_bad s next number line e is = never_bad s.open_group (no_group s) next number (ap (after s number) (sym is) ∙ e)
 
-joined-last : (s : State) (rest : Rest) → may_end s.section ≡ true → joined s (last_comes rest) ≡ joined (with_section s Finally) rest
-joined-last s rest e = by_section s.section e
-  where
-    none : s.here ++ [] ≡ s.here
-    none = append-nil s.here
-    by_section : (section : Section) → may_end section ≡ true → joined_at section s.prelude s.lanes (s.here ++ []) (last_comes rest)
-        ≡ joined_at Finally (prelude_at section s.prelude s.here) (lanes_at section s.lanes s.here) ([] ++ rest.here) rest
-    by_section Prelude f = same_parts _ _ none (append-nil s.lanes) refl
-    by_section (Lane number) f = same_parts _ _ refl (append-nil (s.lanes ++ (s.here ++ []) ∷ []) ∙ ap (λ l. s.lanes ++ l ∷ []) none) refl
-    by_section Finally f = cc
+-- what is read is held by the lines
+abbrev IsHeld : State → ℕ → List (List ℕ) → State → Type 0
+IsHeld s number lines end = (contents : List Content) × (rest : Rest) × AreContents lines contents × HoldRest s.section s.open_group number contents rest
+    × (joined s rest ≡ joined end nothing)
+
+IsHeld-none : (s end : State) (number : ℕ) → s ≡ end → end.open_group ≡ None → IsHeld s number [] end
+IsHeld-none s end number e closed =
+    let none : s.open_group ≡ None = ap (λ t. t.open_group) e ∙ closed in
+    let P : Option OpenGroup → Type 0 = λ o. HoldRest s.section o number [] nothing in
+    let held : HoldRest s.section s.open_group number [] nothing = subst P (sym none) refl in
+    ([], nothing, refl, held, ap (λ t. joined t nothing) e)
+
+IsHeld-line : (s next end : State) (number : ℕ) (line : List ℕ) (lines : List (List ℕ)) → IsRoomy s.open_group → after s number (content_of line) ≡ Some next
+    → IsHeld next (number + 1) lines end → IsHeld s number (line ∷ lines) end
+IsHeld-line s next end number line lines roomy e (contents, rest, are, held, same) =
+    let turn = turn_held s s.open_group number (content_of line) contents rest next roomy e held in
+    let is : IsLine line (content_of line) = IsLine-content_of line (content_of line) refl (follows_not_bad s next number line e) in
+    (content_of line ∷ contents, turn.0, (content_of line, contents, refl, is, are), turn.1, turn.2 ∙ same)
+
+pub IsHeld-read_from : (s : State) (number : ℕ) (lines : List (List ℕ)) (end : State) → IsRoomy s.open_group → read_from s number lines ≡ Ok end → end.open_group ≡ None
+    → (contents : List Content) × (rest : Rest) × AreContents lines contents × HoldRest s.section s.open_group number contents rest × (joined s rest ≡ joined end nothing)
+unfolding read_from
+IsHeld-read_from s number [] end roomy e closed =
+    let same : s ≡ end = cc in
+    IsHeld-none s end number same closed
+IsHeld-read_from s number (line ∷ lines) end roomy e closed =
+    let first = read_first s number line lines end e in
+    IsHeld-line s first.0 end number line lines roomy first.1
+    (IsHeld-read_from first.0 (number + 1) lines end (IsRoomy-after s s.open_group number (content_of line) first.0 roomy first.1) first.2 closed)
+
+-- and what the lines hold is read
+abbrev IsReadWhole : State → ℕ → List (List ℕ) → Rest → Type 0
+IsReadWhole s number lines rest = (end : State) × (read_from s number lines ≡ Ok end) × (end.open_group ≡ None) × (joined s rest ≡ joined end nothing)
+
+closed_held : (section : _) (opened : Option OpenGroup) (number : ℕ) (rest : Rest) → HoldRest section opened number [] rest → (opened ≡ None) × (rest ≡ nothing)
+closed_held section None number rest h = (refl, h)
+closed_held section (Some group) number rest h = absurd h
+
+IsReadWhole-none : (s : State) (number : ℕ) (contents : List Content) (rest : Rest) → contents ≡ [] → HoldRest s.section s.open_group number contents rest → IsReadWhole s number [] rest
+unfolding read_from
+IsReadWhole-none s number contents rest e held =
+    let h = subst (λ (l : List Content). HoldRest s.section s.open_group number l rest) e held in
+    let is = closed_held s.section s.open_group number rest h in
+    (s, refl, is.0, ap (joined s) is.1)
+
+pub read_from-held : (s : State) (number : ℕ) (lines : List (List ℕ)) (contents : List Content) (rest : Rest) → AreContents lines contents
+    → HoldRest s.section s.open_group number contents rest
+    → (end : State) × (read_from s number lines ≡ Ok end) × (end.open_group ≡ None) × (joined s rest ≡ joined end nothing)
+read_from-held s number [] contents rest e held = IsReadWhole-none s number contents rest e held
+read_from-held s number (line ∷ lines) contents rest (c, more, e, is, are) held =
+    let h = subst (λ (l : List Content). HoldRest s.section s.open_group number l rest) e held in
+    let turn = turn_read s s.open_group number c more rest h in
+    let step : after s number (content_of line) ≡ Some turn.0 = ap (after s number) (content_of-IsLine line c is) ∙ turn.2 in
+    let whole = read_from-held turn.0 (number + 1) lines more turn.1 are turn.3 in
+    (whole.0, read_from-more s turn.0 number line lines step ∙ whole.1, whole.2, turn.4 ∙ whole.3)

@@ -11,4 +11,8 @@ pub mod GrammarQuotes
 pub mod GrammarFields
 pub mod GrammarCommands
 pub mod GrammarContents
+pub mod JoinedLemmas
+pub mod GrammarTurns
 pub mod GrammarReading
+pub mod GrammarRefused
+pub mod GrammarScript

@@ -1,7 +1,7 @@
 use Rattle.std.proofs.Common.{◌∙◌, ◌≡◌, sym, ap, arith, Ok}
 use Rattle.script_lang.specs.Reading.{script_of, IsRefusalOf}
 use Rattle.script_lang.proofs.ReadingLemmas.{reads_more, reads_bad, reads_end}
-use Rattle.script_lang.proofs.GrammarReading.{dummy}
+use Rattle.script_lang.proofs.GrammarScript.{IsScript-script_of}
 use Rattle.script_lang.proofs.script.script_of.Goals as goal
 
 pub returns-in_default-2-clause-err : goal.returns-in_default-2-clause-err
