@@ -201,3 +201,8 @@ content_of_bytes-IsKept bytes content.Bad is = absurd is
 pub content_of-IsLine : (line : List ℕ) (c : Content) → IsLine line c → content_of line ≡ c
 unfolding content_of
 content_of-IsLine line c (kept, drops, is) = ap content_of_bytes (without_return-DropsReturn line kept drops) ∙ content_of_bytes-IsKept kept c is
+
+-- a line that keeps all its bytes
+pub content_of-kept : (line : List ℕ) (c : Content) → without_return line ≡ line → IsKept line c → content_of line ≡ c
+unfolding content_of
+content_of-kept line c e is = ap content_of_bytes e ∙ content_of_bytes-IsKept line c is

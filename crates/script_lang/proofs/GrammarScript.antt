@@ -10,7 +10,6 @@ use Rattle.script_lang.specs.declared.refusal.ScriptRefusal.{ScriptRefusal}
 use Rattle.script_lang.specs.declared.refusal.ScriptRefusal.TheVariants.{BadLine, OutOfMemory}
 use Rattle.script_lang.proofs.GrammarLines.{AreLines-lines_of, lines_of-AreLines}
 use Rattle.script_lang.proofs.GrammarReading.{IsHeld-read_from, read_from-held}
-use Rattle.script_lang.proofs.GrammarRefused.{StopsAt, StopsAt-read_from, IsRoomy-read_from}
 use Rattle.script_lang.proofs.JoinedLemmas.{joined, joined-nothing}
 
 -- what was read to the end, as a script
@@ -21,11 +20,11 @@ whole_read s script e = by_group s.open_group refl e
     by_group None is f = (is, cc)
     by_group (Some group) is f = absurd cc
 
-finished-closed : (s : State) → s.open_group ≡ None → finished s ≡ Ok (parts_at s.section s.prelude s.lanes s.here)
+pub finished-closed : (s : State) → s.open_group ≡ None → finished s ≡ Ok (parts_at s.section s.prelude s.lanes s.here)
 finished-closed s e = rw e refl
 
 -- the lines hold the script that is read from them
-HoldScript-finished : (lines : List (List ℕ)) (r : Result State ScriptRefusal) (script : Parts) → read_from start 1 lines ≡ r → finished_read r ≡ Ok script → HoldScript lines script
+pub HoldScript-finished : (lines : List (List ℕ)) (r : Result State ScriptRefusal) (script : Parts) → read_from start 1 lines ≡ r → finished_read r ≡ Ok script → HoldScript lines script
 HoldScript-finished lines (Err refusal) script is e = absurd cc
 HoldScript-finished lines (Ok end) script is e =
     let done = whole_read end script e in
@@ -38,7 +37,7 @@ HoldScript-finished lines (Ok end) script is e =
     }
 
 -- and the script that they hold is read
-finished-HoldScript : (lines : List (List ℕ)) (script : Parts) → HoldScript lines script → finished_read (read_from start 1 lines) ≡ Ok script
+pub finished-HoldScript : (lines : List (List ℕ)) (script : Parts) → HoldScript lines script → finished_read (read_from start 1 lines) ≡ Ok script
 finished-HoldScript lines script is =
     let read = read_from-held start 1 lines is.contents (whole script) is.read is.held in
     let parts : parts_at read.0.section read.0.prelude read.0.lanes read.0.here ≡ script = sym (joined-nothing read.0) ∙ sym read.3 in

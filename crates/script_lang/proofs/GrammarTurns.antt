@@ -25,7 +25,7 @@ abbrev pub no_group : State → State
 no_group s = record s { open_group = None }
 
 -- a group that ends has a change
-cond_none : {A : Type 0} (t : Bool) (x y : A) → cond t None (Some x) ≡ Some y → (t ≡ false) × (x ≡ y)
+pub cond_none : {A : Type 0} (t : Bool) (x y : A) → cond t None (Some x) ≡ Some y → (t ≡ false) × (x ≡ y)
 cond_none true x y e = absurd (none-some y e)
 cond_none false x y e = (refl, same_Some x y e)
 

@@ -16,3 +16,7 @@ pub mod GrammarTurns
 pub mod GrammarReading
 pub mod GrammarRefused
 pub mod GrammarScript
+pub mod GrammarBegins
+pub mod GrammarOpen
+pub mod HeldLemmas
+pub mod GrammarAnswers

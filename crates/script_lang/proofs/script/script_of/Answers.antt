@@ -1,7 +1,6 @@
-use Rattle.std.proofs.Common.{◌∙◌, ◌≡◌, sym, ap, arith, Ok}
-use Rattle.script_lang.specs.Reading.{script_of, IsRefusalOf}
+use Rattle.std.proofs.Common.{◌∙◌, sym, arith}
+use Rattle.script_lang.proofs.GrammarAnswers.{refusal_passed, AreOfScript-script_of}
 use Rattle.script_lang.proofs.ReadingLemmas.{reads_more, reads_bad, reads_end}
-use Rattle.script_lang.proofs.GrammarScript.{IsScript-script_of}
 use Rattle.script_lang.proofs.script.script_of.Goals as goal
 
 pub returns-in_default-2-clause-err : goal.returns-in_default-2-clause-err
@@ -16,12 +15,14 @@ loop-line-preserved c = record {
 
 pub returns-in_err-finished-clause-err : goal.returns-in_err-finished-clause-err
 returns-in_err-finished-clause-err c =
-    let h = c.from_residual-in_err-finished.ensures in
-    let e = c.in_err-finished.ensures.err in ?
+    refusal_passed _ _ _ _ (reads_end _ _ _ _ c.in_default.ensures.cut c.loop-line.invariant.read) c.in_err-finished.ensures.err
+    c.from_residual-in_err-finished.ensures.1
 
 pub returns-clause-ok : goal.returns-clause-ok
 returns-clause-ok c =
     reads_end _ _ _ _ c.in_default.ensures.cut c.loop-line.invariant.read ∙ c.in_ok-finished.ensures.ok
 
 pub invariant_of-result : goal.invariant_of-result
-invariant_of-result c = ?
+invariant_of-result c =
+    AreOfScript-script_of c.args.bytes.now c.in_ok-finished.field-0
+    (reads_end _ _ _ _ c.in_default.ensures.cut c.loop-line.invariant.read ∙ c.in_ok-finished.ensures.ok)
