@@ -1,6 +1,5 @@
 //! An accepted entry, as the history keeps it: its changes, who made them, and the line that asked for them.
-ghost use Rattle.std.specs.Prelude.{◌≡◌};
-ghost use Rattle.write_history.specs.Changes.{AreFew};
+ghost use Rattle.std.specs.Prelude.{◌≡◌, ◌≤◌, length};
 
 use crate::Change;
 use std::marker::Model;
@@ -24,16 +23,6 @@ impl Model for Changes {
     ghost view = { λ c. c.changes.items };
 
     ghost invariant = { λ c. AreFew c.changes.items };
-}
-
-impl Changes {
-    /// The changes of a list.
-    pub fn from_vec(changes: Vec<Change>) -> Changes
-        requires { AreFew changes.items }
-        ensures { result ≡ changes.items }
-    {
-        Changes { changes }
-    }
 }
 
 /// Changes that went in together, with the number of the pass that made them and the line of the script that asked for them.
