@@ -39,7 +39,7 @@ All-no_space (c ∷ cs) none =
     All-cons (λ c. c ≢ space) c cs (first_no_space c cs none) (All-no_space cs (rest_no_space (encode c) (encodes cs) none))
 
 -- the parts of characters, where none of the first is a space
-parts_at_space-none : (cs : List ℕ) → All (λ c. c ≢ space) cs → parts_at_space cs ≡ None
+pub parts_at_space-none : (cs : List ℕ) → All (λ c. c ≢ space) cs → parts_at_space cs ≡ None
 parts_at_space-none [] none = refl
 parts_at_space-none (c ∷ cs) none =
     let e : parts_at_space cs ≡ None = parts_at_space-none cs (All-tail (λ c. c ≢ space) c cs none) in

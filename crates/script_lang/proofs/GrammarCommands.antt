@@ -1,176 +1,311 @@
 -- The command of a line is the one whose form it is.
-use Rattle.std.proofs.Common.{◌≡◌, ◌≢◌, ◌⊎◌, inl, inr, ℕ, true, false, eqb, cond, List, [], ◌∷◌, ◌++◌, Option, Some, None, option_map, refl, ap, sym, ◌∙◌, subst, codes}
-use Rattle.std.specs.Option.{option_zip}
+use Rattle.std.proofs.Common.{◌≡◌, ◌⊎◌, inl, inr, ℕ, ◌≤◌, true, false, leb, cond, List, [], ◌∷◌, ◌++◌, Option, Some, None, option_map, refl, ap, sym, ◌∙◌, subst, codes, arith}
+use Rattle.std.specs.Fmt.{decimal}
+use Rattle.std.specs.Option.{option_and_then}
 use Rattle.std.specs.Str.{bytes_eq}
-use Rattle.std.specs.List.{All}
-use Rattle.std.proofs.lemmas.Bool.{cases_Bool, ne_eqb, eqb-true, eqb-false}
-use Rattle.std.proofs.lemmas.List.Elements.{All-nil, All-cons, All-head, All-tail}
+use Rattle.std.proofs.lemmas.Bool.{leb-true, le-leb, and_parts}
 use Rattle.std.proofs.lemmas.Option.{none-some, same_Some, cond_some}
 use Rattle.std.proofs.lemmas.Slice.Eq.{bytes_eq-Decides}
+use mathlib.Core.Bool.{◌&&◌}
 use Rattle.java_tokens.specs.Identifier.{is_word}
-use Rattle.script_lang.specs.Fields.{space, parts_at_space, before_first_part}
-use Rattle.script_lang.specs.Quotes.{text_of_field}
-use Rattle.script_lang.specs.Commands.{path_of, path_unless_parts, last_path, path_and_text, keyword_of, command_with, command_of_parts, command_of}
-use Rattle.script_lang.specs.Grammar.{IsQuoted, HasPathAndText, IsCommandLine}
-use Rattle.script_lang.specs.declared.command.Command.{Command}
-use Rattle.script_lang.specs.declared.command.Command.TheVariants.{Change, Settle, Ask}
-use Rattle.script_lang.specs.declared.command.Query.TheVariants as query
+use Rattle.write_history.specs.declared.change.Change.{Change}
 use Rattle.write_history.specs.declared.change.Change.TheVariants as change
-use Rattle.script_lang.specs.declared.command.Keyword.{Keyword}
-use Rattle.script_lang.specs.declared.command.Keyword.TheVariants as key
-use Rattle.script_lang.proofs.OptionLemmas.{option_map-some, option_and_then-some}
-use Rattle.script_lang.proofs.CharLemmas.{parts_at_space-found}
+use Rattle.script_lang.specs.Commands.{max_attempts, path_command, text_change, attempts_of, soft_command, command_with, change_of_parts, change_of, asked_or, command_of}
+use Rattle.script_lang.specs.Fields.{space, max_number, parts_at_space, two_fields, path_of, last_path, number_of}
+use Rattle.script_lang.specs.Grammar.{IsPath, IsQuoted, spaced, HasPath, HasPathAndText, HasName, IsChangeLine, IsQueryLine, IsCommandLine}
+use Rattle.script_lang.specs.Keywords.{keywords, query_keywords, keyword_of, query_keyword_of}
+use Rattle.script_lang.specs.Queries.{name_query, query_with, query_of_parts, query_of}
+use Rattle.script_lang.specs.Quotes.{text_of_field}
+use Rattle.script_lang.specs.declared.command.Command.{Command}
+use Rattle.script_lang.specs.declared.command.Command.TheVariants as command
+use Rattle.script_lang.specs.declared.query.Query.{Query}
+use Rattle.script_lang.specs.declared.query.Query.TheVariants as query
+use Rattle.script_lang.specs.declared.keyword.Keyword.{Keyword}
+use Rattle.script_lang.specs.declared.keyword.Keyword.TheVariants as key
+use Rattle.script_lang.specs.declared.keyword.PathKeyword.{PathKeyword}
+use Rattle.script_lang.specs.declared.keyword.PathKeyword.TheVariants as path_key
+use Rattle.script_lang.specs.declared.keyword.TextKeyword.{TextKeyword}
+use Rattle.script_lang.specs.declared.keyword.TextKeyword.TheVariants as text_key
+use Rattle.script_lang.specs.declared.keyword.QueryKeyword.{QueryKeyword}
+use Rattle.script_lang.specs.declared.keyword.QueryKeyword.TheVariants as query_key
+use Rattle.script_lang.specs.declared.keyword.NameKeyword.{NameKeyword}
+use Rattle.script_lang.specs.declared.keyword.NameKeyword.TheVariants as name_key
+use Rattle.script_lang.proofs.FieldLemmas.{number_of-some, number_of-decimal}
+use Rattle.script_lang.proofs.GrammarFields.{AreParts-parts_at_space, last_path-some, last_path-IsPath, no_space-decimal, two_fields-some, two_fields-found, path_and-some, path_and-found, look_up-some}
 use Rattle.script_lang.proofs.GrammarQuotes.{IsQuoted-text_of_field, text_of_field-IsQuoted}
-
--- the parts at a space are what stands before the first one, and behind it
-abbrev AreParts : List ℕ → List ℕ × List ℕ → Type 0
-AreParts cs p = (cs ≡ p.0 ++ space ∷ p.1) × All (λ c. c ≢ space) p.0
-
-AreParts-more : (c : ℕ) (cs : List ℕ) (p q : List ℕ × List ℕ) → c ≢ space → before_first_part c p ≡ q → AreParts cs p → AreParts (c ∷ cs) q
-AreParts-more c cs (front, back) q other e (split, none) =
-    let P : List ℕ × List ℕ → Type 0 = λ r. AreParts (c ∷ cs) r in
-    subst P e (ap (λ l. c ∷ l) split, All-cons (λ c. c ≢ space) c front other none)
-
-AreParts-step : (c : ℕ) (cs : List ℕ) (q : List ℕ × List ℕ) → ((p : List ℕ × List ℕ) → parts_at_space cs ≡ Some p → AreParts cs p)
-    → cond (eqb c space) (Some ([], cs)) (option_map (before_first_part c) (parts_at_space cs)) ≡ Some q → (eqb c space ≡ true) ⊎ (eqb c space ≡ false) → AreParts (c ∷ cs) q
-AreParts-step c cs q more e (inl is_space) =
-    let e' = rw is_space at e in
-    let P : List ℕ × List ℕ → Type 0 = λ r. AreParts (c ∷ cs) r in
-    subst P (same_Some ([], cs) q e') (ap (λ d. d ∷ cs) (eqb-true c space is_space), All-nil (λ c. c ≢ space))
-AreParts-step c cs q more e (inr other) =
-    let e' = rw other at e in
-    let read = option_map-some (before_first_part c) (parts_at_space cs) q e' in
-    AreParts-more c cs read.0 q (eqb-false c space other) read.2 (more read.0 read.1)
-
-AreParts-parts_at_space : (cs : List ℕ) (p : List ℕ × List ℕ) → parts_at_space cs ≡ Some p → AreParts cs p
-AreParts-parts_at_space [] p e = absurd (none-some p e)
-AreParts-parts_at_space (c ∷ cs) p e = AreParts-step c cs p (AreParts-parts_at_space cs) e (cases_Bool _)
+use Rattle.script_lang.proofs.OptionLemmas.{option_map-some, option_and_then-some}
 
 -- the word of a keyword
-abbrev spelled : Keyword → List ℕ
-spelled key.Create = codes "create"
-spelled key.Write = codes "write"
-spelled key.Word = codes "word"
-spelled key.Outline = codes "outline"
+abbrev pub spelled_path : PathKeyword → List ℕ
+spelled_path path_key.Load = codes "load"
+spelled_path path_key.Delete = codes "delete"
+spelled_path path_key.Open = codes "open"
+spelled_path path_key.Commit = codes "commit"
+spelled_path path_key.Save = codes "save"
+spelled_path path_key.Close = codes "close"
 
-keyword_of-step : (word k : List ℕ) (one keyword : Keyword) (other : Option Keyword) → spelled one ≡ k → (other ≡ Some keyword → word ≡ spelled keyword)
-    → cond (bytes_eq word k) (Some one) other ≡ Some keyword → (bytes_eq word k ≡ true) ⊎ (bytes_eq word k ≡ false) → word ≡ spelled keyword
-keyword_of-step word k one keyword other is more e (inl same) =
-    let e' = rw same at e in
-    (bytes_eq-Decides word k).0 same ∙ sym is ∙ ap spelled (same_Some one keyword e')
-keyword_of-step word k one keyword other is more e (inr differs) = more (rw differs at e)
+abbrev pub spelled_text : TextKeyword → List ℕ
+spelled_text text_key.Create = codes "create"
+spelled_text text_key.Write = codes "write"
+
+abbrev pub spelled : Keyword → List ℕ
+spelled (key.OfPath keyword) = spelled_path keyword
+spelled (key.OfText keyword) = spelled_text keyword
+spelled key.Insert = codes "insert"
+spelled key.Erase = codes "erase"
+spelled key.Move = codes "move"
+spelled key.Soft = codes "soft"
+
+abbrev pub spelled_name : NameKeyword → List ℕ
+spelled_name name_key.Class = codes "class"
+spelled_name name_key.Supers = codes "supers"
+spelled_name name_key.Method = codes "method"
+spelled_name name_key.Word = codes "word"
+
+abbrev pub spelled_query : QueryKeyword → List ℕ
+spelled_query (query_key.OfName keyword) = spelled_name keyword
+spelled_query query_key.Outline = codes "outline"
 
 spelled-keyword_of : (word : List ℕ) (keyword : Keyword) → keyword_of word ≡ Some keyword → word ≡ spelled keyword
 spelled-keyword_of word keyword e =
-    keyword_of-step word (codes "create") key.Create keyword _ refl
-    (λ f. keyword_of-step word (codes "write") key.Write keyword _ refl
-    (λ g. keyword_of-step word (codes "word") key.Word keyword _ refl
-    (λ h. keyword_of-step word (codes "outline") key.Outline keyword None refl (λ k. absurd (none-some keyword k)) h (cases_Bool _)) g (cases_Bool _)) f (cases_Bool _)) e (cases_Bool _)
+    look_up-some (λ w k. w ≡ spelled k) keywords word keyword
+    (refl, (refl, (refl, (refl, (refl, (refl, (refl, (refl, (refl, (refl, (refl, (refl, tt)))))))))))) e
 
--- no parts are found where no space stands
-parts_at_space-none : (cs : List ℕ) → All (λ c. c ≢ space) cs → parts_at_space cs ≡ None
-parts_at_space-none [] none = refl
-parts_at_space-none (c ∷ cs) none =
-    rw (ne_eqb c space (All-head (λ c. c ≢ space) c cs none), parts_at_space-none cs (All-tail (λ c. c ≢ space) c cs none)) refl
+spelled-query_keyword_of : (word : List ℕ) (keyword : QueryKeyword) → query_keyword_of word ≡ Some keyword → word ≡ spelled_query keyword
+spelled-query_keyword_of word keyword e =
+    look_up-some (λ w k. w ≡ spelled_query k) query_keywords word keyword (refl, (refl, (refl, (refl, (refl, tt))))) e
 
--- and no space stands where none are found
-option_map-none : {A B : Type 0} (f : A → B) (o : Option A) → option_map f o ≡ None → o ≡ None
-option_map-none f None e = refl
-option_map-none f (Some x) e = absurd (none-some (f x) (sym e))
+-- a question's form
+IsQueryLine-name : (keyword : NameKeyword) (line name : List ℕ) → line ≡ spelled_name keyword ++ space ∷ name → is_word name ≡ true → IsQueryLine line (name_query keyword name)
+IsQueryLine-name name_key.Class line name e whole = (e, whole)
+IsQueryLine-name name_key.Supers line name e whole = (e, whole)
+IsQueryLine-name name_key.Method line name e whole = (e, whole)
+IsQueryLine-name name_key.Word line name e whole = (e, whole)
 
-no_space-step : (c : ℕ) (cs : List ℕ) → (parts_at_space cs ≡ None → All (λ d. d ≢ space) cs)
-    → cond (eqb c space) (Some ([], cs)) (option_map (before_first_part c) (parts_at_space cs)) ≡ None → (eqb c space ≡ true) ⊎ (eqb c space ≡ false) → All (λ d. d ≢ space) (c ∷ cs)
-no_space-step c cs more e (inl is_space) = absurd (none-some ([], cs) (sym (rw is_space at e)))
-no_space-step c cs more e (inr other) =
-    All-cons (λ d. d ≢ space) c cs (eqb-false c space other) (more (option_map-none (before_first_part c) (parts_at_space cs) (rw other at e)))
-
-no_space-parts_at_space : (cs : List ℕ) → parts_at_space cs ≡ None → All (λ c. c ≢ space) cs
-no_space-parts_at_space [] e = All-nil (λ c. c ≢ space)
-no_space-parts_at_space (c ∷ cs) e = no_space-step c cs (no_space-parts_at_space cs) e (cases_Bool _)
-
--- what a path is
-path_of-some : (field path : List ℕ) → path_of field ≡ Some path → (field ≡ path) × (path ≢ [])
-path_of-some [] path e = absurd (none-some path e)
-path_of-some (c ∷ cs) path e =
-    let same = same_Some (c ∷ cs) path e in
-    (same, λ f. (let g = same ∙ f in cc))
-
-path_of-filled : (path : List ℕ) → path ≢ [] → path_of path ≡ Some path
-path_of-filled [] filled = absurd (filled refl)
-path_of-filled (c ∷ cs) filled = refl
-
-last_path-some : (field path : List ℕ) → last_path field ≡ Some path → (field ≡ path) × (path ≢ []) × All (λ c. c ≢ space) field
-last_path-some field path read = by_parts (parts_at_space field) refl read
-  where
-    by_parts : (parts : Option (List ℕ × List ℕ)) → parts_at_space field ≡ parts → path_unless_parts parts field ≡ Some path → (field ≡ path) × (path ≢ []) × All (λ c. c ≢ space) field
-    by_parts None e r = let is = path_of-some field path r in (is.0, is.1, no_space-parts_at_space field e)
-    by_parts (Some p) e r = absurd (none-some path r)
-
-option_zip-some : {A B : Type 0} (o : Option A) (r : Option B) (q : A × B) → option_zip o r ≡ Some q → (o ≡ Some q.0) × (r ≡ Some q.1)
-option_zip-some None r q e = absurd (none-some q e)
-option_zip-some (Some x) None q e = absurd (none-some q e)
-option_zip-some (Some x) (Some y) q e =
-    let same = same_Some (x, y) q e in
-    (ap (λ p. Some p.0) same, ap (λ p. Some p.1) same)
-
--- a path and a text behind a keyword
-HasPathAndText-read : (keyword line rest : List ℕ) (q : List ℕ × List ℕ) → line ≡ keyword ++ space ∷ rest → path_and_text rest ≡ Some q → HasPathAndText keyword line q.0 q.1
-HasPathAndText-read keyword line rest q e read =
-    let found = option_and_then-some _ (parts_at_space rest) q read in
-    let parts = AreParts-parts_at_space rest found.0 found.1 in
-    let both = option_zip-some (path_of found.0.0) (text_of_field found.0.1) q found.2 in
-    let path = path_of-some found.0.0 q.0 both.0 in
-    record {
-      field = found.0.1;
-      pieces = e ∙ ap (λ l. keyword ++ space ∷ l) (parts.0 ∙ ap (λ p. p ++ space ∷ found.0.1) path.0);
-      not_empty = path.1;
-      no_space = subst (λ (p : List ℕ). All (λ c. c ≢ space) p) path.0 parts.1;
-      quoted = IsQuoted-text_of_field found.0.1 q.1 both.1;
-    }
-
-path_and_text-found : (path field text : List ℕ) → path ≢ [] → All (λ c. c ≢ space) path → IsQuoted field text → path_and_text (path ++ space ∷ field) ≡ Some (path, text)
-path_and_text-found path field text filled none quoted =
-    rw (parts_at_space-found path field none, path_of-filled path filled, text_of_field-IsQuoted field text quoted) refl
-
--- what is read is the form of the command
-IsCommandLine-with : (keyword : Keyword) (line rest : List ℕ) (command : Command) → line ≡ spelled keyword ++ space ∷ rest → command_with keyword rest ≡ Some command → IsCommandLine line command
-IsCommandLine-with key.Create line rest command e read =
-    let made = option_map-some (λ p. Change (change.Create p.0 p.1)) (path_and_text rest) command read in
-    subst (IsCommandLine line) made.2 (HasPathAndText-read (codes "create") line rest made.0 e made.1)
-IsCommandLine-with key.Write line rest command e read =
-    let made = option_map-some (λ p. Change (change.Write p.0 p.1)) (path_and_text rest) command read in
-    subst (IsCommandLine line) made.2 (HasPathAndText-read (codes "write") line rest made.0 e made.1)
-IsCommandLine-with key.Word line rest command e read =
-    let made = cond_some (is_word rest) (Ask (query.Word rest)) command read in
-    subst (IsCommandLine line) made.1 (e, made.0)
-IsCommandLine-with key.Outline line rest command e read =
-    let made = option_map-some (λ path. Ask (query.Outline path)) (last_path rest) command read in
+IsQueryLine-with : (keyword : QueryKeyword) (line rest : List ℕ) (q : Query) → line ≡ spelled_query keyword ++ space ∷ rest → query_with keyword rest ≡ Some q → IsQueryLine line q
+IsQueryLine-with (query_key.OfName keyword) line rest q e read =
+    let made = cond_some (is_word rest) (name_query keyword rest) q read in
+    subst (IsQueryLine line) made.1 (IsQueryLine-name keyword line rest e made.0)
+IsQueryLine-with query_key.Outline line rest q e read =
+    let made = option_map-some query.Outline (last_path rest) q read in
     let found = last_path-some rest made.0 made.1 in
-    subst (IsCommandLine line) made.2 (e ∙ ap (λ p. codes "outline" ++ space ∷ p) found.0, found.1, subst (λ (p : List ℕ). All (λ c. c ≢ space) p) found.0 found.2)
+    subst (IsQueryLine line) made.2 (e ∙ ap (λ p. codes "outline" ++ space ∷ p) found.0, found.1)
 
-IsCommandLine-parts : (line : List ℕ) (parts : Option (List ℕ × List ℕ)) (command : Command) → parts_at_space line ≡ parts → command_of_parts line parts ≡ Some command → IsCommandLine line command
-IsCommandLine-parts line None command e read =
-    let made = cond_some (bytes_eq line (codes "settle")) Settle command read in
-    subst (IsCommandLine line) made.1 ((bytes_eq-Decides line (codes "settle")).0 made.0)
-IsCommandLine-parts line (Some p) command e read =
-    let found = option_and_then-some _ (keyword_of p.0) command read in
+IsQueryLine-parts : (line : List ℕ) (parts : Option (List ℕ × List ℕ)) (q : Query) → parts_at_space line ≡ parts → query_of_parts line parts ≡ Some q → IsQueryLine line q
+IsQueryLine-parts line None q e read =
+    let made = cond_some (bytes_eq line (codes "status")) query.Status q read in
+    subst (IsQueryLine line) made.1 ((bytes_eq-Decides line (codes "status")).0 made.0)
+IsQueryLine-parts line (Some p) q e read =
+    let found = option_and_then-some (λ keyword. query_with keyword p.1) (query_keyword_of p.0) q read in
     let parts = AreParts-parts_at_space line p e in
-    IsCommandLine-with found.0 line p.1 command (parts.0 ∙ ap (λ k. k ++ space ∷ p.1) (spelled-keyword_of p.0 found.0 found.1)) found.2
+    IsQueryLine-with found.0 line p.1 q (parts.0 ∙ ap (λ k. k ++ space ∷ p.1) (spelled-query_keyword_of p.0 found.0 found.1)) found.2
 
-pub IsCommandLine-command_of : (line : List ℕ) (command : Command) → command_of line ≡ Some command → IsCommandLine line command
-unfolding command_of
-IsCommandLine-command_of line command read = IsCommandLine-parts line (parts_at_space line) command refl read
+IsQueryLine-query_of : (line : List ℕ) (q : Query) → query_of line ≡ Some q → IsQueryLine line q
+unfolding query_of
+IsQueryLine-query_of line q read = IsQueryLine-parts line (parts_at_space line) q refl read
 
--- and a command's form is read
-pub command_of-IsCommandLine : (line : List ℕ) (command : Command) → IsCommandLine line command → command_of line ≡ Some command
+-- and the question is read from it
+abbrev pub IsAsked : List ℕ → Query → Type 0
+IsAsked line q = ((line ≡ codes "status") × (q ≡ query.Status))
+    ⊎ ((keyword : QueryKeyword) × (rest : List ℕ) × (line ≡ spelled_query keyword ++ space ∷ rest) × (query_with keyword rest ≡ Some q))
+
+asked_name : (keyword : NameKeyword) (line name : List ℕ) → line ≡ spelled_name keyword ++ space ∷ name → is_word name ≡ true → IsAsked line (name_query keyword name)
+asked_name keyword line name e whole = inr (query_key.OfName keyword, name, e, rw whole refl)
+
+pub IsAsked-IsQueryLine : (line : List ℕ) (q : Query) → IsQueryLine line q → IsAsked line q
+IsAsked-IsQueryLine line (query.Class name) (e, whole) = asked_name name_key.Class line name e whole
+IsAsked-IsQueryLine line (query.Supers name) (e, whole) = asked_name name_key.Supers line name e whole
+IsAsked-IsQueryLine line (query.Method name) (e, whole) = asked_name name_key.Method line name e whole
+IsAsked-IsQueryLine line (query.Word name) (e, whole) = asked_name name_key.Word line name e whole
+IsAsked-IsQueryLine line (query.Outline path) (e, is) = inr (query_key.Outline, path, e, ap (option_map query.Outline) (last_path-IsPath path is))
+IsAsked-IsQueryLine line query.Status e = inl (e, refl)
+
+query_of-with : (keyword : QueryKeyword) (rest : List ℕ) → query_of (spelled_query keyword ++ space ∷ rest) ≡ query_with keyword rest
+unfolding query_of
+query_of-with (query_key.OfName name_key.Class) rest = refl
+query_of-with (query_key.OfName name_key.Supers) rest = refl
+query_of-with (query_key.OfName name_key.Method) rest = refl
+query_of-with (query_key.OfName name_key.Word) rest = refl
+query_of-with query_key.Outline rest = refl
+
+query_of-IsAsked : (line : List ℕ) (q : Query) → IsAsked line q → query_of line ≡ Some q
+unfolding query_of
+query_of-IsAsked line q (inl (e, is)) = ap query_of e ∙ ap Some (sym is)
+query_of-IsAsked line q (inr (keyword, rest, e, read)) = ap query_of e ∙ query_of-with keyword rest ∙ read
+
+-- the number of attempts
+attempts_of-some : (field : List ℕ) (n : ℕ) → attempts_of field ≡ Some n → (field ≡ decimal n) × (1 ≤ n) × (n ≤ max_attempts)
+attempts_of-some field n e =
+    let found = option_and_then-some (λ m. cond (leb 1 m && leb m max_attempts) (Some m) None) (number_of field) n e in
+    let digits = number_of-some field found.0 found.1 in
+    let fit = cond_some (leb 1 found.0 && leb found.0 max_attempts) found.0 n found.2 in
+    let both = and_parts (leb 1 found.0) (leb found.0 max_attempts) fit.0 in
+    (digits.0 ∙ ap decimal fit.1, subst (λ (m : ℕ). 1 ≤ m) fit.1 (leb-true 1 found.0 both.0), subst (λ (m : ℕ). m ≤ max_attempts) fit.1 (leb-true found.0 max_attempts both.1))
+
+attempts_of-decimal : (n : ℕ) → 1 ≤ n → n ≤ max_attempts → attempts_of (decimal n) ≡ Some n
+attempts_of-decimal n some few =
+    let fits : n ≤ max_number = omega arith in
+    rw (number_of-decimal n fits, le-leb 1 n some, le-leb n max_attempts few) refl
+
+-- the form of a command other than a question
+IsCommandLine-path : (keyword : PathKeyword) (line path : List ℕ) → line ≡ spelled_path keyword ++ space ∷ path → IsPath path → IsCommandLine line (path_command keyword path)
+IsCommandLine-path path_key.Load line path e is = (e, is)
+IsCommandLine-path path_key.Delete line path e is = (e, is)
+IsCommandLine-path path_key.Open line path e is = (e, is)
+IsCommandLine-path path_key.Commit line path e is = (e, is)
+IsCommandLine-path path_key.Save line path e is = (e, is)
+IsCommandLine-path path_key.Close line path e is = (e, is)
+
+IsChangeLine-text : (keyword : TextKeyword) (line path text : List ℕ) → HasPathAndText (spelled_text keyword) line path text → IsChangeLine line (text_change keyword path text)
+IsChangeLine-text text_key.Create line path text is = is
+IsChangeLine-text text_key.Write line path text is = is
+
+number_and-some : {B : Type 0} (rest : List ℕ → Option B) (fields : List ℕ) (q : ℕ × B) → two_fields number_of rest fields ≡ Some q
+    → (after : List ℕ) × (fields ≡ decimal q.0 ++ space ∷ after) × (q.0 ≤ max_number) × (rest after ≡ Some q.1)
+number_and-some rest fields q e =
+    let found = two_fields-some number_of rest fields q e in
+    let digits = number_of-some found.0.0 q.0 found.3 in
+    (found.0.1, found.1 ∙ ap (λ p. p ++ space ∷ found.0.1) digits.0, digits.1, found.4)
+
+number_and-found : {B : Type 0} (rest : List ℕ → Option B) (n : ℕ) (after : List ℕ) (y : B) → n ≤ max_number → rest after ≡ Some y
+    → two_fields number_of rest (decimal n ++ space ∷ after) ≡ Some (n, y)
+number_and-found rest n after y fits e = two_fields-found number_of rest (decimal n) after n y (no_space-decimal n fits) (number_of-decimal n fits) e
+
+IsCommandLine-with : (keyword : Keyword) (line rest : List ℕ) (made : Command) → line ≡ spelled keyword ++ space ∷ rest → command_with keyword rest ≡ Some made → IsCommandLine line made
+IsCommandLine-with (key.OfPath keyword) line rest made e read =
+    let found = option_map-some (path_command keyword) (last_path rest) made read in
+    let path = last_path-some rest found.0 found.1 in
+    subst (IsCommandLine line) found.2 (IsCommandLine-path keyword line found.0 (e ∙ ap (λ p. spelled_path keyword ++ space ∷ p) path.0) path.1)
+IsCommandLine-with (key.OfText keyword) line rest made e read =
+    let found = option_map-some (λ p. command.Change (text_change keyword p.0 p.1)) (two_fields path_of text_of_field rest) made read in
+    let q = path_and-some text_of_field rest found.0 found.1 in
+    subst (IsCommandLine line) found.2 (IsChangeLine-text keyword line found.0.0 found.0.1
+      (q.0, e ∙ ap (λ p. spelled_text keyword ++ space ∷ p) q.1, q.2, IsQuoted-text_of_field q.0 found.0.1 q.3))
+IsCommandLine-with key.Insert line rest made e read =
+    let found = option_map-some (λ p. command.Change (change.Insert p.0 p.1.0 p.1.1)) (two_fields path_of (two_fields number_of text_of_field) rest) made read in
+    let q = path_and-some (two_fields number_of text_of_field) rest found.0 found.1 in
+    let r = number_and-some text_of_field q.0 found.0.1 q.3 in
+    subst (IsCommandLine line) found.2
+      (r.0, e ∙ ap (λ p. codes "insert" ++ space ∷ p) (q.1 ∙ ap (λ p. found.0.0 ++ space ∷ p) r.1), q.2, r.2, IsQuoted-text_of_field r.0 found.0.1.1 r.3)
+IsCommandLine-with key.Erase line rest made e read =
+    let found = option_map-some (λ p. command.Change (change.Erase p.0 p.1.0 p.1.1)) (two_fields path_of (two_fields number_of number_of) rest) made read in
+    let q = path_and-some (two_fields number_of number_of) rest found.0 found.1 in
+    let r = number_and-some number_of q.0 found.0.1 q.3 in
+    let to = number_of-some r.0 found.0.1.1 r.3 in
+    subst (IsCommandLine line) found.2
+      (e ∙ ap (λ p. codes "erase" ++ space ∷ p) (q.1 ∙ ap (λ p. found.0.0 ++ space ∷ p) (r.1 ∙ ap (λ p. decimal found.0.1.0 ++ space ∷ p) to.0)), q.2, r.2, to.1)
+IsCommandLine-with key.Move line rest made e read =
+    let found = option_map-some (λ p. command.Change (change.Move p.0 p.1)) (two_fields path_of last_path rest) made read in
+    let q = path_and-some last_path rest found.0 found.1 in
+    let to = last_path-some q.0 found.0.1 q.3 in
+    subst (IsCommandLine line) found.2
+      (e ∙ ap (λ p. codes "move" ++ space ∷ p) (q.1 ∙ ap (λ p. found.0.0 ++ space ∷ p) to.0), q.2, to.1)
+IsCommandLine-with key.Soft line rest made e read =
+    let found = option_map-some (λ p. command.Soft p.0 p.1) (two_fields attempts_of query_of rest) made read in
+    let q = two_fields-some attempts_of query_of rest found.0 found.1 in
+    let n = attempts_of-some q.0.0 found.0.0 q.3 in
+    subst (IsCommandLine line) found.2
+      (q.0.1, e ∙ ap (λ p. codes "soft" ++ space ∷ p) (q.1 ∙ ap (λ p. p ++ space ∷ q.0.1) n.0), n.1, n.2, IsQueryLine-query_of q.0.1 found.0.1 q.4)
+
+IsCommandLine-change_of : (line : List ℕ) (made : Command) → change_of line ≡ Some made → IsCommandLine line made
+unfolding change_of
+IsCommandLine-change_of line made read =
+    let parts = option_and_then-some (λ p. option_and_then (λ keyword. command_with keyword p.1) (keyword_of p.0)) (parts_at_space line) made read in
+    let found = option_and_then-some (λ keyword. command_with keyword parts.0.1) (keyword_of parts.0.0) made parts.2 in
+    let split = AreParts-parts_at_space line parts.0 parts.1 in
+    IsCommandLine-with found.0 line parts.0.1 made (split.0 ∙ ap (λ k. k ++ space ∷ parts.0.1) (spelled-keyword_of parts.0.0 found.0 found.1)) found.2
+
+asked_or-some : (line : List ℕ) (q : Option Query) (made : Command) → query_of line ≡ q → asked_or q (change_of line) ≡ Some made → IsCommandLine line made
+asked_or-some line (Some q) made asked read =
+    subst (IsCommandLine line) (same_Some (command.Ask q) made read) (IsQueryLine-query_of line q asked)
+asked_or-some line None made asked read = IsCommandLine-change_of line made read
+
+pub IsCommandLine-command_of : (line : List ℕ) (made : Command) → command_of line ≡ Some made → IsCommandLine line made
 unfolding command_of
-command_of-IsCommandLine line (Change (change.Create path text)) is =
-    let read = path_and_text-found path is.field text is.not_empty is.no_space is.quoted in
-    ap command_of is.pieces ∙ (rw read refl)
-command_of-IsCommandLine line (Change (change.Write path text)) is =
-    let read = path_and_text-found path is.field text is.not_empty is.no_space is.quoted in
-    ap command_of is.pieces ∙ (rw read refl)
-command_of-IsCommandLine line (Change (change.Intake file stamp)) is = absurd is
-command_of-IsCommandLine line Settle e = ap command_of e
-command_of-IsCommandLine line (Ask (query.Word name)) (e, whole) = ap command_of e ∙ (rw whole refl)
-command_of-IsCommandLine line (Ask (query.Outline path)) (e, filled, none) = ap command_of e ∙ (rw (parts_at_space-none path none, path_of-filled path filled) refl)
+IsCommandLine-command_of line made read = asked_or-some line (query_of line) made refl read
+
+-- and the command is read from it
+abbrev pub IsKeyed : List ℕ → Command → Type 0
+IsKeyed line made = (keyword : Keyword) × (rest : List ℕ) × (line ≡ spelled keyword ++ space ∷ rest) × (command_with keyword rest ≡ Some made)
+
+keyed_path : (keyword : PathKeyword) (line path : List ℕ) → line ≡ spelled_path keyword ++ space ∷ path → IsPath path → IsKeyed line (path_command keyword path)
+keyed_path keyword line path e is = (key.OfPath keyword, path, e, ap (option_map (path_command keyword)) (last_path-IsPath path is))
+
+keyed_text : (keyword : TextKeyword) (line path text : List ℕ) → HasPathAndText (spelled_text keyword) line path text → IsKeyed line (command.Change (text_change keyword path text))
+keyed_text keyword line path text (field, e, is, quoted) =
+    let f : List ℕ × List ℕ → Command = λ p. command.Change (text_change keyword p.0 p.1) in
+    (key.OfText keyword, path ++ space ∷ field, e,
+      ap (option_map f) (path_and-found text_of_field path field text is (text_of_field-IsQuoted field text quoted)))
+
+pub IsKeyed-IsChangeLine : (line : List ℕ) (c : Change) → IsChangeLine line c → IsKeyed line (command.Change c)
+IsKeyed-IsChangeLine line (change.Create path text) is = keyed_text text_key.Create line path text is
+IsKeyed-IsChangeLine line (change.Write path text) is = keyed_text text_key.Write line path text is
+IsKeyed-IsChangeLine line (change.Delete path) (e, is) = keyed_path path_key.Delete line path e is
+IsKeyed-IsChangeLine line (change.OpenDoc path) (e, is) = keyed_path path_key.Open line path e is
+IsKeyed-IsChangeLine line (change.Insert path at text) (field, e, is, fits, quoted) =
+    let f : List ℕ × (ℕ × List ℕ) → Command = λ p. command.Change (change.Insert p.0 p.1.0 p.1.1) in
+    let piece = number_and-found text_of_field at field text fits (text_of_field-IsQuoted field text quoted) in
+    (key.Insert, path ++ space ∷ (decimal at ++ space ∷ field), e,
+      ap (option_map f) (path_and-found (two_fields number_of text_of_field) path (decimal at ++ space ∷ field) (at, text) is piece))
+IsKeyed-IsChangeLine line (change.Erase path from to) (e, is, fits, fits') =
+    let f : List ℕ × (ℕ × ℕ) → Command = λ p. command.Change (change.Erase p.0 p.1.0 p.1.1) in
+    let range = number_and-found number_of from (decimal to) to fits (number_of-decimal to fits') in
+    (key.Erase, path ++ space ∷ (decimal from ++ space ∷ decimal to), e,
+      ap (option_map f) (path_and-found (two_fields number_of number_of) path (decimal from ++ space ∷ decimal to) (from, to) is range))
+IsKeyed-IsChangeLine line (change.Commit path) (e, is) = keyed_path path_key.Commit line path e is
+IsKeyed-IsChangeLine line (change.Save path) (e, is) = keyed_path path_key.Save line path e is
+IsKeyed-IsChangeLine line (change.CloseDoc path) (e, is) = keyed_path path_key.Close line path e is
+IsKeyed-IsChangeLine line (change.Intake file stamp) is = absurd is
+IsKeyed-IsChangeLine line (change.Move path to) (e, is, is') =
+    let f : List ℕ × List ℕ → Command = λ p. command.Change (change.Move p.0 p.1) in
+    (key.Move, path ++ space ∷ to, e, ap (option_map f) (path_and-found last_path path to to is (last_path-IsPath to is')))
+
+pub IsKeyed-load : (line path : List ℕ) → HasPath (codes "load") line path → IsKeyed line (command.Load path)
+IsKeyed-load line path (e, is) = keyed_path path_key.Load line path e is
+
+pub IsKeyed-soft : (line : List ℕ) (attempts : ℕ) (q : Query) → IsCommandLine line (command.Soft attempts q) → IsKeyed line (command.Soft attempts q)
+IsKeyed-soft line attempts q (rest, e, some, few, is) =
+    let f : ℕ × Query → Command = λ p. command.Soft p.0 p.1 in
+    let fits : attempts ≤ max_number = omega arith in
+    let read = query_of-IsAsked rest q (IsAsked-IsQueryLine rest q is) in
+    (key.Soft, decimal attempts ++ space ∷ rest, e,
+      ap (option_map f) (two_fields-found attempts_of query_of (decimal attempts) rest attempts q (no_space-decimal attempts fits) (attempts_of-decimal attempts some few) read))
+
+query_of-keyword : (keyword : Keyword) (rest : List ℕ) → query_of (spelled keyword ++ space ∷ rest) ≡ None
+unfolding query_of
+query_of-keyword (key.OfPath path_key.Load) rest = refl
+query_of-keyword (key.OfPath path_key.Delete) rest = refl
+query_of-keyword (key.OfPath path_key.Open) rest = refl
+query_of-keyword (key.OfPath path_key.Commit) rest = refl
+query_of-keyword (key.OfPath path_key.Save) rest = refl
+query_of-keyword (key.OfPath path_key.Close) rest = refl
+query_of-keyword (key.OfText text_key.Create) rest = refl
+query_of-keyword (key.OfText text_key.Write) rest = refl
+query_of-keyword key.Insert rest = refl
+query_of-keyword key.Erase rest = refl
+query_of-keyword key.Move rest = refl
+query_of-keyword key.Soft rest = refl
+
+change_of-with : (keyword : Keyword) (rest : List ℕ) → change_of (spelled keyword ++ space ∷ rest) ≡ command_with keyword rest
+unfolding change_of
+change_of-with (key.OfPath path_key.Load) rest = refl
+change_of-with (key.OfPath path_key.Delete) rest = refl
+change_of-with (key.OfPath path_key.Open) rest = refl
+change_of-with (key.OfPath path_key.Commit) rest = refl
+change_of-with (key.OfPath path_key.Save) rest = refl
+change_of-with (key.OfPath path_key.Close) rest = refl
+change_of-with (key.OfText text_key.Create) rest = refl
+change_of-with (key.OfText text_key.Write) rest = refl
+change_of-with key.Insert rest = refl
+change_of-with key.Erase rest = refl
+change_of-with key.Move rest = refl
+change_of-with key.Soft rest = refl
+
+pub command_of-IsKeyed : (line : List ℕ) (made : Command) → IsKeyed line made → command_of line ≡ Some made
+unfolding command_of
+command_of-IsKeyed line made (keyword, rest, e, read) =
+    ap command_of e ∙ (rw (query_of-keyword keyword rest) (change_of-with keyword rest ∙ read))
+
+pub command_of-IsAsked : (line : List ℕ) (q : Query) → IsAsked line q → command_of line ≡ Some (command.Ask q)
+unfolding command_of
+command_of-IsAsked line q asked = ap (λ o. asked_or o (change_of line)) (query_of-IsAsked line q asked)

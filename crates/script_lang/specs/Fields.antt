@@ -1,9 +1,16 @@
 -- The fields of a line.
-use Rattle.std.specs.Prelude.{ℕ, ◌==◌, List, [], ◌∷◌, Option, Some, None, if◌then◌else◌, option_map}
+use Rattle.std.specs.Prelude.{ℕ, ◌==◌, ◌&&◌, ◌||◌, not, Bool, false, length, List, [], ◌∷◌, Option, Some, None, if◌then◌else◌, option_map, bytes_eq, nat_le}
+use Rattle.std.specs.Option.{option_and_then, option_zip}
+use Rattle.std.specs.Fmt.{decimal}
+use Rattle.std.specs.Str.Parse.{digits_value}
 
 -- the character that parts the fields of a line
 abbrev pub space : ℕ
 space = 32
+
+-- the greatest number that a field may spell
+abbrev pub max_number : ℕ
+max_number = 4294967295
 
 -- a character put before the first of two parts
 abbrev pub before_first_part : ℕ → List ℕ × List ℕ → List ℕ × List ℕ
@@ -13,3 +20,34 @@ before_first_part c (front, back) = (c ∷ front, back)
 abbrev pub parts_at_space : List ℕ → Option (List ℕ × List ℕ)
 parts_at_space [] = None
 parts_at_space (c ∷ cs) = if c == space then Some ([], cs) else option_map (before_first_part c) (parts_at_space cs)
+
+-- what two readers read before the first space and behind it
+abbrev pub two_fields : {A B : Type 0} → (List ℕ → Option A) → (List ℕ → Option B) → List ℕ → Option (A × B)
+two_fields first rest fields = option_and_then (λ p. option_zip (first p.0) (rest p.1)) (parts_at_space fields)
+
+-- the path that a field is: any characters, and at least one
+abbrev pub path_of : List ℕ → Option (List ℕ)
+path_of [] = None
+path_of (c ∷ cs) = Some (c ∷ cs)
+
+-- the path that a field is, unless it has parts
+abbrev pub path_unless_parts : Option (List ℕ × List ℕ) → List ℕ → Option (List ℕ)
+path_unless_parts None field = path_of field
+path_unless_parts (Some parts) field = None
+
+-- the path that the last field of a line is: no field follows
+abbrev pub last_path : List ℕ → Option (List ℕ)
+last_path field = path_unless_parts (parts_at_space field) field
+
+-- a number, where the field is its digits and it isn't too great
+abbrev pub number_if : ℕ → List ℕ → Option ℕ
+number_if n field = if bytes_eq field (decimal n) then (if nat_le n max_number then Some n else None) else None
+
+-- the number whose decimal digits the field is
+unfoldable pub number_of : List ℕ → Option ℕ
+number_of field = number_if (digits_value 10 field) field
+
+-- whether bytes begin with neither a sign nor a zero before other bytes
+abbrev pub is_plain : List ℕ → Bool
+is_plain [] = false
+is_plain (b ∷ bs) = not (b == 43) && (not (b == 48) || (length bs == 0))

@@ -1,18 +1,28 @@
--- The grammar of scripts, line by line and piece by piece.
-use Rattle.std.specs.Prelude.{ℕ, ◌≡◌, ◌≢◌, ◌≤◌, ◌+◌, ◌⊎◌, IsTrue, List, [], ◌∷◌, ◌++◌, length, Some, codes}
+-- The grammar of scripts: the form of each line by its pieces, and the order of lines by cases.
+use Rattle.std.specs.Prelude.{ℕ, ◌≡◌, ◌≢◌, ◌<◌, ◌≤◌, ◌+◌, ◌⊎◌, IsTrue, List, [], ◌∷◌, ◌++◌, length, Option, Some, None, codes}
+use Rattle.std.specs.Fmt.{decimal}
 use Rattle.std.specs.List.{All}
 use Rattle.std.specs.Str.{chars, IsUtf8}
 use Rattle.ide_text.specs.Text.{repaired, max_chars}
-use Rattle.script_lang.specs.Lines.{max_bytes, line_feed, carriage_return, number_sign}
-use Rattle.write_history.specs.declared.change.Change.TheVariants as change
 use Rattle.java_tokens.specs.Identifier.{is_word}
-use Rattle.script_lang.specs.Fields.{space}
+use Rattle.write_history.specs.Changes.{max_changes, AreFew}
+use Rattle.write_history.specs.declared.change.Change.{Change}
+use Rattle.write_history.specs.declared.change.Change.TheVariants as change
+use Rattle.script_lang.specs.Commands.{max_attempts}
+use Rattle.script_lang.specs.Fields.{space, max_number}
+use Rattle.script_lang.specs.Lines.{max_bytes, line_feed, carriage_return, number_sign}
+use Rattle.script_lang.specs.Parts.{Parts}
 use Rattle.script_lang.specs.Quotes.{quote, backslash, escape_of}
+use Rattle.script_lang.specs.Reading.{OpenGroup, may_stand, next_lane, may_end}
 use Rattle.script_lang.specs.declared.command.Command.{Command}
-use Rattle.script_lang.specs.declared.command.Command.TheVariants.{Change, Settle, Ask}
-use Rattle.script_lang.specs.declared.command.Query.TheVariants as query
+use Rattle.script_lang.specs.declared.command.Command.TheVariants as command
+use Rattle.script_lang.specs.declared.content.Content.{Content}
+use Rattle.script_lang.specs.declared.content.Content.TheVariants as content
 use Rattle.script_lang.specs.declared.line.Line.{Line}
-use Rattle.script_lang.specs.declared.line.Section.TheVariants.{Prelude}
+use Rattle.script_lang.specs.declared.line.Section.{Section}
+use Rattle.script_lang.specs.declared.line.Section.TheVariants.{Prelude, Finally}
+use Rattle.script_lang.specs.declared.query.Query.{Query}
+use Rattle.script_lang.specs.declared.query.Query.TheVariants as query
 use Rattle.script_lang.specs.declared.refusal.ScriptRefusal.{ScriptRefusal}
 use Rattle.script_lang.specs.declared.refusal.ScriptRefusal.TheVariants.{BadLine, OutOfMemory}
 
@@ -37,34 +47,86 @@ pub record IsQuoted (field text : List ℕ) : Type 0 where
   pub breaks : text ≡ repaired characters
   pub fits : length text ≤ max_chars
 
--- a line is a keyword, a space, a path, a space and a text in quotes
-pub record HasPathAndText (keyword line path text : List ℕ) : Type 0 where
-  pub field : List ℕ
-  pub pieces : line ≡ keyword ++ space ∷ (path ++ space ∷ field)
+-- a path is one character or more, none of which is a space
+pub record IsPath (path : List ℕ) : Type 0 where
   pub not_empty : path ≢ []
   pub no_space : All (λ c. c ≢ space) path
-  pub quoted : IsQuoted field text
 
--- a line's characters are the form of a command; an intake has no form, since index data go in by a settle alone
+-- fields, parted by exactly one space
+abbrev pub spaced : List (List ℕ) → List ℕ
+spaced [] = []
+spaced (field ∷ []) = field
+spaced (field ∷ next ∷ fields) = field ++ space ∷ spaced (next ∷ fields)
+
+-- a line is a keyword and a path
+abbrev pub HasPath : List ℕ → List ℕ → List ℕ → Type 0
+HasPath keyword line path = (line ≡ spaced (keyword ∷ path ∷ [])) × IsPath path
+
+-- a line is a keyword, a path and a text in quotes
+abbrev pub HasPathAndText : List ℕ → List ℕ → List ℕ → List ℕ → Type 0
+HasPathAndText keyword line path text =
+    (field : List ℕ) × (line ≡ spaced (keyword ∷ path ∷ field ∷ [])) × IsPath path × IsQuoted field text
+
+-- a line is a keyword and a name, which is one whole word
+abbrev pub HasName : List ℕ → List ℕ → List ℕ → Type 0
+HasName keyword line name = (line ≡ spaced (keyword ∷ name ∷ [])) × IsTrue (is_word name)
+
+-- a line's characters are the form of a change; an intake has no form, since index data go in by a settle alone
+abbrev pub IsChangeLine : List ℕ → Change → Type 0
+IsChangeLine line (change.Create path text) = HasPathAndText (codes "create") line path text
+IsChangeLine line (change.Write path text) = HasPathAndText (codes "write") line path text
+IsChangeLine line (change.Delete path) = HasPath (codes "delete") line path
+IsChangeLine line (change.OpenDoc path) = HasPath (codes "open") line path
+IsChangeLine line (change.Insert path at text) =
+    (field : List ℕ) × (line ≡ spaced (codes "insert" ∷ path ∷ decimal at ∷ field ∷ [])) × IsPath path × (at ≤ max_number) × IsQuoted field text
+IsChangeLine line (change.Erase path from to) =
+    (line ≡ spaced (codes "erase" ∷ path ∷ decimal from ∷ decimal to ∷ [])) × IsPath path × (from ≤ max_number) × (to ≤ max_number)
+IsChangeLine line (change.Commit path) = HasPath (codes "commit") line path
+IsChangeLine line (change.Save path) = HasPath (codes "save") line path
+IsChangeLine line (change.CloseDoc path) = HasPath (codes "close") line path
+IsChangeLine line (change.Intake file stamp) = ⊥
+IsChangeLine line (change.Move path to) = (line ≡ spaced (codes "move" ∷ path ∷ to ∷ [])) × IsPath path × IsPath to
+
+-- a line's characters are the form of a question
+abbrev pub IsQueryLine : List ℕ → Query → Type 0
+IsQueryLine line (query.Class name) = HasName (codes "class") line name
+IsQueryLine line (query.Supers name) = HasName (codes "supers") line name
+IsQueryLine line (query.Method name) = HasName (codes "method") line name
+IsQueryLine line (query.Word name) = HasName (codes "word") line name
+IsQueryLine line (query.Outline path) = HasPath (codes "outline") line path
+IsQueryLine line query.Status = line ≡ codes "status"
+
+-- a line's characters are the form of a command; no line by itself holds a group
 abbrev pub IsCommandLine : List ℕ → Command → Type 0
-IsCommandLine line (Change (change.Create path text)) = HasPathAndText (codes "create") line path text
-IsCommandLine line (Change (change.Write path text)) = HasPathAndText (codes "write") line path text
-IsCommandLine line (Change (change.Intake file stamp)) = ⊥
-IsCommandLine line Settle = line ≡ codes "settle"
-IsCommandLine line (Ask (query.Word name)) = (line ≡ codes "word" ++ space ∷ name) × IsTrue (is_word name)
-IsCommandLine line (Ask (query.Outline path)) = (line ≡ codes "outline" ++ space ∷ path) × (path ≢ []) × All (λ c. c ≢ space) path
-
--- a line's bytes are UTF-8, and a command's form
-abbrev pub HoldsCommand : List ℕ → Command → Type 0
-HoldsCommand bytes command = IsUtf8 bytes × IsCommandLine (chars bytes) command
+IsCommandLine line (command.Change change) = IsChangeLine line change
+IsCommandLine line (command.Group changes) = ⊥
+IsCommandLine line (command.Load path) = HasPath (codes "load") line path
+IsCommandLine line command.Settle = line ≡ codes "settle"
+IsCommandLine line (command.Ask query) = IsQueryLine line query
+IsCommandLine line (command.Soft attempts query) =
+    (rest : List ℕ) × (line ≡ spaced (codes "soft" ∷ decimal attempts ∷ rest ∷ [])) × (1 ≤ attempts) × (attempts ≤ max_attempts) × IsQueryLine rest query
 
 -- an empty line and a line that begins with `#`, whatever bytes follow
 abbrev pub IsPassedBy : List ℕ → Type 0
 IsPassedBy bytes = (bytes ≡ []) ⊎ ((rest : List ℕ) × (bytes ≡ number_sign ∷ rest))
 
+-- what the bytes of a line are, its carriage return dropped: passed by, a command in UTF-8, or one of four words
+abbrev pub IsKept : List ℕ → Content → Type 0
+IsKept bytes content.PassedBy = IsPassedBy bytes
+IsKept bytes (content.Holds command) = IsUtf8 bytes × IsCommandLine (chars bytes) command
+IsKept bytes content.Lane = bytes ≡ codes "lane"
+IsKept bytes content.Finally = bytes ≡ codes "finally"
+IsKept bytes content.Group = bytes ≡ codes "group"
+IsKept bytes content.End = bytes ≡ codes "end"
+IsKept bytes content.Bad = ⊥
+
 -- what a line keeps where one carriage return at its end is dropped
 abbrev pub DropsReturn : List ℕ → List ℕ → Type 0
 DropsReturn line kept = (line ≡ kept ++ carriage_return ∷ []) ⊎ ((line ≡ kept) × ((front : List ℕ) → line ≢ front ++ carriage_return ∷ []))
+
+-- what a line is
+abbrev pub IsLine : List ℕ → Content → Type 0
+IsLine line content = (kept : List ℕ) × DropsReturn line kept × IsKept kept content
 
 -- bytes are these lines: each has no line feed, and a line feed ends it, but that the last may lack it where it isn't empty
 abbrev pub AreLines : List ℕ → List (List ℕ) → Type 0
@@ -72,25 +134,79 @@ AreLines bytes [] = bytes ≡ []
 AreLines bytes (line ∷ lines) = All (λ b. b ≢ line_feed) line
     × (((rest : List ℕ) × (bytes ≡ line ++ line_feed ∷ rest) × AreLines rest lines) ⊎ ((bytes ≡ line) × (line ≢ []) × (lines ≡ [])))
 
--- lines, the first of which has this number, are passed by or hold the script's commands in order
-abbrev pub HoldScript : ℕ → List (List ℕ) → List Line → Type 0
-HoldScript number [] script = script ≡ []
-HoldScript number (line ∷ lines) script = (kept : List ℕ) × DropsReturn line kept
-    × ((IsPassedBy kept × HoldScript (number + 1) lines script)
-    ⊎ ((command : Command) × (rest : List Line) × HoldsCommand kept command × (script ≡ record { number = number; section = Prelude; command = command } ∷ rest) × HoldScript (number + 1) lines rest))
+-- what lines are, one after another
+abbrev pub AreContents : List (List ℕ) → List Content → Type 0
+AreContents [] contents = contents ≡ []
+AreContents (line ∷ lines) contents =
+    (content : Content) × (rest : List Content) × (contents ≡ content ∷ rest) × IsLine line content × AreContents lines rest
 
--- the bytes spell the script: they are few enough, and their lines are numbered from 1
-pub record IsScript (bytes : List ℕ) (script : List Line) : Type 0 where
+-- what is still to come of a script: the commands of the section at hand, the lanes that are still to begin, and the last section
+pub record Rest : Type 0 where
+  pub here : List Line
+  pub lanes : List (List Line)
+  pub last : List Line
+
+-- nothing is to come
+abbrev pub nothing : Rest
+nothing = record { here = []; lanes = []; last = [] }
+
+-- a command is to come first, in the section at hand
+abbrev pub first_comes : ℕ → Command → Rest → Rest
+first_comes number command rest = record rest { here = record { number = number; command = command } ∷ rest.here }
+
+-- a lane is to begin first, with what is to come in it
+abbrev pub lane_comes : Rest → Rest
+lane_comes rest = record { here = []; lanes = rest.here ∷ rest.lanes; last = rest.last }
+
+-- the last section is to begin first, with what is to come in it
+abbrev pub last_comes : Rest → Rest
+last_comes rest = record { here = []; lanes = []; last = rest.here }
+
+-- lines, the first of which has this number, hold what is to come of a script, where they stand in this section and perhaps in an open group
+abbrev pub HoldRest : Section → Option OpenGroup → ℕ → List Content → Rest → Type 0
+HoldRest section None number [] script = script ≡ nothing
+HoldRest section None number (content.PassedBy ∷ lines) script = HoldRest section None (number + 1) lines script
+HoldRest section None number (content.Holds command ∷ lines) script = IsTrue (may_stand section command)
+    × ((rest : Rest) × (script ≡ first_comes number command rest) × HoldRest section None (number + 1) lines rest)
+HoldRest section None number (content.Lane ∷ lines) script =
+    (lane : Section) × (next_lane section ≡ Some lane)
+    × ((rest : Rest) × (script ≡ lane_comes rest) × HoldRest lane None (number + 1) lines rest)
+HoldRest section None number (content.Finally ∷ lines) script = IsTrue (may_end section)
+    × ((rest : Rest) × (script ≡ last_comes rest) × HoldRest Finally None (number + 1) lines rest)
+HoldRest section None number (content.Group ∷ lines) script =
+    HoldRest section (Some (record { number = number; changes = [] })) (number + 1) lines script
+HoldRest section None number (content.End ∷ lines) script = ⊥
+HoldRest section None number (content.Bad ∷ lines) script = ⊥
+HoldRest section (Some group) number [] script = ⊥
+HoldRest section (Some group) number (content.PassedBy ∷ lines) script = HoldRest section (Some group) (number + 1) lines script
+HoldRest section (Some group) number (content.Holds (command.Change change) ∷ lines) script = (length group.changes < max_changes)
+    × HoldRest section (Some (record { number = group.number; changes = group.changes ++ change ∷ [] })) (number + 1) lines script
+HoldRest section (Some group) number (content.End ∷ lines) script = AreFew group.changes
+    × ((rest : Rest) × (script ≡ first_comes group.number (command.Group group.changes) rest) × HoldRest section None (number + 1) lines rest)
+HoldRest section (Some group) number (other ∷ lines) script = ⊥
+
+-- all of a script is to come
+abbrev pub whole : Parts → Rest
+whole script = record { here = script.prelude; lanes = script.lanes; last = script.last }
+
+-- lines hold a script: they are numbered from 1, and the first stands in the prelude
+pub record HoldScript (lines : List (List ℕ)) (script : Parts) : Type 0 where
+  pub contents : List Content
+  pub read : AreContents lines contents
+  pub held : HoldRest Prelude None 1 contents (whole script)
+
+-- the bytes spell the script: they are few enough, and their lines hold it
+pub record IsScript (bytes : List ℕ) (script : Parts) : Type 0 where
   pub few : length bytes ≤ max_bytes
   pub lines : List (List ℕ)
   pub cut : AreLines bytes lines
-  pub held : HoldScript 1 lines script
+  pub held : HoldScript lines script
 
 -- lines begin a script: some further lines, or none, make them one
 pub record BeginScript (lines : List (List ℕ)) : Type 0 where
   pub more : List (List ℕ)
-  pub script : List Line
-  pub held : HoldScript 1 (lines ++ more) script
+  pub script : Parts
+  pub held : HoldScript (lines ++ more) script
 
 -- the line with this number is the first up to which the lines begin no script: those before it begin one, and with it they don't
 pub record IsFirstBadLine (bytes : List ℕ) (number : ℕ) : Type 0 where
@@ -103,7 +219,26 @@ pub record IsFirstBadLine (bytes : List ℕ) (number : ℕ) : Type 0 where
   pub before : BeginScript front
   pub none : BeginScript (front ++ line ∷ []) → ⊥
 
--- why bytes were refused: want of memory, or their first bad line
+-- a line of an open group: passed by, or a change
+abbrev pub IsInGroup : List ℕ → Type 0
+IsInGroup line = IsLine line content.PassedBy ⊎ ((change : Change) × IsLine line (content.Holds (command.Change change)))
+
+-- all lines begin a script, but a group is open at their end: it begins at the line with this number, the lines before it hold a
+-- script, and those after it are passed by or hold changes
+pub record IsOpenAtEnd (bytes : List ℕ) (number : ℕ) : Type 0 where
+  pub few : length bytes ≤ max_bytes
+  pub front : List (List ℕ)
+  pub line : List ℕ
+  pub rest : List (List ℕ)
+  pub lines : AreLines bytes (front ++ line ∷ rest)
+  pub numbered : number ≡ length front + 1
+  pub script : Parts
+  pub before : HoldScript front script
+  pub begins : IsLine line content.Group
+  pub after : All IsInGroup rest
+  pub all : BeginScript (front ++ line ∷ rest)
+
+-- why bytes were refused: want of memory, their first bad line, or a group that is open at the end
 abbrev pub IsRefused : List ℕ → ScriptRefusal → Type 0
 IsRefused bytes OutOfMemory = Unit {0}
-IsRefused bytes (BadLine number) = IsFirstBadLine bytes number
+IsRefused bytes (BadLine number) = IsFirstBadLine bytes number ⊎ IsOpenAtEnd bytes number

@@ -1,13 +1,45 @@
 -- What the commands of a script are.
-use Rattle.std.specs.Prelude.{List, All}
+use Rattle.std.specs.Prelude.{◌≤◌, List, All, length}
+use Rattle.write_history.specs.Changes.{AreFew}
+use Rattle.write_history.specs.declared.change.Change.{Change}
 use Rattle.write_history.specs.declared.change.Change.TheVariants as change
+use Rattle.script_lang.specs.Commands.{max_attempts}
+use Rattle.script_lang.specs.Parts.{Parts}
+use Rattle.script_lang.specs.Reading.{max_lanes}
 use Rattle.script_lang.specs.declared.command.Command.{Command}
-use Rattle.script_lang.specs.declared.command.Command.TheVariants.{Change, Settle, Ask}
+use Rattle.script_lang.specs.declared.command.Command.TheVariants as command
+use Rattle.script_lang.specs.declared.line.Line.{Line}
 
--- a command that a line can hold: any but an intake
+-- a change that a line can hold: any but an intake
+abbrev pub IsNoIntake : Change → Type 0
+IsNoIntake (change.Intake file stamp) = ⊥
+IsNoIntake change = Unit {0}
+
+-- a command that lines can hold: a group has 1 to 64 changes, and a soft read 1 to 1000 attempts
 abbrev pub IsOfLine : Command → Type 0
-IsOfLine (Change (change.Create path text)) = Unit {0}
-IsOfLine (Change (change.Write path text)) = Unit {0}
-IsOfLine (Change (change.Intake file stamp)) = ⊥
-IsOfLine Settle = Unit {0}
-IsOfLine (Ask query) = Unit {0}
+IsOfLine (command.Change change) = IsNoIntake change
+IsOfLine (command.Group changes) = AreFew changes × All IsNoIntake changes
+IsOfLine (command.Load path) = Unit {0}
+IsOfLine command.Settle = Unit {0}
+IsOfLine (command.Ask query) = Unit {0}
+IsOfLine (command.Soft attempts query) = (1 ≤ attempts) × (attempts ≤ max_attempts)
+
+-- a command other than a load
+abbrev pub IsNoLoad : Command → Type 0
+IsNoLoad (command.Load path) = ⊥
+IsNoLoad command = Unit {0}
+
+-- the commands of a prelude
+abbrev pub AreOfPrelude : List Line → Type 0
+AreOfPrelude lines = All (λ line. IsOfLine line.command) lines
+
+-- the commands of a lane or of the last section
+abbrev pub AreOfSection : List Line → Type 0
+AreOfSection lines = All (λ line. IsOfLine line.command × IsNoLoad line.command) lines
+
+-- the commands of a script
+pub record AreOfScript (script : Parts) : Type 0 where
+  pub prelude : AreOfPrelude script.prelude
+  pub few : length script.lanes ≤ max_lanes
+  pub lanes : All AreOfSection script.lanes
+  pub last : AreOfSection script.last

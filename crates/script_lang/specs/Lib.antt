@@ -1,12 +1,18 @@
--- What a script is: `Grammar` says it by the pieces of each line, `Script` computes it.
+-- What a script is: its parts, the grammar by which bytes spell it, and what its commands are.
+pub mod Parts
 pub mod Grammar
-pub mod Script
--- The parts that these two are made of.
+pub mod Held
+-- How it is computed.
+pub mod Reading
+pub mod Contents
+pub mod Commands
+pub mod Queries
+-- The pieces that both are made of.
 pub mod Lines
 pub mod Fields
+pub mod Keywords
 pub mod Quotes
-pub mod Commands
-pub mod Held
 -- What these cite from below: texts, words and changes.
 pub use Rattle.ide_text.specs.Text
 pub use Rattle.java_tokens.specs.Identifier
+pub use Rattle.write_history.specs.Changes

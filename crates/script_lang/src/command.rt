@@ -1,151 +1,24 @@
-//! The commands of a script, and the forms of the lines that hold them.
-ghost use Rattle.std.specs.Prelude.{◌≡◌, IfOk, option_map};
-ghost use Rattle.std.specs.Str.{chars};
-ghost use Rattle.script_lang.specs.Commands.{command_of, command_with, keyword_of, last_path, lone_command, outline_command, path_and_text, path_of, word_command};
+//! The commands of a script.
+use crate::Query;
+use ide_text::Name;
+use write_history::{Change, Changes};
 
-use crate::field::parts_at_space;
-use crate::quoted::text_of_field;
-use ide_text::{Name, SharedText};
-use java_tokens::is_word;
-use std::alloc::{AllocError, Global};
-use write_history::Change;
+/// The most attempts of a soft read.
+pub const MAX_ATTEMPTS: u32 = 1000;
 
-/// What a line of a script asks for.
+/// What a script asks for at one place. No change of it is an intake.
 #[derive(Drop)]
 pub enum Command {
-    /// A change to the workspace, which is no intake.
+    /// A change to the workspace.
     Change(Change),
+    /// Changes that go in together, or not at all.
+    Group(Changes),
+    /// The file at a path of the tree is read, and made.
+    Load { path: Name },
     /// Index every unready file.
     Settle,
     /// The answer to a question.
     Ask(Query),
-}
-
-/// A question about the workspace.
-#[derive(Drop)]
-pub enum Query {
-    /// The files that have a word.
-    Word { name: Name },
-    /// The declarations of the file at a path.
-    Outline { path: Name },
-}
-
-/// What begins a line with fields.
-#[derive(Clone, Copy)]
-enum Keyword {
-    Create,
-    Write,
-    Word,
-    Outline,
-}
-
-/// The command of a line's text, where the line has one of the forms.
-#[tactic(auto, unfolding(crate::specs::Commands::command_of))]
-pub(crate) fn command_of(alloc: Global, line: &str) -> Result<Option<Command>, AllocError>
-    ensures { IfOk result (λ command. command ≡ command_of (chars line.now)) }
-{
-    let Some((word, rest)) = parts_at_space(line) else {
-        return Ok(lone_command(line));
-    };
-    match keyword_of(word) {
-        Some(keyword) => command_with(alloc, keyword, rest),
-        None => Ok(None),
-    }
-}
-
-/// The command that stands alone on its line.
-fn lone_command(line: &str) -> Option<Command>
-    ensures { result ≡ lone_command (chars line.now) }
-{
-    if line == "settle" {
-        Some(Command::Settle)
-    } else {
-        None
-    }
-}
-
-/// The keyword that a word spells.
-fn keyword_of(word: &str) -> Option<Keyword>
-    ensures { result ≡ keyword_of (chars word.now) }
-{
-    match word {
-        "create" => Some(Keyword::Create),
-        "write" => Some(Keyword::Write),
-        "word" => Some(Keyword::Word),
-        "outline" => Some(Keyword::Outline),
-        _ => None,
-    }
-}
-
-/// The command of a keyword with what stands behind the space after it.
-fn command_with(alloc: Global, keyword: Keyword, rest: &str) -> Result<Option<Command>, AllocError>
-    ensures { IfOk result (λ command. command ≡ command_with keyword (chars rest.now)) }
-{
-    match keyword {
-        Keyword::Create => {
-            let fields = path_and_text(alloc, rest)?;
-            Ok(fields.map(|(path, text)| Command::Change(Change::Create { path, text })))
-        }
-        Keyword::Write => {
-            let fields = path_and_text(alloc, rest)?;
-            Ok(fields.map(|(path, text)| Command::Change(Change::Write { path, text })))
-        }
-        Keyword::Word => word_command(alloc, rest),
-        Keyword::Outline => outline_command(alloc, rest),
-    }
-}
-
-/// The question for a word, where the field is one whole word.
-fn word_command(alloc: Global, field: &str) -> Result<Option<Command>, AllocError>
-    ensures { IfOk result (λ command. command ≡ word_command (chars field.now)) }
-{
-    if !is_word(field) {
-        return Ok(None);
-    }
-    let name = Name::of(alloc, field)?;
-    Ok(Some(Command::Ask(Query::Word { name })))
-}
-
-/// The question for the declarations of a file, where the field is a path.
-fn outline_command(alloc: Global, field: &str) -> Result<Option<Command>, AllocError>
-    ensures { IfOk result (λ command. command ≡ outline_command (chars field.now)) }
-{
-    let path = last_path(alloc, field)?;
-    Ok(path.map(|path| Command::Ask(Query::Outline { path })))
-}
-
-/// The path that the last field of a line is: no field follows.
-fn last_path(alloc: Global, field: &str) -> Result<Option<Name>, AllocError>
-    ensures { IfOk result (λ path. path ≡ last_path (chars field.now)) }
-{
-    match parts_at_space(field) {
-        Some(_) => Ok(None),
-        None => path_of(alloc, field),
-    }
-}
-
-/// The path and the text that stand in two fields.
-fn path_and_text(alloc: Global, fields: &str) -> Result<Option<(Name, SharedText)>, AllocError>
-    ensures { IfOk result (λ found. found ≡ path_and_text (chars fields.now)) }
-{
-    let Some((path, text)) = parts_at_space(fields) else {
-        return Ok(None);
-    };
-    let Some(path) = path_of(alloc, path)? else {
-        return Ok(None);
-    };
-    let Some(text) = text_of_field(alloc, text)? else {
-        return Ok(None);
-    };
-    Ok(Some((path, text)))
-}
-
-/// The path that a field is, unless the field is empty.
-fn path_of(alloc: Global, field: &str) -> Result<Option<Name>, AllocError>
-    ensures { IfOk result (λ path. path ≡ path_of (chars field.now)) }
-{
-    if field.is_empty() {
-        return Ok(None);
-    }
-    Ok(Some(Name::of(alloc, field)?))
+    /// The answer to a question, by a read that gives way to writes, with at most so many attempts, 1 to 1000.
+    Soft { attempts: u32, query: Query },
 }

@@ -1,59 +1,70 @@
 //! A script: its commands with their line numbers, read from bytes.
-ghost use Rattle.std.specs.Prelude.{◌≡◌, ◌≤◌, ◌<◌, ◌==◌, List, IfOk, IfErr, MatchResult, Ok, Some, length, nat_le, slice_get};
-ghost use Rattle.script_lang.specs.Script.{script_of, IsRefusalOf};
+ghost use Rattle.std.specs.Prelude.{◌≡◌, ◌≤◌, ◌<◌, IfOk, IfErr, MatchResult, Ok, Some, length, nat_le, slice_get};
+ghost use Rattle.script_lang.specs.Reading.{script_of, IsRefusalOf, max_lanes};
 ghost use Rattle.script_lang.specs.Grammar.{IsScript, IsRefused};
-ghost use Rattle.script_lang.specs.Held.{IsOfLine};
+ghost use Rattle.script_lang.specs.Held.{AreOfPrelude, AreOfSection};
 ghost use Rattle.script_lang.specs.Lines.{max_bytes};
-ghost use Rattle.script_lang.specs.declared.line.Line.{Line};
+ghost use Rattle.script_lang.specs.Parts.{Parts};
 
-use crate::line::{Content, content_of, first_line};
-use crate::{Line, ScriptRefusal, Section};
+use crate::content::content_of;
+use crate::reader::{Reader, Sections};
+use crate::split::first_line;
+use crate::{Line, ScriptRefusal};
 use std::alloc::Global;
 use std::marker::Model;
 
 /// The most bytes that a script may have.
 pub const MAX_BYTES: usize = 16_777_216;
 
-/// The lines of a script that hold commands, in order.
+/// A script: the commands of its prelude, of its lanes and of its last section, each in order.
 #[derive(Drop)]
 pub struct Script {
-    lines: Vec<Line>,
+    sections: Sections,
 }
 
 impl Model for Script {
-    ghost use Rattle.std.specs.Prelude.{List, All};
-    ghost use Rattle.script_lang.specs.Held.{IsOfLine};
-    ghost use Rattle.script_lang.specs.declared.line.Line.{Line};
+    ghost use Rattle.script_lang.specs.Held.{AreOfScript};
+    ghost use Rattle.script_lang.specs.Parts.{Parts};
 
-    ghost Value = { List Line };
+    ghost Value = { Parts };
 
-    ghost view = { λ s. s.lines.items };
+    ghost view = { λ s. s.sections };
 
-    ghost invariant = { λ s. All (λ line. IsOfLine line.command) s.lines.items };
+    ghost invariant = { λ s. AreOfScript s.sections };
 }
 
 impl Script {
-    /// The number of commands.
-    pub fn len(&self) -> usize
-        ensures { result ≡ length self.now }
+    /// The commands before any lane.
+    pub fn prelude(&self) -> &[Line]
+        ensures lines { result.now ≡ self.now.prelude }
+        ensures commands { AreOfPrelude result.now }
     {
-        self.lines.len()
+        self.sections.prelude.as_slice()
     }
 
-    /// Whether there is no command.
-    pub fn is_empty(&self) -> bool
-        ensures { result ≡ (length self.now == 0) }
+    /// The number of lanes, at most 16.
+    pub fn lanes(&self) -> usize
+        ensures count { result ≡ length self.now.lanes }
+        ensures few { result ≤ max_lanes }
     {
-        self.lines.is_empty()
+        self.sections.lanes.len()
     }
 
-    /// The command at a place, from 0, with its line number.
-    pub fn get(&self, i: usize) -> &Line
-        requires { i < length self.now }
-        ensures line { slice_get self.now i ≡ Some result.now }
-        ensures command { IsOfLine result.now.command }
+    /// The commands of a lane, counted from 0.
+    pub fn lane(&self, i: usize) -> &[Line]
+        requires { i < length self.now.lanes }
+        ensures lines { slice_get self.now.lanes i ≡ Some result.now }
+        ensures commands { AreOfSection result.now }
     {
-        &self.lines[i]
+        self.sections.lanes[i].as_slice()
+    }
+
+    /// The commands after all lanes.
+    pub fn last(&self) -> &[Line]
+        ensures lines { result.now ≡ self.now.last }
+        ensures commands { AreOfSection result.now }
+    {
+        self.sections.last.as_slice()
     }
 }
 
@@ -70,10 +81,10 @@ pub fn parse(alloc: Global, bytes: &[u8]) -> Result<Script, ScriptRefusal>
 
     // What is answered is in the grammar, and a script of the grammar is answered unless memory runs out.
     ensures script { IfOk result (λ script. IsScript bytes.now script) }
-    ensures only { (script : List Line) → IsScript bytes.now script
+    ensures only { (script : Parts) → IsScript bytes.now script
         → MatchResult result (λ read. read ≡ script) (λ refusal. refusal ≡ ScriptRefusal.OutOfMemory) }
 
-    // The line that is named is the first up to which the lines begin no script.
+    // The line that is named is the first up to which the lines begin no script, or else that of a group that is open at the end.
     ensures bad_line { IfErr result (λ refusal. IsRefused bytes.now refusal) }
 {
     script_of(alloc, bytes)
@@ -85,21 +96,19 @@ fn script_of(alloc: Global, bytes: &[u8]) -> Result<Script, ScriptRefusal>
     ensures ok { IfOk result (λ script. script_of bytes.now ≡ Ok script) }
     ensures err { IfErr result (λ refusal. IsRefusalOf (script_of bytes.now) refusal) }
 {
-    let mut lines = Vec::new(alloc);
+    let mut reader = Reader::new(alloc);
     let mut number = 0;
     let mut rest = bytes;
     while let Some((line, after)) = first_line(rest) {
         number += 1;
-        match content_of(alloc, line)? {
-            Content::PassedBy => {}
-            Content::Holds(command) => lines.push(Line {
-                number,
-                section: Section::Prelude,
-                command,
-            })?,
-            Content::Bad => return Err(ScriptRefusal::BadLine { number }),
-        }
+        let content = content_of(alloc, line)?;
+        let Some(next) = reader.after(alloc, number, content)? else {
+            return Err(ScriptRefusal::BadLine { number });
+        };
+        reader = next;
         rest = after;
     }
-    Ok(Script { lines })
+    Ok(Script {
+        sections: reader.finished(alloc)?,
+    })
 }

@@ -1,6 +1,7 @@
-//! Reads scripts, one a line, and prints after each what it holds or its first bad line; then tries the limits.
+//! Reads scripts, one a line, and prints after each what its sections hold or its first bad line; then tries the limits.
 #![tactic(auto)]
 
+mod commands;
 mod limits;
 mod marks;
 mod printed;

@@ -1,26 +1,28 @@
 use Rattle.std.proofs.Common.{◌∙◌, sym, arith}
-use Rattle.script_lang.proofs.ScriptLemmas.{script_from-passed_by, script_from-holds, script_from-bad, script_from-end}
-use Rattle.script_lang.proofs.GrammarScript.{AreOfLines-script_of}
+use Rattle.script_lang.proofs.GrammarAnswers.{refusal_passed, AreOfScript-script_of}
+use Rattle.script_lang.proofs.ReadingLemmas.{reads_more, reads_bad, reads_end}
 use Rattle.script_lang.proofs.script.script_of.Goals as goal
 
-pub returns-in-Bad-clause-err : goal.returns-in-Bad-clause-err
-returns-in-Bad-clause-err c =
-    script_from-bad _ _ _ _ _ _ c.in-Some.ensures.cut (sym c.in-Bad.is ∙ c.in_ok-content_of.ensures) c.loop-line.invariant.read
-
-pub loop-line-preserved-in-PassedBy : goal.loop-line-preserved-in-PassedBy
-loop-line-preserved-in-PassedBy c = record {
-  counted = (let h = c.in-Some.ensures.shorter in omega arith);
-  read = script_from-passed_by _ _ _ _ _ _ c.in-Some.ensures.cut (sym c.in-PassedBy.is ∙ c.in_ok-content_of.ensures) c.loop-line.invariant.read;
-}
+pub returns-in_default-2-clause-err : goal.returns-in_default-2-clause-err
+returns-in_default-2-clause-err c =
+    reads_bad _ _ _ _ _ _ _ c.in-Some.ensures.cut c.in_ok-content.ensures (sym c.in_default-2.is ∙ c.in_ok-next.ensures) c.loop-line.invariant.read
 
 pub loop-line-preserved : goal.loop-line-preserved
 loop-line-preserved c = record {
   counted = (let h = c.in-Some.ensures.shorter in omega arith);
-  read = script_from-holds _ _ _ _ _ _ _ _ c.in-Some.ensures.cut (sym c.in-Holds.is ∙ c.in_ok-content_of.ensures) c.loop-line.invariant.read c.in_ok-push-in-Holds.ensures.items;
+  read = reads_more _ _ _ _ _ _ _ _ c.in-Some.ensures.cut c.in_ok-content.ensures (sym c.in-Some-2.is ∙ c.in_ok-next.ensures) c.loop-line.invariant.read;
 }
 
+pub returns-in_err-finished-clause-err : goal.returns-in_err-finished-clause-err
+returns-in_err-finished-clause-err c =
+    refusal_passed _ _ _ _ (reads_end _ _ _ _ c.in_default.ensures.cut c.loop-line.invariant.read) c.in_err-finished.ensures.err
+    c.from_residual-in_err-finished.ensures.1
+
 pub returns-clause-ok : goal.returns-clause-ok
-returns-clause-ok c = script_from-end _ _ _ _ c.in_default.ensures.cut c.loop-line.invariant.read
+returns-clause-ok c =
+    reads_end _ _ _ _ c.in_default.ensures.cut c.loop-line.invariant.read ∙ c.in_ok-finished.ensures.ok
 
 pub invariant_of-result : goal.invariant_of-result
-invariant_of-result c = AreOfLines-script_of _ _ (script_from-end _ _ _ _ c.in_default.ensures.cut c.loop-line.invariant.read)
+invariant_of-result c =
+    AreOfScript-script_of c.args.bytes.now c.in_ok-finished.field-0
+    (reads_end _ _ _ _ c.in_default.ensures.cut c.loop-line.invariant.read ∙ c.in_ok-finished.ensures.ok)

@@ -1,9 +1,0 @@
-use Rattle.std.proofs.Common.{sym, refl}
-use Rattle.script_lang.proofs.CommandLemmas.{lone_command-chars}
-use Rattle.script_lang.proofs.command.lone_command.Goals as goal
-
-pub returns-then-eq : goal.returns-then-eq
-returns-then-eq c = rw (lone_command-chars _ c.utf8.line, sym c.eq.ensures, c.if-eq.true) refl
-
-pub returns-else-eq : goal.returns-else-eq
-returns-else-eq c = rw (lone_command-chars _ c.utf8.line, sym c.eq.ensures, c.if-eq.false) refl
