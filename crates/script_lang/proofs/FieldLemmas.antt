@@ -105,8 +105,8 @@ is_plain-decimal (suc n) small =
 pub number_of-other : (bs : List ℕ) → IsUtf8 bs → is_plain bs ≡ false → None ≡ number_of (chars bs)
 number_of-other bs text other =
     number_of-none (chars bs) (λ n fits e.
-        let small : n < 2 ^ 64 = omega arith in
-        false≢true (sym other ∙ ap is_plain (digits_bytes bs n text fits e) ∙ is_plain-decimal n small))
+    let small : n < 2 ^ 64 = omega arith in
+    false≢true (sym other ∙ ap is_plain (digits_bytes bs n text fits e) ∙ is_plain-decimal n small))
 
 -- plain bytes that are read as a number are its digits, and others are the digits of none
 own : IsNumeralModel (AllDigits 10) (digits_value 10)
@@ -128,7 +128,7 @@ number_of-plain {E} bs (Ok n) text plain parsed =
     number_of-read bs n plain read.0 read.1
 number_of-plain {E} bs (Err e) text plain parsed =
     number_of-none (chars bs) (λ n fits is.
-        let small : n < 2 ^ 64 = omega arith in
-        let narrow : n < 2 ^ 32 = omega arith in
-        let f = parse-decimal {E = E} 32 n bs (Err e) narrow small (digits_bytes bs n text fits is) parsed in
-        cc)
+    let small : n < 2 ^ 64 = omega arith in
+    let narrow : n < 2 ^ 32 = omega arith in
+    let f = parse-decimal {E = E} 32 n bs (Err e) narrow small (digits_bytes bs n text fits is) parsed in
+    cc)

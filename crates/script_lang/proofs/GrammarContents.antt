@@ -14,7 +14,7 @@ use Rattle.script_lang.specs.declared.command.Command.{Command}
 use Rattle.script_lang.specs.declared.command.Command.TheVariants as command
 use Rattle.script_lang.specs.declared.content.Content.{Content}
 use Rattle.script_lang.specs.declared.content.Content.TheVariants as content
-use Rattle.script_lang.specs.declared.query.Query.{Query}
+use Rattle.queries.specs.declared.query.Query.{Query}
 use Rattle.script_lang.specs.declared.keyword.Keyword.{Keyword}
 use Rattle.script_lang.specs.declared.keyword.Keyword.TheVariants as key
 use Rattle.script_lang.specs.declared.keyword.PathKeyword.TheVariants as path_key

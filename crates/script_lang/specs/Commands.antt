@@ -7,7 +7,7 @@ use Rattle.script_lang.specs.Fields.{parts_at_space, two_fields, path_of, last_p
 use Rattle.script_lang.specs.Quotes.{text_of_field}
 use Rattle.script_lang.specs.Keywords.{keyword_of}
 use Rattle.script_lang.specs.Queries.{query_of}
-use Rattle.script_lang.specs.declared.query.Query.{Query}
+use Rattle.queries.specs.declared.query.Query.{Query}
 use Rattle.script_lang.specs.declared.command.Command.{Command}
 use Rattle.script_lang.specs.declared.command.Command.TheVariants as command
 use Rattle.script_lang.specs.declared.keyword.Keyword.{Keyword}

@@ -21,8 +21,8 @@ use Rattle.script_lang.specs.declared.content.Content.TheVariants as content
 use Rattle.script_lang.specs.declared.line.Line.{Line}
 use Rattle.script_lang.specs.declared.line.Section.{Section}
 use Rattle.script_lang.specs.declared.line.Section.TheVariants.{Prelude, Finally}
-use Rattle.script_lang.specs.declared.query.Query.{Query}
-use Rattle.script_lang.specs.declared.query.Query.TheVariants as query
+use Rattle.queries.specs.declared.query.Query.{Query}
+use Rattle.queries.specs.declared.query.Query.TheVariants as query
 use Rattle.script_lang.specs.declared.refusal.ScriptRefusal.{ScriptRefusal}
 use Rattle.script_lang.specs.declared.refusal.ScriptRefusal.TheVariants.{BadLine, OutOfMemory}
 

@@ -4,8 +4,8 @@ use Rattle.std.specs.Option.{option_and_then}
 use Rattle.java_tokens.specs.Identifier.{is_word}
 use Rattle.script_lang.specs.Fields.{parts_at_space, last_path}
 use Rattle.script_lang.specs.Keywords.{query_keyword_of}
-use Rattle.script_lang.specs.declared.query.Query.{Query}
-use Rattle.script_lang.specs.declared.query.Query.TheVariants as query
+use Rattle.queries.specs.declared.query.Query.{Query}
+use Rattle.queries.specs.declared.query.Query.TheVariants as query
 use Rattle.script_lang.specs.declared.keyword.QueryKeyword.{QueryKeyword}
 use Rattle.script_lang.specs.declared.keyword.QueryKeyword.TheVariants as query_key
 use Rattle.script_lang.specs.declared.keyword.NameKeyword.{NameKeyword}

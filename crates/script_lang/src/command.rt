@@ -1,6 +1,6 @@
 //! The commands of a script.
-use crate::Query;
 use ide_text::Name;
+use queries::Query;
 use write_history::{Change, Changes};
 
 /// The most attempts of a soft read.

@@ -6,12 +6,12 @@ ghost use Rattle.script_lang.specs.Fields.{two_fields, path_of, last_path, numbe
 ghost use Rattle.script_lang.specs.Quotes.{text_of_field};
 ghost use Rattle.script_lang.specs.Commands.{command_of, change_of, command_with, path_command, text_change, soft_command, attempts_of};
 
+use crate::Command;
 use crate::command::MAX_ATTEMPTS;
 use crate::field::{last_path, number_of, parts_at_space, path_of};
 use crate::keyword::{Keyword, PathKeyword, TextKeyword, keyword_of};
 use crate::query_line::query_of;
 use crate::quoted::text_of_field;
-use crate::{Command, Query};
 use ide_text::{Name, SharedText};
 use std::alloc::{AllocError, Global};
 use write_history::Change;
@@ -135,7 +135,10 @@ fn path_and_text(alloc: Global, fields: &str) -> Result<Option<(Name, SharedText
 }
 
 /// A path, a place and a text.
-fn path_and_piece(alloc: Global, fields: &str) -> Result<Option<(Name, (u32, SharedText))>, AllocError>
+fn path_and_piece(
+    alloc: Global,
+    fields: &str,
+) -> Result<Option<(Name, (u32, SharedText))>, AllocError>
     ensures { IfOk result (λ found. found ≡ two_fields path_of (two_fields number_of text_of_field) (chars fields.now)) }
 {
     let Some((path, piece)) = parts_at_space(fields) else {

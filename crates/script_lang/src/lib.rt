@@ -7,7 +7,6 @@ mod content;
 mod field;
 mod keyword;
 mod line;
-mod query;
 mod query_line;
 mod quoted;
 mod reader;
@@ -17,7 +16,7 @@ mod split;
 
 pub use command::{Command, MAX_ATTEMPTS};
 pub use line::{Line, Section};
-pub use query::Query;
+pub use queries::Query;
 pub use reader::MAX_LANES;
 pub use refusal::ScriptRefusal;
 pub use script::{MAX_BYTES, Script, is_within_limit, parse};

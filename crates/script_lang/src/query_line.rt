@@ -3,11 +3,11 @@ ghost use Rattle.std.specs.Prelude.{◌≡◌, IfOk};
 ghost use Rattle.std.specs.Str.{chars};
 ghost use Rattle.script_lang.specs.Queries.{query_of, lone_query, query_with, name_query};
 
-use crate::Query;
 use crate::field::{last_path, parts_at_space};
 use crate::keyword::{NameKeyword, QueryKeyword, query_keyword_of};
 use ide_text::Name;
 use java_tokens::is_word;
+use queries::Query;
 use std::alloc::{AllocError, Global};
 
 /// The question of a line's text, where the line has one of the six forms.
