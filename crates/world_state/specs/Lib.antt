@@ -1,0 +1,22 @@
+-- What callers may rest on.
+-- What an edit of a row makes of it
+pub mod RowEdits
+-- What an edit of a document makes of it
+pub mod DocEdits
+-- What an edit of index data makes of them
+pub mod IndexEdits
+-- One change of one file, and what it makes of the world
+pub mod Step
+-- What always holds of the world of a state
+pub mod Sound
+-- When steps may be carried out
+pub mod Lawful
+-- What contracts see of a state
+pub mod Held
+-- Internal.
+-- The ids of the unready files
+pub mod Marks
+-- What steps need room for
+pub mod Room
+-- What ties the parts of a state together
+pub mod State

@@ -1,0 +1,12 @@
+//! The state of a workspace: files, documents and index data, kept in step with one another, and changed by steps alone.
+#![tactic(auto)]
+
+mod apply;
+mod marks;
+mod state;
+mod step;
+mod steps;
+
+pub use state::State;
+pub use step::{DocEdit, IndexEdit, RowEdit, Step};
+pub use steps::Steps;
