@@ -1,0 +1,3 @@
+pub mod FileLemmas
+pub mod WorldLemmas
+pub mod RoomLemmas

@@ -1,5 +1,5 @@
 -- What a state keeps, and what ties its parts together.
-use Rattle.std.specs.Prelude.{ℕ, ◌≡◌, ◌+◌, List, [], ◌∷◌, Option, None}
+use Rattle.std.specs.Prelude.{ℕ, ◌≡◌, ◌<◌, ◌+◌, List, [], ◌∷◌, Option, None}
 use Rattle.document_buf.specs.Document.{Document}
 use Rattle.vfs_core.specs.declared.row.FileRow.{FileRow}
 use Rattle.vfs_core.specs.Held as files
@@ -46,6 +46,7 @@ indexed_in kept id = record { base = layers.base_of kept id; overlay = layers.ov
 -- are those of the world
 pub record IsKept (world : World) (room : Room) : Type 0 where
   pub sound : IsSoundWorld world
+  pub drawn : 0 < world.next_stamp
   pub whole : (id : ℕ) → files.row_of room.files id ≡ None → docs.document_of room.docs id ≡ None
   pub index : (id : ℕ) → HoldsIndex (file_of world id) (indexed_in room.layers id)
   pub unready : (id : ℕ) → is_on room.marks id ≡ is_unready (file_of world id)

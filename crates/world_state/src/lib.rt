@@ -2,6 +2,7 @@
 #![tactic(auto)]
 
 mod apply;
+mod install;
 mod marks;
 mod state;
 mod step;
