@@ -198,6 +198,47 @@ path_after world id (PutRow r) row document other f g free kept new found same =
     free other g found (sym (ap (λ (x : File). x.path) (same_Some (file_with document r) f new) ∙ same))
 path_after world id RemoveRow row document other f g free kept new found same = absurd (none-some f new)
 
+abbrev world_with : ℕ → List (Option File) → ℕ → World
+world_with entries fs n = record { files = fs; next_stamp = n; entries = entries }
+
+abbrev indexed_with : Parts → Option Parts → Indexed
+indexed_with base overlay = record { base = base; overlay = overlay }
+
+-- files of the same documents
+files_from-same : (document document' : ℕ → Option Document) → ((id : ℕ) → document' id ≡ document id) → (id : ℕ) (all : List (Option FileRow)) → files_from document' id all ≡ files_from document id all
+files_from-same document document' same id [] = refl
+files_from-same document document' same id (row ∷ all) =
+    ap (λ d. joined row d ∷ files_from document' (id + 1) all) (same id)
+    ∙ ap (λ fs. joined row (document id) ∷ fs) (files_from-same document document' same (id + 1) all)
+
+-- the world is of the rows, the documents and the counters alone
+pub world_same : (old new : files.Held) (olds news : docs.Held) (entries : ℕ) → new.rows ≡ old.rows → new.next_stamp ≡ old.next_stamp → docs.SameDocuments olds news
+    → world_in new news entries ≡ world_in old olds entries
+world_same old new olds news entries same next documents =
+    ap (λ fs. world_with entries fs new.next_stamp) (ap (files_from (docs.document_of news) 1) same ∙ files_from-same (docs.document_of olds) (docs.document_of news) documents 1 old.rows)
+    ∙ ap (world_with entries (files_from (docs.document_of olds) 1 old.rows)) next
+
+-- a state whose parts hold the same is as sound
+pub kept_same : (old new : files.Held) (olds news : docs.Held) (kept kept' : layers.Held) (marks marks' : Marks) (entries : ℕ)
+    → IsKept (world_in old olds entries) (room_in old olds kept marks)
+    → new.rows ≡ old.rows → new.next_stamp ≡ old.next_stamp → docs.SameDocuments olds news → docs.open_of news ≡ docs.open_of olds
+    → ((other : ℕ) → layers.base_of kept' other ≡ layers.base_of kept other) → ((other : ℕ) → layers.overlay_of kept' other ≡ layers.overlay_of kept other)
+    → ((other : ℕ) → is_on marks' other ≡ is_on marks other) → marks'.count ≡ marks.count
+    → IsKept (world_in new news entries) (room_in new news kept' marks')
+kept_same old new olds news kept kept' marks marks' entries sound same next documents open' bases overlays each count =
+    subst (λ w. IsKept w (room_in new news kept' marks')) (sym (world_same old new olds news entries same next documents)) record {
+      sound = sound.sound;
+      drawn = sound.drawn;
+      whole = λ id none. documents id ∙ sound.whole id (sym (ap (λ all. rows.row_in all id) same) ∙ none);
+      index = λ id. subst (HoldsIndex (file_of (world_in old olds entries) id)) (sym (indexed id)) (sound.index id);
+      unready = λ id. each id ∙ sound.unready id;
+      unready_count = count ∙ sound.unready_count;
+      open_count = open' ∙ sound.open_count;
+    }
+  where
+    indexed : (id : ℕ) → indexed_in kept' id ≡ indexed_in kept id
+    indexed id = ap (λ b. indexed_with b (layers.overlay_of kept' id)) (bases id) ∙ ap (indexed_with (layers.base_of kept id)) (overlays id)
+
 module _ (old : files.Held) (olds : docs.Held) (kept : layers.Held) (marks : Marks) (entries : ℕ) (step : Step)
     (sound : IsKept (world_in old olds entries) (room_in old olds kept marks)) (lawful : IsLawfulStep (world_in old olds entries) step) where
   pub rows_known : step.id ≤ length old.rows + 1
@@ -282,11 +323,8 @@ module _ (old : files.Held) (olds : docs.Held) (kept : layers.Held) (marks : Mar
     -- the world after the step
     pub world_after : world_in new news entries ≡ after_step (world_in old olds entries) step
     world_after =
-        ap (λ fs. world_with fs new.next_stamp) (files_after ∙ ap (λ f. with_file step.id f (files_in old olds)) (sym stepped_here))
-        ∙ ap (world_with (with_file step.id (stepped step (file_of (world_in old olds entries) step.id)) (files_in old olds))) carried.next
-      where
-        world_with : List (Option File) → ℕ → World
-        world_with fs n = record { files = fs; next_stamp = n; entries = entries }
+        ap (λ fs. world_with entries fs new.next_stamp) (files_after ∙ ap (λ f. with_file step.id f (files_in old olds)) (sym stepped_here))
+        ∙ ap (world_with entries (with_file step.id (stepped step (file_of (world_in old olds entries) step.id)) (files_in old olds))) carried.next
 
     file_here : (other : ℕ) → other ≡ step.id → file_of (world_in new news entries) other ≡ joined row_after document_after
     file_here other same = file_changed old new olds news step.id row_after document_after changed other
@@ -346,9 +384,6 @@ module _ (old : files.Held) (olds : docs.Held) (kept : layers.Held) (marks : Mar
     whole_after other none = carried.documents_are other ∙ bool_cases (eqb step.id other)
         (λ b. cond b row_after (files.row_of old other) ≡ None → cond b document_after (docs.document_of olds other) ≡ None)
         (λ e. whole_here) (λ ne. sound.whole other) (sym (carried.rows_are other) ∙ none)
-
-    abbrev indexed_with : Parts → Option Parts → Indexed
-    indexed_with base overlay = record { base = base; overlay = overlay }
 
     index_after : (other : ℕ) → HoldsIndex (file_of (world_in new news entries) other) (indexed_in kept' other)
     index_after other = ⊎_elim

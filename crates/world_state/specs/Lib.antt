@@ -18,5 +18,7 @@ pub mod Held
 pub mod Marks
 -- What steps need room for
 pub mod Room
+-- When steps can be carried out one after another
+pub mod Ready
 -- What ties the parts of a state together
 pub mod State

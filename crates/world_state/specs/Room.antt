@@ -1,5 +1,5 @@
 -- What steps need room for.
-use Rattle.std.specs.Prelude.{ℕ, ◌≡◌, ◌≤◌, ◌+◌, ◌==◌, Bool, true, false, if◌then◌else◌, is_some, List, [], ◌∷◌, Option, Some, None, IsSome, IfSome}
+use Rattle.std.specs.Prelude.{ℕ, ◌≡◌, ◌≤◌, ◌<◌, ◌+◌, ◌==◌, Bool, true, false, if◌then◌else◌, is_some, List, [], ◌∷◌, Option, Some, None, IsSome, IfSome}
 use Rattle.vfs_core.specs.Held as files
 use Rattle.document_buf.specs.Held as docs
 use Rattle.overlay_index.specs.Layers as layers
@@ -10,7 +10,7 @@ use Rattle.world_state.specs.declared.step.IndexEdit.{IndexEdit}
 use Rattle.world_state.specs.declared.step.IndexEdit.TheVariants.{Keep as KeepIndex, SetBase, SetOverlay, ToBase, Drop}
 use Rattle.world_state.specs.declared.step.Step.{Step}
 use Rattle.world_state.specs.RowEdits.{put_row}
-use Rattle.world_state.specs.DocEdits.{inserted_by}
+use Rattle.world_state.specs.DocEdits.{inserted_by, IsWide}
 use Rattle.world_state.specs.Marks.{Marks, has_mark, one_if}
 
 -- the room of a state: that of its files, its documents, its index data and its marks
@@ -56,7 +56,7 @@ all_inserted_into id (step ∷ steps) = inserted_into id step + all_inserted_int
 -- room for what a step brings, but for rows and characters, which add up
 pub record HasStepRoom (room : Room) (step : Step) : Type 0 where
   pub path : IfSome (put_row step.row) (λ row. files.HasPathRoom room.files row.path)
-  pub place : opens step.doc ≡ true → docs.HasPlace room.docs step.id
+  pub place : opens step.doc ≡ true → 0 < step.id → docs.HasPlace room.docs step.id
   pub parts : IfSome (brought step.index) (layers.HasRoom room.layers step.id)
   pub mark : has_mark room.marks step.id ≡ true
 
@@ -77,3 +77,9 @@ pub record KeepsRoom (old new : Room) : Type 0 where
   pub places : (id : ℕ) → docs.HasPlace old.docs id → docs.HasPlace new.docs id
   pub parts : layers.KeepsRoom old.layers new.layers
   pub marks : (id : ℕ) → has_mark old.marks id ≡ true → has_mark new.marks id ≡ true
+
+-- the room that adds up isn't less, and the same documents are open
+pub record KeepsCounts (old new : Room) : Type 0 where
+  pub rows : (count : ℕ) → files.HasRowRoom old.files count → files.HasRowRoom new.files count
+  pub chars : (id : ℕ) → docs.room_of old.docs id ≤ docs.room_of new.docs id
+  pub documents : docs.SameDocuments old.docs new.docs

@@ -12,6 +12,7 @@ ghost use Rattle.world_state.specs.Step.{joined, drawn_by, after_step, after_ste
 ghost use Rattle.world_state.specs.Lawful.{AreLawful, IsLawfulStep};
 ghost use Rattle.world_state.specs.Marks.{one_if};
 ghost use Rattle.world_state.specs.Held.{HasRoom};
+ghost use Rattle.world_state.specs.Ready.{IsReady};
 ghost use Rattle.world_state.specs.Room.{HasStepRoom, inserted_into, KeepsRoom};
 
 use crate::apply::{Gone, apply_document, apply_index, apply_row};
@@ -72,5 +73,63 @@ impl State {
         let is_unready = is_unready_file(&self.files, &self.docs, id);
         self.unready.set(id, is_unready);
         Gone { id, row, data }
+    }
+    /// Carries steps out, one after another, and keeps what they took out. It takes no memory.
+    fn carry_out_all(&mut self, steps: Vec<Step>, gone: &mut Vec<Gone>)
+        requires ready { IsReady self.old steps.items }
+        requires place { vec_len gone.old + vec_len steps ≤ vec_capacity gone.old }
+        ensures { self.new.world ≡ after_steps self.old.world steps.items }
+    {
+        for step in steps {
+            let taken = self.carry_out(step);
+            let Ok(()) = gone.push(taken) else {
+                unreachable!()
+            };
+        }
+    }
+
+    /// Gives up the room of what went, where nothing needs it now.
+    fn sweep(&mut self, gone: &Gone)
+        ensures { self.new.world ≡ self.old.world }
+    {
+        if let Some(row) = &gone.row {
+            self.files.sweep(&row.path);
+        }
+        if let Some(data) = &gone.data {
+            self.layers.sweep(gone.id, data);
+        }
+        self.unready.sweep(gone.id);
+    }
+
+    /// The same of all that went.
+    fn sweep_all(&mut self, gone: &[Gone])
+        ensures { self.new.world ≡ self.old.world }
+    {
+        for taken in gone {
+            self.sweep(taken);
+        }
+    }
+
+    /// Counts one entry more.
+    fn count_entry(&mut self)
+        requires { self.old.world.entries < max_entries }
+        ensures world { self.new.world ≡ counted self.old.world }
+        ensures room { self.new.room ≡ self.old.room }
+        ensures stamps { self.old.world.next_stamp ≤ 64 * self.old.world.entries + 1 }
+    {
+        self.entries += 1;
+    }
+
+    /// Carries out the steps of an entry. It takes no memory.
+    pub fn install(&mut self, steps: Steps)
+        requires lawful { AreLawful self.old.world steps }
+        requires room { HasRoom self.old steps }
+        requires entries { self.old.world.entries < max_entries }
+        ensures { self.new.world ≡ counted (after_steps self.old.world steps) }
+    {
+        self.count_entry();
+        let Steps { steps, mut gone } = steps;
+        self.carry_out_all(steps, &mut gone);
+        self.sweep_all(&gone);
     }
 }

@@ -4,6 +4,7 @@
 mod apply;
 mod install;
 mod marks;
+mod reserve;
 mod state;
 mod step;
 mod steps;
