@@ -1,3 +1,5 @@
 pub mod FileLemmas
+pub mod MarkLemmas
 pub mod WorldLemmas
 pub mod RoomLemmas
+pub mod ReaderLemmas

@@ -161,7 +161,7 @@ sound_later next next' (Some file) later sound = record {
     taken (Some stamp) h = omega (arith, h, later)
 
 -- nothing is first where nothing passes
-none_first : {A : Type 0} (test : A → Bool) (xs : List A) (d : A) → ((place : ℕ) → test (get_or xs place d) ≡ false) → position test xs ≡ None
+pub none_first : {A : Type 0} (test : A → Bool) (xs : List A) (d : A) → ((place : ℕ) → test (get_or xs place d) ≡ false) → position test xs ≡ None
 none_first test xs d none = bool_cases (ltb (position_or_len test xs) (length xs)) (λ b. cond b (Some (position_or_len test xs)) None ≡ None)
     (λ within. absurd (false≢true (sym (none (position_or_len test xs)) ∙ passes_at_first test xs d (ltb-true (position_or_len test xs) (length xs) within))))
     (λ past. refl)

@@ -96,4 +96,14 @@ impl Marks {
             self.ids.remove(&id);
         }
     }
+
+    /// The same marks once more.
+    pub(crate) fn copy(&self) -> Result<Marks, AllocError>
+        ensures { IfOk result (λ copy. copy ≡ self.now) }
+    {
+        Ok(Marks {
+            ids: self.ids.clone()?,
+            count: self.count,
+        })
+    }
 }

@@ -112,4 +112,17 @@ impl State {
     {
         self.files.by_path(path)
     }
+
+    /// The same state once more. Linear in it.
+    pub fn copy(&self) -> Result<State, AllocError>
+        ensures { IfOk result (λ copy. copy.world ≡ self.now.world) }
+    {
+        Ok(State {
+            files: self.files.copy()?,
+            docs: self.docs.copy()?,
+            layers: self.layers.copy()?,
+            unready: self.unready.copy()?,
+            entries: self.entries,
+        })
+    }
 }
