@@ -1,5 +1,5 @@
 //! The edits of a step, each carried out on the part of a state that it is about. None takes memory.
-ghost use Rattle.std.specs.Prelude.{◌≡◌, ◌≢◌, ◌≤◌, ◌<◌, ◌+◌, ℕ, true, false, List, length, is_some, IsSome, IfSome, ◌==◌, nat_lt, if◌then◌else◌};
+ghost use Rattle.std.specs.Prelude.{◌≡◌, ◌≢◌, ◌≤◌, ◌<◌, ◌+◌, ℕ, true, false, List, length, is_some, IsSome, IfSome, Some, ◌==◌, nat_lt, if◌then◌else◌};
 ghost use Rattle.vfs_core.specs.Row.{IsStamped};
 ghost use Rattle.vfs_core.specs.Held.{row_of, HasRowRoom, MayHave, KeepsRoom as KeepsFileRoom};
 ghost use Rattle.document_buf.specs.Held.{document_of, room_of, open_of, HasPlace, Becomes};
@@ -30,7 +30,7 @@ pub(crate) fn apply_row(files: &mut Files, id: u32, edit: RowEdit) -> Option<Fil
     requires within { id ≤ length files.old.rows + 1 }
     requires made { length files.old.rows < id → IsSome (put_row edit) × HasRowRoom files.old 1 }
     requires path { IfSome (put_row edit) (λ row. MayHave files.old id row.path) }
-    requires stamped { IsStamped files.old.next_stamp (put_row edit) }
+    requires stamped { IfSome (put_row edit) (λ row. IsStamped files.old.next_stamp (Some row)) }
     ensures rows { (other : ℕ) → row_of files.new other ≡ (if id == other then edited_row edit (row_of files.old id) else row_of files.old other) }
     ensures made { length files.new.rows ≡ (if nat_lt (length files.old.rows) id then id else length files.old.rows) }
     ensures next { files.new.next_stamp ≡ files.old.next_stamp }
