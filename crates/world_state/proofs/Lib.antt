@@ -3,3 +3,4 @@ pub mod MarkLemmas
 pub mod WorldLemmas
 pub mod RoomLemmas
 pub mod ReaderLemmas
+pub mod WalkLemmas

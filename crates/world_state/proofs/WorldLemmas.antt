@@ -14,9 +14,9 @@ use Rattle.vfs_core.specs.Row as rows
 use Rattle.vfs_core.specs.Held as files
 use Rattle.document_buf.specs.Held as docs
 use Rattle.overlay_index.specs.Layers as layers
-use Rattle.write_history.specs.World.{World, File, file_in, file_of, is_unready, is_open, count_of, has_path}
+use Rattle.write_history.specs.World.{World, File, empty_world, file_in, file_of, is_unready, is_open, count_of, has_path}
 use Rattle.write_history.specs.Effect.{max_files, max_entries, put_at, with_file}
-use Rattle.overlay_index.specs.Parts.{Parts}
+use Rattle.overlay_index.specs.Parts.{Parts, no_parts}
 use Rattle.world_state.specs.declared.step.RowEdit.{RowEdit}
 use Rattle.world_state.specs.declared.step.RowEdit.TheVariants.{Keep as KeepRow, Put as PutRow, Remove as RemoveRow}
 use Rattle.world_state.specs.declared.step.Step.{Step}
@@ -238,6 +238,40 @@ kept_same old new olds news kept kept' marks marks' entries sound same next docu
   where
     indexed : (id : ℕ) → indexed_in kept' id ≡ indexed_in kept id
     indexed id = ap (λ b. indexed_with b (layers.overlay_of kept' id)) (bases id) ∙ ap (indexed_with (layers.base_of kept id)) (overlays id)
+
+no_file : (id : ℕ) → file_in [] id ≡ None
+no_file zero = refl
+no_file (suc place) = refl
+
+-- the world without a file
+pub world_empty : (held : files.Held) (documents : docs.Held) → held.rows ≡ [] → held.next_stamp ≡ 1 → world_in held documents 0 ≡ empty_world
+world_empty held documents none first =
+    ap (λ all. world_with 0 (files_from (docs.document_of documents) 1 all) held.next_stamp) none ∙ ap (world_with 0 []) first
+
+-- a state without a file is sound
+pub kept_empty : (held : files.Held) (documents : docs.Held) (kept : layers.Held) (marks : Marks) → held.rows ≡ [] → held.next_stamp ≡ 1
+    → ((id : ℕ) → docs.document_of documents id ≡ None) → docs.open_of documents ≡ 0
+    → ((id : ℕ) → layers.base_of kept id ≡ no_parts) → ((id : ℕ) → layers.overlay_of kept id ≡ None)
+    → ((id : ℕ) → is_on marks id ≡ false) → marks.count ≡ 0
+    → IsKept (world_in held documents 0) (room_in held documents kept marks)
+kept_empty held documents kept marks none first closed open' base overlay off count =
+    subst (λ w. IsKept w (room_in held documents kept marks)) (sym (world_empty held documents none first)) record {
+      sound = record {
+        files = record {
+          sound = λ id. subst (IsSoundFile 1) (sym (no_file id)) tt;
+          apart = λ a b f g at_a at_b same. absurd (none-some f (sym (no_file a) ∙ at_a));
+        };
+        made = omega arith;
+        stamps = omega arith;
+        entries = omega arith;
+      };
+      drawn = omega arith;
+      whole = λ id gone. closed id;
+      index = λ id. subst (λ f. HoldsIndex f (indexed_in kept id)) (sym (no_file id)) (base id, overlay id);
+      unready = λ id. off id ∙ ap is_unready (sym (no_file id));
+      unready_count = count;
+      open_count = open';
+    }
 
 module _ (old : files.Held) (olds : docs.Held) (kept : layers.Held) (marks : Marks) (entries : ℕ) (step : Step)
     (sound : IsKept (world_in old olds entries) (room_in old olds kept marks)) (lawful : IsLawfulStep (world_in old olds entries) step) where

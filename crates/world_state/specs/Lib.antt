@@ -13,6 +13,8 @@ pub mod Sound
 pub mod Lawful
 -- What contracts see of a state
 pub mod Held
+-- What the walks of a state find
+pub mod Found
 -- Internal.
 -- The ids of the unready files
 pub mod Marks
@@ -22,3 +24,13 @@ pub mod Room
 pub mod Ready
 -- What ties the parts of a state together
 pub mod State
+-- What public clauses cite from below: the world, documents, rows of files, index data and listings.
+pub use Rattle.write_history.specs.World
+pub use Rattle.write_history.specs.Effect
+pub use Rattle.write_history.specs.Fold
+pub use Rattle.document_buf.specs.Document
+pub use Rattle.overlay_index.specs.Parts
+pub use Rattle.overlay_index.specs.Named
+pub use Rattle.overlay_index.specs.Listing
+pub use Rattle.overlay_index.specs.Words
+pub use Rattle.dumb_mode.specs.Filter

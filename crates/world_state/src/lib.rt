@@ -8,6 +8,7 @@ mod reserve;
 mod state;
 mod step;
 mod steps;
+mod walks;
 
 pub use state::State;
 pub use step::{DocEdit, IndexEdit, RowEdit, Step};

@@ -42,6 +42,19 @@ impl Model for State {
 }
 
 impl State {
+    /// No file. It takes no memory.
+    pub fn empty(alloc: Global) -> State
+        ensures { result.world ≡ empty_world }
+    {
+        State {
+            files: Files::new(alloc),
+            docs: Docs::new(alloc),
+            layers: Layers::new(alloc),
+            unready: Marks::new(alloc),
+            entries: 0,
+        }
+    }
+
     /// How many files were ever made.
     pub fn made(&self) -> usize
         ensures value { result ≡ length self.now.world.files }
