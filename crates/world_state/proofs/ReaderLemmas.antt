@@ -67,7 +67,7 @@ lowest_is files zero on before = absurd (false≢true on)
 lowest_is files (suc place) on before =
     let within : place < length files = inside in
     let first : position_or_len is_unready files ≡ place = position_or_len_is is_unready files place None (omega (arith, within))
-        (λ k below. before (suc k) (omega (arith, below))) (λ _. on) in
+    (λ k below. before (suc k) (omega (arith, below))) (λ _. on) in
     ap (option_map suc) (sym (ap (λ p. place_or_none p (length files)) first ∙ cond-true (ltb place (length files)) (Some place) None (lt-ltb place (length files) within)))
   where
     inside : place < length files

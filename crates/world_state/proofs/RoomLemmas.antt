@@ -29,25 +29,25 @@ pub chars_left : (old new : docs.Held) (step : Step)
     → docs.Becomes old new step.id (edited_document step.doc (docs.document_of old step.id))
     → ((other : ℕ) → eqb step.id other ≡ false → docs.room_of old other ≤ docs.room_of new other)
     → ((n : ℕ) → IsWide n step.doc → (IsSome (docs.document_of old step.id) → inserted_by step.doc + n ≤ docs.room_of old step.id)
-        → IsSome (edited_document step.doc (docs.document_of old step.id)) → n ≤ docs.room_of new step.id)
+    → IsSome (edited_document step.doc (docs.document_of old step.id)) → n ≤ docs.room_of new step.id)
     → (id n : ℕ) → IsWide n step.doc → (IsSome (docs.document_of old id) → inserted_into id step + n ≤ docs.room_of old id)
     → IsSome (docs.document_of new id) → n ≤ docs.room_of new id
 chars_left old new step becomes others here id n wide room open' = ⊎_elim
     (λ (same : step.id ≡ id).
-      let is : eqb step.id id ≡ true = eq-eqb step.id id same in
-      let into : inserted_into id step ≡ inserted_by step.doc = cond-true (eqb step.id id) (inserted_by step.doc) 0 is in
-      let open_here : IsSome (edited_document step.doc (docs.document_of old step.id)) =
-          ap is_some (sym (becomes id ∙ cond-true (eqb step.id id) (edited_document step.doc (docs.document_of old step.id)) (docs.document_of old id) is)) ∙ open' in
-      let left : n ≤ docs.room_of new step.id = here n wide (λ some.
-          let had : inserted_into id step + n ≤ docs.room_of old id = room (ap (λ i. is_some (docs.document_of old i)) (sym same) ∙ some) in
-          omega (arith, had, into, ap (docs.room_of old) same)) open_here in
-      omega (arith, left, ap (docs.room_of new) same))
+    let is : eqb step.id id ≡ true = eq-eqb step.id id same in
+    let into : inserted_into id step ≡ inserted_by step.doc = cond-true (eqb step.id id) (inserted_by step.doc) 0 is in
+    let open_here : IsSome (edited_document step.doc (docs.document_of old step.id)) =
+    ap is_some (sym (becomes id ∙ cond-true (eqb step.id id) (edited_document step.doc (docs.document_of old step.id)) (docs.document_of old id) is)) ∙ open' in
+    let left : n ≤ docs.room_of new step.id = here n wide (λ some.
+    let had : inserted_into id step + n ≤ docs.room_of old id = room (ap (λ i. is_some (docs.document_of old i)) (sym same) ∙ some) in
+    omega (arith, had, into, ap (docs.room_of old) same)) open_here in
+    omega (arith, left, ap (docs.room_of new) same))
     (λ (apart : step.id ≡ id → ⊥).
-      let is : eqb step.id id ≡ false = ne_eqb step.id id apart in
-      let into : inserted_into id step ≡ 0 = cond-false (eqb step.id id) (inserted_by step.doc) 0 is in
-      let had : inserted_into id step + n ≤ docs.room_of old id = room
-          (ap is_some (sym (becomes id ∙ cond-false (eqb step.id id) (edited_document step.doc (docs.document_of old step.id)) (docs.document_of old id) is)) ∙ open') in
-      omega (arith, had, into, others id is))
+    let is : eqb step.id id ≡ false = ne_eqb step.id id apart in
+    let into : inserted_into id step ≡ 0 = cond-false (eqb step.id id) (inserted_by step.doc) 0 is in
+    let had : inserted_into id step + n ≤ docs.room_of old id = room
+    (ap is_some (sym (becomes id ∙ cond-false (eqb step.id id) (edited_document step.doc (docs.document_of old step.id)) (docs.document_of old id) is)) ∙ open') in
+    omega (arith, had, into, others id is))
     (cases_eq step.id id)
 
 wide_less : (n m : ℕ) (edit : DocEdit) → n ≤ m → IsWide m edit → IsWide n edit
@@ -93,7 +93,7 @@ pub ready_after : (old new : Held) (step : Step) (steps : List Step) → IsReady
     → new.world ≡ after_step old.world step → KeepsRoom old.room new.room
     → ((count : ℕ) → files.HasRowRoom old.room.files (one_if (is_some (put_row step.row)) + count) → files.HasRowRoom new.room.files count)
     → ((id n : ℕ) → IsWide n step.doc → (IsSome (docs.document_of old.room.docs id) → inserted_into id step + n ≤ docs.room_of old.room.docs id)
-        → IsSome (docs.document_of new.room.docs id) → n ≤ docs.room_of new.room.docs id)
+    → IsSome (docs.document_of new.room.docs id) → n ≤ docs.room_of new.room.docs id)
     → IsReady new steps
 ready_after old new step steps ready world keeps rows chars = record {
   spare = ready.spare;
@@ -173,9 +173,10 @@ each_chars_push room all (first ∷ steps) step each one = (each.0, each_chars_p
 
 each_chars_kept : (old new : Room) (all steps : List Step) → KeepsCounts old new → HasEachChars old all steps → HasEachChars new all steps
 each_chars_kept old new all [] keeps each = tt
-each_chars_kept old new all (step ∷ steps) keeps each =
-    ( (λ some open'. omega (arith, each.0 some (ap is_some (sym (keeps.documents step.id)) ∙ open'), keeps.chars step.id))
-    , each_chars_kept old new all steps keeps each.1)
+each_chars_kept old new all (step ∷ steps) keeps each = (
+  (λ some open'. omega (arith, each.0 some (ap is_some (sym (keeps.documents step.id)) ∙ open'), keeps.chars step.id)),
+  each_chars_kept old new all steps keeps each.1,
+)
 
 -- room was made for one step more
 pub each_more : (old new : Room) (all : List Step) (i : ℕ) (step : Step) → i < length all → step ≡ get_or all i step
@@ -184,9 +185,10 @@ pub each_more : (old new : Room) (all : List Step) (i : ℕ) (step : Step) → i
     → HasEachRoom old (take i all) × HasEachChars old all (take i all) → HasEachRoom new (take (i + 1) all) × HasEachChars new all (take (i + 1) all)
 each_more old new all i step within at_i keeps counts room chars each =
     let more : take (i + 1) all ≡ take i all ++ step ∷ [] = take_more all i step within ∙ ap (λ s. take i all ++ s ∷ []) (sym at_i) in
-    subst (λ done. HasEachRoom new done × HasEachChars new all done) (sym more)
-        ( each_room_push new (take i all) step (each_room_kept old new (take i all) keeps each.0) room
-        , each_chars_push new all (take i all) step (each_chars_kept old new all (take i all) counts each.1) chars)
+    subst (λ done. HasEachRoom new done × HasEachChars new all done) (sym more) (
+      each_room_push new (take i all) step (each_room_kept old new (take i all) keeps each.0) room,
+      each_chars_push new all (take i all) step (each_chars_kept old new all (take i all) counts each.1) chars,
+    )
 
 rows_le : (steps : List Step) → rows_of steps ≤ length steps
 rows_le [] = omega arith
@@ -197,11 +199,11 @@ chars_or_none : (room : Room) (all steps : List Step) (id : ℕ) → HasEachChar
 chars_or_none room all [] id each open' = inl refl
 chars_or_none room all (step ∷ steps) id each open' = ⊎_elim
     (λ (none : all_inserted_into id steps ≡ 0). ⊎_elim
-        (λ (nothing : inserted_into id step ≡ 0). inl (omega (arith, none, nothing)))
-        (λ (some : (step.id ≡ id) × (0 < inserted_by step.doc)).
-          let here : all_inserted_into step.id all ≤ docs.room_of room.docs step.id = each.0 some.1 (ap (λ i. is_some (docs.document_of room.docs i)) some.0 ∙ open') in
-          inr (subst (λ i. all_inserted_into i all ≤ docs.room_of room.docs i) some.0 here))
-        (into_cases id step))
+    (λ (nothing : inserted_into id step ≡ 0). inl (omega (arith, none, nothing)))
+    (λ (some : (step.id ≡ id) × (0 < inserted_by step.doc)).
+    let here : all_inserted_into step.id all ≤ docs.room_of room.docs step.id = each.0 some.1 (ap (λ i. is_some (docs.document_of room.docs i)) some.0 ∙ open') in
+    inr (subst (λ i. all_inserted_into i all ≤ docs.room_of room.docs i) some.0 here))
+    (into_cases id step))
     (λ (held : all_inserted_into id all ≤ docs.room_of room.docs id). inr held)
     (chars_or_none room all steps id each.1 open')
   where

@@ -70,8 +70,8 @@ module _ {V : Type 0} (part : Parts → List (List ℕ × V)) (name : List ℕ) 
       by None closed =
           ap (λ o. walk.values_of name (part (unwrap_or o held.base))) (holds.0 ∙ ap (option_map (λ (x : Document). parts_of x.committed)) closed)
           ∙ ap (λ p. walk.values_of name (part p)) (holds.1 (indexed_now file.stamp file.indexed
-              (sym (ap (λ j. j && not (is_some file.document) && not (is_indexed_at file.stamp file.indexed)) is
-                  ∙ ap (λ o. true && not (is_some o) && not (is_indexed_at file.stamp file.indexed)) closed) ∙ ready)))
+          (sym (ap (λ j. j && not (is_some file.document) && not (is_indexed_at file.stamp file.indexed)) is
+          ∙ ap (λ o. true && not (is_some o) && not (is_indexed_at file.stamp file.indexed)) closed) ∙ ready)))
           ∙ law file.content
           ∙ ap (λ o. read (option_map_or (λ (x : Document). x.committed) o file.content)) (sym closed)
 
@@ -88,8 +88,8 @@ module _ {V : Type 0} (part : Parts → List (List ℕ × V)) (name : List ℕ) 
       let next : suc first ≡ first + 1 = omega arith in
       ap (λ vs. walk.with_id first vs ++ walk.found_from look (suc first) (length files)) here
       ∙ ap (λ rest. walk.with_id first (found_at read file) ++ rest)
-          (all_from look (suc first) files (λ place. (let e : suc first + place ≡ first + suc place = omega arith in ap look e) ∙ each (suc place))
-          ∙ ap (λ i. found_from read i files) next)
+      (all_from look (suc first) files (λ place. (let e : suc first + place ≡ first + suc place = omega arith in ap look e) ∙ each (suc place))
+      ∙ ap (λ i. found_from read i files) next)
 
   -- the walk gives what the world has
   pub walk_found : (kept : layers.Held) (files : List (Option File)) → ((id : ℕ) → HoldsIndex (file_in files id) (indexed_in kept id))

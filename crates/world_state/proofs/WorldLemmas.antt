@@ -313,8 +313,8 @@ module _ (old : files.Held) (olds : docs.Held) (kept : layers.Held) (marks : Mar
       → (count : ℕ) → files.HasRowRoom old (one_if (is_some (put_row step.row)) + count) → files.HasRowRoom new count
   rows_left new made wider count room = bool_cases (ltb (length old.rows) step.id) (λ b. (ltb (length old.rows) step.id ≡ b) → files.HasRowRoom new count)
       (λ behind e.
-        let put = lawful.made (omega (arith, ltb-true (length old.rows) step.id behind, rows_known, length-files_from (docs.document_of olds) 1 old.rows)) in
-        omega (arith, made ∙ cond-true (ltb (length old.rows) step.id) step.id (length old.rows) behind, one_if-some (put_row step.row) put.1, rows_known, wider, room))
+      let put = lawful.made (omega (arith, ltb-true (length old.rows) step.id behind, rows_known, length-files_from (docs.document_of olds) 1 old.rows)) in
+      omega (arith, made ∙ cond-true (ltb (length old.rows) step.id) step.id (length old.rows) behind, one_if-some (put_row step.row) put.1, rows_known, wider, room))
       (λ within e. omega (arith, made ∙ cond-false (ltb (length old.rows) step.id) step.id (length old.rows) within, wider, room))
       refl
 
@@ -325,20 +325,21 @@ module _ (old : files.Held) (olds : docs.Held) (kept : layers.Held) (marks : Mar
       each : (place : ℕ) → rows.has_path row.path (get_or old.rows place None) ≡ false
       each place = bool_cases (rows.has_path row.path (get_or old.rows place None)) (λ b. b ≡ false)
           (λ has. option_cases (get_or old.rows place None)
-              (λ none. absurd (false≢true (sym (ap (rows.has_path row.path) none) ∙ has)))
-              (λ r some.
-                let same : suc place ≡ step.id = free (suc place) (file_with (docs.document_of olds (suc place)) r)
-                    (file_of-world old olds entries (suc place) ∙ ap (λ x. joined x (docs.document_of olds (suc place))) some)
-                    (same_text r.path row.path (sym (sym (ap (rows.has_path row.path) some) ∙ has))) in
-                absurd (false≢true (sym (ap (λ i. rows.has_path row.path (files.row_of old i)) same ∙ lacks) ∙ has))))
+          (λ none. absurd (false≢true (sym (ap (rows.has_path row.path) none) ∙ has)))
+          (λ r some.
+          let same : suc place ≡ step.id = free (suc place) (file_with (docs.document_of olds (suc place)) r)
+          (file_of-world old olds entries (suc place) ∙ ap (λ x. joined x (docs.document_of olds (suc place))) some)
+          (same_text r.path row.path (sym (sym (ap (rows.has_path row.path) some) ∙ has))) in
+          absurd (false≢true (sym (ap (λ i. rows.has_path row.path (files.row_of old i)) same ∙ lacks) ∙ has))))
           (λ lacks'. refl)
 
   pub may_have : (drawn : files.Held) → drawn.rows ≡ old.rows → ((path : List ℕ) → files.HasPathRoom old path → files.HasPathRoom drawn path)
       → IfSome (put_row step.row) (λ row. files.HasPathRoom old row.path) → IfSome (put_row step.row) (λ row. files.MayHave drawn step.id row.path)
-  may_have drawn same keeps room = fit_for drawn step.id (put_row step.row) (λ r put lacks.
-      ( ap (λ all. rows.id_in all r.path) same ∙ path_free r (some_of (put_row step.row) (λ x. IsPathFree (world_in old olds entries) step.id x.path) r put lawful.path)
-            (ap (λ all. rows.has_path r.path (rows.row_in all step.id)) (sym same) ∙ lacks)
-      , keeps r.path (some_of (put_row step.row) (λ x. files.HasPathRoom old x.path) r put room)))
+  may_have drawn same keeps room = fit_for drawn step.id (put_row step.row) (λ r put lacks. (
+    ap (λ all. rows.id_in all r.path) same ∙ path_free r (some_of (put_row step.row) (λ x. IsPathFree (world_in old olds entries) step.id x.path) r put lawful.path)
+        (ap (λ all. rows.has_path r.path (rows.row_in all step.id)) (sym same) ∙ lacks),
+    keeps r.path (some_of (put_row step.row) (λ x. files.HasPathRoom old x.path) r put room),
+  ))
 
   pub marks_some : one_if (is_on marks step.id) ≤ marks.count
   marks_some = omega (arith, ap one_if (sound.unready step.id), sound.unready_count, counted_in is_unready refl step.id (files_in old olds))
@@ -374,34 +375,34 @@ module _ (old : files.Held) (olds : docs.Held) (kept : layers.Held) (marks : Mar
     sound_at : (other : ℕ) → IsSoundFile new.next_stamp (file_of (world_in new news entries) other)
     sound_at other = ⊎_elim
         (λ (same : step.id ≡ other). subst (IsSoundFile new.next_stamp) (stepped_here ∙ sym (file_here other (sym same)))
-            (subst (λ n. IsSoundFile n (stepped step (file_of (world_in old olds entries) step.id))) (sym carried.next) lawful.sound))
+        (subst (λ n. IsSoundFile n (stepped step (file_of (world_in old olds entries) step.id))) (sym carried.next) lawful.sound))
         (λ (apart : step.id ≡ other → ⊥). subst (IsSoundFile new.next_stamp) (sym (file_there other apart))
-            (sound_later old.next_stamp new.next_stamp (file_of (world_in old olds entries) other) (omega (arith, carried.next)) (sound.sound.files.sound other)))
+        (sound_later old.next_stamp new.next_stamp (file_of (world_in old olds entries) other) (omega (arith, carried.next)) (sound.sound.files.sound other)))
         (cases_eq step.id other)
 
     apart_from : (other : ℕ) (f g : File) → joined row_after document_after ≡ Some f → file_of (world_in old olds entries) other ≡ Some g → f.path ≡ g.path → other ≡ step.id
     apart_from other f g new' found same = path_after (world_in old olds entries) step.id step.row (files.row_of old step.id) document_after other f g lawful.path
         (λ r some paths. sound.sound.files.apart other step.id g (file_with (docs.document_of olds step.id) r) found
-            (here ∙ ap (λ x. joined x (docs.document_of olds step.id)) some) (sym paths))
+        (here ∙ ap (λ x. joined x (docs.document_of olds step.id)) some) (sym paths))
         new' found same
 
     apart_after : (a b : ℕ) (f g : File) → file_of (world_in new news entries) a ≡ Some f → file_of (world_in new news entries) b ≡ Some g → f.path ≡ g.path → a ≡ b
     apart_after a b f g at_a at_b same = ⊎_elim
         (λ (a_is : step.id ≡ a). ⊎_elim
-            (λ (b_is : step.id ≡ b). sym a_is ∙ b_is)
-            (λ (b_not : step.id ≡ b → ⊥). sym a_is ∙ sym (apart_from b f g (sym (file_here a (sym a_is)) ∙ at_a) (sym (file_there b b_not) ∙ at_b) same))
-            (cases_eq step.id b))
+        (λ (b_is : step.id ≡ b). sym a_is ∙ b_is)
+        (λ (b_not : step.id ≡ b → ⊥). sym a_is ∙ sym (apart_from b f g (sym (file_here a (sym a_is)) ∙ at_a) (sym (file_there b b_not) ∙ at_b) same))
+        (cases_eq step.id b))
         (λ (a_not : step.id ≡ a → ⊥). ⊎_elim
-            (λ (b_is : step.id ≡ b). apart_from a g f (sym (file_here b (sym b_is)) ∙ at_b) (sym (file_there a a_not) ∙ at_a) (sym same) ∙ b_is)
-            (λ (b_not : step.id ≡ b → ⊥). sound.sound.files.apart a b f g (sym (file_there a a_not) ∙ at_a) (sym (file_there b b_not) ∙ at_b) same)
-            (cases_eq step.id b))
+        (λ (b_is : step.id ≡ b). apart_from a g f (sym (file_here b (sym b_is)) ∙ at_b) (sym (file_there a a_not) ∙ at_a) (sym same) ∙ b_is)
+        (λ (b_not : step.id ≡ b → ⊥). sound.sound.files.apart a b f g (sym (file_there a a_not) ∙ at_a) (sym (file_there b b_not) ∙ at_b) same)
+        (cases_eq step.id b))
         (cases_eq step.id a)
 
     made_after : length (files_in new news) ≤ max_files
     made_after = bool_cases (ltb (length old.rows) step.id) (λ b. (ltb (length old.rows) step.id ≡ b) → length (files_in new news) ≤ max_files)
         (λ behind e.
-          let first = lawful.made (omega (arith, ltb-true (length old.rows) step.id behind, rows_known, old_length)) in
-          omega (arith, new_length, carried.made ∙ cond-true (ltb (length old.rows) step.id) step.id (length old.rows) behind, first.0, rows_known, old_length))
+        let first = lawful.made (omega (arith, ltb-true (length old.rows) step.id behind, rows_known, old_length)) in
+        omega (arith, new_length, carried.made ∙ cond-true (ltb (length old.rows) step.id) step.id (length old.rows) behind, first.0, rows_known, old_length))
         (λ within e. omega (arith, new_length, carried.made ∙ cond-false (ltb (length old.rows) step.id) step.id (length old.rows) within, old_length, sound.sound.made))
         refl
       where
@@ -422,18 +423,18 @@ module _ (old : files.Held) (olds : docs.Held) (kept : layers.Held) (marks : Mar
     index_after : (other : ℕ) → HoldsIndex (file_of (world_in new news entries) other) (indexed_in kept' other)
     index_after other = ⊎_elim
         (λ (same : step.id ≡ other).
-          let is : eqb step.id other ≡ true = eq-eqb step.id other same in
-          let held : indexed_in kept' other ≡ edited_index step.index (indexed_in kept step.id) =
-              ap (λ b. indexed_with b (layers.overlay_of kept' other)) (carried.bases other ∙ cond-true (eqb step.id other) (edited_index step.index (indexed_in kept step.id)).base (layers.base_of kept other) is)
-              ∙ ap (indexed_with (edited_index step.index (indexed_in kept step.id)).base) (carried.overlays other ∙ cond-true (eqb step.id other) (edited_index step.index (indexed_in kept step.id)).overlay (layers.overlay_of kept other) is) in
-          subst (HoldsIndex (file_of (world_in new news entries) other)) (sym held)
-              (subst (λ f. HoldsIndex f (edited_index step.index (indexed_in kept step.id))) (stepped_here ∙ sym (file_here other (sym same))) (lawful.index (indexed_in kept step.id) (sound.index step.id))))
+        let is : eqb step.id other ≡ true = eq-eqb step.id other same in
+        let held : indexed_in kept' other ≡ edited_index step.index (indexed_in kept step.id) =
+        ap (λ b. indexed_with b (layers.overlay_of kept' other)) (carried.bases other ∙ cond-true (eqb step.id other) (edited_index step.index (indexed_in kept step.id)).base (layers.base_of kept other) is)
+        ∙ ap (indexed_with (edited_index step.index (indexed_in kept step.id)).base) (carried.overlays other ∙ cond-true (eqb step.id other) (edited_index step.index (indexed_in kept step.id)).overlay (layers.overlay_of kept other) is) in
+        subst (HoldsIndex (file_of (world_in new news entries) other)) (sym held)
+        (subst (λ f. HoldsIndex f (edited_index step.index (indexed_in kept step.id))) (stepped_here ∙ sym (file_here other (sym same))) (lawful.index (indexed_in kept step.id) (sound.index step.id))))
         (λ (apart : step.id ≡ other → ⊥).
-          let is : eqb step.id other ≡ false = ne_eqb step.id other apart in
-          let held : indexed_in kept' other ≡ indexed_in kept other =
-              ap (λ b. indexed_with b (layers.overlay_of kept' other)) (carried.bases other ∙ cond-false (eqb step.id other) (edited_index step.index (indexed_in kept step.id)).base (layers.base_of kept other) is)
-              ∙ ap (indexed_with (layers.base_of kept other)) (carried.overlays other ∙ cond-false (eqb step.id other) (edited_index step.index (indexed_in kept step.id)).overlay (layers.overlay_of kept other) is) in
-          subst (HoldsIndex (file_of (world_in new news entries) other)) (sym held) (subst (λ f. HoldsIndex f (indexed_in kept other)) (sym (file_there other apart)) (sound.index other)))
+        let is : eqb step.id other ≡ false = ne_eqb step.id other apart in
+        let held : indexed_in kept' other ≡ indexed_in kept other =
+        ap (λ b. indexed_with b (layers.overlay_of kept' other)) (carried.bases other ∙ cond-false (eqb step.id other) (edited_index step.index (indexed_in kept step.id)).base (layers.base_of kept other) is)
+        ∙ ap (indexed_with (layers.base_of kept other)) (carried.overlays other ∙ cond-false (eqb step.id other) (edited_index step.index (indexed_in kept step.id)).overlay (layers.overlay_of kept other) is) in
+        subst (HoldsIndex (file_of (world_in new news entries) other)) (sym held) (subst (λ f. HoldsIndex f (indexed_in kept other)) (sym (file_there other apart)) (sound.index other)))
         (cases_eq step.id other)
 
     made_here : joined (files.row_of new step.id) (docs.document_of news step.id) ≡ joined row_after document_after
@@ -442,13 +443,13 @@ module _ (old : files.Held) (olds : docs.Held) (kept : layers.Held) (marks : Mar
     unready_after : (other : ℕ) → is_on marks' other ≡ is_unready (file_of (world_in new news entries) other)
     unready_after other = ⊎_elim
         (λ (same : step.id ≡ other).
-          carried.marks_are other
-          ∙ cond-true (eqb step.id other) (is_unready (joined (files.row_of new step.id) (docs.document_of news step.id))) (is_on marks other) (eq-eqb step.id other same)
-          ∙ ap is_unready (made_here ∙ sym (file_here other (sym same))))
+        carried.marks_are other
+        ∙ cond-true (eqb step.id other) (is_unready (joined (files.row_of new step.id) (docs.document_of news step.id))) (is_on marks other) (eq-eqb step.id other same)
+        ∙ ap is_unready (made_here ∙ sym (file_here other (sym same))))
         (λ (apart : step.id ≡ other → ⊥).
-          carried.marks_are other
-          ∙ cond-false (eqb step.id other) (is_unready (joined (files.row_of new step.id) (docs.document_of news step.id))) (is_on marks other) (ne_eqb step.id other apart)
-          ∙ sound.unready other ∙ ap is_unready (sym (file_there other apart)))
+        carried.marks_are other
+        ∙ cond-false (eqb step.id other) (is_unready (joined (files.row_of new step.id) (docs.document_of news step.id))) (is_on marks other) (ne_eqb step.id other apart)
+        ∙ sound.unready other ∙ ap is_unready (sym (file_there other apart)))
         (cases_eq step.id other)
 
     count_after : (test : Option File → Bool) → test None ≡ false
@@ -456,15 +457,20 @@ module _ (old : files.Held) (olds : docs.Held) (kept : layers.Held) (marks : Mar
     count_after test none =
         ap (λ fs. length (filter test fs) + one_if (test (file_of (world_in old olds entries) step.id))) files_after
         ∙ count-with_file test none step.id (joined row_after document_after) (files_in old olds) (omega (arith, lawful.some))
-            (omega (arith, rows_known, length-files_from (docs.document_of olds) 1 old.rows))
+        (omega (arith, rows_known, length-files_from (docs.document_of olds) 1 old.rows))
 
     unready_count_after : marks'.count ≡ count_of is_unready (world_in new news entries)
     unready_count_after = omega (arith, carried.marked, sound.unready_count, count_after is_unready refl, ap one_if (sound.unready step.id), ap (λ f. one_if (is_unready f)) made_here)
 
     open_count_after : docs.open_of news ≡ count_of is_open (world_in new news entries)
-    open_count_after = omega (arith, carried.open_are, sound.open_count, count_after is_open refl,
-        ap one_if (ap is_open here ∙ is_open-joined (files.row_of old step.id) (docs.document_of olds step.id) (sound.whole step.id)),
-        ap one_if (is_open-joined row_after document_after whole_here))
+    open_count_after = omega (
+      arith,
+      carried.open_are,
+      sound.open_count,
+      count_after is_open refl,
+      ap one_if (ap is_open here ∙ is_open-joined (files.row_of old step.id) (docs.document_of olds step.id) (sound.whole step.id)),
+      ap one_if (is_open-joined row_after document_after whole_here),
+    )
 
     -- the state stays sound
     pub kept_after : IsKept (world_in new news entries) (room_in new news kept' marks')

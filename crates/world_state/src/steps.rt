@@ -1,8 +1,8 @@
 //! A list of steps.
 ghost use Rattle.std.specs.Prelude.{◌≡◌, ◌≤◌, [], ◌∷◌, ◌++◌, OnOk, OnErr, length};
 
-use crate::apply::Gone;
 use crate::Step;
+use crate::apply::Gone;
 use std::alloc::{AllocError, Global};
 use std::marker::Model;
 

@@ -16,7 +16,7 @@ returns-in_err-id-clause-none c =
     let h : option_map deref_pair c.find.result ≡ find (λ e. e.1) es = find_from_yields_List (λ e. e.1) _ _ c.find.result c.find.ensures.ran (YieldsList-from_rest es c.iter.ensures.rest) (λ x b q k. search (rules, tests)) in
     let nothing : find (λ e. e.1) es ≡ None = sym h ∙ ap (option_map deref_pair) c.in_err-id.was in
     subst (λ m. IfNone c.from_residual.result ((id : ℕ) → is_on m id ≡ false)) c.self.view_is
-        (subst (λ r. IfNone r ((id : ℕ) → unwrap_or (lookup (is_at (nat_cmp id)) es) false ≡ false)) (sym c.from_residual.ensures) (none_on es nothing))
+    (subst (λ r. IfNone r ((id : ℕ) → unwrap_or (lookup (is_at (nat_cmp id)) es) false ≡ false)) (sym c.from_residual.ensures) (none_on es nothing))
 
 pub returns-clause-on : goal.returns-clause-on
 returns-clause-on c =

@@ -8,8 +8,8 @@ use Rattle.world_state.proofs.state.State.install.Goals as goal
 pub carry_out_all-requires-clause-ready : goal.carry_out_all-requires-clause-ready
 carry_out_all-requires-clause-ready c =
     subst (IsReady c.count_entry.new.self) (sym c.steps.view_is)
-        (ready_counted c.args.self.now c.count_entry.new.self c.args.steps c.requires.lawful c.requires.room
-            c.count_entry.ensures.stamps c.count_entry.ensures.world c.count_entry.ensures.room)
+    (ready_counted c.args.self.now c.count_entry.new.self c.args.steps c.requires.lawful c.requires.room
+    c.count_entry.ensures.stamps c.count_entry.ensures.world c.count_entry.ensures.room)
 
 pub returns : goal.returns
 returns c =

@@ -20,5 +20,5 @@ returns-clause-room c =
     let held = c.loop-step.invariant in
     let all = c.args.steps.now in
     room_made c.loop-step.self.room all held.rows
-        (subst (λ done. HasEachRoom c.loop-step.self.room done × HasEachChars c.loop-step.self.room all done)
-            (take_all c.loop-step.step-index all (omega (arith, c.loop-step-test.false))) held.each)
+    (subst (λ done. HasEachRoom c.loop-step.self.room done × HasEachChars c.loop-step.self.room all done)
+    (take_all c.loop-step.step-index all (omega (arith, c.loop-step-test.false))) held.each)
