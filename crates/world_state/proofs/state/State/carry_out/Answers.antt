@@ -1,11 +1,10 @@
-use Rattle.std.proofs.Common.{◌≡◌, ◌+◌, ◌*◌, ◌≤◌, ℕ, true, length, sym, ap, subst, ◌∙◌, arith, lit≤}
+use Rattle.std.proofs.Common.{◌+◌, ◌*◌, ◌≤◌, length, sym, ap, subst, ◌∙◌, arith}
 use Rattle.std.specs.Prelude.{is_some, IsSome, IfSome, if◌then◌else◌, nat_lt}
 use Rattle.vfs_core.specs.Held.{HasRowRoom, HasPathRoom}
 use Rattle.document_buf.specs.Held.{document_of, room_of}
 use Rattle.world_state.specs.DocEdits.{IsDocEditFit}
 use Rattle.world_state.specs.Step.{after_step}
 use Rattle.world_state.specs.RowEdits.{put_row}
-use Rattle.world_state.specs.DocEdits.{IsWide}
 use Rattle.world_state.specs.Marks.{one_if}
 use Rattle.world_state.specs.Room.{Room, KeepsRoom, inserted_into}
 use Rattle.world_state.specs.Lawful.{IsLawfulStep}
