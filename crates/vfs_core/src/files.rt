@@ -140,13 +140,14 @@ impl Files {
     }
 
     /// Puts a row, or none, in the place of the one with this id, or behind the last. It takes no memory. Where the path
-    /// stays, it takes constant time but for the comparison of the paths.
-    pub fn put(&mut self, id: u32, row: Option<FileRow>)
+    /// stays, it takes constant time but for the comparison of the paths. It gives the row that went.
+    pub fn put(&mut self, id: u32, row: Option<FileRow>) -> Option<FileRow>
         requires above { 0 < id }
         requires inside { id ≤ length self.old.rows + 1 }
         requires room { length self.old.rows < id → HasRowRoom self.old 1 }
         requires path { IfSome row (λ r. MayHave self.old id r.path) }
         requires stamped { IfSome row (λ r. IsStamped self.old.next_stamp (Some r)) }
+        ensures old { result ≡ row_of self.old id }
         ensures rows { self.new.rows ≡ with_row id row self.old.rows }
         ensures each { (other : ℕ) → row_of self.new other ≡ (if id == other then row else row_of self.old other) }
         ensures stamp { self.new.next_stamp ≡ self.old.next_stamp }
@@ -154,6 +155,7 @@ impl Files {
     {
         let old = self.rows.put(id, row);
         follow(&mut self.paths, id, old.as_ref(), self.rows.at(id));
+        old
     }
 
     /// Makes a file, and gives its id. It takes no memory.
