@@ -1,8 +1,9 @@
 -- A draft: a world, and the steps that were made from it so far.
-use Rattle.std.specs.Prelude.{ℕ, ◌≡◌, ◌≤◌, ◌+◌, List, [], ◌∷◌, length}
+use Rattle.std.specs.Prelude.{ℕ, ◌≡◌, ◌≤◌, ◌+◌, ◌*◌, List, [], ◌∷◌, length}
 use Rattle.write_history.specs.declared.change.Change.{Change}
 use Rattle.write_history.specs.declared.change.Change.TheVariants.{Create, Write, Delete, OpenDoc, Insert, Erase, Commit, Save, CloseDoc, Intake, Move}
 use Rattle.write_history.specs.World.{World, count_of, is_open}
+use Rattle.write_history.specs.Effect.{max_files, max_entries}
 use Rattle.write_history.specs.Fold.{effect_of}
 use Rattle.world_state.specs.declared.step.Step.{Step}
 use Rattle.world_state.specs.Step.{after_steps}
@@ -41,6 +42,8 @@ pub record IsKept (inside : Inside) : Type 0 where
   pub made : inside.made ≡ length (world_now (drafted inside)).files
   pub opened : inside.opened ≡ count_of is_open (world_now (drafted inside))
   pub stamp : inside.next_stamp ≡ (world_now (drafted inside)).next_stamp
+  pub small : inside.made ≤ max_files
+  pub early : inside.next_stamp ≤ 64 * max_entries + 1 + length inside.steps
 
 -- how many characters a change inserts
 abbrev pub inserted_by_change : Change → ℕ

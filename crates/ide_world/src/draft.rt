@@ -210,6 +210,15 @@ impl<'a> Draft<'a> {
         }
     }
 
+    /// How many files were made after a step.
+    fn made_after(&self, step: &Step) -> usize
+        requires { IsLawfulStep (world_now self.now) step.now }
+        ensures value { result ≡ length (after_step (world_now self.now) step.now).files }
+        ensures few { result ≤ 65536 }
+    {
+        if step.id as usize > self.made { self.made + 1 } else { self.made }
+    }
+
     /// Adds a step.
     pub(crate) fn push(&mut self, step: Step) -> Result<(), AllocError>
         requires lawful { IsLawfulStep (world_now self.old) step }
@@ -217,9 +226,13 @@ impl<'a> Draft<'a> {
         requires wide { IsWide self.old.wide step.doc }
         ensures ok { OnOk result (self.new ≡ record self.old { steps = self.old.steps ++ step ∷ [] }) }
     {
-        let made = self.made + usize::from(step.id as usize > self.made);
+        let made = self.made_after(&step);
         let opened = self.opened_after(&step);
-        let next_stamp = self.next_stamp + u64::from(step.draws);
+        let next_stamp = if step.draws {
+            self.next_stamp + 1
+        } else {
+            self.next_stamp
+        };
         self.steps.push(step)?;
         self.made = made;
         self.opened = opened;

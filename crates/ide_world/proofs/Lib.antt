@@ -1,0 +1,4 @@
+pub mod StepLemmas
+pub mod EditLemmas
+pub mod PathLemmas
+pub mod WalkLemmas
