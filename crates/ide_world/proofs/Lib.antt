@@ -2,3 +2,5 @@ pub mod StepLemmas
 pub mod EditLemmas
 pub mod PathLemmas
 pub mod WalkLemmas
+pub mod BuildLemmas
+pub mod KindLemmas

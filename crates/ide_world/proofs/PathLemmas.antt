@@ -159,3 +159,11 @@ moved w s path Remove o sound l e at_path = elsewhere w s path o sound l (λ h.
 
 pub id_at-after_step : (path : List ℕ) (w : World) (s : Step) → AreSoundFiles w → IsLawfulStep w s → id_at (after_step w s) path ≡ id_after path (id_at w path) s
 id_at-after_step path w s sound l = id_at-is (after_step w s) path (id_after path (id_at w path) s) (sound_after_step w s sound l) (moved w s path s.row (id_at w path) sound l refl (is_at w path (id_at w path) refl))
+
+-- the file at a path has a row
+pub row_at_path : (w : World) (path : List ℕ) (id : ℕ) → id_at w path ≡ Some id → row_part (file_of w id) ≡ None → ⊥
+row_at_path w path id e none = let h = has_path_at w path id e in let live = ap row_part h.live in
+    none_some (record { path = h.file.path; content = h.file.content; stamp = h.file.stamp; indexed = h.file.indexed }) (sym none ∙ live)
+  where
+    none_some : (row : FileRow) → ◌≡◌ {A = Option FileRow} None (Some row) → ⊥
+    none_some row e = cc

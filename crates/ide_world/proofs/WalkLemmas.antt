@@ -1,6 +1,6 @@
 -- What the readers of a draft see, as folds over its steps; and a draft with one step more.
 use Rattle.std.proofs.Common.{ℕ, zero, suc, ◌≡◌, ◌≢◌, ◌+◌, ◌*◌, ◌<◌, ◌≤◌, Bool, true, false, List, [], ◌∷◌, ◌++◌, length, get_or, filter, refl, ap, sym, ◌∙◌, subst, arith, Some, None, length-append}
-use Rattle.std.specs.Prelude.{Option, option_map, is_some, if◌then◌else◌, ◌==◌, nat_lt, not, ◌&&◌, ◌||◌}
+use Rattle.std.specs.Prelude.{Result, Ok, Err, IfOk, Option, option_map, is_some, if◌then◌else◌, ◌==◌, nat_lt, not, ◌&&◌, ◌||◌}
 use Rattle.std.specs.List.{fold, list_any}
 use Rattle.std.proofs.lemmas.Bool.{eqb-true, eq-eqb}
 use Rattle.list_laws.proofs.BoolLemmas.{bool_cases}
@@ -17,8 +17,9 @@ use Rattle.world_state.specs.Step.{row_part, document_part, stepped, drawn_by, a
 use Rattle.world_state.specs.Sound.{AreSoundFiles}
 use Rattle.world_state.specs.Lawful.{IsLawfulStep, AreLawfulFrom, AreWide, inserted_by_all}
 use Rattle.ide_world.specs.declared.look.Look.{Look}
-use Rattle.ide_world.specs.Drafted.{Drafted, IsDraft, world_now}
-use Rattle.ide_world.specs.Walk.{row_after, look_of, look_after, edited_look, committed_after, edited_committed, text_after, edited_text, id_after, edits_texts, keeps_texts, IsTextEditFit, AreTextEditsFit}
+use Rattle.ide_world.specs.Drafted.{Drafted, IsDraft, world_now, drafted, IsKept}
+use Rattle.ide_world.specs.declared.draft.Draft.TheInside.{Inside}
+use Rattle.ide_world.specs.Walk.{row_after, look_of, look_after, edited_look, committed_after, edited_committed, text_after, edited_text, id_after, edits_texts, keeps_texts, IsTextEditFit, AreTextEditsFit, one, is_open_after}
 use Rattle.ide_world.proofs.StepLemmas.{part-after_step, row_part-stepped, document_part-stepped, reads_steps, sound_after_step, file_here}
 use Rattle.ide_world.proofs.EditLemmas.{text_of_document, committed_of, look-edited, committed-edited, text-edited, text_edit_fits, kept_text, kept_committed}
 use Rattle.ide_world.proofs.PathLemmas.{id_at-after_step}
@@ -142,11 +143,6 @@ pushed d s h l few wide = record {
 
 -- ---- how many files were made, and how many are open
 
--- 1 where a test holds, else 0
-abbrev pub one : Bool → ℕ
-one true = 1
-one false = 0
-
 tally-cons : (test : Option File → Bool) (x : Option File) (xs : List (Option File)) → length (filter test (x ∷ xs)) ≡ one (test x) + length (filter test xs)
 tally-cons test x xs = bool_cases (test x) (λ b. length (if b then x ∷ filter test xs else filter test xs) ≡ one b + length (filter test xs)) (λ t. omega arith) (λ f. omega arith)
 
@@ -213,3 +209,105 @@ filter-le test (file ∷ files) = let a = tally-cons test file files in let r = 
 -- a walk from what the state has gives what the draft has
 pub read_by : {A : Type 0} (edit : A → Step → A) (r first old now : A) (ss kept : List Step) → r ≡ fold edit first ss → first ≡ old → ss ≡ kept → now ≡ fold edit old kept → r ≡ now
 read_by edit r first old now ss kept walked f s read = walked ∙ ap (λ o. fold edit o ss) f ∙ ap (λ l. fold edit old l) s ∙ sym read
+
+-- the same of a walk that may fail
+pub read_ok : {A E : Type 0} (edit : A → Step → A) (r : Result A E) (first old now : A) (ss kept : List Step) → IfOk r (λ a. a ≡ fold edit first ss) → first ≡ old → ss ≡ kept → now ≡ fold edit old kept → IfOk r (λ a. a ≡ now)
+read_ok edit (Ok a) first old now ss kept walked f s read = read_by edit a first old now ss kept walked f s read
+read_ok edit (Err e) first old now ss kept walked f s read = tt
+
+pub fits_as : (id : ℕ) (first old : Option (List ℕ)) (ss kept : List Step) → first ≡ old → ss ≡ kept → AreTextEditsFit id old kept → AreTextEditsFit id first ss
+fits_as id first old ss kept f s h = let P : Option (List ℕ) → Type 0 = λ o. AreTextEditsFit id o ss in let Q : List Step → Type 0 = λ l. AreTextEditsFit id old l in subst P (sym f) (subst Q (sym s) h)
+
+pub is_some-edited : (edit : DocEdit) (d : Option Document) → IsDocEditFit edit d → is_some (edited_document edit d) ≡ is_open_after edit (is_some d)
+is_some-edited Keep d fit = refl
+is_some-edited (Open doc) d fit = refl
+is_some-edited (Insert at text) None fit = refl
+is_some-edited (Insert at text) (Some d) fit = refl
+is_some-edited (Erase from to) None fit = refl
+is_some-edited (Erase from to) (Some d) fit = refl
+is_some-edited (Commit text) None fit = refl
+is_some-edited (Commit text) (Some d) fit = refl
+is_some-edited MarkSaved None fit = refl
+is_some-edited MarkSaved (Some d) fit = refl
+is_some-edited (Replace doc) None fit = refl
+is_some-edited (Replace doc) (Some d) fit = refl
+is_some-edited Close d fit = refl
+
+pub open_count-after : (d now : Drafted) (s : Step) (opened result : ℕ) (was is : Bool) (look : Option Look) → d ≡ now → IsLawfulStep (world_now now) s
+    → look ≡ option_map look_of (document_part (file_of (world_now now) s.id)) → was ≡ is_some look → is ≡ is_open_after s.doc was
+    → opened ≡ count_of is_open (world_now d) → result + one was ≡ opened + one is → result ≡ count_of is_open (after_step (world_now now) s)
+open_count-after d now s opened result was is look same l looked w i o e =
+    let doc = document_part (file_of (world_now now) s.id) in
+    let a : was ≡ is_some doc = w ∙ ap is_some looked ∙ is_some_look doc in
+    let b : is ≡ is_some (edited_document s.doc doc) = i ∙ ap (is_open_after s.doc) a ∙ sym (is_some-edited s.doc doc l.doc) in
+    let c = open_count-step (world_now now) s l in
+    let a' : one was ≡ one (is_some doc) = ap one a in
+    let b' : one is ≡ one (is_some (edited_document s.doc doc)) = ap one b in
+    let o' : opened ≡ count_of is_open (world_now now) = o ∙ ap (λ x. count_of is_open (world_now x)) same in
+    omega arith
+  where
+    is_some_look : (doc : Option Document) → is_some (option_map look_of doc) ≡ is_some doc
+    is_some_look None = refl
+    is_some_look (Some doc) = refl
+
+pub some_open : (d now : Drafted) (id opened : ℕ) (was : Bool) (look : Option Look) → d ≡ now → 1 ≤ id → id ≤ next_id (world_now now)
+    → look ≡ option_map look_of (document_part (file_of (world_now now) id)) → was ≡ is_some look → opened ≡ count_of is_open (world_now d) → one was ≤ opened
+some_open d now id opened was look same some within looked w o =
+    let doc = document_part (file_of (world_now now) id) in
+    let a : one was ≡ one (is_open (file_of (world_now now) id)) = ap one (w ∙ ap is_some looked ∙ is_some_look (file_of (world_now now) id)) in
+    let c = tally-with is_open refl id None (world_now now).files some within in
+    let o' : opened ≡ count_of is_open (world_now now) = o ∙ ap (λ x. count_of is_open (world_now x)) same in
+    omega arith
+  where
+    is_some_look : (file : Option File) → is_some (option_map look_of (document_part file)) ≡ is_open file
+    is_some_look None = refl
+    is_some_look (Some file) = by_document file.document
+      where
+        by_document : (doc : Option Document) → is_some (option_map look_of doc) ≡ is_some doc
+        by_document None = refl
+        by_document (Some doc) = refl
+
+pub few_open : (d : Drafted) (opened made : ℕ) → opened ≡ count_of is_open (world_now d) → made ≡ length (world_now d).files → made ≤ max_files → opened ≤ 65536
+few_open d opened made o m s = let l = filter-le is_open (world_now d).files in omega arith
+
+pub made_after_more : (d now : Drafted) (s : Step) (made : ℕ) → d ≡ now → IsLawfulStep (world_now now) s → made ≡ length (world_now d).files → made < s.id
+    → (made + 1 ≡ length (after_step (world_now now) s).files) × (made + 1 ≤ 65536)
+made_after_more d now s made same l m lt =
+    let m' : made ≡ length (world_now now).files = m ∙ ap (λ x. length (world_now x).files) same in
+    let r = made_more (world_now now) s l (omega arith) in (let e = r.0 in omega arith, let e = r.1 in omega arith)
+
+pub made_after_same : (d now : Drafted) (s : Step) (made : ℕ) → d ≡ now → IsLawfulStep (world_now now) s → made ≡ length (world_now d).files → s.id ≤ made
+    → made ≡ length (after_step (world_now now) s).files
+made_after_same d now s made same l m le =
+    let m' : made ≡ length (world_now now).files = m ∙ ap (λ x. length (world_now x).files) same in
+    let r = made_same (world_now now) s l (omega arith) in omega arith
+
+pub untouched_by : (r : Bool) (id : ℕ) (ss kept : List Step) → r ≡ list_any (edits_texts id) ss → ss ≡ kept → r ≡ false → list_any (edits_texts id) kept ≡ false
+untouched_by r id ss kept e s f = sym (ap (λ l. list_any (edits_texts id) l) s) ∙ sym e ∙ f
+
+-- the fields after a step
+pub kept_after : (inside new : Inside) (now : Drafted) (s : Step) → drafted inside ≡ now → IsKept inside → IsLawfulStep (world_now now) s → length now.steps < 64 → IsWide now.wide s.doc
+    → new.state ≡ inside.state → new.steps ≡ inside.steps ++ s ∷ [] → new.wide ≡ inside.wide
+    → new.made ≡ length (after_step (world_now now) s).files → new.made ≤ 65536 → new.opened ≡ count_of is_open (after_step (world_now now) s)
+    → new.next_stamp ≡ inside.next_stamp + (if s.draws then 1 else 0) → IsKept new
+kept_after inside new now s same kept lawful few wide state steps width made small opened stamp =
+    let P : Drafted → Type 0 = λ d. IsLawfulStep (world_now d) s in
+    let d = drafted inside in
+    let after : Drafted = record { base = d.base; steps = d.steps ++ s ∷ []; wide = d.wide } in
+    let whole : drafted new ≡ after = ap (λ x. record { base = x.now.world; steps = new.steps; wide = new.wide }) state ∙ ap (λ ss. record { base = d.base; steps = ss; wide = new.wide }) steps ∙ ap (λ n. record { base = d.base; steps = d.steps ++ s ∷ []; wide = n }) width in
+    let world : world_now (drafted new) ≡ after_step (world_now now) s = ap world_now whole ∙ after_steps-push d.base d.steps s ∙ ap (λ x. after_step (world_now x) s) same in
+    let few' : length d.steps < 64 = let e = ap (λ (x : Drafted). length x.steps) same in omega arith in
+    let wide' : IsWide d.wide s.doc = let Q : Drafted → Type 0 = λ x. IsWide x.wide s.doc in subst Q (sym same) wide in
+    let lengths : length new.steps ≡ length inside.steps + 1 = ap length steps ∙ length-append inside.steps (s ∷ []) in
+    record {
+      draft = let Q : Drafted → Type 0 = IsDraft in subst Q (sym whole) (pushed d s kept.draft (subst P (sym same) lawful) few' wide');
+      made = made ∙ sym (ap (λ w. length w.files) world);
+      opened = opened ∙ sym (ap (λ w. count_of is_open w) world);
+      stamp = stamp ∙ ap (λ n. n + (if s.draws then 1 else 0)) (kept.stamp ∙ ap (λ x. (world_now x).next_stamp) same) ∙ sym (ap (λ w. w.next_stamp) world);
+      small = small;
+      early = let e = kept.early in let z = at_most_one s.draws in omega arith;
+    }
+  where
+    at_most_one : (b : Bool) → (if◌then◌else◌ {A = ℕ} b 1 0) ≤ 1
+    at_most_one true = omega arith
+    at_most_one false = omega arith

@@ -43,3 +43,13 @@ moved_index false true (Some committed) = SetOverlay (parts_of committed)
 moved_index true true committed = Keep
 moved_index false false committed = Keep
 moved_index false true None = Keep
+
+-- what a close makes of index data: those of the document become those of the content
+abbrev pub close_index : Bool → IndexEdit
+close_index false = Keep
+close_index true = ToBase
+
+-- what an intake makes of index data
+abbrev pub intake_index : Bool → List ℕ → IndexEdit
+intake_index false text = Keep
+intake_index true text = SetBase (parts_of text)

@@ -110,3 +110,19 @@ abbrev pub AreTextEditsFit : ℕ → Option (List ℕ) → List Step → Type 0
 AreTextEditsFit id text [] = Unit {0}
 AreTextEditsFit id text (step ∷ steps) =
     ((step.id == id) ≡ true → IsTextEditFit step.doc text) × AreTextEditsFit id (text_after id text step) steps
+
+-- 1 where a test holds, else 0
+abbrev pub one : Bool → ℕ
+one true = 1
+one false = 0
+
+-- whether a document is open after an edit
+abbrev pub is_open_after : DocEdit → Bool → Bool
+is_open_after Keep was = was
+is_open_after (Open doc) was = true
+is_open_after (Insert at piece) was = was
+is_open_after (Erase from to) was = was
+is_open_after (Commit new) was = was
+is_open_after MarkSaved was = was
+is_open_after (Replace doc) was = was
+is_open_after Close was = false

@@ -1,12 +1,12 @@
 //! A draft: the state, read only, and the steps that the changes of a list made so far.
-ghost use Rattle.std.specs.Prelude.{◌≡◌, ◌<◌, ◌≤◌, ◌≢◌, ◌++◌, ◌∷◌, [], not, IfOk, IfSome, IfNone, OnOk, OnErr, IsSome, is_some, length, option_map};
+ghost use Rattle.std.specs.Prelude.{◌≡◌, ◌<◌, ◌≤◌, ◌≢◌, ◌+◌, ◌^◌, if◌then◌else◌, ◌++◌, ◌∷◌, [], not, IfOk, IfSome, IfNone, OnOk, OnErr, IsSome, is_some, length, option_map};
 ghost use Rattle.std.specs.Option.{option_copied};
 ghost use Rattle.write_history.specs.World.{file_of, id_at, document_at, count_of, is_open};
 ghost use Rattle.write_history.specs.Effect.{is_uncommitted, document_len, is_unsaved};
 ghost use Rattle.world_state.specs.Step.{row_part, document_part, after_step};
 ghost use Rattle.world_state.specs.Lawful.{AreLawful, IsLawfulStep, inserted_by_all};
 ghost use Rattle.world_state.specs.DocEdits.{IsWide};
-ghost use Rattle.ide_world.specs.Walk.{look_of};
+ghost use Rattle.ide_world.specs.Walk.{look_of, one, is_open_after};
 
 use crate::look::Look;
 use crate::walk;
@@ -162,10 +162,7 @@ impl<'a> Draft<'a> {
     pub(crate) fn committed(&self, id: u32) -> Option<&SharedText>
         ensures { option_copied result ≡ option_map (λ d. d.committed) (document_part (file_of (world_now self.now) id)) }
     {
-        let first = match self.state.document(id) {
-            Some(doc) => Some(doc.committed()),
-            None => None,
-        };
+        let first = committed_of(self.state, id);
         walk::committed(self.steps.as_slice(), id, first)
     }
 
@@ -173,10 +170,7 @@ impl<'a> Draft<'a> {
     pub(crate) fn text(&self, id: u32) -> Result<Option<Text>, AllocError>
         ensures { IfOk result (λ text. text ≡ option_map (λ d. d.text) (document_part (file_of (world_now self.now) id))) }
     {
-        let first = match self.state.document(id) {
-            Some(doc) => Some(doc.text()?),
-            None => None,
-        };
+        let first = text_of(self.state, id)?;
         walk::text(self.steps.as_slice(), id, first)
     }
 
@@ -187,10 +181,7 @@ impl<'a> Draft<'a> {
         ensures known { OnErr result (self.now.steps ≢ []) }
     {
         if !walk::edits_texts(self.steps.as_slice(), id) {
-            return Ok(match self.state.document(id) {
-                Some(doc) => !doc.is_committed(),
-                None => false,
-            });
+            return Ok(is_uncommitted(self.state, id));
         }
         let (Some(text), Some(committed)) = (self.text(id)?, self.committed(id)) else {
             return Ok(false);
@@ -203,11 +194,9 @@ impl<'a> Draft<'a> {
         requires { IsLawfulStep (world_now self.now) step.now }
         ensures { result ≡ count_of is_open (after_step (world_now self.now) step.now) }
     {
-        match &step.doc {
-            DocEdit::Open { .. } => self.opened + 1,
-            DocEdit::Close if self.look(step.id).is_some() => self.opened - 1,
-            _ => self.opened,
-        }
+        let _ = &self.steps;
+        let was_open = self.look(step.id).is_some();
+        exchanged(self.opened, was_open, is_open_after(&step.doc, was_open))
     }
 
     /// How many files were made after a step.
@@ -228,11 +217,7 @@ impl<'a> Draft<'a> {
     {
         let made = self.made_after(&step);
         let opened = self.opened_after(&step);
-        let next_stamp = if step.draws {
-            self.next_stamp + 1
-        } else {
-            self.next_stamp
-        };
+        let next_stamp = later(self.next_stamp, step.draws);
         self.steps.push(step)?;
         self.made = made;
         self.opened = opened;
@@ -259,4 +244,63 @@ fn look_of(state: &State, id: u32) -> Option<Look>
         len: doc.len(),
         saved: doc.saved(),
     })
+}
+
+/// The committed text of a document of the state.
+fn committed_of(state: &State, id: u32) -> Option<&SharedText>
+    ensures { option_copied result ≡ option_map (λ d. d.committed) (document_part (file_of state.now.world id)) }
+{
+    Some(state.document(id)?.committed())
+}
+
+/// The text of a document of the state.
+fn text_of(state: &State, id: u32) -> Result<Option<Text>, AllocError>
+    ensures { IfOk result (λ text. text ≡ option_map (λ d. d.text) (document_part (file_of state.now.world id))) }
+{
+    match state.document(id) {
+        Some(doc) => Ok(Some(doc.text()?)),
+        None => Ok(None),
+    }
+}
+
+/// Whether the text of a document of the state isn't committed.
+fn is_uncommitted(state: &State, id: u32) -> bool
+    ensures { result ≡ is_uncommitted (document_part (file_of state.now.world id)) }
+{
+    match state.document(id) {
+        Some(doc) => !doc.is_committed(),
+        None => false,
+    }
+}
+
+/// The next stamp, where one is drawn or none.
+fn later(stamp: u64, draws: bool) -> u64
+    requires { stamp < 2 ^ 63 }
+    ensures { result ≡ stamp + (if draws then 1 else 0) }
+{
+    if draws { stamp + 1 } else { stamp }
+}
+
+/// A number of open documents, where one was open or not and is or isn't now.
+fn exchanged(count: u32, was_open: bool, is_open: bool) -> u32
+    requires some { one was_open ≤ count }
+    requires few { count < 2 ^ 31 }
+    ensures { result + one was_open ≡ count + one is_open }
+{
+    match (was_open, is_open) {
+        (true, false) => count - 1,
+        (false, true) => count + 1,
+        _ => count,
+    }
+}
+
+/// Whether a document is open after an edit.
+fn is_open_after(edit: &DocEdit, was_open: bool) -> bool
+    ensures { result ≡ is_open_after edit.now was_open }
+{
+    match edit {
+        DocEdit::Open { .. } => true,
+        DocEdit::Close => false,
+        _ => was_open,
+    }
 }
