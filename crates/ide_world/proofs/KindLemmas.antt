@@ -28,9 +28,9 @@ use Rattle.world_state.specs.IndexEdits.{Indexed, edited_index}
 use Rattle.world_state.specs.Step.{file_with, joined, row_part, document_part, stepped, drawn_by, after_step}
 use Rattle.world_state.specs.Sound.{IsSoundLive, IsSoundFile, AreSoundFiles, HoldsIndex, HoldsLive}
 use Rattle.world_state.specs.Lawful.{IsPathFree, IsLawfulStep}
-use Rattle.ide_world.specs.Builds.{Builds, edit_step, overlay_edit, moved_index, close_index, intake_index}
+use Rattle.ide_world.specs.Builds.{Builds, IsLiveAt, edit_step, overlay_edit, moved_index, close_index, intake_index}
 use Rattle.ide_world.proofs.PathLemmas.{id_at-of}
-use Rattle.ide_world.proofs.BuildLemmas.{IsFileAt, edit_effect, edit_lawful, kept_path, sound_at}
+use Rattle.ide_world.proofs.BuildLemmas.{IsFileAt, is_file_at, file_of_row, edit_effect, edit_lawful, kept_path, sound_at}
 
 -- the index data of a document's committed text
 abbrev overlay_parts : Option Document → Option Parts
@@ -418,3 +418,32 @@ move_builds w wide path to id row doc stamp index sound h accepted n i =
       room = tt;
       inserted = refl;
     })
+
+-- ---- the same, as the code has the parts
+
+pub create_from : (w : World) (wide : ℕ) (path text : List ℕ) (id made stamp : ℕ) (path' content' : List ℕ) → refusal_of w (Create path text) ≡ None
+    → made ≡ length w.files → id ≡ made + 1 → stamp ≡ w.next_stamp → path' ≡ path → content' ≡ text
+    → Builds w wide (Create path text) (create_step path' content' id stamp)
+create_from w wide path text id made stamp path' content' accepted m i s p t =
+    let P : List ℕ → Type 0 = λ x. Builds w wide (Create path text) (create_step x content' id stamp) in
+    let Q : List ℕ → Type 0 = λ x. Builds w wide (Create path text) (create_step path x id stamp) in
+    subst P (sym p) (subst Q (sym t) (create_builds w wide path text id stamp accepted (omega arith) s))
+
+pub save_from : (w : World) (wide : ℕ) (path : List ℕ) (id : ℕ) (row : FileRow) (path' content' text : List ℕ) (found : Option (List ℕ)) (stamp : ℕ) → AreSoundFiles w → IsLiveAt w path id row
+    → path' ≡ row.path → content' ≡ text → found ≡ option_map (λ d. d.text) (document_part (file_of w id)) → found ≡ Some text → stamp ≡ w.next_stamp
+    → Builds w wide (Save path) (record { id = id; row = row_edit.Put (record { path = path'; content = content'; stamp = stamp; indexed = row.indexed }); doc = doc_edit.MarkSaved; index = index_edit.Keep; draws = true })
+save_from w wide path id row path' content' text found stamp sound live p t f g s =
+    let step : List ℕ → List ℕ → Step = λ x y. record { id = id; row = row_edit.Put (record { path = x; content = y; stamp = stamp; indexed = row.indexed }); doc = doc_edit.MarkSaved; index = index_edit.Keep; draws = true } in
+    let P : List ℕ → Type 0 = λ x. Builds w wide (Save path) (step x content') in
+    let Q : List ℕ → Type 0 = λ x. Builds w wide (Save path) (step row.path x) in
+    subst P (sym p) (subst Q (sym t) (save_builds w wide path id row (document_part (file_of w id)) text stamp sound (is_file_at w path id row live) (sym g ∙ f) s))
+
+pub move_from : (w : World) (wide : ℕ) (path to : List ℕ) (id : ℕ) (row : FileRow) (path' content' : List ℕ) (stamp : ℕ) (index : IndexEdit) (found : Option (List ℕ)) → AreSoundFiles w → IsLiveAt w path id row
+    → refusal_of w (Move path to) ≡ None → path' ≡ to → content' ≡ row.content → stamp ≡ w.next_stamp
+    → found ≡ option_map (λ d. d.committed) (document_part (file_of w id)) → index ≡ moved_index (is_java row.path) (is_java to) found
+    → Builds w wide (Move path to) (record { id = id; row = row_edit.Put (record { path = path'; content = content'; stamp = stamp; indexed = row.indexed }); doc = doc_edit.Keep; index = index; draws = true })
+move_from w wide path to id row path' content' stamp index found sound live accepted p t s f i =
+    let step : List ℕ → List ℕ → Step = λ x y. record { id = id; row = row_edit.Put (record { path = x; content = y; stamp = stamp; indexed = row.indexed }); doc = doc_edit.Keep; index = index; draws = true } in
+    let P : List ℕ → Type 0 = λ x. Builds w wide (Move path to) (step x content') in
+    let Q : List ℕ → Type 0 = λ x. Builds w wide (Move path to) (step to x) in
+    subst P (sym p) (subst Q (sym t) (move_builds w wide path to id row (document_part (file_of w id)) stamp index sound (is_file_at w path id row live) accepted s (i ∙ ap (moved_index (is_java row.path) (is_java to)) f)))

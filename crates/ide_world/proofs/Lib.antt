@@ -4,3 +4,4 @@ pub mod PathLemmas
 pub mod WalkLemmas
 pub mod BuildLemmas
 pub mod KindLemmas
+pub mod GroupLemmas

@@ -68,7 +68,7 @@ inserted_by_changes (change ∷ changes) = inserted_by_change change + inserted_
 pub record IsExtended (old new : Drafted) (change : Change) : Type 0 where
   pub draft : IsDraft new
   pub base : new.base ≡ old.base
-  pub wide : new.wide ≡ old.wide
+  pub room : new.wide ≡ old.wide
   pub effect : world_now new ≡ effect_of (world_now old) change
   pub count : length new.steps ≡ length old.steps + 1
   pub inserted : inserted_by_all new.steps ≡ inserted_by_all old.steps + inserted_by_change change

@@ -1,11 +1,12 @@
 //! The steps of changes to files: create, write, delete, move, and the intake of index data.
-ghost use Rattle.std.specs.Prelude.{◌≡◌, Option, None, IfOk, option_map};
+ghost use Rattle.std.specs.Prelude.{◌≡◌, ℕ, List, Option, None, IfOk, option_map};
 ghost use Rattle.write_history.specs.declared.change.Change.TheVariants.{Create, Write, Delete, Intake, Move};
 ghost use Rattle.std.specs.Option.{option_copied};
 ghost use Rattle.write_history.specs.Effect.{refusal_of};
 ghost use Rattle.dumb_mode.specs.Filter.{is_java};
 ghost use Rattle.ide_world.specs.Drafted.{world_now};
-ghost use Rattle.ide_world.specs.Builds.{Builds, moved_index};
+ghost use Rattle.ide_world.specs.Builds.{Builds, moved_index, intake_index};
+ghost use Rattle.overlay_index.specs.Parts.{parts_of};
 ghost use Rattle.ide_world.specs.Task.{IsOfWorld};
 
 use crate::data::Made;
@@ -13,7 +14,7 @@ use crate::draft::Draft;
 use document_buf::Doc;
 use dumb_mode::is_java;
 use ide_text::{Name, SharedText};
-use overlay_index::data_of;
+use overlay_index::{FileData, data_of};
 use std::alloc::{AllocError, Global};
 use vfs_core::FileRow;
 use world_state::{DocEdit, IndexEdit, RowEdit, Step};
@@ -145,11 +146,7 @@ pub(crate) fn taken_in(draft: &Draft<'_>, made: Made) -> Result<Step, AllocError
     };
     let mut row = row.copy()?;
     row.indexed = Some(made.stamp);
-    let index = if is_java(&row.path) {
-        IndexEdit::SetBase { parts: made.parts }
-    } else {
-        IndexEdit::Keep
-    };
+    let index = intake_index(&row.path, made.parts);
     Ok(Step {
         id: made.file,
         row: RowEdit::Put { row },
@@ -157,4 +154,14 @@ pub(crate) fn taken_in(draft: &Draft<'_>, made: Made) -> Result<Step, AllocError
         index,
         draws: false,
     })
+}
+
+/// What an intake makes of the index data.
+fn intake_index(path: &Name, parts: FileData) -> IndexEdit
+    ensures { (text : List ℕ) → parts ≡ parts_of text → result ≡ intake_index (is_java path.now) text }
+{
+    if !is_java(path) {
+        return IndexEdit::Keep;
+    }
+    IndexEdit::SetBase { parts }
 }
