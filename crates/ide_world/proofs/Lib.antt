@@ -1,11 +1,7 @@
-pub mod ByIdLemmas
-pub mod EntryLemmas
-pub mod OutlineLemmas
-pub mod PathIdLemmas
+pub mod StepLemmas
+pub mod EditLemmas
 pub mod PathLemmas
-pub mod PostingLemmas
-pub mod PostingRowLemmas
-pub mod RowLemmas
-pub mod StateLemmas
-pub mod TakenLemmas
-pub mod UnreadyLemmas
+pub mod WalkLemmas
+pub mod BuildLemmas
+pub mod KindLemmas
+pub mod GroupLemmas

@@ -1,19 +1,10 @@
--- What callers may rest on
-pub mod Held
-pub mod Prepared
-pub mod Reply
-pub mod Outline
--- How a state is kept
-pub mod Paths
-pub mod Postings
-pub mod Rows
-pub mod Unready
-pub mod State
-pub mod Parts
--- What these cite from below: the world and its changes, and the words of texts
-pub use Rattle.write_history.specs.World
-pub use Rattle.write_history.specs.Path
-pub use Rattle.write_history.specs.Effect
-pub use Rattle.write_history.specs.Fold
-pub use Rattle.java_tokens.specs.Words
-pub use Rattle.decl_parser.specs.Listing
+-- What contracts see of a state, of the world
+pub use Rattle.world_state.specs.Held
+-- What it means that changes are ready to go in, and the refusals
+pub mod Ready
+-- The work of indexing a file
+pub mod Task
+-- From here on internal: a draft, and how its readers go over its steps
+pub mod Drafted
+pub mod Walk
+pub mod Builds
