@@ -62,15 +62,15 @@ of_world rows world = of_files rows 1 world.files
 
 -- a type with the name
 abbrev pub is_class : List ℕ → Stub → Bool
-is_class name stub = is_type stub && bytes_eq stub.name name
+is_class name stub = is_type stub && bytes_eq name stub.name
 
 -- a type that has the name among its supers, however often
 abbrev pub has_super : List ℕ → Stub → Bool
-has_super name stub = is_type stub && list_any (λ super. bytes_eq super name) stub.supers
+has_super name stub = is_type stub && list_any (λ super. bytes_eq name super) stub.supers
 
 -- a method with the name; a constructor is none
 abbrev pub is_method : List ℕ → Stub → Bool
-is_method name stub = stub.kind == code_of Method && bytes_eq stub.name name
+is_method name stub = stub.kind == code_of Method && bytes_eq name stub.name
 
 -- an answer that no file may be unready for, or the unready file with the lowest id
 abbrev pub unless_unready : Option ℕ → Answer → Result Answer AskRefusal

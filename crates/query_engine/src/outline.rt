@@ -12,7 +12,7 @@ use action_lock::Watch;
 use decl_parser::laws::names_are_identifiers;
 use decl_parser::stubs;
 use ide_text::Name;
-use ide_world::{State, id_of, shown};
+use ide_world::{State, shown};
 use std::alloc::Global;
 use stub_tree::Stub;
 
@@ -31,7 +31,7 @@ pub(crate) fn outline<W: Watch>(
     ensures refused { IfErr result (IsRefusalOf (listing_reply state.now.world (id_at state.now.world path.now))) }
 {
     names_are_identifiers();
-    let Some(id) = id_of(state, path) else {
+    let Some(id) = state.id_of(path) else {
         return Err(AskRefusal::NoSuchFile);
     };
     let Some(text) = shown(state, id) else {

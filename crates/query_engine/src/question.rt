@@ -12,7 +12,6 @@ use crate::stub_rows::stub_rows;
 use crate::word_rows::word_rows;
 use action_lock::Watch;
 use decl_parser::laws::{listings_are_lawful, names_are_identifiers};
-use ide_world as world;
 use ide_world::State;
 use queries::Query;
 use std::alloc::Global;
@@ -67,33 +66,30 @@ fn answer<W: Watch>(
     match query {
         Query::Class { name } => {
             ready(state)?;
-            let rows = stub_rows(alloc, state, world::type_rows(state, name), watch)?;
+            let rows = stub_rows(alloc, state, state.type_rows(name), watch)?;
             Ok(Answer::Rows { rows })
         }
         Query::Supers { name } => {
             ready(state)?;
-            let rows = stub_rows(alloc, state, world::super_rows(state, name), watch)?;
+            let rows = stub_rows(alloc, state, state.super_rows(name), watch)?;
             Ok(Answer::Rows { rows })
         }
         Query::Method { name } => {
             ready(state)?;
-            let rows = stub_rows(alloc, state, world::method_rows(state, name), watch)?;
+            let rows = stub_rows(alloc, state, state.method_rows(name), watch)?;
             Ok(Answer::Rows { rows })
         }
         Query::Word { name } => {
             ready(state)?;
-            let rows = word_rows(alloc, state, world::word_rows(state, name), watch)?;
+            let rows = word_rows(alloc, state, state.word_rows(name), watch)?;
             Ok(Answer::Words { rows })
         }
         Query::Outline { path } => outline(alloc, state, path, watch),
-        Query::Status => {
-            let (files, docs, unready) = world::counts(state);
-            Ok(Answer::Counts {
-                files,
-                docs,
-                unready,
-            })
-        }
+        Query::Status => Ok(Answer::Counts {
+            files: state.live_count(),
+            docs: state.open_count(),
+            unready: state.unready_count(),
+        }),
     }
 }
 
@@ -102,7 +98,7 @@ fn ready(state: &State) -> Result<(), AskRefusal>
     ensures smart { OnOk result (lowest_unready state.now.world ≡ None) }
     ensures dumb { IfErr result (λ refusal. IfSome (lowest_unready state.now.world) (λ file. refusal ≡ AskRefusal.NotReady file)) }
 {
-    match world::lowest_unready(state) {
+    match state.lowest_unready() {
         Some(file) => Err(AskRefusal::NotReady { file }),
         None => Ok(()),
     }

@@ -1,0 +1,4 @@
+pub mod AheadLemmas
+pub mod FoundLemmas
+pub mod LookLemmas
+pub mod MadeLemmas
