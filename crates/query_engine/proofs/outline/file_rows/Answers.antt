@@ -1,74 +1,50 @@
-use Rattle.std.proofs.Common.{rules, ◌≡◌, ◌/◌, Ok, IfOk, IfErr, IsSome, map, length, ℕ, ◌+◌, ◌-◌, ◌*◌, ◌<◌, ◌≤◌, ◌%◌, Bool, true, false, nat_eq, nat_lt, List, [], ◌∷◌, ◌++◌, slice_index_or, slice_set, bit_and, bit_or, Fits, w8, w32, w64, Bor, MutBor}
-use Rattle.write_history.specs.World.{id_at, file_of}
-use Rattle.query_engine.specs.Reply.{row_of, listing_reply, IsRefusalOf}
-use Rattle.query_engine.specs.Looks.{rows_a_look, later_looks, HasLooked, EndsEarly}
-use Rattle.query_engine.specs.Listed.{path_at, text_at, AreFrom}
+use Rattle.std.proofs.Common.{ℕ, ◌≤◌, ◌+◌, length, drop, List, refl, ap, sym, subst, ◌∙◌}
+use Rattle.query_engine.specs.declared.answer.Row.{Row}
+use Rattle.query_engine.specs.Listed.{AreFrom, text_at}
+use Rattle.query_engine.proofs.AheadLemmas.{next_left, from_start, from_next, placed, moved_on, made_of}
+use Rattle.query_engine.proofs.LookLemmas.{looked_as, looked_wanting}
+use Rattle.query_engine.proofs.MadeLemmas.{made_none, made_more, made_stopped, made_short, made_all}
 use Rattle.query_engine.proofs.outline.file_rows.Goals as goal
 
--- src/outline.rt:64:5
 pub loop-stub-init : goal.loop-stub-init
-loop-stub-init g c = ?
+loop-stub-init g c = record {
+  can = c.requires.can;
+  stays = g.met.W.Watch.stays_itself c.args.watch.now;
+  rows = made_none _ _ _ _ c.new-rows.result c.args.stubs.now c.args.watch.now c.new-rows.ensures refl;
+  file = placed c.args.state.now.world c.args.id 0 c.of-file.result c.of-file.ensures.file;
+  ahead = from_start c.args.state.now.world c.args.id c.of-file.result c.args.stubs.now c.of-file.ensures.file c.requires.ahead;
+}
 
--- src/outline.rt:65:19
 pub row-requires-clause-ahead : goal.row-requires-clause-ahead
-row-requires-clause-ahead g c = ?
+row-requires-clause-ahead g c =
+    (from_next _ _ c.args.stubs.now c.loop-stub.stub-index c.stub-item.result c.loop-stub-test.true c.stub-item.is c.loop-stub.invariant.ahead).0
 
--- src/outline.rt:65:19
 pub row-requires-clause-inside : goal.row-requires-clause-inside
-row-requires-clause-inside g c = ?
+row-requires-clause-inside g c =
+    subst (λ (text : List ℕ). c.stub-item.result.at ≤ length text) (sym (ap (λ f. f.text) c.loop-stub.invariant.file))
+    (from_next _ _ c.args.stubs.now c.loop-stub.stub-index c.stub-item.result c.loop-stub-test.true c.stub-item.is c.loop-stub.invariant.ahead).1
 
--- src/outline.rt:65:19
-pub returns-in_err-row-clause-again : goal.returns-in_err-row-clause-again
-returns-in_err-row-clause-again g c = ?
-
--- src/outline.rt:65:19
-pub returns-in_err-row-clause-stays : goal.returns-in_err-row-clause-stays
-returns-in_err-row-clause-stays g c = ?
-
--- src/outline.rt:65:19
 pub returns-in_err-row-clause-looked : goal.returns-in_err-row-clause-looked
-returns-in_err-row-clause-looked g c = ?
+returns-in_err-row-clause-looked g c = looked_wanting _ _ _ _ c.from_residual.result _ _ c.from_residual.ensures.1 (made_short _ _ _ _ _ _ _ _ c.loop-stub.invariant.rows)
 
--- src/outline.rt:65:9
-pub returns-in_err-push-clause-again : goal.returns-in_err-push-clause-again
-returns-in_err-push-clause-again g c = ?
-
--- src/outline.rt:65:9
-pub returns-in_err-push-clause-stays : goal.returns-in_err-push-clause-stays
-returns-in_err-push-clause-stays g c = ?
-
--- src/outline.rt:65:9
 pub returns-in_err-push-clause-looked : goal.returns-in_err-push-clause-looked
-returns-in_err-push-clause-looked g c = ?
+returns-in_err-push-clause-looked g c = looked_wanting _ _ _ _ c.from_residual-in_err-push.result _ _ c.from_residual-in_err-push.ensures.1 (made_short _ _ _ _ _ _ _ _ c.loop-stub.invariant.rows)
 
--- src/outline.rt:66:9
-pub look_after-requires : goal.look_after-requires
-look_after-requires g c = ?
-
--- src/outline.rt:66:9
-pub returns-in_err-look_after-clause-stays : goal.returns-in_err-look_after-clause-stays
-returns-in_err-look_after-clause-stays g c = ?
-
--- src/outline.rt:66:9
-pub returns-in_err-look_after-clause-looked : goal.returns-in_err-look_after-clause-looked
-returns-in_err-look_after-clause-looked g c = ?
-
--- src/outline.rt:64:5
 pub loop-stub-preserved : goal.loop-stub-preserved
-loop-stub-preserved g c = ?
+loop-stub-preserved g c = record {
+  can = c.look_after.ensures.again;
+  stays = g.met.W.Watch.stays_on _ _ _ c.loop-stub.invariant.stays c.look_after.ensures.stays;
+  rows = made_more _ _ _ _ c.loop-stub.rows c.push.new.self c.in_ok-row.field-0 c.stub-item.result _ _ c.len.result _ c.loop-stub.watch c.look_after.new.watch
+      (next_left c.args.stubs.now c.loop-stub.stub-index c.stub-item.result c.loop-stub-test.true c.stub-item.is) c.in_ok-push.ensures.ok
+      (made_of c.args.state.now.world _ c.args.id c.stub-item.result c.loop-stub.file c.in_ok-row.field-0 c.loop-stub.invariant.file c.in_ok-row.ensures.row) c.len.ensures c.loop-stub.invariant.rows c.in_ok-look_after.ensures.looked;
+  file = placed c.args.state.now.world c.args.id _ c.row.new.self (moved_on c.args.state.now.world c.args.id _ _ c.loop-stub.file c.row.new.self c.loop-stub.invariant.file c.row.ensures.goes_on);
+  ahead = subst (λ (n : ℕ). AreFrom (length (text_at c.args.state.now.world c.args.id)) n (drop (c.loop-stub.stub-index + 1) c.args.stubs.now)) (sym (ap (λ f. f.at) c.row.ensures.goes_on))
+      (from_next _ _ c.args.stubs.now c.loop-stub.stub-index c.stub-item.result c.loop-stub-test.true c.stub-item.is c.loop-stub.invariant.ahead).2;
+}
 
--- src/outline.rt:46:1
-pub returns-clause-again : goal.returns-clause-again
-returns-clause-again g c = ?
-
--- src/outline.rt:46:1
-pub returns-clause-stays : goal.returns-clause-stays
-returns-clause-stays g c = ?
-
--- src/outline.rt:46:1
-pub returns-clause-looked : goal.returns-clause-looked
-returns-clause-looked g c = ?
-
--- src/outline.rt:46:1
-pub returns-clause-rows : goal.returns-clause-rows
-returns-clause-rows g c = ?
+pub returns-in_err-look_after-clause-looked : goal.returns-in_err-look_after-clause-looked
+returns-in_err-look_after-clause-looked g c = looked_as _ _ Row _ _ c.from_residual-in_err-look_after.result _ _ _ c.from_residual-in_err-look_after.ensures.1
+    (made_stopped _ _ _ _ Row c.loop-stub.rows c.push.new.self c.in_ok-row.field-0 c.stub-item.result _ _ c.len.result _ _ c.loop-stub.watch c.look_after.new.watch
+      (next_left c.args.stubs.now c.loop-stub.stub-index c.stub-item.result c.loop-stub-test.true c.stub-item.is) c.in_ok-push.ensures.ok
+      (made_of c.args.state.now.world _ c.args.id c.stub-item.result c.loop-stub.file c.in_ok-row.field-0 c.loop-stub.invariant.file c.in_ok-row.ensures.row) c.len.ensures
+      c.in_err-look_after.ensures.early c.loop-stub.invariant.rows c.in_err-look_after.ensures.looked)
