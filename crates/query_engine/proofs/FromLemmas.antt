@@ -47,11 +47,8 @@ from_lower len low high (s ∷ stubs) h from = (le_trans h from.0, from.1, from.
 -- those of them that pass a test
 pub from_filter : (fits : Stub → Bool) (len at : ℕ) (stubs : List Stub) → AreFrom len at stubs → AreFrom len at (filter fits stubs)
 from_filter fits len at [] from = tt
-from_filter fits len at (s ∷ stubs) from = of (fits s)
+from_filter fits len at (s ∷ stubs) from = of (fits s) (from_filter fits len s.at stubs from.2)
   where
-    rest : AreFrom len s.at (filter fits stubs)
-    rest = from_filter fits len s.at stubs from.2
-
-    of : (b : Bool) → AreFrom len at (cond b (s ∷ filter fits stubs) (filter fits stubs))
-    of true = (from.0, from.1, rest)
-    of false = from_lower len at s.at (filter fits stubs) from.0 rest
+    of : (b : Bool) → AreFrom len s.at (filter fits stubs) → AreFrom len at (cond b (s ∷ filter fits stubs) (filter fits stubs))
+    of true rest = (from.0, from.1, rest)
+    of false rest = from_lower len at s.at (filter fits stubs) from.0 rest

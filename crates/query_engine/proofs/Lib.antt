@@ -3,3 +3,5 @@ pub mod FoundLemmas
 pub mod FromLemmas
 pub mod LookLemmas
 pub mod MadeLemmas
+pub mod OutlineLemmas
+pub mod ReplyLemmas

@@ -1,5 +1,5 @@
 //! A question asked of a workspace.
-ghost use Rattle.std.specs.Prelude.{◌≡◌, ◌≢◌, ◌≤◌, Ok, Err, IsOk, IfOk, IfErr, IfSome, OnOk, None};
+ghost use Rattle.std.specs.Prelude.{◌≡◌, ◌≢◌, ◌≤◌, Ok, Err, IfOk, IfErr, IsSomeAnd, OnOk, None};
 ghost use Rattle.action_lock.specs.Counts.{counted};
 ghost use Rattle.write_history.specs.World.{lowest_unready};
 ghost use Rattle.query_engine.specs.Reply.{reply, IsRefusalOf};
@@ -96,7 +96,7 @@ fn answer<W: Watch>(
 /// Gives up where a file is unready.
 fn ready(state: &State) -> Result<(), AskRefusal>
     ensures smart { OnOk result (lowest_unready state.now.world ≡ None) }
-    ensures dumb { IfErr result (λ refusal. IfSome (lowest_unready state.now.world) (λ file. refusal ≡ AskRefusal.NotReady file)) }
+    ensures dumb { IfErr result (λ refusal. IsSomeAnd (lowest_unready state.now.world) (λ file. refusal ≡ AskRefusal.NotReady file)) }
 {
     match state.lowest_unready() {
         Some(file) => Err(AskRefusal::NotReady { file }),
