@@ -119,3 +119,16 @@ module _ {W : Type 0} (l s : W → ℕ) where
   pub looked_wanting : (Y : Type 0) (n : ℕ) (r : Result Y AskRefusal) (old new : W) → IsErrAnd r (λ f. f ≡ OutOfMemory)
       → StopsUnseen l s n old new → HasLooked l s r n old new
   looked_wanting Y n r old new is q = looked_as Y Y n r OutOfMemory old new is q
+
+  -- a call that gives the refusal of another, with its looks said otherwise
+  pub looked_told : (X Y : Type 0) (m n : ℕ) (r : Result Y AskRefusal) (e : AskRefusal) (old new : W) → m ≡ n → IsErrAnd r (λ f. f ≡ e)
+      → HasLooked {X = X} l s (Err e) m old new → HasLooked l s r n old new
+  looked_told X Y m n r e old new same is q = looked_as X Y n r e old new is (subst (λ k. HasLooked {X = X} l s (Err e) k old new) same q)
+
+  -- a count of looks doesn't fall
+  pub looked_up : {X : Type 0} (n : ℕ) (r : Result X AskRefusal) (old new : W) → HasLooked l s r n old new → l old ≤ l new
+  looked_up n (Ok x) old new q = begun n old new q
+  looked_up n (Err NoSuchFile) old new q = begun n old new q
+  looked_up n (Err (NotReady file)) old new q = begun n old new q
+  looked_up n (Err Cancelled) old new q = q.some
+  looked_up n (Err OutOfMemory) old new q = q.some

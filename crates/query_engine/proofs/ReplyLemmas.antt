@@ -34,17 +34,35 @@ module _ (o : Option ℕ) (answer : Answer) (expected : Result Answer AskRefusal
         (subst (λ (f : AskRefusal). HasLooked {X = Answer} l s (Err f) 0 watch watch) (sym (is ∙ named)) (looked_not l s watch))
 
   -- the answer, where no file is unready
-  pub smart_reply : o ≡ None → expected ≡ Ok answer
+  smart_reply : o ≡ None → expected ≡ Ok answer
   smart_reply smart = told ∙ ap (λ o. unless_unready o answer) smart
 
   -- how often it looks
-  pub smart_looks : o ≡ None → later_looks expected ≡ row_count answer / rows_a_look
+  smart_looks : o ≡ None → later_looks expected ≡ row_count answer / rows_a_look
   smart_looks smart = ap later_looks (smart_reply smart)
 
 -- the number of rows of declarations
-pub rows_counted : {F : Type 0} (row : F → Row) (found found' : List F) (all : List Row) → found ≡ found' → map row found' ≡ all → length found / rows_a_look ≡ row_count (Rows all) / rows_a_look
+rows_counted : {F : Type 0} (row : F → Row) (found found' : List F) (all : List Row) → found ≡ found' → map row found' ≡ all → length found / rows_a_look ≡ row_count (Rows all) / rows_a_look
 rows_counted row found found' all same made = ap (λ fs. length fs / rows_a_look) same ∙ ap (λ n. n / rows_a_look) (sym (length-map found' row)) ∙ ap (λ rs. length rs / rows_a_look) made
 
 -- the number of rows of a word
-pub words_counted : {F : Type 0} (row : F → WordRow) (found found' : List F) (all : List WordRow) → found ≡ found' → map row found' ≡ all → length found / rows_a_look ≡ row_count (Words all) / rows_a_look
+words_counted : {F : Type 0} (row : F → WordRow) (found found' : List F) (all : List WordRow) → found ≡ found' → map row found' ≡ all → length found / rows_a_look ≡ row_count (Words all) / rows_a_look
 words_counted row found found' all same made = ap (λ fs. length fs / rows_a_look) same ∙ ap (λ n. n / rows_a_look) (sym (length-map found' row)) ∙ ap (λ rs. length rs / rows_a_look) made
+
+module _ {F : Type 0} (row : F → Row) (found found' : List F) (all : List Row) (same : found ≡ found') (made : map row found' ≡ all) (o : Option ℕ) (smart : o ≡ None) (expected : Result Answer AskRefusal) (told : expected ≡ unless_unready o (Rows all)) where
+  -- the rows of all that is found are the answer
+  pub rows_told : (rows : List Row) → rows ≡ map row found → expected ≡ Ok (Rows rows)
+  rows_told rows is = smart_reply o (Rows all) expected told smart ∙ ap (λ rs. Ok (Rows rs)) (sym (is ∙ ap (map row) same ∙ made))
+
+  -- and the looks for them are those of the answer
+  pub rows_looks : length found / rows_a_look ≡ later_looks expected
+  rows_looks = rows_counted row found found' all same made ∙ sym (smart_looks o (Rows all) expected told smart)
+
+module _ {F : Type 0} (row : F → WordRow) (found found' : List F) (all : List WordRow) (same : found ≡ found') (made : map row found' ≡ all) (o : Option ℕ) (smart : o ≡ None) (expected : Result Answer AskRefusal) (told : expected ≡ unless_unready o (Words all)) where
+  -- the rows of a word in all that is found are the answer
+  pub words_told : (rows : List WordRow) → rows ≡ map row found → expected ≡ Ok (Words rows)
+  words_told rows is = smart_reply o (Words all) expected told smart ∙ ap (λ rs. Ok (Words rs)) (sym (is ∙ ap (map row) same ∙ made))
+
+  -- and the looks for them are those of the answer
+  pub words_looks : length found / rows_a_look ≡ later_looks expected
+  words_looks = words_counted row found found' all same made ∙ sym (smart_looks o (Words all) expected told smart)

@@ -1,5 +1,6 @@
 //! Looks at a watch: one as a call begins, and one after each 256 rows.
 ghost use Rattle.std.specs.Prelude.{◌≡◌, ◌<◌, IfErr};
+ghost use Rattle.action_lock.specs.Counts.{counted};
 ghost use Rattle.query_engine.specs.Looks.{looks_at, HasLooked, EndsEarly};
 
 use crate::answer::AskRefusal;
@@ -58,7 +59,8 @@ pub(crate) fn look<W: Watch>(watch: &mut W) -> Result<(), AskRefusal>
     ensures again { W.can_look watch.new }
     ensures stays { W.stays watch.old watch.new }
     ensures looked { HasLooked W.looks W.sightings result 1 watch.old watch.new }
-    ensures early { IfErr result EndsEarly }
+    ensures once { W.looks watch.new ≡ counted (W.looks watch.old) }
+    ensures cancelled { IfErr result (λ refusal. refusal ≡ AskRefusal.Cancelled) }
 {
     if watch.look() {
         Err(AskRefusal::Cancelled)
