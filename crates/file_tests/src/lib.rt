@@ -1,0 +1,2 @@
+//! Tests of files and of the filter.
+#![tactic(auto)]
