@@ -1,0 +1,61 @@
+-- Where the declarations that are found stand in their files.
+use Rattle.std.proofs.Common.{ℕ, ◌≡◌, ◌≢◌, ◌≤◌, ◌<◌, ◌⊎◌, inl, inr, List, [], ◌∷◌, length, take, drop, get_or, ◌+◌, Option, Some, None, IsSome, All, refl, ap, sym, subst, ◌∙◌, arith}
+use Rattle.std.proofs.lemmas.List.{drop_more}
+use Rattle.ide_text.specs.Text.{max_chars}
+use Rattle.stub_tree.specs.declared.stub.Stub.{Stub}
+use Rattle.write_history.specs.World.{World, file_of}
+use Rattle.query_engine.specs.declared.answer.Row.{Row}
+use Rattle.query_engine.specs.Reply.{row_of}
+use Rattle.query_engine.specs.Listed.{Listed, AreFrom, IsListed, AreAhead, listed_at, text_at, path_at, offset_in, row_found}
+
+-- the next declaration is of a live file
+pub ahead_live : (world : World) (before : Option Listed) (id : ℕ) (stub : Stub) (left left' : List (ℕ × Stub)) → left ≡ (id, stub) ∷ left' → AreAhead world before left → IsSome (file_of world id)
+ahead_live world before id stub left left' next h = (subst (AreAhead world before) next h).0
+
+-- and stands behind those before it, in its text
+pub ahead_stands : (world : World) (before : Option Listed) (id : ℕ) (stub : Stub) (left left' : List (ℕ × Stub)) (file : Listed) → left ≡ (id, stub) ∷ left' → AreAhead world before left
+    → file ≡ listed_at world id (offset_in before id) → IsListed world file → (file.at ≤ stub.at) × (stub.at ≤ length file.text)
+ahead_stands world before id stub left left' file next h is listed =
+    let stands = (subst (AreAhead world before) next h).1 (subst (λ (text : List ℕ). length text ≤ max_chars) (ap (λ f. f.text) is) listed.short) in
+    (subst (λ n. n ≤ stub.at) (sym (ap (λ f. f.at) is)) stands.0, subst (λ (text : List ℕ). stub.at ≤ length text) (sym (ap (λ f. f.text) is)) stands.1)
+
+-- the file behind it
+pub moved_on : (world : World) (id at to : ℕ) (file file' : Listed) → file ≡ listed_at world id at → file' ≡ record file { at = to } → file' ≡ listed_at world id to
+moved_on world id at to file file' is goes = let on : Listed → Listed = λ f. record f { at = to } in goes ∙ ap on is
+
+-- the others stand behind it
+pub ahead_rest : (world : World) (before : Option Listed) (id : ℕ) (stub : Stub) (left left' : List (ℕ × Stub)) (file file' : Listed) → left ≡ (id, stub) ∷ left' → AreAhead world before left
+    → file ≡ listed_at world id (offset_in before id) → file' ≡ record file { at = stub.at } → AreAhead world (Some file') left'
+ahead_rest world before id stub left left' file file' next h is goes =
+    subst (λ f. AreAhead world (Some f) left') (sym (moved_on world id (offset_in before id) stub.at file file' is goes)) (subst (AreAhead world before) next h).2
+
+-- the file behind it is listed
+pub listed_rest : (world : World) (at to id : ℕ) (file file' : Listed) → file ≡ listed_at world id at → file' ≡ record file { at = to } → IsListed world file → IsListed world file'
+listed_rest world at to id file file' is goes listed = record {
+  is = let e = moved_on world id at to file file' is goes in e ∙ sym (ap (λ f. listed_at world f.id f.at) e);
+  short = subst (λ (text : List ℕ). length text ≤ max_chars) (sym (ap (λ f. f.text) goes)) listed.short;
+}
+
+-- the row that is made for a declaration
+pub row_made : (world : World) (at id : ℕ) (stub : Stub) (file : Listed) (row : Row) → file ≡ listed_at world id at → row ≡ row_of file.id file.path file.text stub → row ≡ row_found world (id, stub)
+row_made world at id stub file row is made = made ∙ ap (λ f. row_of f.id f.path f.text stub) is
+
+-- the row that is made for a declaration of a file
+pub made_of : (world : World) (at id : ℕ) (stub : Stub) (file : Listed) (row : Row) → file ≡ listed_at world id at → row ≡ row_of file.id file.path file.text stub → row ≡ row_of id (path_at world id) (text_at world id) stub
+made_of world at id stub file row is made = made ∙ ap (λ f. row_of f.id f.path f.text stub) is
+
+-- a file at its own offset
+pub placed : (world : World) (id at : ℕ) (file : Listed) → file ≡ listed_at world id at → file ≡ listed_at world id file.at
+placed world id at file is = is ∙ sym (ap (λ f. listed_at world id f.at) is)
+
+-- the declarations of a file at its start
+pub from_start : (world : World) (id : ℕ) (file : Listed) (stubs : List Stub) → file ≡ listed_at world id 0 → AreFrom (length (text_at world id)) 0 stubs → AreFrom (length (text_at world id)) file.at stubs
+from_start world id file stubs is h = subst (λ n. AreFrom (length (text_at world id)) n stubs) (sym (ap (λ f. f.at) is)) h
+
+-- the next of a list, and those behind it
+pub next_left : {X : Type 0} (xs : List X) (i : ℕ) (x : X) → i < length xs → x ≡ get_or xs i x → drop i xs ≡ x ∷ drop (i + 1) xs
+next_left xs i x inside is = drop_more xs i x inside ∙ ap (λ y. y ∷ drop (i + 1) xs) (sym is)
+
+-- the next declaration, and those behind it
+pub from_next : (len at : ℕ) (stubs : List Stub) (i : ℕ) (s : Stub) → i < length stubs → s ≡ get_or stubs i s → AreFrom len at (drop i stubs) → (at ≤ s.at) × (s.at ≤ len) × AreFrom len s.at (drop (i + 1) stubs)
+from_next len at stubs i s inside is h = subst (AreFrom len at) (next_left stubs i s inside is) h

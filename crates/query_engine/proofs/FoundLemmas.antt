@@ -1,0 +1,170 @@
+-- What is found in the files of a world.
+use Rattle.std.proofs.Common.{ℕ, zero, suc, ◌≡◌, ◌≤◌, ◌<◌, ◌+◌, ◌==◌, if◌then◌else◌, Bool, true, false, List, [], ◌∷◌, ◌++◌, map, filter, length, get_or, Option, Some, None, option_map, option_to_list, unwrap_or, IsSome, IfSome, All, refl, ap, sym, subst, ◌∙◌, arith}
+use Rattle.std.specs.Option.{option_map_or}
+use Rattle.std.proofs.lemmas.Bool.{eq-eqb, ne_eqb}
+use Rattle.std.proofs.lemmas.List.{map-append}
+use Rattle.std.proofs.lemmas.List.Elements.{All-tail, All-append, All-map}
+use Rattle.ide_text.specs.Text.{max_chars}
+use Rattle.dumb_mode.specs.Filter.{is_java}
+use Rattle.stub_tree.specs.declared.stub.Stub.{Stub}
+use Rattle.stub_tree.specs.Lawful.{IsLawfulList}
+use Rattle.decl_parser.specs.Listing.{listing_of, IsNamedIn}
+use Rattle.java_tokens.specs.Words.{words_of, mask_in}
+use Rattle.write_history.specs.World.{World, File, file_of, shown_text}
+use Rattle.ide_world.specs.Found.{found, found_from, found_in, stubs_in, masks_in}
+use Rattle.query_engine.specs.declared.answer.WordRow.{WordRow}
+use Rattle.query_engine.specs.Reply.{of_files, of_java, of_world, row_of, rows_in, word_in, word_row}
+use Rattle.query_engine.specs.Listed.{Listed, AreLive, AreAhead, AreFrom, listed_at, offset_in, path_at, text_at, row_found, word_found}
+use Rattle.query_engine.proofs.FromLemmas.{from_listing, from_filter}
+
+-- the path that a reader gives is that of the file
+path_found : (world : World) (id : ℕ) (path : List ℕ) → Some path ≡ option_map (λ file. file.path) (file_of world id) → path ≡ path_at world id
+path_found world id path is = ap (λ o. unwrap_or o []) is ∙ of (file_of world id)
+  where
+    of : (o : Option File) → unwrap_or (option_map (λ file. file.path) o) [] ≡ option_map_or (λ file. file.path) o []
+    of None = refl
+    of (Some file) = refl
+
+-- the row that is made for a word
+pub word_row_made : (world : World) (id mask : ℕ) (path copy : List ℕ) → Some path ≡ option_map (λ file. file.path) (file_of world id) → copy ≡ path
+    → ◌≡◌ {A = WordRow} (record { file = id; path = copy; mask = mask }) (word_found world (id, mask))
+word_row_made world id mask path copy is same = ap (λ p. record { file = id; path = p; mask = mask }) (same ∙ path_found world id path is)
+
+-- what is left is of live files
+pub live_rest : {X : Type 0} (world : World) (x : ℕ × X) (left left' : List (ℕ × X)) → left ≡ x ∷ left' → AreLive world left → AreLive world left'
+live_rest {X = X} world x left left' next h = All-tail (λ (f : ℕ × X). IsSome (file_of world f.0)) x left' (subst (AreLive world) next h)
+
+-- these files are those of the world from an id on
+AreAt : World → ℕ → List (Option File) → Type 0
+AreAt world id files = (k : ℕ) → file_of world (id + k) ≡ get_or files k None
+
+at_all : (world : World) → AreAt world 1 world.files
+unfolding AreAt
+at_all world k = let e : 1 + k ≡ suc k = omega arith in ap (file_of world) e
+
+at_head : (world : World) (id : ℕ) (file : Option File) (files : List (Option File)) → AreAt world id (file ∷ files) → file_of world id ≡ file
+unfolding AreAt
+at_head world id file files h = let e : id ≡ id + 0 = omega arith in ap (file_of world) e ∙ h 0
+
+at_tail : (world : World) (id : ℕ) (file : Option File) (files : List (Option File)) → AreAt world id (file ∷ files) → AreAt world (id + 1) files
+unfolding AreAt
+at_tail world id file files h k = let e : id + 1 + k ≡ id + suc k = omega arith in ap (file_of world) e ∙ h (suc k)
+
+-- a live file is there
+live_is : (world : World) (id : ℕ) (file : File) → file_of world id ≡ Some file → IsSome (file_of world id)
+live_is world id file is = subst (λ (o : Option File). IsSome o) (sym is) refl
+
+-- the rows of what is found are those of the files, where they are those of each file
+rows_from : {X R : Type 0} (row : ℕ × X → R) (read : List ℕ → List X) (rows : ℕ → File → List R) (world : World)
+    → ((id : ℕ) (file : File) → file_of world id ≡ Some file → map row (map (λ x. (id, x)) (read (shown_text file))) ≡ rows id file)
+    → (id : ℕ) (files : List (Option File)) → AreAt world id files → map row (found_from read id files) ≡ of_files rows id files
+rows_from row read rows world each id [] at = refl
+rows_from row read rows world each id (None ∷ files) at = rows_from row read rows world each (id + 1) files (at_tail world id None files at)
+rows_from {X} {R} row read rows world each id (Some file ∷ files) at =
+    map-append row (map (λ x. (id, x)) (found_in read file)) (found_from read (id + 1) files)
+    ∙ ap (λ rs. rs ++ map row (found_from read (id + 1) files)) (of (is_java file.path))
+    ∙ ap (λ rs. of_java rows id (Some file) ++ rs) (rows_from row read rows world each (id + 1) files (at_tail world id (Some file) files at))
+  where
+    of : (b : Bool) → map row (map (λ x. (id, x)) (if b then read (shown_text file) else [])) ≡ (if b then rows id file else [])
+    of true = each id file (at_head world id (Some file) files at)
+    of false = refl
+
+-- the rows of declarations of one file
+stub_rows_of : (world : World) (id : ℕ) (file : File) → file_of world id ≡ Some file → (stubs : List Stub)
+    → map (row_found world) (map (λ s. (id, s)) stubs) ≡ map (row_of id file.path (shown_text file)) stubs
+stub_rows_of world id file is [] = refl
+stub_rows_of world id file is (s ∷ stubs) =
+    ap (λ o. row_of id (option_map_or (λ f. f.path) o []) (option_map_or shown_text o []) s ∷ map (row_found world) (map (λ s. (id, s)) stubs)) is
+    ∙ ap (λ rs. row_of id file.path (shown_text file) s ∷ rs) (stub_rows_of world id file is stubs)
+
+-- the rows of the declarations that are found
+pub stub_rows_found : (fits : Stub → Bool) (world : World) → map (row_found world) (found (stubs_in fits) world) ≡ of_world (rows_in fits) world
+stub_rows_found fits world =
+    rows_from (row_found world) (stubs_in fits) (rows_in fits) world
+      (λ id file is. stub_rows_of world id file is (filter fits (listing_of (shown_text file)))) 1 world.files (at_all world)
+
+-- the row of a word of one file
+word_rows_of : (world : World) (id : ℕ) (file : File) → file_of world id ≡ Some file → (mask : Option ℕ)
+    → map (word_found world) (map (λ m. (id, m)) (option_to_list mask)) ≡ word_row id file mask
+word_rows_of world id file is None = refl
+word_rows_of world id file is (Some mask) = ap (λ o. record { file = id; path = option_map_or (λ f. f.path) o []; mask = mask } ∷ []) is
+
+-- the rows of a word that is found
+pub word_rows_found : (name : List ℕ) (world : World) → map (word_found world) (found (masks_in name) world) ≡ of_world (word_in name) world
+word_rows_found name world =
+    rows_from (word_found world) (masks_in name) (word_in name) world
+      (λ id file is. word_rows_of world id file is (mask_in (words_of (shown_text file)) name)) 1 world.files (at_all world)
+
+-- what is found is of live files
+live_from : {X : Type 0} (read : List ℕ → List X) (world : World) (id : ℕ) (files : List (Option File)) → AreAt world id files → AreLive world (found_from read id files)
+live_from read world id [] at = λ k d inside. absurd (omega (arith, inside))
+live_from read world id (None ∷ files) at = live_from read world (id + 1) files (at_tail world id None files at)
+live_from {X} read world id (Some file ∷ files) at =
+    All-append (λ (f : ℕ × X). IsSome (file_of world f.0)) (map (λ x. (id, x)) (found_in read file)) (found_from read (id + 1) files)
+      (All-map (λ (f : ℕ × X). IsSome (file_of world f.0)) (λ x. (id, x)) (found_in read file) (λ k d inside. live_is world id file (at_head world id (Some file) files at)))
+      (live_from read world (id + 1) files (at_tail world id (Some file) files at))
+
+pub live_found : {X : Type 0} (read : List ℕ → List X) (world : World) → AreLive world (found read world)
+live_found read world = live_from read world 1 world.files (at_all world)
+
+-- the rows before are of files with lower ids
+IsBelow : ℕ → Option Listed → Type 0
+IsBelow id before = IfSome before (λ listed. listed.id < id)
+
+below_more : (id : ℕ) (before : Option Listed) → IsBelow id before → IsBelow (id + 1) before
+unfolding IsBelow
+below_more id None h = tt
+below_more id (Some listed) h = omega (arith, h)
+
+-- of such a file no row is made yet
+offset_below : (id : ℕ) (before : Option Listed) → IsBelow id before → offset_in before id ≡ 0
+unfolding IsBelow
+offset_below id None h = refl
+offset_below id (Some listed) h = ap (λ b. if b then listed.at else 0) (ne_eqb listed.id id (λ same. omega (arith, h, same)))
+
+-- of the file of the rows before they are made up to their offset
+offset_same : (world : World) (id at : ℕ) → offset_in (Some (listed_at world id at)) id ≡ at
+offset_same world id at = ap (λ b. if b then at else 0) (eq-eqb id id refl)
+
+-- the declarations of one file, and others of files with higher ids
+ahead_chain : (world : World) (id : ℕ) → IsSome (file_of world id) → (rest : List (ℕ × Stub)) → ((before : Option Listed) → IsBelow (id + 1) before → AreAhead world before rest)
+    → (stubs : List Stub) (before : Option Listed) → IsBelow (id + 1) before
+    → (length (text_at world id) ≤ max_chars → AreFrom (length (text_at world id)) (offset_in before id) stubs) → AreAhead world before (map (λ s. (id, s)) stubs ++ rest)
+unfolding IsBelow
+ahead_chain world id live rest others [] before below from = others before below
+ahead_chain world id live rest others (s ∷ stubs) before below from =
+    (live, (λ short. ((from short).0, (from short).1)),
+     ahead_chain world id live rest others stubs (Some (listed_at world id s.at)) (omega arith)
+       (λ short. subst (λ n. AreFrom (length (text_at world id)) n stubs) (sym (offset_same world id s.at)) (from short).2))
+
+module _ (lawful : (text : List ℕ) → length text ≤ max_chars → IsLawfulList (listing_of text)) (named : (text : List ℕ) → All (IsNamedIn text) (listing_of text)) where
+  -- the declarations of a file that pass a test
+  from_fits : (fits : Stub → Bool) (text : List ℕ) → length text ≤ max_chars → AreFrom (length text) 0 (filter fits (listing_of text))
+  from_fits fits text short = from_filter fits (length text) 0 (listing_of text) (from_listing text (listing_of text) (lawful text short) (named text))
+
+  ahead_from : (fits : Stub → Bool) (world : World) (id : ℕ) (files : List (Option File)) → AreAt world id files
+      → (before : Option Listed) → IsBelow id before → AreAhead world before (found_from (stubs_in fits) id files)
+  ahead_from fits world id [] at before below = tt
+  ahead_from fits world id (None ∷ files) at before below = ahead_from fits world (id + 1) files (at_tail world id None files at) before (below_more id before below)
+  ahead_from fits world id (Some file ∷ files) at before below =
+      of (is_java file.path) (ahead_from fits world (id + 1) files (at_tail world id (Some file) files at))
+    where
+      is : file_of world id ≡ Some file
+      is = at_head world id (Some file) files at
+
+      text_is : shown_text file ≡ text_at world id
+      text_is = sym (ap (λ (o : Option File). option_map_or shown_text o []) is)
+
+      from : length (text_at world id) ≤ max_chars → AreFrom (length (text_at world id)) (offset_in before id) (filter fits (listing_of (shown_text file)))
+      from short = subst (λ n. AreFrom (length (text_at world id)) n (filter fits (listing_of (shown_text file)))) (sym (offset_below id before below))
+          (subst (λ text. AreFrom (length (text_at world id)) 0 (filter fits (listing_of text))) (sym text_is) (from_fits fits (text_at world id) short))
+
+      of : (b : Bool) → ((before : Option Listed) → IsBelow (id + 1) before → AreAhead world before (found_from (stubs_in fits) (id + 1) files))
+          → AreAhead world before (map (λ s. (id, s)) (if b then stubs_in fits (shown_text file) else []) ++ found_from (stubs_in fits) (id + 1) files)
+      of true others = ahead_chain world id (live_is world id file is) (found_from (stubs_in fits) (id + 1) files) others (filter fits (listing_of (shown_text file))) before (below_more id before below) from
+      of false others = others before (below_more id before below)
+
+  -- the declarations that are found stand one behind another
+  pub ahead_found : (fits : Stub → Bool) (world : World) → AreAhead world None (found (stubs_in fits) world)
+  unfolding IsBelow
+  ahead_found fits world = ahead_from fits world 1 world.files (at_all world) None tt

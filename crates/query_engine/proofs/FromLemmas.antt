@@ -1,0 +1,54 @@
+-- Declarations of a text, at rising offsets.
+use Rattle.std.proofs.Common.{◌≡◌, ◌≢◌, ◌⊎◌, inl, inr, ℕ, ◌<◌, ◌≤◌, Bool, true, false, cond, List, [], ◌∷◌, length, take, drop, filter, Option, Some, None, All, ap, sym, subst, ◌∙◌, le_trans, arith}
+use Rattle.std.proofs.Math.ListN.{drop_of_length-le}
+use Rattle.std.proofs.Math.Seq.{take-nil}
+use Rattle.std.proofs.lemmas.Bool.{cases_lt}
+use Rattle.std.proofs.lemmas.List.Elements.{All-head, All-tail}
+use Rattle.stub_tree.specs.declared.stub.Stub.{Stub}
+use Rattle.stub_tree.specs.Lawful.{IsLawfulList, IsLawfulAfter, MayFollow}
+use Rattle.decl_parser.specs.Listing.{IsNamedIn}
+use Rattle.query_engine.specs.Listed.{AreFrom}
+
+-- a name that isn't empty stands inside the text
+named_inside : (text : List ℕ) (s : Stub) → IsNamedIn text s → s.name ≢ [] → s.at ≤ length text
+named_inside text s named some = of_cases (cases_lt s.at (length text))
+  where
+    of_cases : (s.at < length text) ⊎ (length text ≤ s.at) → s.at ≤ length text
+    of_cases (inl inside) = omega (arith, inside)
+    of_cases (inr past) =
+        absurd (some (named.name ∙ ap (take named.token.len) (drop_of_length-le text (omega (arith, past, named.place))) ∙ take-nil named.token.len))
+
+-- the offset of the declaration before, if there is one
+offset_or : Option Stub → ℕ
+offset_or None = 0
+offset_or (Some s) = s.at
+
+follows_at : (before : Option Stub) (s : Stub) → MayFollow before s → offset_or before ≤ s.at
+unfolding offset_or
+follows_at None s h = omega arith
+follows_at (Some b) s h = omega (arith, h.2)
+
+from_lawful : (text : List ℕ) (before : Option Stub) (stubs : List Stub) → IsLawfulAfter before stubs → All (IsNamedIn text) stubs → AreFrom (length text) (offset_or before) stubs
+unfolding offset_or
+from_lawful text before [] lawful named = tt
+from_lawful text before (s ∷ stubs) lawful named =
+    (follows_at before s lawful.1, named_inside text s (All-head (IsNamedIn text) s stubs named) lawful.0.named.some, from_lawful text (Some s) stubs lawful.2 (All-tail (IsNamedIn text) s stubs named))
+
+-- the declarations of a lawful list that are named in a text
+pub from_listing : (text : List ℕ) (stubs : List Stub) → IsLawfulList stubs → All (IsNamedIn text) stubs → AreFrom (length text) 0 stubs
+unfolding offset_or
+from_listing text stubs lawful named = from_lawful text None stubs lawful named
+
+-- what stands behind an offset stands behind a lower one
+from_lower : (len low high : ℕ) (stubs : List Stub) → low ≤ high → AreFrom len high stubs → AreFrom len low stubs
+from_lower len low high [] h from = tt
+from_lower len low high (s ∷ stubs) h from = (le_trans h from.0, from.1, from.2)
+
+-- those of them that pass a test
+pub from_filter : (fits : Stub → Bool) (len at : ℕ) (stubs : List Stub) → AreFrom len at stubs → AreFrom len at (filter fits stubs)
+from_filter fits len at [] from = tt
+from_filter fits len at (s ∷ stubs) from = of (fits s) (from_filter fits len s.at stubs from.2)
+  where
+    of : (b : Bool) → AreFrom len s.at (filter fits stubs) → AreFrom len at (cond b (s ∷ filter fits stubs) (filter fits stubs))
+    of true rest = (from.0, from.1, rest)
+    of false rest = from_lower len at s.at (filter fits stubs) from.0 rest

@@ -1,0 +1,7 @@
+pub mod AheadLemmas
+pub mod FoundLemmas
+pub mod FromLemmas
+pub mod LookLemmas
+pub mod MadeLemmas
+pub mod OutlineLemmas
+pub mod ReplyLemmas

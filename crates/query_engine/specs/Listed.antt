@@ -1,0 +1,65 @@
+-- A file whose rows are being made, and where its declarations stand.
+use Rattle.std.specs.Prelude.{ℕ, ◌≡◌, ◌≤◌, ◌==◌, if◌then◌else◌, List, [], ◌∷◌, length, Option, Some, IsSome, IfSome, All}
+use Rattle.std.specs.Option.{option_map_or}
+use Rattle.ide_text.specs.Text.{max_chars}
+use Rattle.stub_tree.specs.declared.stub.Stub.{Stub}
+use Rattle.write_history.specs.World.{World, file_of, shown_text}
+use Rattle.query_engine.specs.declared.answer.Row.{Row}
+use Rattle.query_engine.specs.declared.answer.WordRow.{WordRow}
+use Rattle.query_engine.specs.Reply.{row_of}
+
+-- a file by its id, with its path, the text that searches see, and the offset to which its rows are made
+pub record Listed : Type 0 where
+  pub id : ℕ
+  pub path : List ℕ
+  pub text : List ℕ
+  pub at : ℕ
+
+-- the path of the file with an id
+abbrev pub path_at : World → ℕ → List ℕ
+path_at world id = option_map_or (λ file. file.path) (file_of world id) []
+
+-- the text that searches see of the file with an id
+abbrev pub text_at : World → ℕ → List ℕ
+text_at world id = option_map_or shown_text (file_of world id) []
+
+-- the file with an id, its rows made up to an offset
+abbrev pub listed_at : World → ℕ → ℕ → Listed
+listed_at world id at = record { id = id; path = path_at world id; text = text_at world id; at = at }
+
+-- it is a file of the world, with a text that isn't too long
+pub record IsListed (world : World) (listed : Listed) : Type 0 where
+  pub is : listed ≡ listed_at world listed.id listed.at
+  pub short : length listed.text ≤ max_chars
+
+-- the offset to which the rows of the file with an id are made, where the rows before are of this file, if of any
+abbrev pub offset_in : Option Listed → ℕ → ℕ
+offset_in before id = option_map_or (λ listed. if listed.id == id then listed.at else 0) before 0
+
+-- the declaration stands in a text behind an offset, where the text isn't too long
+abbrev pub StandsIn : List ℕ → ℕ → Stub → Type 0
+StandsIn text from stub = length text ≤ max_chars → (from ≤ stub.at) × (stub.at ≤ length text)
+
+-- declarations of live files, those of one file at rising offsets
+abbrev pub AreAhead : World → Option Listed → List (ℕ × Stub) → Type 0
+AreAhead world before [] = Unit {0}
+AreAhead world before (found ∷ rest) =
+    IsSome (file_of world found.0) × StandsIn (text_at world found.0) (offset_in before found.0) found.1
+    × AreAhead world (Some (listed_at world found.0 found.1.at)) rest
+
+-- the row of a declaration of the file with an id
+abbrev pub row_found : World → ℕ × Stub → Row
+row_found world found = row_of found.0 (path_at world found.0) (text_at world found.0) found.1
+
+-- the row of a word of the file with an id
+abbrev pub word_found : World → ℕ × ℕ → WordRow
+word_found world found = record { file = found.0; path = path_at world found.0; mask = found.1 }
+
+-- the ids are of live files
+abbrev pub AreLive : {X : Type 0} → World → List (ℕ × X) → Type 0
+AreLive world found = All (λ f. IsSome (file_of world f.0)) found
+
+-- the declarations stand in a text at rising offsets, none before an offset
+abbrev pub AreFrom : ℕ → ℕ → List Stub → Type 0
+AreFrom len at [] = Unit {0}
+AreFrom len at (stub ∷ stubs) = (at ≤ stub.at) × (stub.at ≤ len) × AreFrom len stub.at stubs

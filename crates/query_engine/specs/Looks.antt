@@ -1,0 +1,72 @@
+-- How often a call looks at its watch, and what it sees.
+use Rattle.std.specs.Prelude.{ℕ, ◌≡◌, ◌≤◌, ◌+◌, ◌/◌, ◌%◌, ◌==◌, if◌then◌else◌, List, length, Result, Ok, Err, max, min}
+use Rattle.action_lock.specs.Counts.{counted, HasRisen}
+use Rattle.query_engine.specs.declared.answer.Answer.{Answer}
+use Rattle.query_engine.specs.declared.answer.Answer.TheVariants.{Rows, Words, Counts}
+use Rattle.query_engine.specs.declared.answer.AskRefusal.{AskRefusal}
+use Rattle.query_engine.specs.declared.answer.AskRefusal.TheVariants.{NoSuchFile, NotReady, Cancelled, OutOfMemory}
+
+-- a count of looks after so many more; like `counted`, it goes up to 2^64 - 1 and stands there
+abbrev pub counted_by : ℕ → ℕ → ℕ
+counted_by n looks = max looks (min (looks + n) 18446744073709551615)
+
+-- the number of rows after which a call looks once more
+abbrev pub rows_a_look : ℕ
+rows_a_look = 256
+
+-- the number of rows of an answer
+abbrev pub row_count : Answer → ℕ
+row_count (Rows rows) = length rows
+row_count (Words rows) = length rows
+row_count (Counts files docs unready) = 0
+
+-- how often the call with this answer looks after its first look, where no look sees anything: once for each full 256 rows
+abbrev pub later_looks : Result Answer AskRefusal → ℕ
+later_looks (Ok answer) = row_count answer / rows_a_look
+later_looks (Err refusal) = 0
+
+-- how often the call with this answer looks, where no look sees anything
+abbrev pub looks_for : Result Answer AskRefusal → ℕ
+looks_for answer = 1 + later_looks answer
+
+-- how often a call looks when it has made so many rows
+abbrev pub looks_at : ℕ → ℕ
+looks_at rows = if rows % rows_a_look == 0 then 1 else 0
+
+-- The changes of a watch below are said by its counts of looks and of sightings.
+
+-- so many looks, and none saw that the work is to end
+pub record LooksThrough {W : Type 0} (looks_of sights_of : W → ℕ) (n : ℕ) (old new : W) : Type 0 where
+  pub looks : looks_of new ≡ counted_by n (looks_of old)
+  pub unseen : sights_of new ≡ sights_of old
+
+-- at most so many looks, and none saw that the work is to end
+pub record StopsUnseen {W : Type 0} (looks_of sights_of : W → ℕ) (n : ℕ) (old new : W) : Type 0 where
+  pub some : looks_of old ≤ looks_of new
+  pub few : looks_of new ≤ counted_by n (looks_of old)
+  pub unseen : sights_of new ≡ sights_of old
+
+-- at most so many looks, of which the last and no other saw that the work is to end
+pub record StopsAtSight {W : Type 0} (looks_of sights_of : W → ℕ) (n : ℕ) (old new : W) : Type 0 where
+  pub some : looks_of old ≤ looks_of new
+  pub few : looks_of new ≤ counted_by n (looks_of old)
+  -- the watch before the last look
+  pub before : W
+  pub last : looks_of new ≡ counted (looks_of before)
+  pub unseen : sights_of before ≡ sights_of old
+  pub seen : HasRisen (sights_of before) (sights_of new)
+
+-- how a call looks, by what it gives, where so many looks lead to its end
+abbrev pub HasLooked : {W X : Type 0} → (W → ℕ) → (W → ℕ) → Result X AskRefusal → ℕ → W → W → Type 0
+HasLooked looks_of sights_of (Ok answer) n old new = LooksThrough looks_of sights_of n old new
+HasLooked looks_of sights_of (Err NoSuchFile) n old new = LooksThrough looks_of sights_of n old new
+HasLooked looks_of sights_of (Err (NotReady file)) n old new = LooksThrough looks_of sights_of n old new
+HasLooked looks_of sights_of (Err Cancelled) n old new = StopsAtSight looks_of sights_of n old new
+HasLooked looks_of sights_of (Err OutOfMemory) n old new = StopsUnseen looks_of sights_of n old new
+
+-- a call ends early alone: it was stopped, or memory ran out
+abbrev pub EndsEarly : AskRefusal → Type 0
+EndsEarly NoSuchFile = ⊥
+EndsEarly (NotReady file) = ⊥
+EndsEarly Cancelled = Unit {0}
+EndsEarly OutOfMemory = Unit {0}

@@ -1,0 +1,103 @@
+-- The answer to a question, by the texts of the files, as if they were all listed anew.
+use Rattle.std.specs.Prelude.{ℕ, ◌≡◌, ◌+◌, Bool, ◌&&◌, ◌==◌, List, [], ◌∷◌, ◌++◌, map, filter, length, if◌then◌else◌, Option, Some, None, is_some, Result, Ok, Err, IsOk, bytes_eq}
+use Rattle.std.specs.List.{list_any}
+use Rattle.std.specs.Option.{option_map_or}
+use Rattle.dumb_mode.specs.Filter.{is_java}
+use Rattle.write_history.specs.World.{World, File, file_of, id_at, shown_text, lowest_unready, count_of, is_open, is_unready}
+use Rattle.ide_text.specs.Place.{line_at, column_at}
+use Rattle.stub_tree.specs.declared.stub.Stub.{Stub}
+use Rattle.stub_tree.specs.declared.stub_kind.StubKind.TheVariants.{Method}
+use Rattle.stub_tree.specs.Stub.{is_type, code_of}
+use Rattle.decl_parser.specs.Listing.{listing_of}
+use Rattle.java_tokens.specs.Words.{words_of, mask_in}
+use Rattle.queries.specs.declared.query.Query.{Query}
+use Rattle.queries.specs.declared.query.Query.TheVariants as query
+use Rattle.query_engine.specs.declared.answer.Row.{Row}
+use Rattle.query_engine.specs.declared.answer.WordRow.{WordRow}
+use Rattle.query_engine.specs.declared.answer.Answer.{Answer}
+use Rattle.query_engine.specs.declared.answer.Answer.TheVariants.{Rows, Words, Counts}
+use Rattle.query_engine.specs.declared.answer.AskRefusal.{AskRefusal}
+use Rattle.query_engine.specs.declared.answer.AskRefusal.TheVariants.{NoSuchFile, NotReady, Cancelled, OutOfMemory}
+
+-- the row of a declaration, by the file's id, its path and its text
+abbrev pub row_of : ℕ → List ℕ → List ℕ → Stub → Row
+row_of id path text stub = record {
+  file = id;
+  path = path;
+  line = line_at text stub.at;
+  column = column_at text stub.at;
+  depth = stub.depth;
+  kind = stub.kind;
+  name = stub.name;
+  supers = stub.supers;
+}
+
+-- the rows of the declarations that a file lists, in the text that searches see, and that pass a test
+abbrev pub rows_in : (Stub → Bool) → ℕ → File → List Row
+rows_in fits id file =
+    map (row_of id file.path (shown_text file)) (filter fits (listing_of (shown_text file)))
+
+-- the row of a word of a file, where it has the word
+abbrev pub word_row : ℕ → File → Option ℕ → List WordRow
+word_row id file None = []
+word_row id file (Some mask) = record { file = id; path = file.path; mask = mask } ∷ []
+
+-- the row of a word of a file, where the text that searches see has it
+abbrev pub word_in : List ℕ → ℕ → File → List WordRow
+word_in name id file = word_row id file (mask_in (words_of (shown_text file)) name)
+
+-- what a file gives by its id, where it is live and a Java file
+abbrev pub of_java : {X : Type 0} → (ℕ → File → List X) → ℕ → Option File → List X
+of_java rows id None = []
+of_java rows id (Some file) = if is_java file.path then rows id file else []
+
+-- what the live Java files give, one after another, where the first of the files has this id
+abbrev pub of_files : {X : Type 0} → (ℕ → File → List X) → ℕ → List (Option File) → List X
+of_files rows id [] = []
+of_files rows id (file ∷ files) = of_java rows id file ++ of_files rows (id + 1) files
+
+-- what the live Java files of a world give, in order of ids
+abbrev pub of_world : {X : Type 0} → (ℕ → File → List X) → World → List X
+of_world rows world = of_files rows 1 world.files
+
+-- a type with the name
+abbrev pub is_class : List ℕ → Stub → Bool
+is_class name stub = is_type stub && bytes_eq name stub.name
+
+-- a type that has the name among its supers, however often
+abbrev pub has_super : List ℕ → Stub → Bool
+has_super name stub = is_type stub && list_any (λ super. bytes_eq name super) stub.supers
+
+-- a method with the name; a constructor is none
+abbrev pub is_method : List ℕ → Stub → Bool
+is_method name stub = stub.kind == code_of Method && bytes_eq name stub.name
+
+-- an answer that no file may be unready for, or the unready file with the lowest id
+abbrev pub unless_unready : Option ℕ → Answer → Result Answer AskRefusal
+unless_unready None answer = Ok answer
+unless_unready (Some file) answer = Err (NotReady file)
+
+-- the rows of all declarations of a file, whatever its path
+abbrev pub all_rows : ℕ → File → List Row
+all_rows id file = map (row_of id file.path (shown_text file)) (listing_of (shown_text file))
+
+-- the declarations of the live file with an id, where a file has it
+abbrev pub listing_reply : World → Option ℕ → Result Answer AskRefusal
+listing_reply world None = Err NoSuchFile
+listing_reply world (Some id) = Ok (Rows (option_map_or (all_rows id) (file_of world id) []))
+
+-- the answer to a question
+abbrev pub reply : World → Query → Result Answer AskRefusal
+reply world (query.Class name) = unless_unready (lowest_unready world) (Rows (of_world (rows_in (is_class name)) world))
+reply world (query.Supers name) = unless_unready (lowest_unready world) (Rows (of_world (rows_in (has_super name)) world))
+reply world (query.Method name) = unless_unready (lowest_unready world) (Rows (of_world (rows_in (is_method name)) world))
+reply world (query.Word name) = unless_unready (lowest_unready world) (Words (of_world (word_in name) world))
+reply world (query.Outline path) = listing_reply world (id_at world path)
+reply world query.Status = Ok (Counts (count_of is_some world) (count_of is_open world) (count_of is_unready world))
+
+-- a refusal is the one that is expected, a call that is stopped owes none, and want of memory never stands for a refusal
+abbrev pub IsRefusalOf : Result Answer AskRefusal → AskRefusal → Type 0
+IsRefusalOf expected NoSuchFile = expected ≡ Err NoSuchFile
+IsRefusalOf expected (NotReady file) = expected ≡ Err (NotReady file)
+IsRefusalOf expected Cancelled = Unit {0}
+IsRefusalOf expected OutOfMemory = IsOk expected

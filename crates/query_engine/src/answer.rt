@@ -1,0 +1,172 @@
+//! Answers, and why none is given.
+ghost use Rattle.std.specs.Prelude.{◌≡◌, ◌++◌, ◌∷◌, [], OnOk, OnErr, length};
+
+use ide_text::Name;
+use std::alloc::{AllocError, Global};
+use std::marker::Model;
+use stub_tree::Names;
+
+/// A declaration of a file.
+#[derive(Drop)]
+pub struct Row {
+    /// The file's id.
+    pub file: u32,
+    /// The file's path.
+    pub path: Name,
+    /// The line of the declaration's name in the text that searches see, from 1.
+    pub line: u32,
+    /// The column of its name, from 1.
+    pub column: u32,
+    /// In how many types it stands, one in another.
+    pub depth: u8,
+    /// The code of its kind, as `StubKind::code` gives it.
+    pub kind: u8,
+    /// Its name.
+    pub name: Name,
+    /// The names behind `extends` and `implements`, in order and repeats kept.
+    pub supers: Names,
+}
+
+/// A file that has a word.
+#[derive(Drop)]
+pub struct WordRow {
+    /// The file's id.
+    pub file: u32,
+    /// The file's path.
+    pub path: Name,
+    /// Where the word stands: the sum of 1 for code, 2 for comments and 4 for strings.
+    pub mask: u8,
+}
+
+/// Declarations, file by file in order of ids, and within a file in the order of its text.
+#[derive(Drop)]
+pub struct RowList {
+    rows: Vec<Row>,
+}
+
+impl Model for RowList {
+    ghost use Rattle.std.specs.Prelude.{List};
+    ghost use Rattle.query_engine.specs.declared.answer.Row.{Row};
+
+    ghost Value = { List Row };
+
+    ghost view = { λ r. r.rows.items };
+}
+
+impl RowList {
+    /// No row.
+    pub(crate) fn new(alloc: Global) -> RowList
+        ensures { result ≡ [] }
+    {
+        RowList {
+            rows: Vec::new(alloc),
+        }
+    }
+
+    /// Puts a row at the end. On an error the list is as before.
+    pub(crate) fn push(&mut self, row: Row) -> Result<(), AllocError>
+        ensures ok { OnOk result (self.new ≡ self.old ++ row ∷ []) }
+        ensures err { OnErr result (self.new ≡ self.old) }
+    {
+        self.rows.push(row)?;
+        Ok(())
+    }
+
+    /// The number of rows.
+    pub fn len(&self) -> usize
+        ensures { result ≡ length self.now }
+    {
+        self.rows.len()
+    }
+
+    /// The rows.
+    pub fn as_slice(&self) -> &[Row]
+        ensures { result.now ≡ self.now }
+    {
+        &self.rows
+    }
+}
+
+/// Files that have a word, in order of ids.
+#[derive(Drop)]
+pub struct WordRows {
+    rows: Vec<WordRow>,
+}
+
+impl Model for WordRows {
+    ghost use Rattle.std.specs.Prelude.{List};
+    ghost use Rattle.query_engine.specs.declared.answer.WordRow.{WordRow};
+
+    ghost Value = { List WordRow };
+
+    ghost view = { λ r. r.rows.items };
+}
+
+impl WordRows {
+    /// No row.
+    pub(crate) fn new(alloc: Global) -> WordRows
+        ensures { result ≡ [] }
+    {
+        WordRows {
+            rows: Vec::new(alloc),
+        }
+    }
+
+    /// Puts a row at the end. On an error the list is as before.
+    pub(crate) fn push(&mut self, row: WordRow) -> Result<(), AllocError>
+        ensures ok { OnOk result (self.new ≡ self.old ++ row ∷ []) }
+        ensures err { OnErr result (self.new ≡ self.old) }
+    {
+        self.rows.push(row)?;
+        Ok(())
+    }
+
+    /// The number of rows.
+    pub fn len(&self) -> usize
+        ensures { result ≡ length self.now }
+    {
+        self.rows.len()
+    }
+
+    /// The rows.
+    pub fn as_slice(&self) -> &[WordRow]
+        ensures { result.now ≡ self.now }
+    {
+        &self.rows
+    }
+}
+
+/// What a question comes to.
+#[derive(Drop)]
+pub enum Answer {
+    /// Declarations.
+    Rows { rows: RowList },
+    /// The files that have a word.
+    Words { rows: WordRows },
+    /// How many live files, open documents and unready files there are.
+    Counts { files: u32, docs: u32, unready: u32 },
+}
+
+/// Why a question isn't answered.
+#[derive(Clone, Copy, Debug, PartialEq, Eq)]
+pub enum AskRefusal {
+    /// No live file has the path.
+    NoSuchFile,
+    /// Files are unready, and this one has the lowest id of them.
+    NotReady { file: u32 },
+    /// The watch saw that the work is to end.
+    Cancelled,
+    /// Memory ran out.
+    OutOfMemory,
+}
+
+impl From<AllocError> for AskRefusal {
+    ghost use Rattle.std.specs.Prelude.{◌≡◌};
+    ghost use Rattle.query_engine.specs.declared.answer.AskRefusal.TheVariants.{OutOfMemory};
+
+    ghost from_gives = { λ e refusal. refusal ≡ OutOfMemory };
+
+    fn from(_: AllocError) -> AskRefusal {
+        AskRefusal::OutOfMemory
+    }
+}

@@ -1,0 +1,14 @@
+//! Answers to questions about a workspace, each of them the one that its files' texts give, made anew.
+#![tactic(auto)]
+
+mod answer;
+mod listed_file;
+mod looks;
+mod outline;
+mod question;
+mod stub_rows;
+mod word_rows;
+
+pub use answer::{Answer, AskRefusal, Row, RowList, WordRow, WordRows};
+pub use question::{ask, ask_unwatched};
+pub use looks::NoWatch;

@@ -1,0 +1,87 @@
+//! A file whose rows are being made.
+ghost use Rattle.std.specs.Prelude.{◌≡◌, ◌≤◌, length, IfOk, IfSome, IsSome};
+ghost use Rattle.write_history.specs.World.{file_of};
+ghost use Rattle.query_engine.specs.Reply.{row_of};
+ghost use Rattle.query_engine.specs.Listed.{listed_at, IsListed, offset_in};
+
+use crate::answer::Row;
+use ide_text::{LineWalk, Name};
+use ide_world::{State, path, shown};
+use std::alloc::AllocError;
+use std::marker::Model;
+use stub_tree::Stub;
+
+/// A file whose rows are being made, with one walk over its text for their lines and columns.
+#[derive(Drop)]
+pub(crate) struct ListedFile<'a> {
+    id: u32,
+    path: &'a Name,
+    walk: LineWalk<'a>,
+}
+
+impl<'a> Model for ListedFile<'a> {
+    ghost use Rattle.query_engine.specs.Listed.{Listed};
+
+    ghost Value = { Listed };
+
+    ghost view = { λ f. record { id = f.id; path = f.path.now; text = f.walk.text; at = f.walk.at } };
+}
+
+impl<'a> ListedFile<'a> {
+    /// The live file with an id, no row made yet.
+    pub(crate) fn of(state: &'a State, id: u32) -> ListedFile<'a>
+        requires { IsSome (file_of state.now.world id) }
+        ensures file { result ≡ listed_at state.now.world id 0 }
+        ensures listed { IsListed state.now.world result }
+    {
+        let Some(path) = path(state, id) else {
+            unreachable!()
+        };
+        let Some(text) = shown(state, id) else {
+            unreachable!()
+        };
+        let _ = text.len();
+        ListedFile {
+            id,
+            path,
+            walk: LineWalk::new(text),
+        }
+    }
+
+    /// The live file with an id: the one before, where it has this id.
+    pub(crate) fn continued(
+        state: &'a State,
+        before: Option<ListedFile<'a>>,
+        id: u32,
+    ) -> ListedFile<'a>
+        requires live { IsSome (file_of state.now.world id) }
+        requires before { IfSome before (IsListed state.now.world) }
+        ensures file { result ≡ listed_at state.now.world id (offset_in before.entry id) }
+        ensures listed { IsListed state.now.world result }
+    {
+        match before {
+            Some(file) if file.id == id => file,
+            _ => ListedFile::of(state, id),
+        }
+    }
+
+    /// The row of a declaration that stands behind those before it.
+    pub(crate) fn row(&mut self, stub: &Stub) -> Result<Row, AllocError>
+        requires ahead { self.old.at ≤ stub.now.at }
+        requires inside { stub.now.at ≤ length self.old.text }
+        ensures row { IfOk result (λ row. row ≡ row_of self.old.id self.old.path self.old.text stub.now) }
+        ensures goes_on { self.new ≡ record self.old { at = stub.now.at } }
+    {
+        let (line, column) = self.walk.line_col(stub.at);
+        Ok(Row {
+            file: self.id,
+            path: self.path.copy()?,
+            line,
+            column,
+            depth: stub.depth,
+            kind: stub.kind,
+            name: stub.name.copy()?,
+            supers: stub.supers.copy()?,
+        })
+    }
+}

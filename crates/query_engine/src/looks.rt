@@ -1,0 +1,85 @@
+//! Looks at a watch: one as a call begins, and one after each 256 rows.
+ghost use Rattle.std.specs.Prelude.{◌≡◌, ◌<◌, IfErr};
+ghost use Rattle.action_lock.specs.Counts.{counted};
+ghost use Rattle.query_engine.specs.Looks.{looks_at, HasLooked, EndsEarly};
+
+use crate::answer::AskRefusal;
+use action_lock::Watch;
+
+/// The number of rows after which a call looks once more.
+const ROWS_A_LOOK: usize = 256;
+
+/// A watch that never sees anything. It counts its looks, up to 2^64 - 1.
+#[derive(Clone, Copy, Debug, PartialEq, Eq, Drop)]
+pub struct NoWatch {
+    looks: u64,
+}
+
+impl NoWatch {
+    /// A watch that hasn't looked.
+    pub fn new() -> NoWatch
+        ensures { result.looks ≡ 0 }
+    {
+        NoWatch { looks: 0 }
+    }
+
+    /// How often it has looked.
+    pub fn looks(&self) -> u64
+        ensures { result ≡ self.now.looks }
+    {
+        self.looks
+    }
+}
+
+impl Watch for NoWatch {
+    ghost use Rattle.std.specs.Prelude.{◌≤◌};
+    ghost use Rattle.std.proofs.Common.{le_refl, le_trans};
+
+    ghost looks = { λ watch. watch.looks };
+
+    ghost sightings = { λ watch. 0 };
+
+    ghost can_look = { λ watch. Unit {0} };
+
+    ghost stays = { λ a b. a.looks ≤ b.looks };
+
+    ghost stays_itself = { λ a. le_refl a.looks };
+
+    ghost stays_on = { λ a b c p q. le_trans p q };
+
+    fn look(&mut self) -> bool {
+        self.looks = self.looks.saturating_add(1);
+        false
+    }
+}
+
+/// Looks, and gives up where the work is to end.
+pub(crate) fn look<W: Watch>(watch: &mut W) -> Result<(), AskRefusal>
+    requires { W.can_look watch.old }
+    ensures again { W.can_look watch.new }
+    ensures stays { W.stays watch.old watch.new }
+    ensures looked { HasLooked W.looks W.sightings result 1 watch.old watch.new }
+    ensures once { W.looks watch.new ≡ counted (W.looks watch.old) }
+    ensures cancelled { IfErr result (λ refusal. refusal ≡ AskRefusal.Cancelled) }
+{
+    if watch.look() {
+        Err(AskRefusal::Cancelled)
+    } else {
+        Ok(())
+    }
+}
+
+/// Looks where the rows that are made are a full number of 256.
+pub(crate) fn look_after<W: Watch>(rows: usize, watch: &mut W) -> Result<(), AskRefusal>
+    requires { W.can_look watch.old }
+    ensures again { W.can_look watch.new }
+    ensures stays { W.stays watch.old watch.new }
+    ensures looked { HasLooked W.looks W.sightings result (looks_at rows) watch.old watch.new }
+    ensures early { IfErr result EndsEarly }
+{
+    if rows % ROWS_A_LOOK == 0 {
+        look(watch)
+    } else {
+        Ok(())
+    }
+}

@@ -1,0 +1,105 @@
+//! A question asked of a workspace.
+ghost use Rattle.std.specs.Prelude.{◌≡◌, ◌≢◌, ◌≤◌, Ok, Err, IfOk, IfErr, IsSomeAnd, OnOk, None};
+ghost use Rattle.action_lock.specs.Counts.{counted};
+ghost use Rattle.write_history.specs.World.{lowest_unready};
+ghost use Rattle.query_engine.specs.Reply.{reply, IsRefusalOf};
+ghost use Rattle.query_engine.specs.Looks.{looks_for, later_looks, HasLooked};
+
+use crate::answer::{Answer, AskRefusal};
+use crate::looks::{NoWatch, look};
+use crate::outline::outline;
+use crate::stub_rows::stub_rows;
+use crate::word_rows::word_rows;
+use action_lock::Watch;
+use decl_parser::laws::{listings_are_lawful, names_are_identifiers};
+use ide_world::State;
+use queries::Query;
+use std::alloc::Global;
+
+/// Answers a question. It looks at the watch as it begins and after each 256 rows, and ends where the watch sees that
+/// the work is to end.
+///
+/// It costs the rows of the answer, and the texts of the files that they are of; the work of a status is constant.
+pub fn ask<W: Watch>(
+    alloc: Global,
+    state: &State,
+    query: &Query,
+    watch: &mut W,
+) -> Result<Answer, AskRefusal>
+    requires { W.can_look watch.old }
+    ensures again { W.can_look watch.new }
+    ensures stays { W.stays watch.old watch.new }
+    ensures looked { HasLooked W.looks W.sightings result (looks_for (reply state.now.world query.now)) watch.old watch.new }
+    ensures first_look { counted (W.looks watch.old) ≤ W.looks watch.new }
+    ensures answer { IfOk result (λ answer. reply state.now.world query.now ≡ Ok answer) }
+    ensures refused { IfErr result (IsRefusalOf (reply state.now.world query.now)) }
+{
+    look(watch)?;
+    answer(alloc, state, query, watch)
+}
+
+/// Answers a question, and can't be stopped.
+pub fn ask_unwatched(alloc: Global, state: &State, query: &Query) -> Result<Answer, AskRefusal>
+    ensures answer { IfOk result (λ answer. reply state.now.world query.now ≡ Ok answer) }
+    ensures refused { IfErr result (IsRefusalOf (reply state.now.world query.now)) }
+    ensures not_stopped { result ≢ Err AskRefusal.Cancelled }
+{
+    ask(alloc, state, query, &mut NoWatch::new())
+}
+
+/// Answers a question after the first look.
+fn answer<W: Watch>(
+    alloc: Global,
+    state: &State,
+    query: &Query,
+    watch: &mut W,
+) -> Result<Answer, AskRefusal>
+    requires { W.can_look watch.old }
+    ensures again { W.can_look watch.new }
+    ensures stays { W.stays watch.old watch.new }
+    ensures looked { HasLooked W.looks W.sightings result (later_looks (reply state.now.world query.now)) watch.old watch.new }
+    ensures answer { IfOk result (λ answer. reply state.now.world query.now ≡ Ok answer) }
+    ensures refused { IfErr result (IsRefusalOf (reply state.now.world query.now)) }
+{
+    listings_are_lawful();
+    names_are_identifiers();
+    match query {
+        Query::Class { name } => {
+            ready(state)?;
+            let rows = stub_rows(alloc, state, state.type_rows(name), watch)?;
+            Ok(Answer::Rows { rows })
+        }
+        Query::Supers { name } => {
+            ready(state)?;
+            let rows = stub_rows(alloc, state, state.super_rows(name), watch)?;
+            Ok(Answer::Rows { rows })
+        }
+        Query::Method { name } => {
+            ready(state)?;
+            let rows = stub_rows(alloc, state, state.method_rows(name), watch)?;
+            Ok(Answer::Rows { rows })
+        }
+        Query::Word { name } => {
+            ready(state)?;
+            let rows = word_rows(alloc, state, state.word_rows(name), watch)?;
+            Ok(Answer::Words { rows })
+        }
+        Query::Outline { path } => outline(alloc, state, path, watch),
+        Query::Status => Ok(Answer::Counts {
+            files: state.live_count(),
+            docs: state.open_count(),
+            unready: state.unready_count(),
+        }),
+    }
+}
+
+/// Gives up where a file is unready.
+fn ready(state: &State) -> Result<(), AskRefusal>
+    ensures smart { OnOk result (lowest_unready state.now.world ≡ None) }
+    ensures dumb { IfErr result (λ refusal. IsSomeAnd (lowest_unready state.now.world) (λ file. refusal ≡ AskRefusal.NotReady file)) }
+{
+    match state.lowest_unready() {
+        Some(file) => Err(AskRefusal::NotReady { file }),
+        None => Ok(()),
+    }
+}

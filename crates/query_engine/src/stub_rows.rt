@@ -1,0 +1,39 @@
+//! The rows of declarations that were found.
+ghost use Rattle.std.specs.Prelude.{◌≡◌, ◌/◌, None, IfOk, IfErr, IsSome, map, length};
+ghost use Rattle.write_history.specs.World.{file_of};
+ghost use Rattle.query_engine.specs.Looks.{rows_a_look, HasLooked, EndsEarly};
+ghost use Rattle.query_engine.specs.Listed.{AreAhead, row_found};
+
+use crate::answer::{AskRefusal, RowList};
+use crate::listed_file::ListedFile;
+use crate::looks::look_after;
+use action_lock::Watch;
+use ide_world::{State, StubWalk};
+use std::alloc::Global;
+
+/// The rows of the declarations that are found, file by file. Lines and columns are found in one walk over each
+/// file's text.
+pub(crate) fn stub_rows<W: Watch>(
+    alloc: Global,
+    state: &State,
+    found: StubWalk<'_>,
+    watch: &mut W,
+) -> Result<RowList, AskRefusal>
+    requires can { W.can_look watch.old }
+    requires ahead { AreAhead state.now.world None found }
+    ensures again { W.can_look watch.new }
+    ensures stays { W.stays watch.old watch.new }
+    ensures looked { HasLooked W.looks W.sightings result (length found.entry / rows_a_look) watch.old watch.new }
+    ensures rows { IfOk result (λ rows. rows ≡ map (row_found state.now.world) found.entry) }
+    ensures early { IfErr result EndsEarly }
+{
+    let mut rows = RowList::new(alloc);
+    let mut before = None;
+    for (id, stub) in found {
+        let mut file = ListedFile::continued(state, before, id);
+        rows.push(file.row(stub)?)?;
+        before = Some(file);
+        look_after(rows.len(), watch)?;
+    }
+    Ok(rows)
+}

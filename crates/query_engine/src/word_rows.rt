@@ -1,0 +1,40 @@
+//! The rows of a word that was found.
+ghost use Rattle.std.specs.Prelude.{◌≡◌, ◌/◌, IfOk, IfErr, map, length};
+ghost use Rattle.query_engine.specs.Looks.{rows_a_look, HasLooked, EndsEarly};
+ghost use Rattle.query_engine.specs.Listed.{AreLive, word_found};
+
+use crate::answer::{AskRefusal, WordRow, WordRows};
+use crate::looks::look_after;
+use action_lock::Watch;
+use ide_world::{State, WordWalk, path};
+use std::alloc::Global;
+
+/// The rows of the files in which a word is found.
+pub(crate) fn word_rows<W: Watch>(
+    alloc: Global,
+    state: &State,
+    found: WordWalk<'_>,
+    watch: &mut W,
+) -> Result<WordRows, AskRefusal>
+    requires can { W.can_look watch.old }
+    requires live { AreLive state.now.world found }
+    ensures again { W.can_look watch.new }
+    ensures stays { W.stays watch.old watch.new }
+    ensures looked { HasLooked W.looks W.sightings result (length found.entry / rows_a_look) watch.old watch.new }
+    ensures rows { IfOk result (λ rows. rows ≡ map (word_found state.now.world) found.entry) }
+    ensures early { IfErr result EndsEarly }
+{
+    let mut rows = WordRows::new(alloc);
+    for (file, mask) in found {
+        let Some(path) = path(state, file) else {
+            unreachable!()
+        };
+        rows.push(WordRow {
+            file,
+            path: path.copy()?,
+            mask,
+        })?;
+        look_after(rows.len(), watch)?;
+    }
+    Ok(rows)
+}
