@@ -1,4 +1,4 @@
-//! The program `ide` with a script that asks for outlines, of a whole file and of texts that are unfinished.
+//! The program `ide` again, with a session over a small shop of Java files.
 #![tactic(auto)]
 
 use ide_script::start;

@@ -1,6 +1,0 @@
-//! Tests of `ide_world`: each public call once, with ample memory.
-#![tactic(auto)]
-
-pub mod changes;
-#[cfg(test)]
-mod tests;
