@@ -1,2 +1,8 @@
--- What contracts see of a document
+-- What callers may rest on: a document, and the documents that are open.
 pub mod Document
+pub mod Held
+-- Internal: the buffer of a document's text.
+pub mod Gap
+-- Internal: what a document is made of.
+pub mod DocState
+pub mod Places

@@ -2,3 +2,4 @@ pub mod IdLemmas
 pub mod KeyRowLemmas
 pub mod TableLemmas
 pub mod WalkLemmas
+pub mod SortLemmas

@@ -1,6 +1,7 @@
 -- The rows of all files after those of one file changed.
-use Rattle.std.proofs.Common.{◌⊎◌, ◌≡◌, ℕ, ◌<◌, Bool, true, false, cond, eqb, ltb, List, [], ◌∷◌, ◌++◌, Some, None, refl, sym, ap, ◌∙◌, arith, append_assoc, subst, ⊎_elim}
+use Rattle.std.proofs.Common.{◌⊎◌, Option, ◌≡◌, ℕ, ◌<◌, Bool, true, false, cond, eqb, ltb, List, [], ◌∷◌, ◌++◌, Some, None, refl, sym, ap, ◌∙◌, arith, append_assoc, subst, ⊎_elim}
 use Rattle.std.specs.Prelude.{not, is_some}
+use Rattle.std.specs.Option.{unwrap_or}
 use Rattle.std.specs.Ordering.{nat_cmp, is_eq, is_lt, match_ordering}
 use Rattle.std.specs.declared.cmp.Ordering.{Ordering}
 use Rattle.std.specs.declared.cmp.Ordering.TheVariants.{Less, Equal, Greater}
@@ -11,7 +12,7 @@ use Rattle.std.specs.List.Sorted.{IsStrictlySortedBy}
 use Rattle.std.proofs.lemmas.Bool.{eq-eqb, ne_eqb, lt-ltb, le-ltb, cases_order, false≢true}
 use Rattle.std.proofs.lemmas.List.Elements.{filter-append}
 use Rattle.std.proofs.lemmas.Map.Keys.{sorted_head, sorted_tail}
-use Rattle.file_index.specs.Rows.{rows_in, rows_of, with_rows, without_file}
+use Rattle.file_index.specs.Rows.{rows_in, rows_of, rows_in_file, is_known, with_rows, without_file}
 
 -- how two numbers compare
 pub cmp_less : (a b : ℕ) → a < b → nat_cmp a b ≡ Less
@@ -152,6 +153,69 @@ module _ {K V : Type 0} where
             ∙ ap (λ l. rows_in e.0 e.1 ++ l) rest
             ∙ sym (kept_first others e es (ap not (ne_eqb e.0 file (λ same. ⊎_elim (λ l. absurd (omega (arith, same, l))) (λ m. absurd (omega (arith, same, m))) apart))))
 
+    -- the rows after a file was given none
+    pub cleared : (files : List (ℕ × List (K × V))) → IsStrictlySortedBy nat_cmp (keys_of files) → rows_of (insert_entry nat_cmp files file []) ≡ without_file file (rows_of files)
+    cleared [] sorted = refl
+    cleared (e ∷ es) sorted = ⊎_elim here (λ apart. ⊎_elim before (after (cleared es (sorted_tail nat_cmp e.0 (keys_of es) sorted))) apart) (cases_order file e.0)
+      where
+        others : ℕ → Bool
+        others k = not (eqb k file)
+
+        placed : Ordering → List (ℕ × List (K × V))
+        placed o = match_ordering o ((file, []) ∷ e ∷ es) ((e.0, []) ∷ es) (e ∷ insert_entry nat_cmp es file [])
+
+        goal : Type 0
+        goal = rows_of (insert_entry nat_cmp (e ∷ es) file []) ≡ without_file file (rows_of (e ∷ es))
+
+        here : file ≡ e.0 → goal
+        here same =
+            let over : AllByRecursion (λ k. file < k) (keys_of es) = subst (λ f. AllByRecursion (λ k. f < k) (keys_of es)) (sym same) (behind e es sorted) in
+            ap (λ o. rows_of (placed o)) (cmp_same file e.0 same)
+            ∙ sym (gone_first others e es (ap not (eq-eqb e.0 file (sym same))) ∙ kept_of others es (all_other file (keys_of es) over))
+
+        before : file < e.0 → goal
+        before less =
+            let over : AllByRecursion (λ k. file < k) (keys_of (e ∷ es)) = (less, above_more file e.0 (keys_of es) less (behind e es sorted)) in
+            ap (λ o. rows_of (placed o)) (cmp_less file e.0 less)
+            ∙ sym (kept_of others (e ∷ es) (all_other file (keys_of (e ∷ es)) over))
+
+        after : rows_of (insert_entry nat_cmp es file []) ≡ without_file file (rows_of es) → e.0 < file → goal
+        after rest more =
+            ap (λ o. rows_of (placed o)) (cmp_more file e.0 more)
+            ∙ ap (λ l. rows_in e.0 e.1 ++ l) rest
+            ∙ sym (kept_first others e es (ap not (ne_eqb e.0 file (λ same. absurd (omega (arith, same, more))))))
+
+    -- where a file has no rows, none go with it
+    pub nothing_goes : (files : List (ℕ × List (K × V))) → IsStrictlySortedBy nat_cmp (keys_of files) → rows_in_file file files ≡ [] → rows_of files ≡ without_file file (rows_of files)
+    nothing_goes [] sorted none = refl
+    nothing_goes (e ∷ es) sorted none = ⊎_elim here (λ apart. ⊎_elim before (after (nothing_goes es (sorted_tail nat_cmp e.0 (keys_of es) sorted))) apart) (cases_order file e.0)
+      where
+        others : ℕ → Bool
+        others k = not (eqb k file)
+
+        found : Ordering → List (K × V)
+        found o = unwrap_or (cond (is_eq o) (Some e.1) (lookup (is_at (nat_cmp file)) es)) []
+
+        goal : Type 0
+        goal = rows_of (e ∷ es) ≡ without_file file (rows_of (e ∷ es))
+
+        here : file ≡ e.0 → goal
+        here same =
+            let over : AllByRecursion (λ k. file < k) (keys_of es) = subst (λ f. AllByRecursion (λ k. f < k) (keys_of es)) (sym same) (behind e es sorted) in
+            let empty : e.1 ≡ [] = sym (ap found (cmp_same file e.0 same)) ∙ none in
+            ap (λ rows. rows_in e.0 rows ++ rows_of es) empty
+            ∙ sym (gone_first others e es (ap not (eq-eqb e.0 file (sym same))) ∙ kept_of others es (all_other file (keys_of es) over))
+
+        before : file < e.0 → goal
+        before less =
+            let over : AllByRecursion (λ k. file < k) (keys_of (e ∷ es)) = (less, above_more file e.0 (keys_of es) less (behind e es sorted)) in
+            sym (kept_of others (e ∷ es) (all_other file (keys_of (e ∷ es)) over))
+
+        after : (rows_in_file file es ≡ [] → rows_of es ≡ without_file file (rows_of es)) → e.0 < file → goal
+        after rest more =
+            ap (λ l. rows_in e.0 e.1 ++ l) (rest (sym (ap found (cmp_more file e.0 more)) ∙ none))
+            ∙ sym (kept_first others e es (ap not (ne_eqb e.0 file (λ same. absurd (omega (arith, same, more))))))
+
     -- a file that isn't there has no rows when it comes in without any
     pub made_known : (files : List (ℕ × List (K × V))) → is_some (lookup (is_at (nat_cmp file)) files) ≡ false → rows_of (insert_entry nat_cmp files file []) ≡ rows_of files
     made_known [] absent = refl
@@ -162,3 +226,11 @@ module _ {K V : Type 0} where
         by Less absent rest = refl
         by Equal absent rest = absurd (false≢true (sym absent))
         by Greater absent rest = ap (λ l. rows_in e.0 e.1 ++ l) (rest absent)
+
+    -- a file that isn't known has no rows
+    pub unknown_has_none : (files : List (ℕ × List (K × V))) → is_known file files ≡ false → rows_in_file file files ≡ []
+    unknown_has_none files absent = by (lookup (is_at (nat_cmp file)) files) absent
+      where
+        by : (found : Option (List (K × V))) → is_some found ≡ false → unwrap_or found [] ≡ []
+        by None e = refl
+        by (Some rows) e = absurd (false≢true (sym e))

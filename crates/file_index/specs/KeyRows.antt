@@ -1,8 +1,8 @@
 -- Rows of a key and a value, and their order.
-use Rattle.std.specs.Prelude.{ℕ, Bool, List, filter}
+use Rattle.std.specs.Prelude.{ℕ, Bool, if◌then◌else◌, List, [], ◌∷◌, map, filter}
 use Rattle.std.specs.List.{list_any}
 use Rattle.std.specs.declared.cmp.Ordering.{Ordering}
-use Rattle.std.specs.Ordering.{nat_cmp, ordering_then}
+use Rattle.std.specs.Ordering.{nat_cmp, is_lt, ordering_then}
 use Rattle.std.specs.List.Sorted.{IsStrictlySortedBy}
 
 module _ {K V : Type 0} where
@@ -21,3 +21,17 @@ module _ {K V : Type 0} where
   -- whether a row has this key
   abbrev pub has_key : (K → K → Bool) → K → List (K × V) → Bool
   has_key key_eq key rows = list_any (λ row. key_eq key row.0) rows
+
+  -- the values under this key
+  abbrev pub values_with : (K → K → Bool) → K → List (K × V) → List V
+  values_with key_eq key rows = map (λ row. row.1) (rows_with key_eq key rows)
+
+  -- the rows with one more, before the first whose key isn't lower
+  abbrev pub with_row : (K → K → Ordering) → K × V → List (K × V) → List (K × V)
+  with_row key_cmp row [] = row ∷ []
+  with_row key_cmp row (r ∷ rs) = if is_lt (key_cmp r.0 row.0) then r ∷ with_row key_cmp row rs else row ∷ r ∷ rs
+
+  -- the rows by their keys, and those of one key as they came
+  abbrev pub by_keys : (K → K → Ordering) → List (K × V) → List (K × V)
+  by_keys key_cmp [] = []
+  by_keys key_cmp (r ∷ rs) = with_row key_cmp r (by_keys key_cmp rs)

@@ -1,9 +1,10 @@
 //! The rows of each file.
-ghost use Rattle.std.specs.Prelude.{◌≡◌, ℕ, [], Bool, true, if◌then◌else◌, is_some, unwrap_or, OnOk, IfOk, ◌==◌, false};
+ghost use Rattle.std.specs.Prelude.{◌≡◌, ℕ, List, [], Bool, true, if◌then◌else◌, is_some, unwrap_or, OnOk, IfOk, ◌==◌, false, length};
 ghost use Rattle.std.specs.Ordering.{nat_cmp};
 ghost use Rattle.std.specs.List.Sorted.{IsStrictlySortedBy};
 ghost use Rattle.file_index.specs.KeyRows.{has_key, rows_with};
 ghost use Rattle.file_index.specs.Places.{has_id};
+ghost use Rattle.file_index.specs.Walk.{HasAllFiles, walked};
 ghost use Rattle.file_index.specs.Rows.{is_known, rows_of, rows_at, rows_in_file, with_rows, without_file};
 
 use crate::key_rows::copy_rows;
@@ -65,8 +66,10 @@ impl<K: Ord, V: Place> Files<K, V> {
     /// A walk over the rows under a key, given the ids of all files that have any.
     pub(crate) fn walk<'a>(&'a self, ids: &'a [u32], key: &'a K) -> RowWalk<'a, K, V>
         requires rises { IsStrictlySortedBy nat_cmp ids.now }
-        requires all { (file : ℕ) → has_key K.eq key.now (rows_in_file file self.now) ≡ true → has_id file ids.now ≡ true }
-        ensures { result ≡ rows_at K.eq key.now (rows_of self.now) }
+        requires all { HasAllFiles K.eq key.now self.now ids.now }
+        ensures rows { result ≡ rows_at K.eq key.now (rows_of self.now) }
+        ensures by_files { (others : List ℕ) → IsStrictlySortedBy nat_cmp others → HasAllFiles K.eq key.now self.now others
+            → result ≡ walked K.eq key.now self.now others }
     {
         let _ = &self.rows;
         RowWalk::new(self, ids, key)
@@ -103,6 +106,47 @@ impl<K: Ord, V: Place> Files<K, V> {
             Ok(Some(old)) => old,
             Ok(None) => unreachable!(),
             Err(_) => unreachable!(),
+        }
+    }
+
+    /// Takes a file's rows out, and returns them. It is as known as it was.
+    pub(crate) fn clear(&mut self, alloc: Global, file: u32) -> KeyRows<K, V>
+    where
+        K: Drop,
+        V: Drop,
+        ensures old { result ≡ rows_in_file file self.old }
+        ensures rows { rows_of self.new ≡ without_file file (rows_of self.old) }
+        ensures each { (j : ℕ) → rows_in_file j self.new ≡ (if j == file then [] else rows_in_file j self.old) }
+        ensures stays { (j : ℕ) → is_known j self.old ≡ true → is_known j self.new ≡ true }
+    {
+        if !self.rows.contains_key(&file) {
+            return KeyRows::new(alloc);
+        }
+        self.put(file, KeyRows::new(alloc))
+    }
+
+    /// Lets a file without rows be known no more.
+    pub(crate) fn forget(&mut self, file: u32)
+    where
+        K: Drop,
+        V: Drop,
+        ensures rows { rows_of self.new ≡ rows_of self.old }
+        ensures each { (j : ℕ) → rows_in_file j self.new ≡ rows_in_file j self.old }
+        ensures stays { (j : ℕ) → (j == file) ≡ false → is_known j self.old ≡ true → is_known j self.new ≡ true }
+    {
+        let _ = &self.rows;
+        if self.has_none(file) {
+            self.take(file);
+        }
+    }
+
+    /// Whether a file has no rows.
+    fn has_none(&self, file: u32) -> bool
+        ensures { result ≡ (length (rows_in_file file self.now) == 0) }
+    {
+        match self.rows.get(&file) {
+            Some(rows) => rows.is_empty(),
+            None => true,
         }
     }
 

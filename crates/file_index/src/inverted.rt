@@ -1,5 +1,8 @@
 //! The rows of all files, and where to find those under a key.
-ghost use Rattle.std.specs.Prelude.{◌≡◌, ℕ, [], Bool, ◌&&◌, ◌||◌, not, ◌==◌, OnErr, OnOk, IfOk};
+ghost use Rattle.std.specs.Prelude.{◌≡◌, ℕ, List, [], Bool, if◌then◌else◌, ◌&&◌, ◌||◌, not, ◌==◌, OnErr, OnOk, IfOk};
+ghost use Rattle.std.specs.Ordering.{nat_cmp};
+ghost use Rattle.std.specs.List.Sorted.{IsStrictlySortedBy};
+ghost use Rattle.file_index.specs.Walk.{HasAllFiles, walked};
 ghost use Rattle.file_index.specs.Rows.{rows, rows_in_file, with_rows, without_file, rows_at, HasRoom, KeepsRoom, KeepsRoomBut};
 ghost use Rattle.file_index.specs.KeyRows.{has_key};
 ghost use Rattle.file_index.specs.Places.{is_placed};
@@ -36,7 +39,7 @@ impl<I: Indexer> Model for Inverted<I> {
 impl<I: Indexer> Inverted<I> {
     /// No rows.
     pub fn new(alloc: Global, indexer: I) -> Inverted<I>
-        ensures { rows result ≡ [] }
+        ensures { result.files ≡ [] }
     {
         Inverted {
             alloc,
@@ -49,14 +52,19 @@ impl<I: Indexer> Inverted<I> {
     /// The rows under a key, by the files and then by the values. It takes no memory; a step costs the logarithm of the
     /// numbers of files and of the file's rows.
     pub fn rows<'a>(&'a self, key: &'a I::Key) -> RowWalk<'a, I::Key, I::Value>
-        ensures { result ≡ rows_at I.Key.eq key.now (rows self.now) }
+        ensures rows { result ≡ rows_at I.Key.eq key.now (rows self.now) }
+
+        // So the files rise: over any rising ids among which are all files with such a row, it is file after file.
+        ensures by_files { (ids : List ℕ) → IsStrictlySortedBy nat_cmp ids → HasAllFiles I.Key.eq key.now self.now.files ids
+            → result ≡ walked I.Key.eq key.now self.now.files ids }
     {
         self.files.walk(self.postings.at(key), key)
     }
 
-    /// Makes room for a file's rows, so that `replace` with them takes no memory. No row changes.
+    /// Makes room for a file's rows, so that `swap` and `replace` with them take no memory. No row changes.
     pub fn reserve(&mut self, file: u32, new: &KeyRows<I::Key, I::Value>) -> Result<(), AllocError>
         ensures same { rows self.new ≡ rows self.old }
+        ensures each { (j : ℕ) → rows_in_file j self.new.files ≡ rows_in_file j self.old.files }
         ensures room { OnOk result (HasRoom I.Key.eq self.new file new.now) }
         ensures keeps_room { KeepsRoom I.Key.eq self.old self.new }
     {
@@ -80,6 +88,28 @@ impl<I: Indexer> Inverted<I> {
         Ok(())
     }
 
+    /// Gives a file these rows, and gives back those that it had. All room is kept, also that of the rows that go, so
+    /// that they may come back; `release` with them gives it up.
+    pub fn swap(&mut self, file: u32, new: KeyRows<I::Key, I::Value>) -> KeyRows<I::Key, I::Value>
+        requires { HasRoom I.Key.eq self.old file new }
+        ensures old { result ≡ rows_in_file file self.old.files }
+        ensures swapped { rows self.new ≡ with_rows file new (rows self.old) }
+        ensures each { (j : ℕ) → rows_in_file j self.new.files ≡ (if j == file then new else rows_in_file j self.old.files) }
+        ensures keeps_room { KeepsRoom I.Key.eq self.old self.new }
+    {
+        self.files.put(file, new)
+    }
+
+    /// Takes a file's rows out, and gives them back. All room is kept, also that of the rows that go.
+    pub fn withdraw(&mut self, file: u32) -> KeyRows<I::Key, I::Value>
+        ensures old { result ≡ rows_in_file file self.old.files }
+        ensures withdrawn { rows self.new ≡ without_file file (rows self.old) }
+        ensures each { (j : ℕ) → rows_in_file j self.new.files ≡ (if j == file then [] else rows_in_file j self.old.files) }
+        ensures keeps_room { KeepsRoom I.Key.eq self.old self.new }
+    {
+        self.files.clear(self.alloc, file)
+    }
+
     /// Gives a file these rows in place of those that it has.
     pub fn replace(&mut self, file: u32, new: KeyRows<I::Key, I::Value>)
         requires { HasRoom I.Key.eq self.old file new }
@@ -87,8 +117,8 @@ impl<I: Indexer> Inverted<I> {
         ensures keeps_room { KeepsRoomBut I.Key.eq file self.old self.new }
         ensures room { HasRoom I.Key.eq self.new file new }
     {
-        let old = self.files.put(file, new);
-        take_out_all(&mut self.postings, &self.files, file, &old);
+        let old = self.swap(file, new);
+        self.release(file, &old);
     }
 
     /// Takes a file's rows out.
@@ -103,15 +133,25 @@ impl<I: Indexer> Inverted<I> {
 
     /// Gives up the room that was made for a file's rows: it stands no more under keys that none of its rows has.
     pub fn release(&mut self, file: u32, given: &KeyRows<I::Key, I::Value>)
-        ensures same { rows self.new ≡ rows self.old }
+        ensures same { self.new.files ≡ self.old.files }
         ensures keeps_room { KeepsRoomBut I.Key.eq file self.old self.new }
+        ensures room { HasRoom I.Key.eq self.old file (rows_in_file file self.old.files) → HasRoom I.Key.eq self.new file (rows_in_file file self.old.files) }
     {
         take_out_all(&mut self.postings, &self.files, file, given);
     }
 
+    /// Gives up the place of a file that has no rows.
+    pub fn forget(&mut self, file: u32)
+        ensures same { rows self.new ≡ rows self.old }
+        ensures each { (j : ℕ) → rows_in_file j self.new.files ≡ rows_in_file j self.old.files }
+        ensures keeps_room { KeepsRoomBut I.Key.eq file self.old self.new }
+    {
+        self.files.forget(file);
+    }
+
     /// The same index once more.
     pub fn copy(&self) -> Result<Inverted<I>, AllocError>
-        ensures { IfOk result (λ copy. rows copy ≡ rows self.now) }
+        ensures { IfOk result (λ copy. copy.files ≡ self.now.files) }
     {
         Ok(Inverted {
             alloc: self.alloc,

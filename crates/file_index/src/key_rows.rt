@@ -2,7 +2,7 @@
 ghost use Rattle.std.specs.Prelude.{◌≡◌, ◌≤◌, [], length, ◌==◌, true, false, IfOk};
 ghost use Rattle.std.specs.List.Sorted.{IsPartitionPoint};
 ghost use Rattle.std.specs.Ordering.{is_lt, is_le};
-ghost use Rattle.file_index.specs.KeyRows.{AreInOrder, has_key, rows_with};
+ghost use Rattle.file_index.specs.KeyRows.{AreInOrder, by_keys, has_key, rows_with};
 
 use crate::{Indexer, Place};
 use std::alloc::{AllocError, Global};
@@ -42,6 +42,20 @@ impl<K: Ord, V: Place> KeyRows<K, V> {
         ensures { result ≡ rows.items }
     {
         KeyRows { rows }
+    }
+
+    /// Rows in any order of their keys, those of one key by the places of their values. They are sorted; without memory
+    /// for it they are gone.
+    pub fn from_rows(rows: Vec<(K, V)>) -> Result<KeyRows<K, V>, AllocError>
+    where
+        K: Drop,
+        V: Drop,
+        requires { (key : K) → AreInOrder K.cmp V.place_of (rows_with K.eq key rows.items) }
+        ensures { IfOk result (λ made. made ≡ by_keys K.cmp rows.items) }
+    {
+        let mut rows = rows;
+        rows.sort_by(|a, b| a.0.cmp(&b.0))?;
+        Ok(KeyRows { rows })
     }
 
     /// Rows of keys with one value each.
@@ -99,7 +113,7 @@ impl<K: Ord, V: Place> KeyRows<K, V> {
 }
 
 /// The same rows once more.
-pub(crate) fn copy_rows<I: Indexer>(
+pub fn copy_rows<I: Indexer>(
     alloc: Global,
     indexer: &I,
     rows: &KeyRows<I::Key, I::Value>,

@@ -11,5 +11,5 @@ mod row_walk;
 
 pub use indexer::{Indexer, Place};
 pub use inverted::Inverted;
-pub use key_rows::KeyRows;
+pub use key_rows::{KeyRows, copy_rows};
 pub use row_walk::RowWalk;

@@ -60,7 +60,7 @@ pub sized_text-many : (cs : List ℕ) → max_chars < length cs → sized_text c
 sized_text-many cs h = ap (λ b. if b then Ok cs else Err (TooLong (length cs))) (lt-leb (length cs) max_chars h)
 
 -- no carriage return is left where line breaks are repaired
-HasNoReturn-append : (xs ys : List ℕ) → HasNoReturn xs → HasNoReturn ys → HasNoReturn (xs ++ ys)
+pub HasNoReturn-append : (xs ys : List ℕ) → HasNoReturn xs → HasNoReturn ys → HasNoReturn (xs ++ ys)
 HasNoReturn-append [] ys h k = k
 HasNoReturn-append (x ∷ xs) ys h k = (h.0, HasNoReturn-append xs ys h.1 k)
 
@@ -91,7 +91,7 @@ repaired-without bytes u none =
     (sym (list_any-encodes (chars bytes) carriage_return (omega arith)) ∙ ap (list_any (λ b. b == carriage_return)) (encodes-chars bytes u) ∙ none)
 
 -- scalar values stay such
-all_scalars-append : (xs ys : List ℕ) → all_scalars xs ≡ true → all_scalars ys ≡ true → all_scalars (xs ++ ys) ≡ true
+pub all_scalars-append : (xs ys : List ℕ) → all_scalars xs ≡ true → all_scalars ys ≡ true → all_scalars (xs ++ ys) ≡ true
 all_scalars-append [] ys h k = k
 all_scalars-append (x ∷ xs) ys h k = both_true _ _ (first_so _ _ h) (all_scalars-append xs ys (second_so _ _ h) k)
 

@@ -181,12 +181,12 @@ both_true : (a b : Bool) → a ≡ true → b ≡ true → (a && b) ≡ true
 both_true a b h k = λ i. h i && k i
 
 -- a part of some scalar values has such alone
-all_scalars-take : (n : ℕ) (cs : List ℕ) → all_scalars cs ≡ true → all_scalars (take n cs) ≡ true
+pub all_scalars-take : (n : ℕ) (cs : List ℕ) → all_scalars cs ≡ true → all_scalars (take n cs) ≡ true
 all_scalars-take zero cs h = refl
 all_scalars-take (suc n) [] h = refl
 all_scalars-take (suc n) (c ∷ cs) h = both_true _ _ (first_so _ _ h) (all_scalars-take n cs (second_so _ _ h))
 
-all_scalars-drop : (n : ℕ) (cs : List ℕ) → all_scalars cs ≡ true → all_scalars (drop n cs) ≡ true
+pub all_scalars-drop : (n : ℕ) (cs : List ℕ) → all_scalars cs ≡ true → all_scalars (drop n cs) ≡ true
 all_scalars-drop zero cs h = h
 all_scalars-drop (suc n) [] h = h
 all_scalars-drop (suc n) (c ∷ cs) h = all_scalars-drop n cs (second_so _ _ h)

@@ -1,6 +1,6 @@
 //! How the characters of a text lie in memory: a byte each where all of them are ASCII, as in most sources.
-ghost use Rattle.std.specs.Prelude.{◌≡◌, ◌≤◌, ◌<◌, ◌-◌, ◌++◌, IfOk, OnOk, Some, length, slice_get, take, drop, encode_utf8_all};
-ghost use Rattle.std.specs.Str.{chars};
+ghost use Rattle.std.specs.Prelude.{◌≡◌, ◌≤◌, ◌<◌, ◌-◌, ◌++◌, IsTrue, IfOk, OnOk, Some, length, slice_get, take, drop, encode_utf8_all};
+ghost use Rattle.std.specs.Str.{chars, all_scalars};
 ghost use Rattle.std.specs.String.{string_bytes};
 ghost use Rattle.ide_text.specs.Chars.{chars_of, IsKept};
 ghost use Rattle.ide_text.specs.Text.{repaired, repaired_char};
@@ -67,6 +67,50 @@ impl Chars {
         }
     }
 
+    /// The same characters with others put in before a place.
+    pub(crate) fn with_piece(&self, at: usize, piece: &Chars) -> Result<Chars, AllocError>
+        requires kept { IsKept self.now }
+        requires kept_piece { IsKept piece.now }
+        requires inside { at ≤ length (chars_of self.now) }
+        requires scalars { IsTrue (all_scalars (take at (chars_of self.now) ++ chars_of piece.now ++ drop at (chars_of self.now))) }
+        ensures value { IfOk result (λ cs. chars_of cs ≡ take at (chars_of self.now) ++ chars_of piece.now ++ drop at (chars_of self.now)) }
+        ensures kept { IfOk result IsKept }
+    {
+        let alloc = self.alloc();
+        let mut out = String::with_capacity(alloc, self.len())?;
+        self.add_part(&mut out, 0, at)?;
+        piece.add_part(&mut out, 0, piece.len())?;
+        self.add_part(&mut out, at, self.len())?;
+        Chars::of(alloc, out)
+    }
+
+    /// Takes the characters from one place up to another out. It takes no memory.
+    pub(crate) fn erase(&mut self, from: usize, to: usize)
+        requires kept { IsKept self.old }
+        requires ordered { from ≤ to }
+        requires inside { to ≤ length (chars_of self.old) }
+        ensures value { chars_of self.new ≡ take from (chars_of self.old) ++ drop to (chars_of self.old) }
+        ensures kept { IsKept self.new }
+    {
+        match self {
+            Chars::Ascii(text) => match text.replace_range(from..to, "") {
+                Ok(()) => {}
+                Err(_) => unreachable!(),
+            },
+            Chars::Any(chars) => {
+                let _ = chars.drain(from..to);
+            }
+        }
+    }
+
+    /// What gave the characters their memory.
+    fn alloc(&self) -> Global {
+        match self {
+            Chars::Ascii(text) => *text.allocator(),
+            Chars::Any(chars) => *chars.allocator(),
+        }
+    }
+
     /// The same characters once more.
     pub(crate) fn copy(&self) -> Result<Chars, AllocError>
         requires { IsKept self.now }
@@ -78,6 +122,18 @@ impl Chars {
             Chars::Any(chars) => Chars::Any(chars.clone()?),
         })
     }
+}
+
+/// Two lists of characters, one after the other.
+pub(crate) fn joined(alloc: Global, front: &[char], back: &[char]) -> Result<Chars, AllocError>
+    requires { IsTrue (all_scalars (front.now ++ back.now)) }
+    ensures value { IfOk result (λ cs. chars_of cs ≡ front.now ++ back.now) }
+    ensures kept { IfOk result IsKept }
+{
+    let mut out = String::with_capacity(alloc, front.len())?;
+    add_chars(&mut out, front)?;
+    add_chars(&mut out, back)?;
+    Chars::of(alloc, out)
 }
 
 /// Adds some characters in UTF-8.

@@ -1,5 +1,5 @@
 //! A text with several owners: a script, its history and the state of the workspace have one copy of it.
-ghost use Rattle.std.specs.Prelude.{◌≡◌, IfOk, length};
+ghost use Rattle.std.specs.Prelude.{◌≡◌, IfOk, bytes_eq, length};
 
 use crate::Text;
 use std::alloc::{AllocError, Global};
@@ -44,6 +44,13 @@ impl SharedText {
         ensures { result ≡ length self.now }
     {
         self.text.len()
+    }
+
+    /// Whether the other text has the same characters. Lengths are compared first.
+    pub fn is_same(&self, other: &SharedText) -> bool
+        ensures { result ≡ bytes_eq self.now other.now }
+    {
+        self.text.is_same(&other.text)
     }
 
     /// The text.

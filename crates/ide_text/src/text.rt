@@ -1,13 +1,13 @@
 //! A text: a list of at most `MAX_CHARS` characters, with `\n` as its only line break.
-ghost use Rattle.std.specs.Prelude.{◌≡◌, ◌≤◌, ◌<◌, ◌-◌, IfOk, IfErr, OnOk, length, slice_get, take, drop, Some, ◌==◌, encode_utf8_all};
+ghost use Rattle.std.specs.Prelude.{◌≡◌, ◌≤◌, ◌<◌, ◌+◌, ◌-◌, ◌++◌, IfOk, IfErr, OnOk, OnErr, bytes_eq, length, slice_get, take, drop, Some, ◌==◌, encode_utf8_all};
 ghost use Rattle.std.specs.Str.{chars};
 ghost use Rattle.std.specs.String.{string_bytes};
 ghost use Rattle.ide_text.specs.Chars.{chars_of, IsKept};
-ghost use Rattle.ide_text.specs.Text.{IsText, repaired};
+ghost use Rattle.ide_text.specs.Text.{IsText, max_chars, repaired};
 ghost use Rattle.ide_text.specs.Place.{line_at, column_at};
 
 use crate::LineWalk;
-use crate::chars::{Chars, repaired};
+use crate::chars::{Chars, joined, repaired};
 use std::alloc::{AllocError, Global};
 use std::marker::Model;
 use thiserror::Error;
@@ -131,6 +131,52 @@ impl Text {
     {
         out.clear();
         self.chars.add_part(out, from as usize, to as usize)
+    }
+
+    /// Puts the characters of another text in before an offset. Linear in both texts; without memory nothing changes.
+    pub fn insert(&mut self, at: u32, piece: &Text) -> Result<(), AllocError>
+        requires inside { at ≤ length self.old }
+        requires fits { length self.old + length piece.now ≤ max_chars }
+        ensures ok { OnOk result (self.new ≡ take at self.old ++ piece.now ++ drop at self.old) }
+        ensures err { OnErr result (self.new ≡ self.old) }
+    {
+        let _ = piece.len();
+        self.chars = self.chars.with_piece(at as usize, &piece.chars)?;
+        Ok(())
+    }
+
+    /// Takes the characters from one offset up to another out. It takes no memory, and is linear in the text.
+    pub fn erase(&mut self, from: u32, to: u32)
+        requires ordered { from ≤ to }
+        requires inside { to ≤ length self.old }
+        ensures { self.new ≡ take from self.old ++ drop to self.old }
+    {
+        self.chars.erase(from as usize, to as usize);
+    }
+
+    /// The text of two lists of characters, one after the other.
+    pub fn joined(alloc: Global, front: &[char], back: &[char]) -> Result<Text, AllocError>
+        requires { IsText (front.now ++ back.now) }
+        ensures { IfOk result (λ text. text ≡ front.now ++ back.now) }
+    {
+        Ok(Text {
+            chars: joined(alloc, front, back)?,
+        })
+    }
+
+    /// Whether the other text has the same characters. Lengths are compared first.
+    pub fn is_same(&self, other: &Text) -> bool
+        ensures { result ≡ bytes_eq self.now other.now }
+    {
+        if self.len() != other.len() {
+            return false;
+        }
+        for at in 0..self.len() {
+            if self.char_at(at) != other.char_at(at) {
+                return false;
+            }
+        }
+        true
     }
 
     /// The same text once more.

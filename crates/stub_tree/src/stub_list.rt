@@ -84,6 +84,15 @@ impl StubList {
         &self.stubs
     }
 
+    /// The stubs as a vector.
+    pub fn into_vec(self) -> Vec<Stub>
+        ensures stubs { result.items ≡ self }
+        ensures lawful { IsLawfulList result.items }
+    {
+        let StubList { stubs } = self;
+        stubs
+    }
+
     /// The same stubs once more.
     pub fn copy(&self) -> Result<StubList, AllocError>
         ensures { IfOk result (λ copy. copy ≡ self.now) }

@@ -1,0 +1,7 @@
+use Rattle.std.proofs.Common.{◌≡◌, take}
+use Rattle.document_buf.specs.Gap.{joined_of}
+use Rattle.document_buf.proofs.gap.GapBuffer.is_text.Given as goal
+
+-- up to the place the characters are the same
+abbrev pub invariant-loop-at : goal.invariant-loop-at
+invariant-loop-at l = take l.at (joined_of l.self) ≡ take l.at l.text

@@ -1,0 +1,118 @@
+//! Calls on documents that look first whether they may be made, and say whether they were.
+ghost use Rattle.std.specs.Prelude.{◌≡◌, ◌<◌, IfOk};
+
+use document_buf::{Doc, Docs};
+use ide_text::{MAX_CHARS, SharedText, Text, TextRefusal};
+use std::alloc::{AllocError, Global};
+
+/// The text that a string spells.
+pub(crate) fn text_of(alloc: Global, text: &str) -> Result<Text, TextRefusal> {
+    Text::from_utf8(alloc, text.as_bytes())
+}
+
+/// Opens a document with this content where none is open.
+pub(crate) fn open(
+    docs: &mut Docs,
+    alloc: Global,
+    id: u32,
+    content: Text,
+) -> Result<bool, AllocError>
+    requires { 0 < id }
+{
+    docs.reserve(id, 0)?;
+    let doc = Doc::open(alloc, &SharedText::new(alloc, content)?, 0)?;
+    if docs.get(id).is_some() {
+        return Ok(false);
+    }
+    docs.open_doc(id, doc);
+    Ok(true)
+}
+
+/// Puts a piece in before an offset.
+pub(crate) fn put(docs: &mut Docs, id: u32, at: u32, piece: &Text) -> Result<bool, AllocError>
+    requires { 0 < id }
+{
+    docs.reserve(id, piece.len())?;
+    match docs.get(id) {
+        Some(doc) if at <= doc.len() && doc.len() + piece.len() <= MAX_CHARS as u32 => {}
+        _ => return Ok(false),
+    }
+    docs.insert(id, at, piece);
+    Ok(true)
+}
+
+/// Takes out what stands from one offset up to another.
+pub(crate) fn cut(docs: &mut Docs, id: u32, from: u32, to: u32) -> bool {
+    match docs.get(id) {
+        Some(doc) if from <= to && to <= doc.len() => {}
+        _ => return false,
+    }
+    docs.erase(id, from, to);
+    true
+}
+
+/// Commits the text.
+pub(crate) fn commit(docs: &mut Docs, alloc: Global, id: u32) -> Result<bool, AllocError> {
+    let text = match docs.get(id) {
+        Some(doc) => SharedText::new(alloc, doc.text()?)?,
+        None => return Ok(false),
+    };
+    docs.commit(id, text);
+    Ok(true)
+}
+
+/// Notes that the file has the text.
+pub(crate) fn save(docs: &mut Docs, id: u32) -> bool {
+    let is_open = docs.get(id).is_some();
+    if is_open {
+        docs.mark_saved(id);
+    }
+    is_open
+}
+
+/// Gives the document another text.
+pub(crate) fn replace(
+    docs: &mut Docs,
+    alloc: Global,
+    id: u32,
+    text: Text,
+) -> Result<bool, AllocError> {
+    let doc = Doc::open(alloc, &SharedText::new(alloc, text)?, 0)?;
+    let is_open = docs.get(id).is_some();
+    if is_open {
+        docs.replace_text(id, doc);
+    }
+    Ok(is_open)
+}
+
+/// Closes the document.
+pub(crate) fn close(docs: &mut Docs, id: u32) -> bool {
+    let is_open = docs.get(id).is_some();
+    if is_open {
+        docs.close_doc(id);
+    }
+    is_open
+}
+
+/// Whether a document is open with this text and this committed text, and its mark.
+pub(crate) fn shows(
+    docs: &Docs,
+    alloc: Global,
+    id: u32,
+    wanted: (&str, &str, bool),
+) -> Result<bool, TextRefusal> {
+    let text = text_of(alloc, wanted.0)?;
+    let committed = text_of(alloc, wanted.1)?;
+    Ok(match docs.get(id) {
+        Some(doc) => match doc.text() {
+            Ok(own) => {
+                own.is_same(&text)
+                    && doc.committed().as_text().is_same(&committed)
+                    && doc.saved() == wanted.2
+                    && doc.is_committed() == text.is_same(&committed)
+            }
+            Err(_) => return Err(TextRefusal::OutOfMemory),
+        },
+        None => false,
+    })
+}

@@ -1,0 +1,10 @@
+use Rattle.std.proofs.Common.{◌≡◌, ℕ, None, map}
+use Rattle.std.specs.Ordering.{nat_cmp, eq_by_cmp}
+use Rattle.std.specs.Map.{update_all}
+use Rattle.std.specs.Map.Iter.{deref_pair}
+use Rattle.std.specs.BTreeMap.{get}
+use Rattle.overlay_index.proofs.hidden.Hidden.copy.Given as goal
+
+-- the bases so far were put in, one after another
+abbrev pub invariant-loop-file : goal.invariant-loop-file
+invariant-loop-file l = (q : ℕ) → get nat_cmp l.bases q ≡ update_all (eq_by_cmp nat_cmp) (λ _. None) (map deref_pair l.yielded) q

@@ -1,0 +1,8 @@
+use Rattle.decl_parser.specs.Listing.{listing_of}
+use Rattle.stub_index.proofs.NamedLemmas.{types_values}
+use Rattle.overlay_index.specs.Parts.{parts_of}
+use Rattle.overlay_index.proofs.laws.a_name_finds_its_types.Goals as goal
+
+pub returns : goal.returns
+unfolding parts_of
+returns c = λ text name. types_values name (listing_of text)

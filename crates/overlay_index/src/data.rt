@@ -1,0 +1,70 @@
+//! The rows of one text.
+ghost use Rattle.std.specs.Prelude.{◌≡◌, IfOk};
+ghost use Rattle.overlay_index.specs.Parts.{no_parts, parts_of};
+
+use crate::word_masks::WordMasks;
+use decl_parser::stubs;
+use file_index::{Indexer, KeyRows, copy_rows};
+use ide_text::{Name, Text};
+use java_tokens::words;
+use std::alloc::{AllocError, Global};
+use std::marker::Model;
+use stub_index::{MethodNames, SharedStub, SharedStubs, SuperNames, TypeNames};
+
+/// The rows of a text: its types under their names and under their supers, its methods, and its words.
+///
+/// A stub that several rows find is there once.
+#[derive(Drop)]
+pub struct FileData {
+    pub(crate) types: KeyRows<Name, SharedStub>,
+    pub(crate) supers: KeyRows<Name, SharedStub>,
+    pub(crate) methods: KeyRows<Name, SharedStub>,
+    pub(crate) words: KeyRows<Name, u8>,
+}
+
+impl Model for FileData {
+    ghost use Rattle.overlay_index.specs.Parts.{Parts};
+
+    ghost Value = { Parts };
+
+    ghost view = { λ d. record { types = d.types; supers = d.supers; methods = d.methods; words = d.words } };
+}
+
+impl FileData {
+    /// No rows. It takes no memory.
+    pub fn new(alloc: Global) -> FileData
+        ensures { result ≡ no_parts }
+    {
+        FileData {
+            types: KeyRows::new(alloc),
+            supers: KeyRows::new(alloc),
+            methods: KeyRows::new(alloc),
+            words: KeyRows::new(alloc),
+        }
+    }
+
+    /// The same rows once more.
+    pub fn copy(&self, alloc: Global) -> Result<FileData, AllocError>
+        ensures { IfOk result (λ copy. copy ≡ self.now) }
+    {
+        Ok(FileData {
+            types: copy_rows(alloc, &TypeNames, &self.types)?,
+            supers: copy_rows(alloc, &SuperNames, &self.supers)?,
+            methods: copy_rows(alloc, &MethodNames, &self.methods)?,
+            words: copy_rows(alloc, &WordMasks, &self.words)?,
+        })
+    }
+}
+
+/// The rows of a text. Linear in the text, but for the sorting of its rows.
+pub fn data_of(alloc: Global, text: &Text) -> Result<FileData, AllocError>
+    ensures { IfOk result (λ made. made ≡ parts_of text.now) }
+{
+    let stubs = SharedStubs::of(alloc, stubs(alloc, text)?)?;
+    Ok(FileData {
+        types: TypeNames.rows(alloc, &stubs)?,
+        supers: SuperNames.rows(alloc, &stubs)?,
+        methods: MethodNames.rows(alloc, &stubs)?,
+        words: WordMasks.rows(alloc, &words(alloc, text)?)?,
+    })
+}

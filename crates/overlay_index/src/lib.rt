@@ -1,0 +1,17 @@
+//! The rows of all files under four kinds of keys, in two layers: bases, and overlays that hide them.
+#![tactic(auto)]
+
+mod data;
+mod found;
+mod gone;
+mod hidden;
+pub mod laws;
+mod layers;
+mod tables;
+mod word_masks;
+
+pub use data::{FileData, data_of};
+pub use found::{StubWalk, WordWalk};
+pub use gone::Gone;
+pub use layers::Layers;
+pub use word_masks::WordMasks;

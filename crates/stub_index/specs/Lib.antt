@@ -1,0 +1,6 @@
+-- What callers may rest on: the rows that a list of stubs gives, and which stubs a name finds.
+pub mod Named
+-- What they cite from below: rows by their keys, and stubs.
+pub use Rattle.file_index.specs.KeyRows
+pub use Rattle.stub_tree.specs.Stub
+pub use Rattle.stub_tree.specs.Lawful

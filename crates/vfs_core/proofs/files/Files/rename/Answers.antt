@@ -1,0 +1,56 @@
+use Rattle.std.proofs.Common.{◌≡◌, ◌-◌, Some, None, ap, sym, subst, ◌∙◌, set, arith, cond, ℕ}
+use Rattle.vfs_core.specs.declared.row.FileRow.{FileRow}
+use Rattle.std.specs.Prelude.{option_map, is_some, bytes_eq}
+use Rattle.std.specs.Cmp.Lexicographic.{same_text}
+use Rattle.vfs_core.specs.Row.{row_in, renamed, has_path, indexed_of}
+use Rattle.vfs_core.specs.Held.{id_at}
+use Rattle.vfs_core.specs.Table.{id_after, id_kept}
+use Rattle.vfs_core.proofs.KeptLemmas.{set_twice, each_twice, put_found, put_stamped, is_id-Some}
+use Rattle.vfs_core.proofs.PathLemmas.{place_kept, same_path}
+use Rattle.vfs_core.proofs.files.Files.rename.Goals as goal
+
+pub set-requires : goal.set-requires
+set-requires c =
+    let path = c.in-Some.row.path in
+    let ids = c.self.inside.paths in
+    let was = sym c.put.ensures.old ∙ c.in-Some.is in
+    place_kept ids path c.args.id (is_id-Some c.args.id (id_kept path ids) (c.self.invariant.found path c.args.id ∙ ap (has_path path) was ∙ same_path path))
+
+pub invariant_of-self : goal.invariant_of-self
+invariant_of-self c =
+    let rows = c.self.inside.rows.rows in
+    let rows' = c.put-in-Some.new.self.rows in
+    let ids = c.self.inside.paths in
+    let id = c.args.id in
+    let new = renamed c.args.to c.draw-stamp.result c.in-Some.row in
+    let was = sym c.put.ensures.old ∙ c.in-Some.is in
+    let each = each_twice rows c.put.new.self.rows rows' id (Some new) c.put.ensures.each c.put-in-Some.ensures.each in
+    let same = ap (λ h. h.rows) c.self.view_is ∙ c.draw-stamp.ensures.rows in
+    let next = ap (λ h. h.next_stamp) c.self.view_is in
+    let old = c.self.invariant.stamped id in
+    record {
+      found = put_found rows rows' ids c.set-in-Some.new.self id (Some new) c.self.invariant.found each
+          (λ path.
+          c.set-in-Some.ensures.ids path
+          ∙ ap (λ o. cond (bytes_eq c.args.to path) (Some id) o) (c.set.ensures.ids path)
+          ∙ ap (λ o. id_after id o (Some new) path (id_kept path ids)) (sym was))
+          (λ path has lacks. ap (λ rs. id_at (record c.args.self.now { rows = rs }) path) same ∙ subst (λ p. id_at c.args.self.now p ≡ None) (same_text c.args.to path (sym has)) c.requires.free);
+      stamped = put_stamped rows rows' id c.self.inside.next_stamp (Some new) each
+          (record {
+            stamp = omega (arith, next, c.draw-stamp.ensures.value, c.draw-stamp.ensures.stamp);
+            indexed = let e = ap indexed_of was in omega (arith, e, old.indexed);
+          })
+          c.self.invariant.stamped;
+    }
+
+pub returns-in-Some-clause-rows : goal.returns-in-Some-clause-rows
+returns-in-Some-clause-rows c =
+    let id = c.args.id in
+    let new : ℕ → FileRow = λ stamp. renamed c.args.to stamp c.in-Some.row in
+    let same = ap (λ h. h.rows) c.self.view_is ∙ c.draw-stamp.ensures.rows in
+    let was = ap (λ rs. row_in rs id) (sym same) ∙ sym c.put.ensures.old ∙ c.in-Some.is in
+    set_twice c.self.inside.rows.rows c.put.new.self.rows c.put-in-Some.new.self.rows id (Some (new c.draw-stamp.result))
+    (ap (λ rs. is_some (row_in rs id)) same ∙ c.requires.live) c.put.ensures.kept c.put.ensures.made c.put-in-Some.ensures.kept
+    ∙ ap (λ rs. set rs (id - 1) (Some (new c.draw-stamp.result))) same
+    ∙ ap (λ stamp. set c.args.self.now.rows (id - 1) (Some (new stamp))) c.draw-stamp.ensures.value
+    ∙ ap (λ o. set c.args.self.now.rows (id - 1) (option_map (renamed c.args.to c.args.self.now.next_stamp) o)) (sym was)

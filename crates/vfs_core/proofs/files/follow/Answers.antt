@@ -1,0 +1,10 @@
+use Rattle.std.proofs.Common.{ap, ◌∙◌}
+use Rattle.std.specs.Option.{option_copied}
+use Rattle.vfs_core.specs.Row.{has_path}
+use Rattle.vfs_core.proofs.PathLemmas.{place_kept, same_path}
+use Rattle.vfs_core.proofs.files.follow.Goals as goal
+
+pub set-requires : goal.set-requires
+set-requires c =
+    let path = c.in-Some.row.now.path in
+    place_kept c.args.paths.now path c.args.id (c.requires.kept path (ap (λ o. has_path path (option_copied o)) c.in-Some.is ∙ same_path path))

@@ -1,0 +1,6 @@
+use Rattle.std.proofs.Common.{◌≡◌, ◌++◌, drop}
+use Rattle.vfs_core.proofs.rows.copy_rows.Given as goal
+
+-- the rows so far and the rest are all
+abbrev pub invariant-loop-row : goal.invariant-loop-row
+invariant-loop-row l = l.copy.items ++ drop l.row-index l.rows ≡ l.rows

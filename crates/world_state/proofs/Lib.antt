@@ -1,0 +1,6 @@
+pub mod FileLemmas
+pub mod MarkLemmas
+pub mod WorldLemmas
+pub mod RoomLemmas
+pub mod ReaderLemmas
+pub mod WalkLemmas

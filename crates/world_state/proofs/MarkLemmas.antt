@@ -1,0 +1,81 @@
+-- Which ids are on, and the first of them.
+use Rattle.std.proofs.Common.{◌≡◌, ℕ, ◌<◌, ◌≤◌, Bool, true, false, cond, eqb, ltb, List, [], ◌∷◌, Some, None, refl, sym, ap, ◌∙◌, subst, arith, ⊎_elim, nat_cmp}
+use Rattle.std.specs.Prelude.{find, unwrap_or}
+use Rattle.std.specs.List.{AllByRecursion}
+use Rattle.std.specs.List.Sorted.{IsStrictlySortedBy}
+use Rattle.std.specs.BTreeMap.{is_at}
+use Rattle.std.specs.Map.{lookup, keys_of}
+use Rattle.std.specs.Ordering.{is_eq}
+use Rattle.std.specs.declared.cmp.Ordering.TheVariants.{Less, Equal, Greater}
+use Rattle.std.proofs.lemmas.Bool.{cases_Bool, cases_lt, cases_eq, cond-true, cond-false, eq-eqb, ne_eqb, ltb-true}
+use Rattle.std.proofs.lemmas.Bool.Decides.{nat_tests}
+use Rattle.std.proofs.lemmas.Option.{none-some, same_Some}
+use Rattle.std.proofs.lemmas.Map.Keys.{sorted_head, sorted_tail}
+
+is_eq-nat_cmp : (a b : ℕ) → is_eq (nat_cmp a b) ≡ eqb a b
+is_eq-nat_cmp a b = ⊎_elim
+    (λ (below : ltb a b ≡ true). ap (λ t. is_eq (cond t Less (cond (eqb a b) Equal Greater))) below ∙ sym (ne_eqb a b (λ e. omega (arith, ltb-true a b below, e))))
+    (λ (above : ltb a b ≡ false). ap (λ t. is_eq (cond t Less (cond (eqb a b) Equal Greater))) above ∙ by (eqb a b))
+    (cases_Bool (ltb a b))
+  where
+    by : (t : Bool) → is_eq (cond t Equal Greater) ≡ t
+    by true = refl
+    by false = refl
+
+less_below : (a b : ℕ) → nat_cmp a b ≡ Less → a < b
+less_below a b h = grind (arith, nat_tests)
+
+-- no entry above a key is at one that isn't above it
+below_all : (es : List (ℕ × Bool)) (k other : ℕ) → AllByRecursion (λ y. nat_cmp k y ≡ Less) (keys_of es) → other ≤ k → lookup (is_at (nat_cmp other)) es ≡ None
+below_all [] k other above h = refl
+below_all (e ∷ es) k other above h =
+    let apart : eqb other e.0 ≡ false = ne_eqb other e.0 (λ s. omega (arith, less_below k e.0 above.0, h, s)) in
+    ap (λ t. cond t (Some e.1) (lookup (is_at (nat_cmp other)) es)) (is_eq-nat_cmp other e.0 ∙ apart) ∙ below_all es k other above.1 h
+
+-- nothing is at another key than the first entry's but what is at it in the rest
+past : (e : ℕ × Bool) (es : List (ℕ × Bool)) (other : ℕ) → (other ≡ e.0 → ⊥) → lookup (is_at (nat_cmp other)) (e ∷ es) ≡ lookup (is_at (nat_cmp other)) es
+past e es other apart = ap (λ t. cond t (Some e.1) (lookup (is_at (nat_cmp other)) es)) (is_eq-nat_cmp other e.0 ∙ ne_eqb other e.0 apart)
+
+here : (e : ℕ × Bool) (es : List (ℕ × Bool)) (other : ℕ) → other ≡ e.0 → lookup (is_at (nat_cmp other)) (e ∷ es) ≡ Some e.1
+here e es other same = ap (λ t. cond t (Some e.1) (lookup (is_at (nat_cmp other)) es)) (is_eq-nat_cmp other e.0 ∙ eq-eqb other e.0 same)
+
+-- an entry that is found first is on, and no id before it is
+pub record IsFirstOn (es : List (ℕ × Bool)) (id : ℕ) : Type 0 where
+  pub on : lookup (is_at (nat_cmp id)) es ≡ Some true
+  pub before : (other : ℕ) → other < id → unwrap_or (lookup (is_at (nat_cmp other)) es) false ≡ false
+
+first_entry_on : (e : ℕ × Bool) (es : List (ℕ × Bool)) → IsStrictlySortedBy nat_cmp (keys_of (e ∷ es)) → e.1 ≡ true → IsFirstOn (e ∷ es) e.0
+first_entry_on e es sorted on = record {
+  on = here e es e.0 refl ∙ ap Some on;
+  before = λ other below. ap (λ o. unwrap_or o false) (past e es other (λ s. omega (arith, s, below)) ∙ below_all es e.0 other (sorted_head nat_cmp e.0 (keys_of es) sorted) (omega (arith, below)));
+}
+
+later_entry_on : (e : ℕ × Bool) (es : List (ℕ × Bool)) (id : ℕ) → IsStrictlySortedBy nat_cmp (keys_of (e ∷ es)) → e.1 ≡ false → IsFirstOn es id → IsFirstOn (e ∷ es) id
+later_entry_on e es id sorted is_off first =
+    let above : e.0 < id = ⊎_elim
+    (λ (below : e.0 < id). below)
+    (λ (not_below : id ≤ e.0). absurd (none-some true (sym (below_all es e.0 id (sorted_head nat_cmp e.0 (keys_of es) sorted) not_below) ∙ first.on)))
+    (cases_lt e.0 id) in record {
+      on = past e es id (λ s. omega (arith, s, above)) ∙ first.on;
+      before = λ other below. ⊎_elim
+          (λ (same : other ≡ e.0). ap (λ o. unwrap_or o false) (here e es other same) ∙ is_off)
+          (λ (apart : other ≡ e.0 → ⊥). ap (λ o. unwrap_or o false) (past e es other apart) ∙ first.before other below)
+          (cases_eq other e.0);
+    }
+
+pub first_entry : (es : List (ℕ × Bool)) (found : ℕ × Bool) → IsStrictlySortedBy nat_cmp (keys_of es) → find (λ e. e.1) es ≡ Some found → IsFirstOn es found.0
+first_entry [] found sorted h = absurd (none-some found h)
+first_entry (e ∷ es) found sorted h = ⊎_elim
+    (λ (on : e.1 ≡ true). subst (λ x. IsFirstOn (e ∷ es) x.0) (same_Some e found (sym (cond-true e.1 (Some e) (find (λ x. x.1) es) on) ∙ h)) (first_entry_on e es sorted on))
+    (λ (is_off : e.1 ≡ false). later_entry_on e es found.0 sorted is_off (first_entry es found (sorted_tail nat_cmp e.0 (keys_of es) sorted) (sym (cond-false e.1 (Some e) (find (λ x. x.1) es) is_off) ∙ h)))
+    (cases_Bool e.1)
+
+pub none_on : (es : List (ℕ × Bool)) → find (λ e. e.1) es ≡ None → (other : ℕ) → unwrap_or (lookup (is_at (nat_cmp other)) es) false ≡ false
+none_on [] h other = refl
+none_on (e ∷ es) h other = ⊎_elim
+    (λ (on : e.1 ≡ true). absurd (none-some e (sym h ∙ cond-true e.1 (Some e) (find (λ x. x.1) es) on)))
+    (λ (is_off : e.1 ≡ false). ⊎_elim
+    (λ (same : other ≡ e.0). ap (λ o. unwrap_or o false) (here e es other same) ∙ is_off)
+    (λ (apart : other ≡ e.0 → ⊥). ap (λ o. unwrap_or o false) (past e es other apart) ∙ none_on es (sym (cond-false e.1 (Some e) (find (λ x. x.1) es) is_off) ∙ h) other)
+    (cases_eq other e.0))
+    (cases_Bool e.1)

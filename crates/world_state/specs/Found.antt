@@ -1,0 +1,34 @@
+-- What the files of a world have that fits, each with the file's id.
+use Rattle.std.specs.Prelude.{ℕ, ◌+◌, Bool, if◌then◌else◌, List, [], ◌∷◌, ◌++◌, map, filter, Option, option_to_list}
+use Rattle.std.specs.Option.{option_map_or}
+use Rattle.dumb_mode.specs.Filter.{is_java}
+use Rattle.stub_tree.specs.declared.stub.Stub.{Stub}
+use Rattle.java_tokens.specs.Words.{words_of, mask_in}
+use Rattle.decl_parser.specs.Listing.{listing_of}
+use Rattle.write_history.specs.World.{World, File, shown_text}
+
+-- the entries of a text's listing that fit
+abbrev pub stubs_in : (Stub → Bool) → List ℕ → List Stub
+stubs_in fits text = filter fits (listing_of text)
+
+-- the mask of a word of a text, where it has the word
+abbrev pub masks_in : List ℕ → List ℕ → List ℕ
+masks_in name text = option_to_list (mask_in (words_of text) name)
+
+module _ {X : Type 0} where
+  -- what a live file gives: nothing where it isn't a Java file
+  abbrev pub found_in : (List ℕ → List X) → File → List X
+  found_in read file = if is_java file.path then read (shown_text file) else []
+
+  -- what a file gives, where it is live
+  abbrev pub found_at : (List ℕ → List X) → Option File → List X
+  found_at read file = option_map_or (found_in read) file []
+
+  -- what files give, each with its id, where the first of them has this id
+  abbrev pub found_from : (List ℕ → List X) → ℕ → List (Option File) → List (ℕ × X)
+  found_from read id [] = []
+  found_from read id (file ∷ files) = map (λ x. (id, x)) (found_at read file) ++ found_from read (id + 1) files
+
+  -- what the live Java files of a world give, in order of their ids
+  abbrev pub found : (List ℕ → List X) → World → List (ℕ × X)
+  found read world = found_from read 1 world.files
