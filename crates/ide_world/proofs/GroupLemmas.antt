@@ -1,6 +1,6 @@
 -- A list of changes, made one after another on a draft.
-use Rattle.std.proofs.Common.{ℕ, zero, suc, ◌≡◌, ◌≢◌, ◌+◌, ◌<◌, ◌≤◌, Bool, true, false, List, [], ◌∷◌, ◌++◌, length, refl, ap, sym, ◌∙◌, subst, arith, Some, None}
-use Rattle.std.specs.Prelude.{Option, option_map, nat_le}
+use Rattle.std.proofs.Common.{ℕ, zero, suc, ◌≡◌, ◌≢◌, ◌+◌, ◌<◌, ◌≤◌, Bool, true, false, List, [], ◌∷◌, ◌++◌, length, get_or, drop, add-one, refl, ap, sym, ◌∙◌, subst, arith, Some, None}
+use Rattle.std.specs.Prelude.{◌&&◌, Result, Ok, Err, OnOk, Option, option_map, nat_le}
 use Rattle.std.proofs.lemmas.Bool.{leb-false}
 use Rattle.write_history.specs.declared.change.Change.{Change}
 use Rattle.write_history.specs.declared.refusal.Refusal.{Refusal}
@@ -14,11 +14,13 @@ use Rattle.world_state.specs.DocEdits.{inserted_by}
 use Rattle.world_state.specs.Step.{after_step, after_steps}
 use Rattle.world_state.specs.Lawful.{AreLawful, AreWide, inserted_by_all}
 use Rattle.ide_world.specs.declared.group.GroupRefusal.{GroupRefusal}
-use Rattle.ide_world.specs.Ready.{Makes, IsReadyFor, IsRefusalOf, IsListRefusalOf, is_want_of_memory, told}
+use Rattle.ide_world.specs.Ready.{Makes, IsReadyFor, IsRefusalOf, IsListRefusalOf, is_want_of_memory, told, is_edit}
 use Rattle.ide_world.specs.Drafted.{Drafted, IsDraft, IsExtended, world_now, inserted_by_change, inserted_by_changes}
 use Rattle.ide_world.specs.Builds.{Builds}
 use Rattle.ide_world.proofs.WalkLemmas.{entries_after_steps, after_steps-push, inserted-push, pushed}
 use Rattle.std.proofs.lemmas.List.{length-append}
+use Rattle.std.proofs.Math.Seq.{drop-cons}
+use Rattle.std.specs.List.{list_all}
 
 -- a refusal that stands so many places later
 abbrev pub later_by : ℕ → ListRefusal → ListRefusal
@@ -142,3 +144,28 @@ extended d new change step draft few builds same =
 -- where a draft has no step, its world is that of its state
 pub world_at_first : (w : World) (d : Drafted) → d.base ≡ w → d.steps ≡ [] → world_now d ≡ w
 world_at_first w d base steps = ap (λ ss. after_steps d.base ss) steps ∙ base
+
+pub on_ok : {A E P Q : Type 0} (r : Result A E) → OnOk r P → (P → Q) → OnOk r Q
+on_ok (Ok a) h f = f h
+on_ok (Err e) h f = tt
+
+-- one turn over the changes
+pub record IsTurned (w : World) (changes : List Change) (i : ℕ) (d : Drafted) : Type 0 where
+  pub so_far : IsSoFar w changes i (drop i changes) d
+  pub edits : list_all is_edit (drop i changes) ≡ true
+
+and_right : (a b : Bool) → (a && b) ≡ true → b ≡ true
+and_right true b h = h
+and_right false b h = absurd (cc)
+
+pub turn_at : (w : World) (changes : List Change) (i : ℕ) (item : Change) (d new : Drafted) → i < length changes → item ≡ get_or changes i item
+    → IsSoFar w changes i (drop i changes) d → list_all is_edit (drop i changes) ≡ true
+    → refusal_of (world_now d) item ≡ None → IsExtended d new item → IsTurned w changes (i + 1) new
+turn_at w changes i item d new inside is so_far edits accepted e =
+    let rest = drop (i + 1) changes in
+    let split : drop i changes ≡ item ∷ rest =
+        drop-cons changes i item inside ∙ ap (λ x. x ∷ drop (suc i) changes) (sym is) ∙ ap (λ n. item ∷ drop n changes) (sym (add-one i)) in
+    record {
+      so_far = let P : List Change → Type 0 = λ l. IsSoFar w changes i l d in turns w changes i item rest d new (subst P split so_far) accepted e;
+      edits = and_right (is_edit item) (list_all is_edit rest) (sym (ap (list_all is_edit) split) ∙ edits);
+    }

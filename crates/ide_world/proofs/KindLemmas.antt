@@ -20,7 +20,7 @@ use Rattle.write_history.proofs.PutLemmas.{live_is_made, none_at_free, accepted_
 use Rattle.world_state.specs.declared.step.Step.{Step}
 use Rattle.world_state.specs.declared.step.RowEdit.TheVariants as row_edit
 use Rattle.world_state.specs.declared.step.DocEdit.{DocEdit}
-use Rattle.document_buf.specs.HeldDoc.{HeldDoc}
+use Rattle.document_buf.specs.Held.{HeldDoc}
 use Rattle.world_state.specs.declared.step.DocEdit.TheVariants as doc_edit
 use Rattle.world_state.specs.declared.step.IndexEdit.{IndexEdit}
 use Rattle.world_state.specs.declared.step.IndexEdit.TheVariants as index_edit

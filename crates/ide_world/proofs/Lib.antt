@@ -5,3 +5,4 @@ pub mod WalkLemmas
 pub mod BuildLemmas
 pub mod KindLemmas
 pub mod GroupLemmas
+pub mod TaskLemmas

@@ -1,5 +1,5 @@
 //! A draft: the state, read only, and the steps that the changes of a list made so far.
-ghost use Rattle.std.specs.Prelude.{◌≡◌, ◌<◌, ◌≤◌, ◌≢◌, ◌+◌, ◌^◌, if◌then◌else◌, ◌++◌, ◌∷◌, [], not, IfOk, IfSome, IfNone, OnOk, OnErr, IsSome, is_some, length, option_map};
+ghost use Rattle.std.specs.Prelude.{◌≡◌, ◌<◌, ◌≤◌, ◌≢◌, ◌+◌, ◌*◌, ◌^◌, if◌then◌else◌, ◌++◌, ◌∷◌, [], not, IfOk, IfSome, IfNone, OnOk, OnErr, IsSome, is_some, length, option_map};
 ghost use Rattle.std.specs.Option.{option_copied};
 ghost use Rattle.write_history.specs.World.{file_of, id_at, document_at, count_of, is_open};
 ghost use Rattle.write_history.specs.Effect.{is_uncommitted, document_len, is_unsaved};
@@ -145,7 +145,8 @@ impl<'a> Draft<'a> {
 
     /// What the document of an id looks like, where it is open.
     pub(crate) fn look(&self, id: u32) -> Option<Look>
-        ensures { result ≡ option_map look_of (document_part (file_of (world_now self.now) id)) }
+        ensures value { result ≡ option_map look_of (document_part (file_of (world_now self.now) id)) }
+        ensures short { IfSome result (λ look. look.len ≤ 65 * 1048576) }
     {
         let first = look_of(self.state, id);
         walk::look(self.steps.as_slice(), id, first)
@@ -153,7 +154,8 @@ impl<'a> Draft<'a> {
 
     /// What the document of the live file at a path looks like, where it is open.
     pub(crate) fn look_at(&self, path: &Name) -> Option<Look>
-        ensures { result ≡ option_map look_of (document_at (world_now self.now) path.now) }
+        ensures value { result ≡ option_map look_of (document_at (world_now self.now) path.now) }
+        ensures short { IfSome result (λ look. look.len ≤ 65 * 1048576) }
     {
         self.look(self.id_of(path)?)
     }
@@ -214,6 +216,7 @@ impl<'a> Draft<'a> {
         requires few { length self.old.steps < 64 }
         requires wide { IsWide self.old.wide step.doc }
         ensures ok { OnOk result (self.new ≡ record self.old { steps = self.old.steps ++ step ∷ [] }) }
+        ensures draft { IsDraft self.old }
     {
         let made = self.made_after(&step);
         let opened = self.opened_after(&step);

@@ -49,7 +49,7 @@ pub struct GroupRefusal {
 pub fn empty(alloc: Global) -> Result<State, AllocError>
     ensures { IfOk result (λ state. state.world ≡ empty_world) }
 {
-    State::empty(alloc)
+    Ok(State::empty(alloc))
 }
 
 /// Makes a change other than an intake ready, or gives the first reason to refuse it; that reason is found before

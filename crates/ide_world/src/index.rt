@@ -3,7 +3,7 @@ ghost use Rattle.std.specs.Prelude.{◌≡◌, IfOk, IfSome, option_map};
 ghost use Rattle.ide_world.specs.Task.{task_with_id, IsOfWorld};
 
 use crate::data::{Job, Made};
-use dumb_mode::Mark;
+use crate::readers::mark;
 use overlay_index::data_of;
 use std::alloc::{AllocError, Global};
 use world_state::State;
@@ -16,12 +16,8 @@ pub fn job(state: &State, id: u32) -> Result<Option<Job>, AllocError>
     let Some(row) = state.row(id) else {
         return Ok(None);
     };
-    let mark = Mark {
-        file: id,
-        java: dumb_mode::is_java(&row.path),
-        docs_open: state.document(id).is_some(),
-        present: row.stamp,
-        indexed: row.indexed,
+    let Some(mark) = mark(state, id) else {
+        return Ok(None);
     };
     if !mark.is_unready() {
         return Ok(None);

@@ -44,7 +44,8 @@ fn edited_row<'a>(edit: &'a RowEdit, row: Option<&'a FileRow>) -> Option<&'a Fil
 pub(crate) fn look(steps: &[Step], id: u32, first: Option<Look>) -> Option<Look>
     requires few { length steps.now ≤ 64 }
     requires short { IfSome first (λ look. look.len ≤ max_chars) }
-    ensures { result ≡ fold (look_after id) first steps.now }
+    ensures value { result ≡ fold (look_after id) first steps.now }
+    ensures short { IfSome result (λ look. look.len ≤ 65 * max_chars) }
 {
     let mut look = first;
     for step in steps {
