@@ -90,11 +90,7 @@ impl<I: Indexer> Inverted<I> {
 
     /// Gives a file these rows, and gives back those that it had. All room is kept, also that of the rows that go, so
     /// that they may come back; `release` with them gives it up.
-    pub fn swap(
-        &mut self,
-        file: u32,
-        new: KeyRows<I::Key, I::Value>,
-    ) -> KeyRows<I::Key, I::Value>
+    pub fn swap(&mut self, file: u32, new: KeyRows<I::Key, I::Value>) -> KeyRows<I::Key, I::Value>
         requires { HasRoom I.Key.eq self.old file new }
         ensures old { result ≡ rows_in_file file self.old.files }
         ensures swapped { rows self.new ≡ with_rows file new (rows self.old) }

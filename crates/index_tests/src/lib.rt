@@ -1,8 +1,11 @@
-//! Tests of the crates of indexes: rows under keys after changes, and the bytes of stubs.
+//! Tests of the crates of indexes: rows under keys after changes, what names find in layers, and the bytes of stubs.
 #![tactic(auto)]
 
 #[cfg(test)]
 mod bytes;
+mod layer_calls;
+#[cfg(test)]
+mod layer_rows;
 mod letters;
 mod places;
 #[cfg(test)]

@@ -1,3 +1,4 @@
 pub mod BoolLemmas
 pub mod TotalLemmas
 pub mod FrontLemmas
+pub mod PositionLemmas

@@ -104,10 +104,7 @@ impl Hidden {
 }
 
 /// The same base once more, or none.
-fn copy_base(
-    alloc: Global,
-    base: &Option<FileData>,
-) -> Result<Option<FileData>, AllocError>
+fn copy_base(alloc: Global, base: &Option<FileData>) -> Result<Option<FileData>, AllocError>
     ensures { IfOk result (λ copy. copy ≡ base.now) }
 {
     match base {

@@ -46,10 +46,7 @@ impl Indexer for MethodNames {
 }
 
 /// The methods, each under its name.
-fn named_methods(
-    alloc: Global,
-    stubs: &[SharedStub],
-) -> Result<Vec<(Name, SharedStub)>, AllocError>
+fn named_methods(alloc: Global, stubs: &[SharedStub]) -> Result<Vec<(Name, SharedStub)>, AllocError>
     ensures { IfOk result (λ rows. rows.items ≡ rows_named method_names stubs.now) }
 {
     let mut rows = Vec::new(alloc);

@@ -1,5 +1,5 @@
 -- The map from paths to ids against the rows, before and after a row took the place of another.
-use Rattle.std.proofs.Common.{◌≡◌, ℕ, ◌+◌, ◌-◌, ◌<◌, zero, suc, Bool, true, false, cond, eqb, List, [], ◌∷◌, get_or, length, Some, None, bytes_eq, IsTrue, refl, sym, ap, ◌∙◌, arith, ◌≤◌, ltb, ⊎_elim, set, subst}
+use Rattle.std.proofs.Common.{◌≡◌, ℕ, ◌-◌, ◌<◌, zero, suc, Bool, true, false, cond, eqb, List, get_or, length, Some, None, refl, sym, ap, ◌∙◌, arith, ◌≤◌, ltb, ⊎_elim, set, subst}
 use Rattle.std.specs.Prelude.{Option, is_some, option_map, position, if◌then◌else◌, ◌==◌, IfSome}
 use Rattle.std.proofs.lemmas.Bool.{false≢true, eqb-true, eq-eqb, cases_lt, ltb-false}
 use Rattle.std.proofs.lemmas.List.Quantifiers.{position-Some}
@@ -71,12 +71,12 @@ pub found_after : (rows rows' : Rows) (path : List ℕ) (kept : Option ℕ) (id 
     → IsFound rows' path (id_after id (row_in rows id) row path kept)
 found_after rows rows' path kept id row found each free other =
     bool_cases (has_path path row) (λ a. is_id other (cond a (Some id) (cond (has_path path (row_in rows id)) None kept)) ≡ cond (eqb id other) a (has_path path (row_in rows other)))
-      (λ has. bool_cases (eqb id other) (λ e. e ≡ cond e true (has_path path (row_in rows other))) (λ e. refl) (λ ne. sym (elsewhere has ne)))
-      (λ lacks. bool_cases (has_path path (row_in rows id)) (λ b. is_id other (cond b None kept) ≡ cond (eqb id other) false (has_path path (row_in rows other)))
-        (λ had. bool_cases (eqb id other) (λ e. false ≡ cond e false (has_path path (row_in rows other))) (λ e. refl) (λ ne. sym (other_lacks rows path kept id other found (mine had) ne)))
-        (λ lacked. bool_cases (eqb id other) (λ e. is_id other kept ≡ cond e false (has_path path (row_in rows other)))
-          (λ e. found other ∙ ap (λ k. has_path path (row_in rows k)) (sym (eqb-true id other e)) ∙ lacked)
-          (λ ne. found other)))
+    (λ has. bool_cases (eqb id other) (λ e. e ≡ cond e true (has_path path (row_in rows other))) (λ e. refl) (λ ne. sym (elsewhere has ne)))
+    (λ lacks. bool_cases (has_path path (row_in rows id)) (λ b. is_id other (cond b None kept) ≡ cond (eqb id other) false (has_path path (row_in rows other)))
+    (λ had. bool_cases (eqb id other) (λ e. false ≡ cond e false (has_path path (row_in rows other))) (λ e. refl) (λ ne. sym (other_lacks rows path kept id other found (mine had) ne)))
+    (λ lacked. bool_cases (eqb id other) (λ e. is_id other kept ≡ cond e false (has_path path (row_in rows other)))
+    (λ e. found other ∙ ap (λ k. has_path path (row_in rows k)) (sym (eqb-true id other e)) ∙ lacked)
+    (λ ne. found other)))
     ∙ sym (ap (has_path path) (each other) ∙ by (eqb id other))
   where
     mine : has_path path (row_in rows id) ≡ true → kept ≡ Some id
@@ -99,8 +99,8 @@ pub found_same : (rows rows' : Rows) (path : List ℕ) (kept : Option ℕ) (id :
 found_same rows rows' path kept id row found each same other =
     found other
     ∙ bool_cases (eqb id other) (λ e. has_path path (row_in rows other) ≡ has_path path (cond e row (row_in rows other)))
-      (λ e. ap (λ k. has_path path (row_in rows k)) (sym (eqb-true id other e)) ∙ sym same)
-      (λ ne. refl)
+    (λ e. ap (λ k. has_path path (row_in rows k)) (sym (eqb-true id other e)) ∙ sym same)
+    (λ ne. refl)
     ∙ ap (has_path path) (sym (each other))
 
 abbrev Entries : Type 0

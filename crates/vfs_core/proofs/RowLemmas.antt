@@ -1,9 +1,9 @@
 -- Rows by their ids: after a row took the place of another, and which are live.
-use Rattle.std.proofs.Common.{◌≡◌, ℕ, ◌+◌, ◌-◌, ◌<◌, ◌≤◌, zero, suc, Bool, true, false, cond, eqb, List, [], ◌∷◌, ◌++◌, length, get_or, set, filter, Some, None, IsTrue, refl, sym, ap, ◌∙◌, arith, ⊎_elim, length-append}
+use Rattle.std.proofs.Common.{◌≡◌, ℕ, ◌+◌, ◌-◌, ◌<◌, ◌≤◌, zero, suc, Bool, true, false, cond, eqb, List, [], ◌∷◌, ◌++◌, length, get_or, set, Some, None, refl, sym, ap, ◌∙◌, arith, ⊎_elim, length-append}
 use mir.Val.{bool_byte}
 use Rattle.std.specs.Prelude.{Option, is_some, if◌then◌else◌, ◌==◌}
 use Rattle.std.proofs.lemmas.Bool.{cases_eq, cases_lt, eq-eqb, ne_eqb, false≢true}
-use Rattle.std.proofs.lemmas.List.{get_or-set_same, get_or-set_other, length-set}
+use Rattle.std.proofs.lemmas.List.{length-set}
 use Rattle.vfs_core.specs.declared.row.FileRow.{FileRow}
 use Rattle.vfs_core.specs.Row.{row_in, put_at, with_row}
 use Rattle.vfs_core.specs.Table.{live_count}
@@ -138,9 +138,9 @@ is_put id row old seen rows live new same above inside small counted few at put 
       goes = count_at (id - 1) seen old live counted at;
       count = count_put (id - 1) row seen old live (omega (arith, inside, long, above)) counted at ∙ ap live_count (sym put);
       fits = ⊎_elim
-        (λ (more : length rows < id). let e = ap length (is ∙ with_row-push id row rows (omega (arith, more, inside))) in let f = length-append rows (row ∷ []) in omega (arith, e, f, small, more, inside))
-        (λ (within : id ≤ length rows). let e = ap length (kept within) in let f = length-set rows (id - 1) row in omega (arith, e, f, few, long))
-        (cases_lt (length rows) id);
+          (λ (more : length rows < id). let e = ap length (is ∙ with_row-push id row rows (omega (arith, more, inside))) in let f = length-append rows (row ∷ []) in omega (arith, e, f, small, more, inside))
+          (λ (within : id ≤ length rows). let e = ap length (kept within) in let f = length-set rows (id - 1) row in omega (arith, e, f, few, long))
+          (cases_lt (length rows) id);
       each = λ other. ap (λ rs. row_in rs other) is ∙ row_in-with_row id row rows other above inside;
       kept = kept;
       made = λ within. ap length (kept within) ∙ length-set rows (id - 1) row;

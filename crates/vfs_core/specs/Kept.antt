@@ -1,12 +1,7 @@
 -- How files are kept: rows in a vector, and beside it a map from paths to ids.
-use Rattle.std.specs.Prelude.{ℕ, ◌≡◌, ◌≤◌, Bool, false, ◌==◌, List, length, filter, Option, None, is_some, unwrap_or, if◌then◌else◌, Some}
+use Rattle.std.specs.Prelude.{ℕ, ◌≡◌, Bool, false, ◌==◌, List, Option}
 use Rattle.std.specs.Option.{option_map_or}
-use Rattle.std.specs.Vec.{vec_capacity}
-use Rattle.std.specs.Map.{lookup, keys_of}
-use Rattle.std.specs.BTreeMap.{is_at}
-use Rattle.std.specs.Cmp.Lexicographic.{slice_cmp}
-use Rattle.std.specs.Ordering.{nat_cmp}
-use Rattle.vfs_core.specs.declared.row.FileRow.{FileRow}
+use Rattle.std.specs.Map.{keys_of}
 use Rattle.vfs_core.specs.declared.files.Files.TheInside.{Inside}
 use Rattle.vfs_core.specs.Row.{row_in, has_path, IsStamped}
 use Rattle.vfs_core.specs.Held.{Held}

@@ -1,5 +1,5 @@
 -- The two tables of files: the rows, and the ids by paths.
-use Rattle.std.specs.Prelude.{ℕ, ◌≡◌, ◌≤◌, List, length, filter, Option, None, is_some, unwrap_or, if◌then◌else◌, Some}
+use Rattle.std.specs.Prelude.{ℕ, List, length, filter, Option, None, is_some, unwrap_or, if◌then◌else◌, Some}
 use Rattle.std.specs.Map.{lookup}
 use Rattle.std.specs.BTreeMap.{is_at}
 use Rattle.std.specs.Cmp.Lexicographic.{slice_cmp}

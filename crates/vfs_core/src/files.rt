@@ -192,9 +192,16 @@ impl Files {
         ensures stamp { self.new.next_stamp ≡ self.old.next_stamp + 1 }
         ensures keeps_room { KeepsRoom self.old self.new }
     {
-        let stamp = self.draw();
+        let drawn = self.draw();
         if let Some(row) = self.rows.put(id, None) {
-            self.rows.put(id, Some(FileRow { content, stamp, ..row }));
+            self.rows.put(
+                id,
+                Some(FileRow {
+                    content,
+                    stamp: drawn,
+                    ..row
+                }),
+            );
         }
     }
 
@@ -238,7 +245,14 @@ impl Files {
         if let Some(row) = self.rows.put(id, None) {
             self.paths.set(&row.path, None);
             self.paths.set(&to, Some(id));
-            self.rows.put(id, Some(FileRow { path: to, stamp, ..row }));
+            self.rows.put(
+                id,
+                Some(FileRow {
+                    path: to,
+                    stamp,
+                    ..row
+                }),
+            );
         }
     }
 

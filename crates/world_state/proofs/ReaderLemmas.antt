@@ -1,16 +1,15 @@
 -- What the readers of a state give.
-use Rattle.std.proofs.Common.{◌≡◌, ℕ, ◌+◌, ◌-◌, ◌<◌, ◌≤◌, zero, suc, Bool, true, false, cond, ltb, List, [], ◌∷◌, length, get_or, filter, Some, None, refl, sym, ap, ◌∙◌, arith, ltb-true, ltb-false}
+use Rattle.std.proofs.Common.{◌≡◌, ℕ, ◌+◌, ◌<◌, ◌≤◌, zero, suc, true, false, cond, ltb, List, [], ◌∷◌, length, get_or, filter, Some, None, refl, sym, ap, ◌∙◌, arith, ltb-true, ltb-false}
 use Rattle.std.specs.Prelude.{Option, is_some, option_map, position, not, IfSome, IfNone}
 use Rattle.std.specs.List.{position_or_len}
-use Rattle.std.specs.Option.{option_copied}
 use Rattle.std.proofs.lemmas.Bool.{false≢true, cond-true, lt-ltb}
-use Rattle.std.proofs.lemmas.List.Sums.{position_or_len_is, passes_at_first}
+use Rattle.std.proofs.lemmas.List.Sums.{position_or_len_is}
 use Rattle.list_laws.proofs.BoolLemmas.{bool_cases}
 use Rattle.document_buf.specs.Document.{Document}
 use Rattle.document_buf.specs.Held.{HeldDoc}
 use Rattle.vfs_core.specs.declared.row.FileRow.{FileRow}
 use Rattle.vfs_core.specs.Row as rows
-use Rattle.write_history.specs.World.{File, file_in, has_path, is_unready, lowest_unready, World}
+use Rattle.write_history.specs.World.{File, file_in, has_path, is_unready}
 use Rattle.world_state.specs.Marks.{Marks, is_on, one_if}
 use Rattle.world_state.specs.Step.{joined}
 use Rattle.world_state.specs.State.{files_from}

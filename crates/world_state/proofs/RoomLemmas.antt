@@ -16,8 +16,8 @@ use Rattle.world_state.specs.declared.step.DocEdit.TheVariants.{Keep, Open, Inse
 use Rattle.world_state.specs.declared.step.Step.{Step}
 use Rattle.world_state.specs.RowEdits.{put_row}
 use Rattle.world_state.specs.DocEdits.{edited_document, IsWide, inserted_by}
-use Rattle.world_state.specs.Step.{drawn_by, after_step, after_steps}
-use Rattle.world_state.specs.Lawful.{IsLawfulStep, AreLawfulFrom, AreWide, AreLawful, inserted_by_all}
+use Rattle.world_state.specs.Step.{after_step, after_steps}
+use Rattle.world_state.specs.Lawful.{IsLawfulStep, AreLawfulFrom, AreLawful, inserted_by_all}
 use Rattle.world_state.specs.Marks.{one_if}
 use Rattle.world_state.specs.Room.{Room, HasStepRoom, HasEachRoom, HasRoomIn, KeepsRoom, KeepsCounts, inserted_into, all_inserted_into, rows_of, brought}
 use Rattle.world_state.specs.Held.{Held, HasRoom}

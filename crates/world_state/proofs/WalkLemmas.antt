@@ -1,5 +1,5 @@
 -- What a name finds where no file is unready.
-use Rattle.std.proofs.Common.{◌≡◌, ℕ, zero, suc, ◌+◌, ◌<◌, ◌≤◌, Bool, true, false, cond, eqb, ltb, List, [], ◌∷◌, ◌++◌, length, get_or, map, Some, None, refl, sym, ap, subst, ◌∙◌, arith, ltb-true, ltb-false}
+use Rattle.std.proofs.Common.{◌≡◌, ℕ, zero, suc, ◌+◌, ◌<◌, ◌≤◌, Bool, true, false, cond, eqb, ltb, List, [], ◌∷◌, ◌++◌, length, get_or, Some, None, refl, sym, ap, subst, ◌∙◌, arith, ltb-true, ltb-false}
 use Rattle.std.specs.Prelude.{Option, is_some, option_map, unwrap_or, position, not, ◌&&◌}
 use Rattle.std.specs.List.{position_or_len}
 use Rattle.std.specs.Option.{option_map_or}
@@ -13,10 +13,10 @@ use Rattle.dumb_mode.specs.Unready.{is_indexed_at}
 use Rattle.overlay_index.specs.Parts.{Parts, no_parts, parts_of}
 use Rattle.overlay_index.specs.Layers as layers
 use Rattle.overlay_index.specs.Found as walk
-use Rattle.write_history.specs.World.{World, File, file_in, file_of, is_unready, shown_text, lowest_unready}
+use Rattle.write_history.specs.World.{File, file_in, is_unready, shown_text}
 use Rattle.world_state.specs.IndexEdits.{Indexed}
 use Rattle.world_state.specs.Sound.{HoldsLive, HoldsIndex}
-use Rattle.world_state.specs.Found.{found_in, found_at, found_from, found}
+use Rattle.world_state.specs.Found.{found_at, found_from}
 use Rattle.world_state.specs.State.{indexed_in}
 
 past_all : (files : List (Option File)) (place : ℕ) → length files ≤ place → get_or files place None ≡ None

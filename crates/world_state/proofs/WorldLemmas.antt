@@ -1,8 +1,7 @@
 -- The world of a state, and what one step makes of it.
-use Rattle.std.proofs.Common.{◌≡◌, ◌≢◌, ℕ, ◌+◌, ◌-◌, ◌*◌, ◌<◌, ◌≤◌, zero, suc, Bool, true, false, cond, eqb, ltb, List, [], ◌∷◌, length, get_or, filter, Some, None, bytes_eq, refl, sym, ap, ◌∙◌, subst, arith, ⊎_elim, ltb-true, ltb-false}
+use Rattle.std.proofs.Common.{◌≡◌, ℕ, ◌+◌, ◌*◌, ◌<◌, ◌≤◌, zero, suc, Bool, true, false, cond, eqb, ltb, List, [], ◌∷◌, length, get_or, filter, Some, None, refl, sym, ap, ◌∙◌, subst, arith, ⊎_elim, ltb-true}
 use Rattle.std.specs.Prelude.{Option, is_some, IsSome, IfSome, if◌then◌else◌, ◌==◌, option_map, position, nat_lt}
-use Rattle.std.specs.Option.{option_map_or, option_and_then}
-use Rattle.std.proofs.lemmas.Bool.{eq-eqb, ne_eqb, eqb-true, eqb-false, cond-true, cond-false, cases_eq, false≢true}
+use Rattle.std.proofs.lemmas.Bool.{eq-eqb, ne_eqb, cond-true, cond-false, cases_eq, false≢true}
 use Rattle.std.proofs.lemmas.Option.{none-some, same_Some}
 use Rattle.std.proofs.lemmas.List.Sums.{passes_at_first}
 use Rattle.std.specs.List.{position_or_len}
@@ -14,8 +13,8 @@ use Rattle.vfs_core.specs.Row as rows
 use Rattle.vfs_core.specs.Held as files
 use Rattle.document_buf.specs.Held as docs
 use Rattle.overlay_index.specs.Layers as layers
-use Rattle.write_history.specs.World.{World, File, empty_world, file_in, file_of, is_unready, is_open, count_of, has_path}
-use Rattle.write_history.specs.Effect.{max_files, max_entries, put_at, with_file}
+use Rattle.write_history.specs.World.{World, File, empty_world, file_in, file_of, is_unready, is_open, count_of}
+use Rattle.write_history.specs.Effect.{max_files, with_file}
 use Rattle.overlay_index.specs.Parts.{Parts, no_parts}
 use Rattle.world_state.specs.declared.step.RowEdit.{RowEdit}
 use Rattle.world_state.specs.declared.step.RowEdit.TheVariants.{Keep as KeepRow, Put as PutRow, Remove as RemoveRow}
@@ -24,7 +23,7 @@ use Rattle.world_state.specs.RowEdits.{edited_row, put_row}
 use Rattle.world_state.specs.DocEdits.{edited_document}
 use Rattle.world_state.specs.IndexEdits.{Indexed, edited_index}
 use Rattle.world_state.specs.Step.{file_with, joined, row_part, document_part, stepped, drawn_by, after_step}
-use Rattle.world_state.specs.Sound.{IsSoundLive, IsSoundFile, AreSoundFiles, IsSoundWorld, HoldsIndex}
+use Rattle.world_state.specs.Sound.{IsSoundFile, HoldsIndex}
 use Rattle.world_state.specs.Lawful.{IsLawfulStep, IsPathFree}
 use Rattle.world_state.specs.Marks.{Marks, is_on, one_if}
 use Rattle.world_state.specs.Room.{Room}

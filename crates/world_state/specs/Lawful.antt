@@ -1,5 +1,5 @@
 -- When steps may be carried out.
-use Rattle.std.specs.Prelude.{ℕ, ◌≡◌, ◌<◌, ◌≤◌, ◌+◌, List, [], ◌∷◌, length, Option, Some, None, IsSome, IfSome}
+use Rattle.std.specs.Prelude.{ℕ, ◌≡◌, ◌<◌, ◌≤◌, ◌+◌, List, [], ◌∷◌, length, Some, None, IsSome, IfSome}
 use Rattle.write_history.specs.World.{World, File, file_of, next_id}
 use Rattle.write_history.specs.Effect.{max_files}
 use Rattle.world_state.specs.declared.step.Step.{Step}

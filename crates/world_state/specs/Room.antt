@@ -10,7 +10,7 @@ use Rattle.world_state.specs.declared.step.IndexEdit.{IndexEdit}
 use Rattle.world_state.specs.declared.step.IndexEdit.TheVariants.{Keep as KeepIndex, SetBase, SetOverlay, ToBase, Drop}
 use Rattle.world_state.specs.declared.step.Step.{Step}
 use Rattle.world_state.specs.RowEdits.{put_row}
-use Rattle.world_state.specs.DocEdits.{inserted_by, IsWide}
+use Rattle.world_state.specs.DocEdits.{inserted_by}
 use Rattle.world_state.specs.Marks.{Marks, has_mark, one_if}
 
 -- the room of a state: that of its files, its documents, its index data and its marks

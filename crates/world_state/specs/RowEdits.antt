@@ -1,5 +1,5 @@
 -- What an edit of a row makes of it.
-use Rattle.std.specs.Prelude.{ℕ, ◌≡◌, Bool, true, false, List, Option, Some, None}
+use Rattle.std.specs.Prelude.{Option, Some, None}
 use Rattle.vfs_core.specs.declared.row.FileRow.{FileRow}
 use Rattle.world_state.specs.declared.step.RowEdit.{RowEdit}
 use Rattle.world_state.specs.declared.step.RowEdit.TheVariants.{Keep, Put, Remove}

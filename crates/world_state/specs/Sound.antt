@@ -1,9 +1,9 @@
 -- What always holds of the world of a state.
-use Rattle.std.specs.Prelude.{ℕ, ◌≡◌, ◌<◌, ◌≤◌, ◌+◌, ◌*◌, Bool, true, false, List, length, Option, Some, None, option_map, IfSome}
+use Rattle.std.specs.Prelude.{ℕ, ◌≡◌, ◌<◌, ◌≤◌, ◌+◌, ◌*◌, Bool, true, false, length, Option, Some, None, option_map, IfSome}
 use Rattle.dumb_mode.specs.Filter.{is_java}
 use Rattle.write_history.specs.World.{World, File, file_of}
 use Rattle.write_history.specs.Effect.{max_files, max_entries}
-use Rattle.overlay_index.specs.Parts.{Parts, no_parts, parts_of}
+use Rattle.overlay_index.specs.Parts.{no_parts, parts_of}
 use Rattle.world_state.specs.IndexEdits.{Indexed}
 
 -- what holds of a live file, where this stamp is drawn next

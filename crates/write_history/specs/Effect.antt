@@ -8,7 +8,7 @@ use Rattle.write_history.specs.declared.change.Change.TheVariants.{Create, Write
 use Rattle.write_history.specs.declared.refusal.Refusal.{Refusal}
 use Rattle.write_history.specs.declared.refusal.Refusal.TheVariants.{NoSuchFile, PathTaken, BadPath, NotOpen, AlreadyOpen, BadRange, Unsaved, Uncommitted, Conflict, FilesFull, DocsFull, TextFull, Stale, HistoryFull}
 use Rattle.write_history.specs.Path.{is_path}
-use Rattle.write_history.specs.World.{World, File, file_in, file_of, id_at, file_at, document_at, next_id, is_open, count_of}
+use Rattle.write_history.specs.World.{World, File, file_of, id_at, file_at, document_at, next_id, is_open, count_of}
 
 -- the most files that are ever made
 abbrev pub max_files : ℕ

@@ -4,3 +4,11 @@ pub mod World
 pub mod Changes
 pub mod Effect
 pub mod Fold
+pub mod Stamps
+pub mod Counts
+pub mod Texts
+-- The kept history and its print
+pub mod Kept
+pub mod Print
+-- How the changes of an entry lie; no caller rests on it
+pub mod Listed

@@ -1,5 +1,5 @@
 -- Lawful paths of files, and which files are Java sources.
-use Rattle.std.specs.Prelude.{ℕ, ◌-◌, Bool, not, ◌&&◌, ◌||◌, List, [], ◌∷◌, drop, length, nat_lt, nat_le, ◌==◌, if◌then◌else◌, bytes_eq, codes}
+use Rattle.std.specs.Prelude.{ℕ, Bool, not, ◌&&◌, ◌||◌, List, [], ◌∷◌, length, nat_lt, nat_le, ◌==◌, if◌then◌else◌, bytes_eq, codes}
 use Rattle.std.specs.List.{list_all}
 
 -- the most characters of a path
@@ -27,4 +27,3 @@ is_part part = not (bytes_eq part []) && not (bytes_eq part (codes ".")) && not 
 -- 1 to 255 characters, none of them barred, whose parts all name something
 abbrev pub is_path : List ℕ → Bool
 is_path path = nat_lt 0 (length path) && nat_le (length path) max_path && list_all (λ c. not (is_barred c)) path && list_all is_part (parts_of path)
-

@@ -8,25 +8,96 @@ use std::alloc::AllocError;
 #[derive(Drop)]
 pub enum Change {
     /// A new file.
-    Create { path: Name, text: SharedText },
+    Create {
+        path: Name,
+        text: SharedText,
+    },
     /// New content for a live file.
-    Write { path: Name, text: SharedText },
+    Write {
+        path: Name,
+        text: SharedText,
+    },
     /// The file goes, and its document where it is open.
-    Delete { path: Name },
+    Delete {
+        path: Name,
+    },
     /// The file gets a document.
-    OpenDoc { path: Name },
+    OpenDoc {
+        path: Name,
+    },
     /// A piece goes into the document before an offset.
-    Insert { path: Name, at: u32, text: SharedText },
+    Insert {
+        path: Name,
+        at: u32,
+        text: SharedText,
+    },
     /// The characters of the document from one offset up to another go.
-    Erase { path: Name, from: u32, to: u32 },
+    Erase {
+        path: Name,
+        from: u32,
+        to: u32,
+    },
     /// The document's text becomes the one that searches see.
-    Commit { path: Name },
+    Commit {
+        path: Name,
+    },
     /// The document's text becomes the file's content.
-    Save { path: Name },
+    Save {
+        path: Name,
+    },
     /// The document goes.
-    CloseDoc { path: Name },
+    CloseDoc {
+        path: Name,
+    },
     /// The index data of a file, made from its content at a stamp, go in.
-    Intake { file: u32, stamp: u64 },
+    Intake {
+        file: u32,
+        stamp: u64,
+    },
     /// The file gets another path.
-    Move { path: Name, to: Name },
+    Move {
+        path: Name,
+        to: Name,
+    },
+}
+
+impl Change {
+    /// The same change once more, which shares its text.
+    pub fn copy(&self) -> Result<Change, AllocError>
+        ensures { IfOk result (λ copy. copy ≡ self.now) }
+    {
+        Ok(match self {
+            Change::Create { path, text } => Change::Create {
+                path: path.copy()?,
+                text: text.share()?,
+            },
+            Change::Write { path, text } => Change::Write {
+                path: path.copy()?,
+                text: text.share()?,
+            },
+            Change::Delete { path } => Change::Delete { path: path.copy()? },
+            Change::OpenDoc { path } => Change::OpenDoc { path: path.copy()? },
+            Change::Insert { path, at, text } => Change::Insert {
+                path: path.copy()?,
+                at: *at,
+                text: text.share()?,
+            },
+            Change::Erase { path, from, to } => Change::Erase {
+                path: path.copy()?,
+                from: *from,
+                to: *to,
+            },
+            Change::Commit { path } => Change::Commit { path: path.copy()? },
+            Change::Save { path } => Change::Save { path: path.copy()? },
+            Change::CloseDoc { path } => Change::CloseDoc { path: path.copy()? },
+            Change::Intake { file, stamp } => Change::Intake {
+                file: *file,
+                stamp: *stamp,
+            },
+            Change::Move { path, to } => Change::Move {
+                path: path.copy()?,
+                to: to.copy()?,
+            },
+        })
+    }
 }

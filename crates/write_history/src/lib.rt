@@ -2,9 +2,18 @@
 #![tactic(auto)]
 
 mod change;
+mod changes;
 mod entry;
+mod history;
+pub mod laws;
+mod path;
+mod print;
 mod refusal;
 
 pub use change::Change;
-pub use entry::{Changes, Entry, MAX_CHANGES};
+pub use changes::{Changes, MAX_CHANGES};
+pub use entry::Entry;
+pub use history::{History, MAX_ENTRIES};
+pub use path::is_lawful_path;
+pub use print::line_of;
 pub use refusal::Refusal;

@@ -1,7 +1,7 @@
 use Rattle.std.proofs.Common.{◌≡◌, ap, ◌∙◌}
 use Rattle.decl_parser.specs.Listing.{listing_of}
 use Rattle.stub_index.specs.Named.{type_names, super_names, method_names, rows_by_name}
-use Rattle.overlay_index.specs.Parts.{Parts, parts_of}
+use Rattle.overlay_index.specs.Parts.{parts_of}
 use Rattle.overlay_index.proofs.data.data_of.Goals as goal
 
 pub returns : goal.returns

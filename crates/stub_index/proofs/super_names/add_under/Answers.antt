@@ -1,6 +1,4 @@
-use Rattle.std.proofs.Common.{◌≡◌, true, false, ◌∷◌, sym, ap, ◌∙◌, rules}
-use Rattle.std.specs.Prelude.{not}
-use Rattle.stub_index.specs.Named.{has_name}
+use Rattle.std.proofs.Common.{◌≡◌, true, false, ◌∷◌, sym, ◌∙◌, rules}
 use Rattle.stub_index.proofs.NamedLemmas.{again, for_last, has_name_from}
 use Rattle.stub_index.proofs.super_names.add_under.Goals as goal
 

@@ -1,10 +1,10 @@
-use Rattle.std.proofs.Common.{◌≡◌, ℕ, [], ◌∷◌, List, true, false, length, sym, ap, ◌∙◌, subst, refl, arith}
+use Rattle.std.proofs.Common.{◌≡◌, [], ◌∷◌, List, true, length, sym, ◌∙◌, subst, refl, arith}
 use Rattle.std.specs.Prelude.{◌==◌}
 use Rattle.std.specs.Ordering.{nat_cmp}
 use Rattle.std.specs.Map.{keys_of}
 use Rattle.std.specs.List.Sorted.{IsStrictlySortedBy}
 use Rattle.std.proofs.lemmas.Bool.{eqb-true}
-use Rattle.file_index.specs.Rows.{rows_of, rows_in_file}
+use Rattle.file_index.specs.Rows.{rows_in_file}
 use Rattle.file_index.proofs.TableLemmas.{nothing_goes}
 use Rattle.file_index.proofs.files.Files.forget.Goals as goal
 

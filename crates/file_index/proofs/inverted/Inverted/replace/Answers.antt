@@ -1,4 +1,4 @@
-use Rattle.std.proofs.Common.{◌≡◌, refl, sym, ap, ◌∙◌, cond, subst}
+use Rattle.std.proofs.Common.{◌≡◌, refl, ap, ◌∙◌, cond, subst}
 use Rattle.std.proofs.lemmas.Bool.{eq-eqb}
 use Rattle.file_index.specs.Rows.{rows_in_file, HasRoom}
 use Rattle.file_index.proofs.inverted.Inverted.replace.Goals as goal

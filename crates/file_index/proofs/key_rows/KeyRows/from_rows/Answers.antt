@@ -1,4 +1,4 @@
-use Rattle.std.proofs.Common.{rules, ◌≡◌, Bool}
+use Rattle.std.proofs.Common.{rules, Bool}
 use Rattle.std.specs.Ordering.{is_lt}
 use Rattle.std.proofs.lemmas.List.Sorted.{answers_always, length_permutation, ranks_by}
 use Rattle.file_index.proofs.SortLemmas.{sorted_by_keys, sorted_in_order}

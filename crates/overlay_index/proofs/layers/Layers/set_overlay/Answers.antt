@@ -1,8 +1,7 @@
-use Rattle.std.proofs.Common.{◌≡◌, ℕ, Bool, true, false, cond, eqb, List, [], ◌∷◌, Option, Some, None, refl, sym, ap, ◌∙◌, subst}
+use Rattle.std.proofs.Common.{◌≡◌, ℕ, cond, eqb, [], ◌∷◌, Some, refl, sym, ap, ◌∙◌, subst}
 use Rattle.std.specs.Prelude.{option_to_list}
-use Rattle.std.specs.Option.{unwrap_or, is_some}
-use Rattle.overlay_index.specs.Parts.{Parts, no_parts}
-use Rattle.overlay_index.specs.Layers.{Shown, Held, HasTableRoom, HasRoom, KeepsRoom, parts_in, hidden_in, has_place, base_of, overlay_of, shown_of, covered_of}
+use Rattle.overlay_index.specs.Parts.{Parts}
+use Rattle.overlay_index.specs.Layers.{Held, HasRoom, hidden_in, base_of, overlay_of}
 use Rattle.overlay_index.proofs.LayerLemmas as lemmas
 use Rattle.overlay_index.proofs.layers.Layers.set_overlay.Goals as goal
 

@@ -1,9 +1,6 @@
-use Rattle.std.proofs.Common.{◌≡◌, ℕ, Bool, true, false, cond, eqb, List, [], ◌∷◌, Option, Some, None, refl, sym, ap, ◌∙◌, subst}
-use Rattle.std.specs.Str.{bytes_eq}
-use Rattle.std.proofs.lemmas.Result.{IfOk-weaker}
-use Rattle.file_index.specs.Rows as index
-use Rattle.overlay_index.specs.Parts.{Parts, no_parts}
-use Rattle.overlay_index.specs.Layers.{Shown, Held, HasTableRoom, HasRoom, parts_in, hidden_in, has_place, base_of, overlay_of, shown_of, covered_of}
+use Rattle.std.proofs.Common.{ℕ, subst}
+use Rattle.overlay_index.specs.Parts.{Parts}
+use Rattle.overlay_index.specs.Layers.{Shown, HasTableRoom}
 use Rattle.overlay_index.proofs.LayerLemmas as lemmas
 use Rattle.overlay_index.proofs.tables.Tables.withdraw.Goals as goal
 

@@ -18,17 +18,17 @@ invariant_of-self c =
     let is : row_in c.put-old.new.self.rows id ≡ row = c.put-old.ensures.each id ∙ ap (λ b. cond b row (row_in rows id)) (eq-eqb id id refl) in
     record {
       found = put_found rows c.put-old.new.self.rows ids c.follow.new.paths id row c.self.invariant.found c.put-old.ensures.each
-        (λ path.
-        c.follow.ensures.ids path
-        ∙ ap (λ o. id_after id o (option_copied c.at.result) path (id_kept path ids)) was
-        ∙ ap (λ o. id_after id (row_in rows id) o path (id_kept path ids)) (c.at.ensures ∙ is))
-        (λ path has lacks.
-        ap (λ h. id_at h path) c.self.view_is
-        ∙ free_path c.args.self.now id row path c.requires.path has (ap (λ h. has_path path (row_of h id)) (sym c.self.view_is) ∙ lacks));
+          (λ path.
+          c.follow.ensures.ids path
+          ∙ ap (λ o. id_after id o (option_copied c.at.result) path (id_kept path ids)) was
+          ∙ ap (λ o. id_after id (row_in rows id) o path (id_kept path ids)) (c.at.ensures ∙ is))
+          (λ path has lacks.
+          ap (λ h. id_at h path) c.self.view_is
+          ∙ free_path c.args.self.now id row path c.requires.path has (ap (λ h. has_path path (row_of h id)) (sym c.self.view_is) ∙ lacks));
       stamped = put_stamped rows c.put-old.new.self.rows id c.self.inside.next_stamp row c.put-old.ensures.each
-        (row_stamped c.self.inside.next_stamp row (c.self.invariant.stamped 0).stamp
-        (subst (λ h. IfSome row (λ r. IsStamped h.next_stamp (Some r))) (sym c.self.view_is) c.requires.stamped))
-        c.self.invariant.stamped;
+          (row_stamped c.self.inside.next_stamp row (c.self.invariant.stamped 0).stamp
+          (subst (λ h. IfSome row (λ r. IsStamped h.next_stamp (Some r))) (sym c.self.view_is) c.requires.stamped))
+          c.self.invariant.stamped;
     }
 
 pub returns-clause-keeps_room : goal.returns-clause-keeps_room

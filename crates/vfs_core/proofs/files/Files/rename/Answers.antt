@@ -2,10 +2,9 @@ use Rattle.std.proofs.Common.{◌≡◌, ◌-◌, Some, None, ap, sym, subst, �
 use Rattle.vfs_core.specs.declared.row.FileRow.{FileRow}
 use Rattle.std.specs.Prelude.{option_map, is_some, bytes_eq}
 use Rattle.std.specs.Cmp.Lexicographic.{same_text}
-use Rattle.vfs_core.specs.Row.{row_in, renamed, has_path, indexed_of, IsStamped}
-use Rattle.vfs_core.specs.Held.{HasPathRoom, row_of, id_at}
+use Rattle.vfs_core.specs.Row.{row_in, renamed, has_path, indexed_of}
+use Rattle.vfs_core.specs.Held.{id_at}
 use Rattle.vfs_core.specs.Table.{id_after, id_kept}
-use Rattle.vfs_core.specs.Kept.{is_id}
 use Rattle.vfs_core.proofs.KeptLemmas.{set_twice, each_twice, put_found, put_stamped, is_id-Some}
 use Rattle.vfs_core.proofs.PathLemmas.{place_kept, same_path}
 use Rattle.vfs_core.proofs.files.Files.rename.Goals as goal
@@ -31,17 +30,17 @@ invariant_of-self c =
     let old = c.self.invariant.stamped id in
     record {
       found = put_found rows rows' ids c.set-in-Some.new.self id (Some new) c.self.invariant.found each
-        (λ path.
-        c.set-in-Some.ensures.ids path
-        ∙ ap (λ o. cond (bytes_eq c.args.to path) (Some id) o) (c.set.ensures.ids path)
-        ∙ ap (λ o. id_after id o (Some new) path (id_kept path ids)) (sym was))
-        (λ path has lacks. ap (λ rs. id_at (record c.args.self.now { rows = rs }) path) same ∙ subst (λ p. id_at c.args.self.now p ≡ None) (same_text c.args.to path (sym has)) c.requires.free);
+          (λ path.
+          c.set-in-Some.ensures.ids path
+          ∙ ap (λ o. cond (bytes_eq c.args.to path) (Some id) o) (c.set.ensures.ids path)
+          ∙ ap (λ o. id_after id o (Some new) path (id_kept path ids)) (sym was))
+          (λ path has lacks. ap (λ rs. id_at (record c.args.self.now { rows = rs }) path) same ∙ subst (λ p. id_at c.args.self.now p ≡ None) (same_text c.args.to path (sym has)) c.requires.free);
       stamped = put_stamped rows rows' id c.self.inside.next_stamp (Some new) each
-        (record {
-          stamp = omega (arith, next, c.draw-stamp.ensures.value, c.draw-stamp.ensures.stamp);
-          indexed = let e = ap indexed_of was in omega (arith, e, old.indexed);
-        })
-        c.self.invariant.stamped;
+          (record {
+            stamp = omega (arith, next, c.draw-stamp.ensures.value, c.draw-stamp.ensures.stamp);
+            indexed = let e = ap indexed_of was in omega (arith, e, old.indexed);
+          })
+          c.self.invariant.stamped;
     }
 
 pub returns-in-Some-clause-rows : goal.returns-in-Some-clause-rows

@@ -1,9 +1,8 @@
-use Rattle.std.proofs.Common.{◌≡◌, ◌-◌, Some, ap, sym, ◌∙◌, set}
+use Rattle.std.proofs.Common.{◌≡◌, ◌-◌, Some, ap, sym, ◌∙◌, set, rules}
 use Rattle.std.specs.Prelude.{option_map, is_some}
 use Rattle.vfs_core.specs.Row.{row_in, indexed_now}
 use Rattle.vfs_core.proofs.KeptLemmas.{set_twice}
 use Rattle.vfs_core.proofs.files.Files.set_indexed.Goals as goal
-use Rattle.vfs_core.proofs.files.Files.set_indexed.Goals.{in-Some-1, in-None-1}
 
 after : (c : goal.Joined-put-2) → c.put-in-Some.new.self.rows ≡ set c.args.self.now.rows (c.args.id - 1) (option_map indexed_now (row_in c.args.self.now.rows c.args.id))
 after c =
@@ -16,4 +15,4 @@ after c =
     ∙ ap (λ o. set c.args.self.now.rows (id - 1) (option_map indexed_now o)) (sym was)
 
 pub returns-in-Some-clause-rows : goal.returns-in-Some-clause-rows
-returns-in-Some-clause-rows c = elim c.match-put-2.branch [ in-Some-1 w ↦ ap (λ h. h.rows) w.self-is ∙ after c | in-None-1 w ↦ ap (λ h. h.rows) w.self-is ∙ after c ]
+returns-in-Some-clause-rows c = let a = after c in search rules

@@ -1,4 +1,4 @@
-use Rattle.std.proofs.Common.{◌≡◌, ℕ, List, None, map, ap, ◌∙◌, rules, refl}
+use Rattle.std.proofs.Common.{◌≡◌, None, map, ap, ◌∙◌, rules, refl}
 use Rattle.std.specs.Prelude.{unwrap_or}
 use Rattle.std.specs.Ordering.{nat_cmp, eq_by_cmp}
 use Rattle.std.specs.Cmp.{eq_by_cmp_equiv}

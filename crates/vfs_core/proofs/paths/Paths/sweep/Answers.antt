@@ -4,7 +4,7 @@ use Rattle.std.specs.Prelude.{Option, is_some}
 use Rattle.std.proofs.lemmas.Bool.{false≢true}
 use Rattle.vfs_core.specs.Held.{has_name}
 use Rattle.vfs_core.specs.Table.{id_kept}
-use Rattle.vfs_core.proofs.PathLemmas.{has_name-keys, id_kept-updated, places-updated, id_kept-reserved, id_kept-swept, places-swept}
+use Rattle.vfs_core.proofs.PathLemmas.{id_kept-swept, places-swept}
 use Rattle.vfs_core.proofs.paths.Paths.sweep.Goals as goal
 
 none : (o : Option ℕ) → is_some o ≡ false → o ≡ None

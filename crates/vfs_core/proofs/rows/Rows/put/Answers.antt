@@ -1,6 +1,5 @@
-use Rattle.std.proofs.Common.{◌≡◌, ◌≤◌, ap, sym, ◌∙◌, arith}
-use Rattle.vfs_core.specs.Row.{with_row}
-use Rattle.vfs_core.proofs.RowLemmas.{IsPut, is_put, byte_one, live_few, with_row-put_at}
+use Rattle.std.proofs.Common.{ap, arith}
+use Rattle.vfs_core.proofs.RowLemmas.{IsPut, is_put, byte_one, live_few}
 use Rattle.vfs_core.proofs.rows.Rows.put.Goals as goal
 
 put : (c : goal.After-is_some) → IsPut c.args.id c.args.row c.set-old.result c.args.self.now.rows c.self.inside.live c.set-old.new.rows.items

@@ -1,4 +1,4 @@
-use Rattle.std.proofs.Common.{◌≡◌, ℕ, ◌<◌, true, false, Some, None, ap, sym, subst, ◌∙◌, rules, tests}
+use Rattle.std.proofs.Common.{◌≡◌, ℕ, ◌<◌, true, false, None, ap, sym, subst, ◌∙◌, rules, tests}
 use Rattle.std.specs.Prelude.{option_map, find, unwrap_or, IfNone}
 use Rattle.std.specs.Map.{lookup}
 use Rattle.std.specs.BTreeMap.{is_at}

@@ -1,13 +1,12 @@
-use Rattle.std.proofs.Common.{◌≡◌, ◌+◌, ◌*◌, ◌≤◌, ℕ, true, length, sym, ap, subst, ◌∙◌, arith, lit≤}
+use Rattle.std.proofs.Common.{◌+◌, ◌*◌, ◌≤◌, length, sym, ap, subst, ◌∙◌, arith}
 use Rattle.std.specs.Prelude.{is_some, IsSome, IfSome, if◌then◌else◌, nat_lt}
 use Rattle.vfs_core.specs.Held.{HasRowRoom, HasPathRoom}
 use Rattle.document_buf.specs.Held.{document_of, room_of}
 use Rattle.world_state.specs.DocEdits.{IsDocEditFit}
 use Rattle.world_state.specs.Step.{after_step}
 use Rattle.world_state.specs.RowEdits.{put_row}
-use Rattle.world_state.specs.DocEdits.{IsWide}
 use Rattle.world_state.specs.Marks.{one_if}
-use Rattle.world_state.specs.Room.{inserted_into}
+use Rattle.world_state.specs.Room.{Room, KeepsRoom, inserted_into}
 use Rattle.world_state.specs.Lawful.{IsLawfulStep}
 use Rattle.world_state.proofs.WorldLemmas.{rows_known, document_here, new_row_room, may_have, marks_some, marks_few, rows_left, carried_out, world_after, kept_after}
 use Rattle.world_state.proofs.RoomLemmas.{chars_left}
@@ -93,3 +92,13 @@ pub returns-clause-chars : goal.returns-clause-chars
 returns-clause-chars c = λ id n wide room open'.
     chars_left c.self.inside.docs c.apply_document.new.docs c.args.step c.apply_document.ensures.documents c.apply_document.ensures.others c.apply_document.ensures.room
     id n wide (subst (λ s. IsSome (document_of s.room.docs id) → inserted_into id c.args.step + n ≤ room_of s.room.docs id) (sym c.self.view_is) room) open'
+
+pub returns-clause-keeps : goal.returns-clause-keeps
+returns-clause-keeps c =
+    let new : Room = record { files = c.apply_row-row.new.files; docs = c.apply_document.new.docs; layers = c.apply_index-data.new.layers; marks = c.set.new.self } in
+    subst (λ s. KeepsRoom s.room new) c.self.view_is record {
+      paths = λ path had. c.apply_row-row.ensures.keeps.paths path (c.draw_if.ensures.keeps.paths path had);
+      places = c.apply_document.ensures.places;
+      parts = c.apply_index-data.ensures.keeps;
+      marks = λ id had. c.set.ensures.keeps id ∙ had;
+    }

@@ -1,5 +1,4 @@
-use Rattle.std.proofs.Common.{◌≡◌, sym, ap, subst, ◌∙◌}
-use Rattle.write_history.specs.Fold.{counted}
+use Rattle.std.proofs.Common.{sym, ap, subst, ◌∙◌}
 use Rattle.world_state.specs.Step.{after_steps}
 use Rattle.world_state.specs.Ready.{IsReady}
 use Rattle.world_state.proofs.RoomLemmas.{ready_counted, after_steps-counted}

@@ -1,4 +1,4 @@
-use Rattle.std.proofs.Common.{ap, sym, ◌∙◌}
+use Rattle.std.proofs.Common.{ap, ◌∙◌}
 use Rattle.document_buf.specs.Held.{document_of}
 use Rattle.write_history.specs.World.{lowest_unready}
 use Rattle.world_state.specs.State.{files_from}

@@ -1,4 +1,4 @@
-use Rattle.std.proofs.Common.{length, take, subst, sym, ◌∙◌, arith}
+use Rattle.std.proofs.Common.{length, subst, ◌∙◌, arith}
 use Rattle.std.proofs.lemmas.List.{take_all}
 use Rattle.world_state.specs.Room.{HasEachRoom}
 use Rattle.world_state.proofs.RoomLemmas.{HasEachChars, each_more, room_made}
