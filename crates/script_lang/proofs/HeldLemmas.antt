@@ -18,6 +18,7 @@ use Rattle.script_lang.specs.declared.content.Content.TheVariants as content
 use Rattle.script_lang.specs.declared.line.Line.{Line}
 use Rattle.script_lang.specs.declared.line.Section.{Section}
 use Rattle.script_lang.specs.declared.line.Section.TheVariants.{Prelude, Lane, Finally}
+use Rattle.script_lang.proofs.RiseLemmas.{RiseFrom-HoldScript}
 
 -- a line's command
 IsNoIntake-IsChangeLine : (line : List ℕ) (c : Change) → IsChangeLine line c → IsNoIntake c
@@ -203,4 +204,4 @@ pub AreOfScript-HoldScript : (lines : List (List ℕ)) (script : Parts) → Hold
 AreOfScript-HoldScript lines script is =
     let few : begun Prelude ≤ max_lanes = omega arith in
     let are = AreRest-HoldRest Prelude None 1 lines is.contents (whole script) few tt is.read is.held in
-    record { prelude = are.here; few = (let f = are.few in omega arith); lanes = are.lanes; last = are.last }
+    record { prelude = are.here; few = (let f = are.few in omega arith); lanes = are.lanes; last = are.last; rise = RiseFrom-HoldScript lines script is }

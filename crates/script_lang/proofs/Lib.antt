@@ -18,5 +18,6 @@ pub mod GrammarRefused
 pub mod GrammarScript
 pub mod GrammarBegins
 pub mod GrammarOpen
+pub mod RiseLemmas
 pub mod HeldLemmas
 pub mod GrammarAnswers

@@ -1,5 +1,6 @@
 -- What the commands of a script are.
-use Rattle.std.specs.Prelude.{◌≤◌, List, All, length}
+use Rattle.std.specs.Prelude.{ℕ, ◌+◌, ◌≤◌, List, [], ◌∷◌, ◌++◌, All, length}
+use Rattle.std.specs.List.{flat_map}
 use Rattle.write_history.specs.Changes.{AreFew}
 use Rattle.write_history.specs.declared.change.Change.{Change}
 use Rattle.write_history.specs.declared.change.Change.TheVariants as change
@@ -37,9 +38,19 @@ AreOfPrelude lines = All (λ line. IsOfLine line.command) lines
 abbrev pub AreOfSection : List Line → Type 0
 AreOfSection lines = All (λ line. IsOfLine line.command × IsNoLoad line.command) lines
 
+-- the numbers of some commands rise, and are this one or more
+abbrev pub RiseFrom : ℕ → List Line → Type 0
+RiseFrom number [] = Unit {0}
+RiseFrom number (line ∷ lines) = (number ≤ line.number) × RiseFrom (line.number + 1) lines
+
+-- the commands of all sections, in the order of the script's lines
+abbrev pub all_lines : Parts → List Line
+all_lines script = script.prelude ++ flat_map (λ lane. lane) script.lanes ++ script.last
+
 -- the commands of a script
 pub record AreOfScript (script : Parts) : Type 0 where
   pub prelude : AreOfPrelude script.prelude
   pub few : length script.lanes ≤ max_lanes
   pub lanes : All AreOfSection script.lanes
   pub last : AreOfSection script.last
+  pub rise : RiseFrom 1 (all_lines script)
