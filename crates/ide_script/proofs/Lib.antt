@@ -1,3 +1,1 @@
 pub mod EntryLemmas
-pub mod PrintLemmas
-pub mod SerialLemmas

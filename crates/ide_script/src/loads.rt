@@ -42,7 +42,11 @@ fn read_load<T: Tree>(
 {
     match command {
         Command::Load { path } if is_lawful_path(path) => {
-            let bytes = tree.read_file(alloc, path)?;
+            let bytes = match tree.read_file(alloc, path) {
+                Ok(bytes) => bytes,
+                Err(ReadFileError::Failed) => return Err(PlayRefusal::TreeFault),
+                Err(ReadFileError::OutOfMemory) => return Err(PlayRefusal::OutOfMemory),
+            };
             Ok(loaded(alloc, &bytes)?)
         }
         _ => Ok(Loaded::Nothing),

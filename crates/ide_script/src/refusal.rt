@@ -1,5 +1,4 @@
 //! Why a script isn't played to its end.
-use ide_io::ReadFileError;
 use std::alloc::{AllocError, AllocFailed};
 
 /// Why a script isn't played to its end.
