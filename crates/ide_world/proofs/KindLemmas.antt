@@ -28,6 +28,8 @@ use Rattle.world_state.specs.IndexEdits.{Indexed, edited_index}
 use Rattle.world_state.specs.Step.{file_with, joined, row_part, document_part, stepped, drawn_by, after_step}
 use Rattle.world_state.specs.Sound.{IsSoundLive, IsSoundFile, AreSoundFiles, HoldsIndex, HoldsLive}
 use Rattle.world_state.specs.Lawful.{IsPathFree, IsLawfulStep}
+use Rattle.ide_world.specs.declared.look.Look.{Look}
+use Rattle.ide_world.specs.Walk.{look_of}
 use Rattle.ide_world.specs.Builds.{Builds, IsLiveAt, edit_step, overlay_edit, moved_index, close_index, intake_index}
 use Rattle.ide_world.proofs.PathLemmas.{id_at-of}
 use Rattle.ide_world.proofs.BuildLemmas.{IsFileAt, is_file_at, file_of_row, edit_effect, edit_lawful, kept_path, sound_at}
@@ -447,3 +449,46 @@ move_from w wide path to id row path' content' stamp index found sound live acce
     let P : List ℕ → Type 0 = λ x. Builds w wide (Move path to) (step x content') in
     let Q : List ℕ → Type 0 = λ x. Builds w wide (Move path to) (step to x) in
     subst P (sym p) (subst Q (sym t) (move_builds w wide path to id row (document_part (file_of w id)) stamp index sound (is_file_at w path id row live) accepted s (i ∙ ap (moved_index (is_java row.path) (is_java to)) f)))
+
+some_look : (doc : Option Document) (look : Option Look) (l : Look) → look ≡ option_map look_of doc → look ≡ Some l → is_some doc ≡ true
+some_look None look l e f = absurd (some_none l (sym f ∙ e))
+some_look (Some d) look l e f = refl
+
+none_look : (doc : Option Document) (look : Option Look) → look ≡ option_map look_of doc → look ≡ None → doc ≡ None
+none_look None look e f = refl
+none_look (Some d) look e f = absurd (some_none (look_of d) (sym e ∙ f))
+
+abbrev write_as : ℕ → FileRow → List ℕ → List ℕ → ℕ → DocEdit → Step
+write_as id row path content stamp doc = record { id = id; row = row_edit.Put (record { path = path; content = content; stamp = stamp; indexed = row.indexed }); doc = doc; index = index_edit.Keep; draws = true }
+
+write_as_built : (w : World) (wide : ℕ) (path : List ℕ) (id : ℕ) (row : FileRow) (path' content' text : List ℕ) (stamp : ℕ) (doc edit : DocEdit) → path' ≡ row.path → content' ≡ text → doc ≡ edit
+    → Builds w wide (Write path text) (write_as id row row.path text stamp edit) → Builds w wide (Write path text) (write_as id row path' content' stamp doc)
+write_as_built w wide path id row path' content' text stamp doc edit p t e built =
+    let P : List ℕ → Type 0 = λ x. Builds w wide (Write path text) (write_as id row x content' stamp doc) in
+    let Q : List ℕ → Type 0 = λ x. Builds w wide (Write path text) (write_as id row row.path x stamp doc) in
+    let R : DocEdit → Type 0 = λ x. Builds w wide (Write path text) (write_as id row row.path text stamp x) in
+    subst P (sym p) (subst Q (sym t) (subst R (sym e) built))
+
+pub write_open_from : (w : World) (wide : ℕ) (path : List ℕ) (id : ℕ) (row : FileRow) (path' content' text : List ℕ) (stamp : ℕ) (doc : DocEdit) (new : HeldDoc) (look : Option Look) (l : Look) (width : ℕ) → AreSoundFiles w → IsLiveAt w path id row
+    → path' ≡ row.path → content' ≡ text → stamp ≡ w.next_stamp → look ≡ option_map look_of (document_part (file_of w id)) → look ≡ Some l
+    → new.document ≡ opened text → width ≤ new.spare → width ≡ wide → doc ≡ doc_edit.Replace new → Builds w wide (Write path text) (write_as id row path' content' stamp doc)
+write_open_from w wide path id row path' content' text stamp doc new look l width sound live p t s e f document room width_is d =
+    let P : ℕ → Type 0 = λ n. n ≤ new.spare in
+    write_as_built w wide path id row path' content' text stamp doc (doc_edit.Replace new) p t d
+      (write_open_builds w wide path id row (document_part (file_of w id)) text stamp new sound (is_file_at w path id row live) (some_look (document_part (file_of w id)) look l e f) s document (subst P width_is room))
+
+pub write_closed_from : (w : World) (wide : ℕ) (path : List ℕ) (id : ℕ) (row : FileRow) (path' content' text : List ℕ) (stamp : ℕ) (doc : DocEdit) (look : Option Look) → AreSoundFiles w → IsLiveAt w path id row
+    → path' ≡ row.path → content' ≡ text → stamp ≡ w.next_stamp → look ≡ option_map look_of (document_part (file_of w id)) → look ≡ None
+    → doc ≡ doc_edit.Keep → Builds w wide (Write path text) (write_as id row path' content' stamp doc)
+write_closed_from w wide path id row path' content' text stamp doc look sound live p t s e f d =
+    write_as_built w wide path id row path' content' text stamp doc doc_edit.Keep p t d
+      (write_closed_builds w wide path id row (document_part (file_of w id)) text stamp sound (is_file_at w path id row live) (none_look (document_part (file_of w id)) look e f) s)
+
+pub intake_from : (w : World) (wide id stamp : ℕ) (row row' : FileRow) (text : List ℕ) (parts : Parts) (index : IndexEdit) → AreSoundFiles w → row_part (file_of w id) ≡ Some row → row' ≡ row
+    → refusal_of w (Intake id stamp) ≡ None → IfSome (file_of w id) (λ f. f.stamp ≡ stamp → f.content ≡ text) → parts ≡ parts_of text
+    → ((t : List ℕ) → parts ≡ parts_of t → index ≡ intake_index (is_java row'.path) t)
+    → Builds w wide (Intake id stamp) (intake_step id row' stamp index)
+intake_from w wide id stamp row row' text parts index sound live same accepted of_world made i =
+    let P : FileRow → Type 0 = λ r. Builds w wide (Intake id stamp) (intake_step id r stamp index) in
+    let is : index ≡ intake_index (is_java row.path) text = i text made ∙ ap (λ (r : FileRow). intake_index (is_java r.path) text) same in
+    subst P (sym same) (intake_builds w wide id stamp row (document_part (file_of w id)) text index sound (file_of_row (file_of w id) row live) accepted of_world is)
