@@ -32,7 +32,6 @@ file_of_row (Some f) row e =
     ap (λ r. Some (file_with f.document r)) is
   where
     row_of : File → FileRow
-
     row_of f = record { path = f.path; content = f.content; stamp = f.stamp; indexed = f.indexed }
 
 pub is_file_at : (w : World) (path : List ℕ) (id : ℕ) (row : FileRow) → IsLiveAt w path id row → IsFileAt w path id row (document_part (file_of w id))

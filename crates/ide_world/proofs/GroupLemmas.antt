@@ -115,9 +115,10 @@ finished w changes i d h draft some =
       each = draft.lawful;
       few = draft.few;
       wide = let P : ℕ → Type 0 = λ n. AreWide n d.steps in subst P (let a = h.width in let b = h.inserted in omega arith) draft.wide;
-    } in
-    (record { lawful = let P : World → Type 0 = λ x. AreLawful x d.steps in subst P h.base each; entries = h.entries some },
-     record { accepted = h.refusal; effect = sym (ap (λ x. after_steps x d.steps) h.base) ∙ h.effect })
+    } in (
+      record { lawful = let P : World → Type 0 = λ x. AreLawful x d.steps in subst P h.base each; entries = h.entries some },
+      record { accepted = h.refusal; effect = sym (ap (λ x. after_steps x d.steps) h.base) ∙ h.effect },
+    )
 
 -- a single change
 pub single : (w : World) (change : Change) (d new : Drafted) → d.base ≡ w → d.steps ≡ [] → d.wide ≡ inserted_by_change change
@@ -164,7 +165,7 @@ pub turn_at : (w : World) (changes : List Change) (i : ℕ) (item : Change) (d n
 turn_at w changes i item d new inside is so_far edits accepted e =
     let rest = drop (i + 1) changes in
     let split : drop i changes ≡ item ∷ rest =
-        drop-cons changes i item inside ∙ ap (λ x. x ∷ drop (suc i) changes) (sym is) ∙ ap (λ n. item ∷ drop n changes) (sym (add-one i)) in
+    drop-cons changes i item inside ∙ ap (λ x. x ∷ drop (suc i) changes) (sym is) ∙ ap (λ n. item ∷ drop n changes) (sym (add-one i)) in
     record {
       so_far = let P : List Change → Type 0 = λ l. IsSoFar w changes i l d in turns w changes i item rest d new (subst P split so_far) accepted e;
       edits = and_right (is_edit item) (list_all is_edit rest) (sym (ap (list_all is_edit) split) ∙ edits);

@@ -154,8 +154,10 @@ insert_builds w wide path id at text row (Some d) sound h accepted =
     record {
       effect = edit_effect w path row (Some d) (insert_step id at text) 0 (λ f. Some (edited (inserted at text) f)) h refl refl;
       lawful = edit_lawful w path row (Some d) (insert_step id at text) h tt
-          (record { inside = ltb-false (length d.text) at (sym (ap (λ o. nat_lt (document_len o) at) e) ∙ r.1.1.0);
-            fits = ltb-false max_chars (length d.text + length text) (sym (ap (λ o. nat_lt max_chars (document_len o + length text)) e) ∙ r.1.1.1.0) })
+          (record {
+            inside = ltb-false (length d.text) at (sym (ap (λ o. nat_lt (document_len o) at) e) ∙ r.1.1.0);
+            fits = ltb-false max_chars (length d.text + length text) (sym (ap (λ o. nat_lt max_chars (document_len o + length text)) e) ∙ r.1.1.1.0);
+          })
           (λ n. absurd (some_none row n))
           (record { stamp = let l = s.stamp in omega arith; indexed = IfSome_then row.indexed s.indexed (λ x l. omega arith); saved = λ n. absurd (false_true n) })
           (λ held k. index_kept (is_java row.path) (file_with (Some d) row) (file_with (Some (inserted at text d)) row) held refl (λ i. (i, refl)) k);
@@ -187,8 +189,10 @@ erase_builds w wide path id from to row (Some d) sound h accepted =
     record {
       effect = edit_effect w path row (Some d) (erase_step id from to) 0 (λ f. Some (edited (erased from to) f)) h refl refl;
       lawful = edit_lawful w path row (Some d) (erase_step id from to) h tt
-          (record { ordered = ltb-false to from (or_right (nat_lt (length d.text) to) (nat_lt to from) both);
-            inside = ltb-false (length d.text) to (or_left (nat_lt (length d.text) to) (nat_lt to from) both) })
+          (record {
+            ordered = ltb-false to from (or_right (nat_lt (length d.text) to) (nat_lt to from) both);
+            inside = ltb-false (length d.text) to (or_left (nat_lt (length d.text) to) (nat_lt to from) both);
+          })
           (λ n. absurd (some_none row n))
           (record { stamp = let l = s.stamp in omega arith; indexed = IfSome_then row.indexed s.indexed (λ x l. omega arith); saved = λ n. absurd (false_true n) })
           (λ held k. index_kept (is_java row.path) (file_with (Some d) row) (file_with (Some (erased from to d)) row) held refl (λ i. (i, refl)) k);
@@ -475,14 +479,14 @@ pub write_open_from : (w : World) (wide : ℕ) (path : List ℕ) (id : ℕ) (row
 write_open_from w wide path id row path' content' text stamp doc new look l width sound live p t s e f document room width_is d =
     let P : ℕ → Type 0 = λ n. n ≤ new.spare in
     write_as_built w wide path id row path' content' text stamp doc (doc_edit.Replace new) p t d
-      (write_open_builds w wide path id row (document_part (file_of w id)) text stamp new sound (is_file_at w path id row live) (some_look (document_part (file_of w id)) look l e f) s document (subst P width_is room))
+    (write_open_builds w wide path id row (document_part (file_of w id)) text stamp new sound (is_file_at w path id row live) (some_look (document_part (file_of w id)) look l e f) s document (subst P width_is room))
 
 pub write_closed_from : (w : World) (wide : ℕ) (path : List ℕ) (id : ℕ) (row : FileRow) (path' content' text : List ℕ) (stamp : ℕ) (doc : DocEdit) (look : Option Look) → AreSoundFiles w → IsLiveAt w path id row
     → path' ≡ row.path → content' ≡ text → stamp ≡ w.next_stamp → look ≡ option_map look_of (document_part (file_of w id)) → look ≡ None
     → doc ≡ doc_edit.Keep → Builds w wide (Write path text) (write_as id row path' content' stamp doc)
 write_closed_from w wide path id row path' content' text stamp doc look sound live p t s e f d =
     write_as_built w wide path id row path' content' text stamp doc doc_edit.Keep p t d
-      (write_closed_builds w wide path id row (document_part (file_of w id)) text stamp sound (is_file_at w path id row live) (none_look (document_part (file_of w id)) look e f) s)
+    (write_closed_builds w wide path id row (document_part (file_of w id)) text stamp sound (is_file_at w path id row live) (none_look (document_part (file_of w id)) look e f) s)
 
 pub intake_from : (w : World) (wide id stamp : ℕ) (row row' : FileRow) (text : List ℕ) (parts : Parts) (index : IndexEdit) → AreSoundFiles w → row_part (file_of w id) ≡ Some row → row' ≡ row
     → refusal_of w (Intake id stamp) ≡ None → IfSome (file_of w id) (λ f. f.stamp ≡ stamp → f.content ≡ text) → parts ≡ parts_of text

@@ -67,11 +67,12 @@ entries_after_steps w (s ∷ ss) = entries_after_steps (after_step w s) ss
 
 texts_fit_from : (id : ℕ) (w : World) (ss : List Step) → AreSoundFiles w → AreLawfulFrom w ss → AreTextEditsFit id (text_of_document (document_part (file_of w id))) ss
 texts_fit_from id w [] sound l = tt
-texts_fit_from id w (s ∷ ss) sound l =
-    ((λ t. let P : ℕ → Type 0 = λ i. IsTextEditFit s.doc (text_of_document (document_part (file_of w i))) in
-        subst P (eqb-true s.id id t) (text_edit_fits s.doc (document_part (file_of w s.id)) l.0.doc)),
-     (let P : Option (List ℕ) → Type 0 = λ o. AreTextEditsFit id o ss in
-        subst P (text-step id w s sound l.0) (texts_fit_from id (after_step w s) ss (sound_after_step w s sound l.0) l.1)))
+texts_fit_from id w (s ∷ ss) sound l = (
+  (λ t. let P : ℕ → Type 0 = λ i. IsTextEditFit s.doc (text_of_document (document_part (file_of w i))) in
+      subst P (eqb-true s.id id t) (text_edit_fits s.doc (document_part (file_of w s.id)) l.0.doc)),
+  (let P : Option (List ℕ) → Type 0 = λ o. AreTextEditsFit id o ss in
+      subst P (text-step id w s sound l.0) (texts_fit_from id (after_step w s) ss (sound_after_step w s sound l.0) l.1)),
+)
 
 pub texts_fit : (d : Drafted) (id : ℕ) → IsDraft d → AreTextEditsFit id (text_of_document (document_part (file_of d.base id))) d.steps
 texts_fit d id h = texts_fit_from id d.base d.steps h.base.files h.lawful
@@ -88,8 +89,8 @@ same_text id text [] f = refl
 same_text id text (s ∷ ss) f = bool_cases (edits_texts id s) (λ b. (b || list_any (edits_texts id) ss) ≡ false → fold (text_after id) text (s ∷ ss) ≡ text)
     (λ t g. absurd (cc))
     (λ n g.
-      let e = untouched (s.id == id) (keeps_texts s.doc) text (edited_text s.doc text) n (kept_text s.doc text) in
-      ap (λ o. fold (text_after id) o ss) e ∙ same_text id text ss g)
+    let e = untouched (s.id == id) (keeps_texts s.doc) text (edited_text s.doc text) n (kept_text s.doc text) in
+    ap (λ o. fold (text_after id) o ss) e ∙ same_text id text ss g)
     f
 
 pub same_committed : (id : ℕ) (text : Option (List ℕ)) (ss : List Step) → list_any (edits_texts id) ss ≡ false → fold (committed_after id) text ss ≡ text
@@ -97,8 +98,8 @@ same_committed id text [] f = refl
 same_committed id text (s ∷ ss) f = bool_cases (edits_texts id s) (λ b. (b || list_any (edits_texts id) ss) ≡ false → fold (committed_after id) text (s ∷ ss) ≡ text)
     (λ t g. absurd (cc))
     (λ n g.
-      let e = untouched (s.id == id) (keeps_texts s.doc) text (edited_committed s.doc text) n (kept_committed s.doc text) in
-      ap (λ o. fold (committed_after id) o ss) e ∙ same_committed id text ss g)
+    let e = untouched (s.id == id) (keeps_texts s.doc) text (edited_committed s.doc text) n (kept_committed s.doc text) in
+    ap (λ o. fold (committed_after id) o ss) e ∙ same_committed id text ss g)
     f
 
 same_uncommitted : (d e : Option Document) → text_of_document d ≡ text_of_document e → committed_of d ≡ committed_of e → is_uncommitted d ≡ is_uncommitted e
@@ -168,12 +169,12 @@ is_open-part (Some file) = refl
 
 pub open_count-step : (w : World) (s : Step) → IsLawfulStep w s
     → count_of is_open (after_step w s) + one (is_some (document_part (file_of w s.id)))
-      ≡ count_of is_open w + one (is_some (edited_document s.doc (document_part (file_of w s.id))))
+    ≡ count_of is_open w + one (is_some (edited_document s.doc (document_part (file_of w s.id))))
 open_count-step w s l =
     let e = tally-with is_open refl s.id (stepped s (file_of w s.id)) w.files l.some l.within in
     let a : one (is_open (file_of w s.id)) ≡ one (is_some (document_part (file_of w s.id))) = ap one (is_open-part (file_of w s.id)) in
     let b : one (is_open (stepped s (file_of w s.id))) ≡ one (is_some (edited_document s.doc (document_part (file_of w s.id))))
-        = ap one (is_open-part (stepped s (file_of w s.id)) ∙ ap is_some (document_part-stepped w s l)) in
+    = ap one (is_open-part (stepped s (file_of w s.id)) ∙ ap is_some (document_part-stepped w s l)) in
     ap (λ n. count_of is_open (after_step w s) + n) (sym a) ∙ e ∙ ap (λ n. count_of is_open w + n) b
 
 length-inside : (place : ℕ) (file : Option File) (files : List (Option File)) → place < length files → length (put_at place file files) ≡ length files

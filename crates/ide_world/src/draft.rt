@@ -208,7 +208,11 @@ impl<'a> Draft<'a> {
         ensures value { result ≡ length (after_step (world_now self.now) step.now).files }
         ensures few { result ≤ 65536 }
     {
-        if step.id as usize > self.made { self.made + 1 } else { self.made }
+        if step.id as usize > self.made {
+            self.made + 1
+        } else {
+            self.made
+        }
     }
 
     /// Adds a step.
