@@ -1,6 +1,6 @@
 -- A list of changes, made one after another on a draft.
-use Rattle.std.proofs.Common.{ℕ, zero, suc, ◌≡◌, ◌≢◌, ◌+◌, ◌<◌, ◌≤◌, Bool, true, false, List, [], ◌∷◌, ◌++◌, length, get_or, drop, add-one, refl, ap, sym, ◌∙◌, subst, arith, Some, None}
-use Rattle.std.specs.Prelude.{◌&&◌, Result, Ok, Err, OnOk, Option, option_map, nat_le}
+use Rattle.std.proofs.Common.{ℕ, suc, ◌≡◌, ◌+◌, ◌<◌, ◌≤◌, Bool, true, false, List, [], ◌∷◌, ◌++◌, length, get_or, drop, add-one, refl, ap, sym, ◌∙◌, subst, arith, Some, None}
+use Rattle.std.specs.Prelude.{◌&&◌, Result, Ok, Err, OnOk, Option, option_map}
 use Rattle.std.proofs.lemmas.Bool.{leb-false}
 use Rattle.write_history.specs.declared.change.Change.{Change}
 use Rattle.write_history.specs.declared.refusal.Refusal.{Refusal}
@@ -10,11 +10,9 @@ use Rattle.write_history.specs.Effect.{Reason, reasons, history_full, refusal_of
 use Rattle.write_history.specs.Fold.{effect_of, effects_of, ListRefusal, one_later, refusal_or, list_refusal}
 use Rattle.write_history.proofs.PutLemmas.{NoneStands, accepted_reasons}
 use Rattle.world_state.specs.declared.step.Step.{Step}
-use Rattle.world_state.specs.DocEdits.{inserted_by}
-use Rattle.world_state.specs.Step.{after_step, after_steps}
+use Rattle.world_state.specs.Step.{after_steps}
 use Rattle.world_state.specs.Lawful.{AreLawful, AreWide, inserted_by_all}
-use Rattle.ide_world.specs.declared.group.GroupRefusal.{GroupRefusal}
-use Rattle.ide_world.specs.Ready.{Makes, IsReadyFor, IsRefusalOf, IsListRefusalOf, is_want_of_memory, told, is_edit}
+use Rattle.ide_world.specs.Ready.{Makes, IsReadyFor, IsRefusalOf, IsListRefusalOf, is_want_of_memory, is_edit}
 use Rattle.ide_world.specs.Drafted.{Drafted, IsDraft, IsExtended, world_now, inserted_by_change, inserted_by_changes}
 use Rattle.ide_world.specs.Builds.{Builds}
 use Rattle.ide_world.proofs.WalkLemmas.{entries_after_steps, after_steps-push, inserted-push, pushed}

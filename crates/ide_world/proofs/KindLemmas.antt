@@ -1,20 +1,18 @@
 -- The step of each kind of change makes it.
-use Rattle.std.proofs.Common.{ℕ, zero, suc, ◌≡◌, ◌≢◌, ◌+◌, ◌<◌, ◌≤◌, Bool, true, false, List, [], ◌∷◌, length, refl, ap, sym, ◌∙◌, subst, arith, Some, None, ltb-false}
-use Rattle.std.specs.Prelude.{Option, IsSome, IfSome, is_some, is_none, unwrap_or, option_map, not, ◌||◌, if◌then◌else◌, nat_le, nat_lt, ◌==◌, bytes_eq}
+use Rattle.std.proofs.Common.{ℕ, ◌≡◌, ◌+◌, ◌<◌, ◌≤◌, Bool, true, false, List, length, refl, ap, sym, ◌∙◌, subst, arith, Some, None, ltb-false}
+use Rattle.std.specs.Prelude.{Option, IfSome, is_some, is_none, unwrap_or, option_map, not, ◌||◌, nat_lt, ◌==◌, bytes_eq}
 use Rattle.std.specs.Option.{option_and_then}
 use Rattle.std.specs.Cmp.Lexicographic.{bytes_decides}
 use Rattle.std.proofs.lemmas.Bool.{leb-false, eqb-true}
 use Rattle.std.proofs.lemmas.Option.{IfSome_then}
-use Rattle.list_laws.proofs.BoolLemmas.{bool_cases}
 use Rattle.vfs_core.specs.declared.row.FileRow.{FileRow}
 use Rattle.ide_text.specs.Text.{max_chars}
-use Rattle.document_buf.specs.Document.{Document, opened, inserted, erased, committed, marked_saved, replaced}
+use Rattle.document_buf.specs.Document.{Document, opened, inserted, erased, committed, replaced}
 use Rattle.dumb_mode.specs.Filter.{is_java}
 use Rattle.overlay_index.specs.Parts.{Parts, parts_of, no_parts}
-use Rattle.write_history.specs.declared.change.Change.{Change}
 use Rattle.write_history.specs.declared.change.Change.TheVariants.{Create, Write, Delete, OpenDoc, Insert, Erase, Commit, Save, CloseDoc, Intake, Move}
-use Rattle.write_history.specs.World.{World, File, file_of, id_at, file_at, document_at, next_id}
-use Rattle.write_history.specs.Effect.{Put, edit_at, refusal_of, document_len, is_unsaved, is_uncommitted, max_files, new_file, rewritten, with_document, edited, saved, taken_in, closed, moved, stamp_of}
+use Rattle.write_history.specs.World.{World, File, file_of, id_at, document_at, next_id}
+use Rattle.write_history.specs.Effect.{Put, refusal_of, document_len, is_unsaved, is_uncommitted, max_files, new_file, rewritten, with_document, edited, saved, taken_in, closed, moved, stamp_of}
 use Rattle.write_history.specs.Fold.{after_put, effect_of}
 use Rattle.write_history.proofs.PutLemmas.{live_is_made, none_at_free, accepted_reasons}
 use Rattle.world_state.specs.declared.step.Step.{Step}
@@ -25,9 +23,9 @@ use Rattle.world_state.specs.declared.step.DocEdit.TheVariants as doc_edit
 use Rattle.world_state.specs.declared.step.IndexEdit.{IndexEdit}
 use Rattle.world_state.specs.declared.step.IndexEdit.TheVariants as index_edit
 use Rattle.world_state.specs.IndexEdits.{Indexed, edited_index}
-use Rattle.world_state.specs.Step.{file_with, joined, row_part, document_part, stepped, drawn_by, after_step}
+use Rattle.world_state.specs.Step.{file_with, row_part, document_part, stepped, after_step}
 use Rattle.world_state.specs.Sound.{IsSoundLive, IsSoundFile, AreSoundFiles, HoldsIndex, HoldsLive}
-use Rattle.world_state.specs.Lawful.{IsPathFree, IsLawfulStep}
+use Rattle.world_state.specs.Lawful.{IsLawfulStep}
 use Rattle.ide_world.specs.declared.look.Look.{Look}
 use Rattle.ide_world.specs.Walk.{look_of}
 use Rattle.ide_world.specs.Builds.{Builds, IsLiveAt, edit_step, overlay_edit, moved_index, close_index, intake_index}

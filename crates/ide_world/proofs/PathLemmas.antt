@@ -1,5 +1,5 @@
 -- The id at a path, and what a step makes of it.
-use Rattle.std.proofs.Common.{ℕ, zero, suc, ◌≡◌, ◌≢◌, ◌+◌, ◌<◌, ◌≤◌, Bool, true, false, List, [], ◌∷◌, length, get_or, refl, ap, sym, ◌∙◌, subst, arith, Some, None}
+use Rattle.std.proofs.Common.{ℕ, ◌≡◌, ◌≢◌, Bool, true, false, List, [], refl, ap, sym, ◌∙◌, subst, Some, None}
 use Rattle.std.specs.Prelude.{Option, is_some, is_none, if◌then◌else◌, ◌==◌, bytes_eq}
 use Rattle.std.specs.Cmp.Lexicographic.{bytes_decides}
 use Rattle.std.proofs.lemmas.Bool.{eqb-true, eq-eqb}
@@ -7,13 +7,13 @@ use Rattle.list_laws.proofs.BoolLemmas.{bool_cases}
 use Rattle.vfs_core.specs.declared.row.FileRow.{FileRow}
 use Rattle.document_buf.specs.Document.{Document}
 use Rattle.write_history.specs.World.{World, File, file_of, id_at}
-use Rattle.write_history.proofs.PutLemmas.{Found, found, none_at_free}
+use Rattle.write_history.proofs.PutLemmas.{found, none_at_free}
 use Rattle.world_state.specs.declared.step.Step.{Step}
 use Rattle.world_state.specs.declared.step.RowEdit.{RowEdit}
 use Rattle.world_state.specs.declared.step.RowEdit.TheVariants.{Keep, Put, Remove}
 use Rattle.world_state.specs.RowEdits.{edited_row}
 use Rattle.world_state.specs.DocEdits.{edited_document}
-use Rattle.world_state.specs.Step.{file_with, joined, row_part, document_part, stepped, after_step}
+use Rattle.world_state.specs.Step.{file_with, joined, row_part, document_part, after_step}
 use Rattle.world_state.specs.Sound.{AreSoundFiles}
 use Rattle.world_state.specs.Lawful.{IsLawfulStep}
 use Rattle.ide_world.specs.Walk.{other_than, moved_id, id_after}

@@ -1,5 +1,5 @@
 -- What a lawful step makes of each file, and that the files stay sound.
-use Rattle.std.proofs.Common.{ℕ, ◌≡◌, ◌≢◌, ◌+◌, ◌<◌, ◌≤◌, Bool, true, false, List, [], ◌∷◌, ◌++◌, length, refl, ap, sym, ◌∙◌, subst, arith, Some, None}
+use Rattle.std.proofs.Common.{ℕ, ◌≡◌, ◌≢◌, ◌+◌, true, false, List, [], ◌∷◌, refl, ap, sym, ◌∙◌, subst, arith, Some, None}
 use Rattle.std.specs.Prelude.{Option, IfSome, if◌then◌else◌, ◌==◌}
 use Rattle.std.specs.List.{fold}
 use Rattle.std.proofs.lemmas.Bool.{eqb-true, eq-eqb}
@@ -7,15 +7,15 @@ use Rattle.std.proofs.lemmas.Option.{IfSome_then}
 use Rattle.list_laws.proofs.BoolLemmas.{bool_cases}
 use Rattle.vfs_core.specs.declared.row.FileRow.{FileRow}
 use Rattle.document_buf.specs.Document.{Document}
-use Rattle.write_history.specs.World.{World, File, file_of, next_id}
-use Rattle.write_history.proofs.PutLemmas.{by_place, file_of-after_put}
+use Rattle.write_history.specs.World.{World, File, file_of}
+use Rattle.write_history.proofs.PutLemmas.{by_place}
 use Rattle.world_state.specs.declared.step.Step.{Step}
 use Rattle.world_state.specs.declared.step.RowEdit.{RowEdit}
 use Rattle.world_state.specs.declared.step.RowEdit.TheVariants.{Keep, Put, Remove}
 use Rattle.world_state.specs.RowEdits.{edited_row, put_row}
 use Rattle.world_state.specs.DocEdits.{edited_document}
 use Rattle.world_state.specs.Step.{file_with, joined, row_part, document_part, stepped, drawn_by, after_step, after_steps}
-use Rattle.world_state.specs.Sound.{IsSoundLive, IsSoundFile, AreSoundFiles}
+use Rattle.world_state.specs.Sound.{IsSoundFile, AreSoundFiles}
 use Rattle.world_state.specs.Lawful.{IsPathFree, IsLawfulStep, AreLawfulFrom}
 
 -- a step changes what has its id

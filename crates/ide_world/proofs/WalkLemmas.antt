@@ -1,26 +1,25 @@
 -- What the readers of a draft see, as folds over its steps; and a draft with one step more.
-use Rattle.std.proofs.Common.{ℕ, zero, suc, ◌≡◌, ◌≢◌, ◌+◌, ◌*◌, ◌<◌, ◌≤◌, Bool, true, false, List, [], ◌∷◌, ◌++◌, length, get_or, filter, refl, ap, sym, ◌∙◌, subst, arith, Some, None, length-append}
-use Rattle.std.specs.Prelude.{Result, Ok, Err, IfOk, Option, option_map, is_some, if◌then◌else◌, ◌==◌, nat_lt, not, ◌&&◌, ◌||◌}
+use Rattle.std.proofs.Common.{ℕ, zero, suc, ◌≡◌, ◌+◌, ◌<◌, ◌≤◌, Bool, true, false, List, [], ◌∷◌, ◌++◌, length, get_or, filter, refl, ap, sym, ◌∙◌, subst, arith, Some, None, length-append}
+use Rattle.std.specs.Prelude.{Result, Ok, Err, IfOk, Option, option_map, is_some, if◌then◌else◌, ◌==◌, not, ◌&&◌, ◌||◌}
 use Rattle.std.specs.List.{fold, list_any}
-use Rattle.std.proofs.lemmas.Bool.{eqb-true, eq-eqb}
+use Rattle.std.proofs.lemmas.Bool.{eqb-true}
 use Rattle.list_laws.proofs.BoolLemmas.{bool_cases}
-use Rattle.vfs_core.specs.declared.row.FileRow.{FileRow}
 use Rattle.document_buf.specs.Document.{Document}
 use Rattle.write_history.specs.World.{World, File, file_in, file_of, id_at, is_open, count_of, next_id}
-use Rattle.write_history.specs.Effect.{put_at, with_file, is_uncommitted, max_files, max_entries}
+use Rattle.write_history.specs.Effect.{put_at, with_file, is_uncommitted, max_files}
 use Rattle.world_state.specs.declared.step.Step.{Step}
 use Rattle.world_state.specs.declared.step.DocEdit.{DocEdit}
 use Rattle.world_state.specs.declared.step.DocEdit.TheVariants.{Keep, Open, Insert, Erase, Commit, MarkSaved, Replace, Close}
 use Rattle.world_state.specs.RowEdits.{edited_row}
 use Rattle.world_state.specs.DocEdits.{edited_document, IsDocEditFit, IsWide, inserted_by}
-use Rattle.world_state.specs.Step.{row_part, document_part, stepped, drawn_by, after_step, after_steps}
+use Rattle.world_state.specs.Step.{row_part, document_part, stepped, after_step, after_steps}
 use Rattle.world_state.specs.Sound.{AreSoundFiles}
 use Rattle.world_state.specs.Lawful.{IsLawfulStep, AreLawfulFrom, AreWide, inserted_by_all}
 use Rattle.ide_world.specs.declared.look.Look.{Look}
 use Rattle.ide_world.specs.Drafted.{Drafted, IsDraft, world_now, drafted, IsKept}
 use Rattle.ide_world.specs.declared.draft.Draft.TheInside.{Inside}
 use Rattle.ide_world.specs.Walk.{row_after, look_of, look_after, edited_look, committed_after, edited_committed, text_after, edited_text, id_after, edits_texts, keeps_texts, IsTextEditFit, AreTextEditsFit, one, is_open_after}
-use Rattle.ide_world.proofs.StepLemmas.{part-after_step, row_part-stepped, document_part-stepped, reads_steps, sound_after_step, file_here}
+use Rattle.ide_world.proofs.StepLemmas.{part-after_step, row_part-stepped, document_part-stepped, reads_steps, sound_after_step}
 use Rattle.ide_world.proofs.EditLemmas.{text_of_document, committed_of, look-edited, committed-edited, text-edited, text_edit_fits, kept_text, kept_committed}
 use Rattle.ide_world.proofs.PathLemmas.{id_at-after_step}
 

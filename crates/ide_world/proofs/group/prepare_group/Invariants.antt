@@ -1,7 +1,6 @@
 use Rattle.std.proofs.Common.{◌≡◌, drop, true}
 use Rattle.std.specs.List.{list_all}
 use Rattle.ide_world.specs.Ready.{is_edit}
-use Rattle.ide_world.specs.Drafted.{IsDraft}
 use Rattle.ide_world.proofs.GroupLemmas.{IsSoFar}
 use Rattle.ide_world.proofs.group.prepare_group.Given as goal
 
