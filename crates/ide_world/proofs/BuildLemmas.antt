@@ -1,12 +1,10 @@
 -- A step that edits the live file at a path: what it does, and when it is lawful.
-use Rattle.std.proofs.Common.{ℕ, zero, suc, ◌≡◌, ◌≢◌, ◌+◌, ◌<◌, ◌≤◌, Bool, true, false, List, [], ◌∷◌, length, refl, ap, sym, ◌∙◌, subst, arith, Some, None}
-use Rattle.std.specs.Prelude.{Option, IsSome, IfSome, is_some, is_none, unwrap_or, option_map, if◌then◌else◌, nat_le, nat_lt, ◌==◌}
+use Rattle.std.proofs.Common.{ℕ, ◌≡◌, ◌+◌, List, ap, sym, ◌∙◌, subst, arith, Some, None}
+use Rattle.std.specs.Prelude.{Option, IfSome, unwrap_or}
 use Rattle.std.specs.Option.{option_and_then}
-use Rattle.std.proofs.lemmas.Option.{IfSome_then}
 use Rattle.vfs_core.specs.declared.row.FileRow.{FileRow}
 use Rattle.document_buf.specs.Document.{Document}
-use Rattle.dumb_mode.specs.Filter.{is_java}
-use Rattle.write_history.specs.World.{World, File, file_of, id_at, file_at, document_at, next_id}
+use Rattle.write_history.specs.World.{World, File, file_of, id_at}
 use Rattle.write_history.specs.Effect.{Put, edit_at}
 use Rattle.write_history.specs.Fold.{after_put}
 use Rattle.write_history.proofs.PutLemmas.{live_is_made}
@@ -14,7 +12,7 @@ use Rattle.world_state.specs.declared.step.Step.{Step}
 use Rattle.world_state.specs.RowEdits.{edited_row, put_row}
 use Rattle.world_state.specs.DocEdits.{edited_document, IsDocEditFit}
 use Rattle.world_state.specs.IndexEdits.{Indexed, edited_index}
-use Rattle.world_state.specs.Step.{file_with, joined, row_part, document_part, stepped, drawn_by, after_step}
+use Rattle.world_state.specs.Step.{file_with, row_part, document_part, stepped, drawn_by, after_step}
 use Rattle.world_state.specs.Sound.{IsSoundLive, IsSoundFile, AreSoundFiles, HoldsIndex}
 use Rattle.world_state.specs.Lawful.{IsPathFree, IsLawfulStep}
 use Rattle.ide_world.specs.Builds.{IsLiveAt}
@@ -32,7 +30,6 @@ file_of_row (Some f) row e =
     ap (λ r. Some (file_with f.document r)) is
   where
     row_of : File → FileRow
-
     row_of f = record { path = f.path; content = f.content; stamp = f.stamp; indexed = f.indexed }
 
 pub is_file_at : (w : World) (path : List ℕ) (id : ℕ) (row : FileRow) → IsLiveAt w path id row → IsFileAt w path id row (document_part (file_of w id))

@@ -1,11 +1,11 @@
 -- What edits of a document make of what readers see of it.
-use Rattle.std.proofs.Common.{ℕ, ◌≡◌, ◌+◌, ◌-◌, ◌<◌, ◌≤◌, Bool, true, false, List, [], ◌∷◌, ◌++◌, length, take, drop, refl, ap, sym, ◌∙◌, subst, arith, Some, None, length-append, length-drop}
+use Rattle.std.proofs.Common.{ℕ, ◌≡◌, ◌+◌, ◌-◌, ◌≤◌, Bool, true, false, List, ◌++◌, length, take, drop, refl, ap, sym, arith, Some, None, length-append, length-drop}
 use Rattle.std.proofs.lemmas.List.{length-take-le}
-use Rattle.std.specs.Prelude.{Option, option_map, not}
+use Rattle.std.specs.Prelude.{Option, option_map}
 use Rattle.document_buf.specs.Document.{Document, with_piece, without_part}
 use Rattle.world_state.specs.declared.step.DocEdit.{DocEdit}
 use Rattle.world_state.specs.declared.step.DocEdit.TheVariants.{Keep, Open, Insert, Erase, Commit, MarkSaved, Replace, Close}
-use Rattle.world_state.specs.DocEdits.{edited_document, IsDocEditFit, IsInsertFit, IsEraseFit}
+use Rattle.world_state.specs.DocEdits.{edited_document, IsDocEditFit}
 use Rattle.ide_world.specs.declared.look.Look.{Look}
 use Rattle.ide_world.specs.Walk.{look_of, edited_look, edited_committed, edited_text, IsTextEditFit, keeps_texts}
 

@@ -1,6 +1,6 @@
 -- A list of changes, made one after another on a draft.
-use Rattle.std.proofs.Common.{ℕ, zero, suc, ◌≡◌, ◌≢◌, ◌+◌, ◌<◌, ◌≤◌, Bool, true, false, List, [], ◌∷◌, ◌++◌, length, get_or, drop, add-one, refl, ap, sym, ◌∙◌, subst, arith, Some, None}
-use Rattle.std.specs.Prelude.{◌&&◌, Result, Ok, Err, OnOk, Option, option_map, nat_le}
+use Rattle.std.proofs.Common.{ℕ, suc, ◌≡◌, ◌+◌, ◌<◌, ◌≤◌, Bool, true, false, List, [], ◌∷◌, ◌++◌, length, get_or, drop, add-one, refl, ap, sym, ◌∙◌, subst, arith, Some, None}
+use Rattle.std.specs.Prelude.{◌&&◌, Result, Ok, Err, OnOk, Option, option_map}
 use Rattle.std.proofs.lemmas.Bool.{leb-false}
 use Rattle.write_history.specs.declared.change.Change.{Change}
 use Rattle.write_history.specs.declared.refusal.Refusal.{Refusal}
@@ -10,11 +10,9 @@ use Rattle.write_history.specs.Effect.{Reason, reasons, history_full, refusal_of
 use Rattle.write_history.specs.Fold.{effect_of, effects_of, ListRefusal, one_later, refusal_or, list_refusal}
 use Rattle.write_history.proofs.PutLemmas.{NoneStands, accepted_reasons}
 use Rattle.world_state.specs.declared.step.Step.{Step}
-use Rattle.world_state.specs.DocEdits.{inserted_by}
-use Rattle.world_state.specs.Step.{after_step, after_steps}
+use Rattle.world_state.specs.Step.{after_steps}
 use Rattle.world_state.specs.Lawful.{AreLawful, AreWide, inserted_by_all}
-use Rattle.ide_world.specs.declared.group.GroupRefusal.{GroupRefusal}
-use Rattle.ide_world.specs.Ready.{Makes, IsReadyFor, IsRefusalOf, IsListRefusalOf, is_want_of_memory, told, is_edit}
+use Rattle.ide_world.specs.Ready.{Makes, IsReadyFor, IsRefusalOf, IsListRefusalOf, is_want_of_memory, is_edit}
 use Rattle.ide_world.specs.Drafted.{Drafted, IsDraft, IsExtended, world_now, inserted_by_change, inserted_by_changes}
 use Rattle.ide_world.specs.Builds.{Builds}
 use Rattle.ide_world.proofs.WalkLemmas.{entries_after_steps, after_steps-push, inserted-push, pushed}
@@ -115,9 +113,10 @@ finished w changes i d h draft some =
       each = draft.lawful;
       few = draft.few;
       wide = let P : ℕ → Type 0 = λ n. AreWide n d.steps in subst P (let a = h.width in let b = h.inserted in omega arith) draft.wide;
-    } in
-    (record { lawful = let P : World → Type 0 = λ x. AreLawful x d.steps in subst P h.base each; entries = h.entries some },
-     record { accepted = h.refusal; effect = sym (ap (λ x. after_steps x d.steps) h.base) ∙ h.effect })
+    } in (
+      record { lawful = let P : World → Type 0 = λ x. AreLawful x d.steps in subst P h.base each; entries = h.entries some },
+      record { accepted = h.refusal; effect = sym (ap (λ x. after_steps x d.steps) h.base) ∙ h.effect },
+    )
 
 -- a single change
 pub single : (w : World) (change : Change) (d new : Drafted) → d.base ≡ w → d.steps ≡ [] → d.wide ≡ inserted_by_change change
@@ -164,7 +163,7 @@ pub turn_at : (w : World) (changes : List Change) (i : ℕ) (item : Change) (d n
 turn_at w changes i item d new inside is so_far edits accepted e =
     let rest = drop (i + 1) changes in
     let split : drop i changes ≡ item ∷ rest =
-        drop-cons changes i item inside ∙ ap (λ x. x ∷ drop (suc i) changes) (sym is) ∙ ap (λ n. item ∷ drop n changes) (sym (add-one i)) in
+    drop-cons changes i item inside ∙ ap (λ x. x ∷ drop (suc i) changes) (sym is) ∙ ap (λ n. item ∷ drop n changes) (sym (add-one i)) in
     record {
       so_far = let P : List Change → Type 0 = λ l. IsSoFar w changes i l d in turns w changes i item rest d new (subst P split so_far) accepted e;
       edits = and_right (is_edit item) (list_all is_edit rest) (sym (ap (list_all is_edit) split) ∙ edits);

@@ -1,20 +1,18 @@
 -- The step of each kind of change makes it.
-use Rattle.std.proofs.Common.{ℕ, zero, suc, ◌≡◌, ◌≢◌, ◌+◌, ◌<◌, ◌≤◌, Bool, true, false, List, [], ◌∷◌, length, refl, ap, sym, ◌∙◌, subst, arith, Some, None, ltb-false}
-use Rattle.std.specs.Prelude.{Option, IsSome, IfSome, is_some, is_none, unwrap_or, option_map, not, ◌||◌, if◌then◌else◌, nat_le, nat_lt, ◌==◌, bytes_eq}
+use Rattle.std.proofs.Common.{ℕ, ◌≡◌, ◌+◌, ◌<◌, ◌≤◌, Bool, true, false, List, length, refl, ap, sym, ◌∙◌, subst, arith, Some, None, ltb-false}
+use Rattle.std.specs.Prelude.{Option, IfSome, is_some, is_none, unwrap_or, option_map, not, ◌||◌, nat_lt, ◌==◌, bytes_eq}
 use Rattle.std.specs.Option.{option_and_then}
 use Rattle.std.specs.Cmp.Lexicographic.{bytes_decides}
 use Rattle.std.proofs.lemmas.Bool.{leb-false, eqb-true}
 use Rattle.std.proofs.lemmas.Option.{IfSome_then}
-use Rattle.list_laws.proofs.BoolLemmas.{bool_cases}
 use Rattle.vfs_core.specs.declared.row.FileRow.{FileRow}
 use Rattle.ide_text.specs.Text.{max_chars}
-use Rattle.document_buf.specs.Document.{Document, opened, inserted, erased, committed, marked_saved, replaced}
+use Rattle.document_buf.specs.Document.{Document, opened, inserted, erased, committed, replaced}
 use Rattle.dumb_mode.specs.Filter.{is_java}
 use Rattle.overlay_index.specs.Parts.{Parts, parts_of, no_parts}
-use Rattle.write_history.specs.declared.change.Change.{Change}
 use Rattle.write_history.specs.declared.change.Change.TheVariants.{Create, Write, Delete, OpenDoc, Insert, Erase, Commit, Save, CloseDoc, Intake, Move}
-use Rattle.write_history.specs.World.{World, File, file_of, id_at, file_at, document_at, next_id}
-use Rattle.write_history.specs.Effect.{Put, edit_at, refusal_of, document_len, is_unsaved, is_uncommitted, max_files, new_file, rewritten, with_document, edited, saved, taken_in, closed, moved, stamp_of}
+use Rattle.write_history.specs.World.{World, File, file_of, id_at, document_at, next_id}
+use Rattle.write_history.specs.Effect.{Put, refusal_of, document_len, is_unsaved, is_uncommitted, max_files, new_file, rewritten, with_document, edited, saved, taken_in, closed, moved, stamp_of}
 use Rattle.write_history.specs.Fold.{after_put, effect_of}
 use Rattle.write_history.proofs.PutLemmas.{live_is_made, none_at_free, accepted_reasons}
 use Rattle.world_state.specs.declared.step.Step.{Step}
@@ -25,9 +23,11 @@ use Rattle.world_state.specs.declared.step.DocEdit.TheVariants as doc_edit
 use Rattle.world_state.specs.declared.step.IndexEdit.{IndexEdit}
 use Rattle.world_state.specs.declared.step.IndexEdit.TheVariants as index_edit
 use Rattle.world_state.specs.IndexEdits.{Indexed, edited_index}
-use Rattle.world_state.specs.Step.{file_with, joined, row_part, document_part, stepped, drawn_by, after_step}
+use Rattle.world_state.specs.Step.{file_with, row_part, document_part, stepped, after_step}
 use Rattle.world_state.specs.Sound.{IsSoundLive, IsSoundFile, AreSoundFiles, HoldsIndex, HoldsLive}
-use Rattle.world_state.specs.Lawful.{IsPathFree, IsLawfulStep}
+use Rattle.world_state.specs.Lawful.{IsLawfulStep}
+use Rattle.ide_world.specs.declared.look.Look.{Look}
+use Rattle.ide_world.specs.Walk.{look_of}
 use Rattle.ide_world.specs.Builds.{Builds, IsLiveAt, edit_step, overlay_edit, moved_index, close_index, intake_index}
 use Rattle.ide_world.proofs.PathLemmas.{id_at-of}
 use Rattle.ide_world.proofs.BuildLemmas.{IsFileAt, is_file_at, file_of_row, edit_effect, edit_lawful, kept_path, sound_at}
@@ -152,8 +152,10 @@ insert_builds w wide path id at text row (Some d) sound h accepted =
     record {
       effect = edit_effect w path row (Some d) (insert_step id at text) 0 (λ f. Some (edited (inserted at text) f)) h refl refl;
       lawful = edit_lawful w path row (Some d) (insert_step id at text) h tt
-          (record { inside = ltb-false (length d.text) at (sym (ap (λ o. nat_lt (document_len o) at) e) ∙ r.1.1.0);
-            fits = ltb-false max_chars (length d.text + length text) (sym (ap (λ o. nat_lt max_chars (document_len o + length text)) e) ∙ r.1.1.1.0) })
+          (record {
+            inside = ltb-false (length d.text) at (sym (ap (λ o. nat_lt (document_len o) at) e) ∙ r.1.1.0);
+            fits = ltb-false max_chars (length d.text + length text) (sym (ap (λ o. nat_lt max_chars (document_len o + length text)) e) ∙ r.1.1.1.0);
+          })
           (λ n. absurd (some_none row n))
           (record { stamp = let l = s.stamp in omega arith; indexed = IfSome_then row.indexed s.indexed (λ x l. omega arith); saved = λ n. absurd (false_true n) })
           (λ held k. index_kept (is_java row.path) (file_with (Some d) row) (file_with (Some (inserted at text d)) row) held refl (λ i. (i, refl)) k);
@@ -185,8 +187,10 @@ erase_builds w wide path id from to row (Some d) sound h accepted =
     record {
       effect = edit_effect w path row (Some d) (erase_step id from to) 0 (λ f. Some (edited (erased from to) f)) h refl refl;
       lawful = edit_lawful w path row (Some d) (erase_step id from to) h tt
-          (record { ordered = ltb-false to from (or_right (nat_lt (length d.text) to) (nat_lt to from) both);
-            inside = ltb-false (length d.text) to (or_left (nat_lt (length d.text) to) (nat_lt to from) both) })
+          (record {
+            ordered = ltb-false to from (or_right (nat_lt (length d.text) to) (nat_lt to from) both);
+            inside = ltb-false (length d.text) to (or_left (nat_lt (length d.text) to) (nat_lt to from) both);
+          })
           (λ n. absurd (some_none row n))
           (record { stamp = let l = s.stamp in omega arith; indexed = IfSome_then row.indexed s.indexed (λ x l. omega arith); saved = λ n. absurd (false_true n) })
           (λ held k. index_kept (is_java row.path) (file_with (Some d) row) (file_with (Some (erased from to d)) row) held refl (λ i. (i, refl)) k);
@@ -447,3 +451,46 @@ move_from w wide path to id row path' content' stamp index found sound live acce
     let P : List ℕ → Type 0 = λ x. Builds w wide (Move path to) (step x content') in
     let Q : List ℕ → Type 0 = λ x. Builds w wide (Move path to) (step to x) in
     subst P (sym p) (subst Q (sym t) (move_builds w wide path to id row (document_part (file_of w id)) stamp index sound (is_file_at w path id row live) accepted s (i ∙ ap (moved_index (is_java row.path) (is_java to)) f)))
+
+some_look : (doc : Option Document) (look : Option Look) (l : Look) → look ≡ option_map look_of doc → look ≡ Some l → is_some doc ≡ true
+some_look None look l e f = absurd (some_none l (sym f ∙ e))
+some_look (Some d) look l e f = refl
+
+none_look : (doc : Option Document) (look : Option Look) → look ≡ option_map look_of doc → look ≡ None → doc ≡ None
+none_look None look e f = refl
+none_look (Some d) look e f = absurd (some_none (look_of d) (sym e ∙ f))
+
+abbrev write_as : ℕ → FileRow → List ℕ → List ℕ → ℕ → DocEdit → Step
+write_as id row path content stamp doc = record { id = id; row = row_edit.Put (record { path = path; content = content; stamp = stamp; indexed = row.indexed }); doc = doc; index = index_edit.Keep; draws = true }
+
+write_as_built : (w : World) (wide : ℕ) (path : List ℕ) (id : ℕ) (row : FileRow) (path' content' text : List ℕ) (stamp : ℕ) (doc edit : DocEdit) → path' ≡ row.path → content' ≡ text → doc ≡ edit
+    → Builds w wide (Write path text) (write_as id row row.path text stamp edit) → Builds w wide (Write path text) (write_as id row path' content' stamp doc)
+write_as_built w wide path id row path' content' text stamp doc edit p t e built =
+    let P : List ℕ → Type 0 = λ x. Builds w wide (Write path text) (write_as id row x content' stamp doc) in
+    let Q : List ℕ → Type 0 = λ x. Builds w wide (Write path text) (write_as id row row.path x stamp doc) in
+    let R : DocEdit → Type 0 = λ x. Builds w wide (Write path text) (write_as id row row.path text stamp x) in
+    subst P (sym p) (subst Q (sym t) (subst R (sym e) built))
+
+pub write_open_from : (w : World) (wide : ℕ) (path : List ℕ) (id : ℕ) (row : FileRow) (path' content' text : List ℕ) (stamp : ℕ) (doc : DocEdit) (new : HeldDoc) (look : Option Look) (l : Look) (width : ℕ) → AreSoundFiles w → IsLiveAt w path id row
+    → path' ≡ row.path → content' ≡ text → stamp ≡ w.next_stamp → look ≡ option_map look_of (document_part (file_of w id)) → look ≡ Some l
+    → new.document ≡ opened text → width ≤ new.spare → width ≡ wide → doc ≡ doc_edit.Replace new → Builds w wide (Write path text) (write_as id row path' content' stamp doc)
+write_open_from w wide path id row path' content' text stamp doc new look l width sound live p t s e f document room width_is d =
+    let P : ℕ → Type 0 = λ n. n ≤ new.spare in
+    write_as_built w wide path id row path' content' text stamp doc (doc_edit.Replace new) p t d
+    (write_open_builds w wide path id row (document_part (file_of w id)) text stamp new sound (is_file_at w path id row live) (some_look (document_part (file_of w id)) look l e f) s document (subst P width_is room))
+
+pub write_closed_from : (w : World) (wide : ℕ) (path : List ℕ) (id : ℕ) (row : FileRow) (path' content' text : List ℕ) (stamp : ℕ) (doc : DocEdit) (look : Option Look) → AreSoundFiles w → IsLiveAt w path id row
+    → path' ≡ row.path → content' ≡ text → stamp ≡ w.next_stamp → look ≡ option_map look_of (document_part (file_of w id)) → look ≡ None
+    → doc ≡ doc_edit.Keep → Builds w wide (Write path text) (write_as id row path' content' stamp doc)
+write_closed_from w wide path id row path' content' text stamp doc look sound live p t s e f d =
+    write_as_built w wide path id row path' content' text stamp doc doc_edit.Keep p t d
+    (write_closed_builds w wide path id row (document_part (file_of w id)) text stamp sound (is_file_at w path id row live) (none_look (document_part (file_of w id)) look e f) s)
+
+pub intake_from : (w : World) (wide id stamp : ℕ) (row row' : FileRow) (text : List ℕ) (parts : Parts) (index : IndexEdit) → AreSoundFiles w → row_part (file_of w id) ≡ Some row → row' ≡ row
+    → refusal_of w (Intake id stamp) ≡ None → IfSome (file_of w id) (λ f. f.stamp ≡ stamp → f.content ≡ text) → parts ≡ parts_of text
+    → ((t : List ℕ) → parts ≡ parts_of t → index ≡ intake_index (is_java row'.path) t)
+    → Builds w wide (Intake id stamp) (intake_step id row' stamp index)
+intake_from w wide id stamp row row' text parts index sound live same accepted of_world made i =
+    let P : FileRow → Type 0 = λ r. Builds w wide (Intake id stamp) (intake_step id r stamp index) in
+    let is : index ≡ intake_index (is_java row.path) text = i text made ∙ ap (λ (r : FileRow). intake_index (is_java r.path) text) same in
+    subst P (sym same) (intake_builds w wide id stamp row (document_part (file_of w id)) text index sound (file_of_row (file_of w id) row live) accepted of_world is)

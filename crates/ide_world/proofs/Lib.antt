@@ -6,3 +6,4 @@ pub mod BuildLemmas
 pub mod KindLemmas
 pub mod GroupLemmas
 pub mod TaskLemmas
+pub mod FirstLemmas

@@ -1,5 +1,5 @@
 -- The id at a path, and what a step makes of it.
-use Rattle.std.proofs.Common.{ℕ, zero, suc, ◌≡◌, ◌≢◌, ◌+◌, ◌<◌, ◌≤◌, Bool, true, false, List, [], ◌∷◌, length, get_or, refl, ap, sym, ◌∙◌, subst, arith, Some, None}
+use Rattle.std.proofs.Common.{ℕ, ◌≡◌, ◌≢◌, Bool, true, false, List, [], refl, ap, sym, ◌∙◌, subst, Some, None}
 use Rattle.std.specs.Prelude.{Option, is_some, is_none, if◌then◌else◌, ◌==◌, bytes_eq}
 use Rattle.std.specs.Cmp.Lexicographic.{bytes_decides}
 use Rattle.std.proofs.lemmas.Bool.{eqb-true, eq-eqb}
@@ -7,13 +7,13 @@ use Rattle.list_laws.proofs.BoolLemmas.{bool_cases}
 use Rattle.vfs_core.specs.declared.row.FileRow.{FileRow}
 use Rattle.document_buf.specs.Document.{Document}
 use Rattle.write_history.specs.World.{World, File, file_of, id_at}
-use Rattle.write_history.proofs.PutLemmas.{Found, found, none_at_free}
+use Rattle.write_history.proofs.PutLemmas.{found, none_at_free}
 use Rattle.world_state.specs.declared.step.Step.{Step}
 use Rattle.world_state.specs.declared.step.RowEdit.{RowEdit}
 use Rattle.world_state.specs.declared.step.RowEdit.TheVariants.{Keep, Put, Remove}
 use Rattle.world_state.specs.RowEdits.{edited_row}
 use Rattle.world_state.specs.DocEdits.{edited_document}
-use Rattle.world_state.specs.Step.{file_with, joined, row_part, document_part, stepped, after_step}
+use Rattle.world_state.specs.Step.{file_with, joined, row_part, document_part, after_step}
 use Rattle.world_state.specs.Sound.{AreSoundFiles}
 use Rattle.world_state.specs.Lawful.{IsLawfulStep}
 use Rattle.ide_world.specs.Walk.{other_than, moved_id, id_after}
@@ -85,11 +85,11 @@ elsewhere w s path None sound l gone at_path = λ id h. bool_cases (id == s.id) 
     (λ f. at_path id (same_place w s path id l (differ id s.id f) h))
 elsewhere w s path (Some id) sound l gone at_path = bool_cases (id == s.id) (λ b. IsIdAt (after_step w s) path (if b then None else Some id))
     (λ t. λ other h. bool_cases (other == s.id) (λ b. ⊥)
-      (λ here. let P : ℕ → Type 0 = λ i. HasPath (after_step w s) path i in gone (subst P (eqb-true other s.id here) h))
-      (λ there.
-        let old = same_place w s path other l (differ other s.id there) h in
-        let same : other ≡ id = sound.apart other id old.file at_path.file old.live at_path.live (old.same ∙ sym at_path.same) in
-        differ other s.id there (same ∙ eqb-true id s.id t)))
+    (λ here. let P : ℕ → Type 0 = λ i. HasPath (after_step w s) path i in gone (subst P (eqb-true other s.id here) h))
+    (λ there.
+    let old = same_place w s path other l (differ other s.id there) h in
+    let same : other ≡ id = sound.apart other id old.file at_path.file old.live at_path.live (old.same ∙ sym at_path.same) in
+    differ other s.id there (same ∙ eqb-true id s.id t)))
     (λ f. still_there w s path id l (differ id s.id f) at_path)
 
 -- the row of the step's id after it
@@ -103,9 +103,12 @@ row_here w s path l h = of_joined (edited_row s.row (row_part (file_of w s.id)))
 
 -- a file whose row is kept has the path as before
 kept : (w : World) (s : Step) (path : List ℕ) → IsLawfulStep w s → s.row ≡ Keep → HasPath w path s.id → HasPath (after_step w s) path s.id
-kept w s path l k h = record { file = file_with (edited_document s.doc (document_part (file_of w s.id))) (row_of h.file);
-    live = file_here w s l ∙ ap (λ e. joined (edited_row e (row_part (file_of w s.id))) (edited_document s.doc (document_part (file_of w s.id)))) k
-        ∙ ap (λ o. joined (row_part o) (edited_document s.doc (document_part (file_of w s.id)))) h.live; same = h.same }
+kept w s path l k h = record {
+  file = file_with (edited_document s.doc (document_part (file_of w s.id))) (row_of h.file);
+  live = file_here w s l ∙ ap (λ e. joined (edited_row e (row_part (file_of w s.id))) (edited_document s.doc (document_part (file_of w s.id)))) k
+      ∙ ap (λ o. joined (row_part o) (edited_document s.doc (document_part (file_of w s.id)))) h.live;
+  same = h.same;
+}
   where
     row_of : File → FileRow
     row_of f = record { path = f.path; content = f.content; stamp = f.stamp; indexed = f.indexed }
@@ -130,24 +133,27 @@ moved : (w : World) (s : Step) (path : List ℕ) (edit : RowEdit) (o : Option �
     → IsIdAt w path o → IsIdAt (after_step w s) path (moved_id path s.id edit o)
 moved w s path Keep None sound l e at_path = λ id h. bool_cases (id == s.id) (λ b. ⊥)
     (λ t. let P : ℕ → Type 0 = λ i. HasPath (after_step w s) path i in
-      at_path s.id (of_kept w s path l e (subst P (eqb-true id s.id t) h)))
+    at_path s.id (of_kept w s path l e (subst P (eqb-true id s.id t) h)))
     (λ f. at_path id (same_place w s path id l (differ id s.id f) h))
 moved w s path Keep (Some id) sound l e at_path = bool_cases (id == s.id) (λ b. HasPath (after_step w s) path id)
     (λ t. let P : ℕ → Type 0 = λ i. HasPath w path i → HasPath (after_step w s) path i in
-      subst P (sym (eqb-true id s.id t)) (kept w s path l e) at_path)
+    subst P (sym (eqb-true id s.id t)) (kept w s path l e) at_path)
     (λ f. still_there w s path id l (differ id s.id f) at_path)
 moved w s path (Put row) o sound l e at_path = bool_cases (bytes_eq row.path path) (λ b. IsIdAt (after_step w s) path (if b then Some s.id else other_than s.id o))
-    (λ t. record { file = file_with (edited_document s.doc (document_part (file_of w s.id))) row;
+    (λ t. record {
+      file = file_with (edited_document s.doc (document_part (file_of w s.id))) row;
       live = file_here w s l ∙ ap (λ r. joined (edited_row r (row_part (file_of w s.id))) (edited_document s.doc (document_part (file_of w s.id)))) e;
-      same = (bytes_decides row.path path).0 t })
+      same = (bytes_decides row.path path).0 t;
+    })
     (λ f. elsewhere w s path o sound l (λ h.
-      let r = row_here w s path l h in
-      let same : row ≡ r.0 = some_row row r.0 (sym (ap (λ x. edited_row x (row_part (file_of w s.id))) e) ∙ r.1) in
-      let t : bytes_eq row.path path ≡ true = (bytes_decides row.path path).1 (ap (λ (x : FileRow). x.path) same ∙ r.2) in
-      absurd (contradicts (bytes_eq row.path path) t f)) at_path)
+    let r = row_here w s path l h in
+    let same : row ≡ r.0 = some_row row r.0 (sym (ap (λ x. edited_row x (row_part (file_of w s.id))) e) ∙ r.1) in
+    let t : bytes_eq row.path path ≡ true = (bytes_decides row.path path).1 (ap (λ (x : FileRow). x.path) same ∙ r.2) in
+    absurd (contradicts (bytes_eq row.path path) t f)) at_path)
   where
     some_row : (a b : FileRow) → ◌≡◌ {A = Option FileRow} (Some a) (Some b) → a ≡ b
     some_row a b e = cc
+
     contradicts : (b : Bool) → b ≡ true → b ≡ false → ⊥
     contradicts b t f = cc
 moved w s path Remove o sound l e at_path = elsewhere w s path o sound l (λ h.

@@ -1,5 +1,5 @@
 -- What a lawful step makes of each file, and that the files stay sound.
-use Rattle.std.proofs.Common.{ℕ, ◌≡◌, ◌≢◌, ◌+◌, ◌<◌, ◌≤◌, Bool, true, false, List, [], ◌∷◌, ◌++◌, length, refl, ap, sym, ◌∙◌, subst, arith, Some, None}
+use Rattle.std.proofs.Common.{ℕ, ◌≡◌, ◌≢◌, ◌+◌, true, false, List, [], ◌∷◌, refl, ap, sym, ◌∙◌, subst, arith, Some, None}
 use Rattle.std.specs.Prelude.{Option, IfSome, if◌then◌else◌, ◌==◌}
 use Rattle.std.specs.List.{fold}
 use Rattle.std.proofs.lemmas.Bool.{eqb-true, eq-eqb}
@@ -7,15 +7,15 @@ use Rattle.std.proofs.lemmas.Option.{IfSome_then}
 use Rattle.list_laws.proofs.BoolLemmas.{bool_cases}
 use Rattle.vfs_core.specs.declared.row.FileRow.{FileRow}
 use Rattle.document_buf.specs.Document.{Document}
-use Rattle.write_history.specs.World.{World, File, file_of, next_id}
-use Rattle.write_history.proofs.PutLemmas.{by_place, file_of-after_put}
+use Rattle.write_history.specs.World.{World, File, file_of}
+use Rattle.write_history.proofs.PutLemmas.{by_place}
 use Rattle.world_state.specs.declared.step.Step.{Step}
 use Rattle.world_state.specs.declared.step.RowEdit.{RowEdit}
 use Rattle.world_state.specs.declared.step.RowEdit.TheVariants.{Keep, Put, Remove}
 use Rattle.world_state.specs.RowEdits.{edited_row, put_row}
 use Rattle.world_state.specs.DocEdits.{edited_document}
 use Rattle.world_state.specs.Step.{file_with, joined, row_part, document_part, stepped, drawn_by, after_step, after_steps}
-use Rattle.world_state.specs.Sound.{IsSoundLive, IsSoundFile, AreSoundFiles}
+use Rattle.world_state.specs.Sound.{IsSoundFile, AreSoundFiles}
 use Rattle.world_state.specs.Lawful.{IsPathFree, IsLawfulStep, AreLawfulFrom}
 
 -- a step changes what has its id
@@ -32,11 +32,11 @@ pub part-after_step : {A : Type 0} (part : Option File → A) (edit : A → A) (
     → part (file_of (after_step w s) id) ≡ (if s.id == id then edit (part (file_of w id)) else part (file_of w id))
 part-after_step {A} part edit w s id l e = bool_cases (s.id == id) (λ b. part (file_of (after_step w s) id) ≡ (if b then edit (part (file_of w id)) else part (file_of w id)))
     (λ t.
-      let P : ℕ → Type 0 = λ i. part (file_of (after_step w s) i) ≡ edit (part (file_of w i)) in
-      subst P (eqb-true s.id id t) (ap part (file_here w s l) ∙ e))
+    let P : ℕ → Type 0 = λ i. part (file_of (after_step w s) i) ≡ edit (part (file_of w i)) in
+    subst P (eqb-true s.id id t) (ap part (file_here w s l) ∙ e))
     (λ f.
-      let n : id ≢ s.id = λ same. absurd (differs (sym same) f) in
-      ap part (file_there w s id l n))
+    let n : id ≢ s.id = λ same. absurd (differs (sym same) f) in
+    ap part (file_there w s id l n))
   where
     differs : s.id ≡ id → (s.id == id) ≡ false → ⊥
     differs same f = let t : (s.id == id) ≡ true = eq-eqb s.id id same in cc
@@ -95,16 +95,16 @@ apart_after : (w : World) (s : Step) → AreSoundFiles w → IsLawfulStep w s �
     → file_of (after_step w s) a ≡ Some f → file_of (after_step w s) b ≡ Some g → f.path ≡ g.path → a ≡ b
 apart_after w s sound l a b f g live_a live_b same =
     bool_cases (a == s.id) (λ x. a ≡ b)
-      (λ ta. bool_cases (b == s.id) (λ x. a ≡ b)
-        (λ tb. eqb-true a s.id ta ∙ sym (eqb-true b s.id tb))
-        (λ fb. let here = eqb-true a s.id ta in
-          let old = sym (file_there w s b l (differ b fb)) ∙ live_b in
-          here ∙ sym (free_after w s f sound l (sym (file_here w s l) ∙ sym (ap (λ i. file_of (after_step w s) i) here) ∙ live_a) b g old (sym same))))
-      (λ fa. bool_cases (b == s.id) (λ x. a ≡ b)
-        (λ tb. let here = eqb-true b s.id tb in
-          let old = sym (file_there w s a l (differ a fa)) ∙ live_a in
-          free_after w s g sound l (sym (file_here w s l) ∙ sym (ap (λ i. file_of (after_step w s) i) here) ∙ live_b) a f old same ∙ sym here)
-        (λ fb. sound.apart a b f g (sym (file_there w s a l (differ a fa)) ∙ live_a) (sym (file_there w s b l (differ b fb)) ∙ live_b) same))
+    (λ ta. bool_cases (b == s.id) (λ x. a ≡ b)
+    (λ tb. eqb-true a s.id ta ∙ sym (eqb-true b s.id tb))
+    (λ fb. let here = eqb-true a s.id ta in
+    let old = sym (file_there w s b l (differ b fb)) ∙ live_b in
+    here ∙ sym (free_after w s f sound l (sym (file_here w s l) ∙ sym (ap (λ i. file_of (after_step w s) i) here) ∙ live_a) b g old (sym same))))
+    (λ fa. bool_cases (b == s.id) (λ x. a ≡ b)
+    (λ tb. let here = eqb-true b s.id tb in
+    let old = sym (file_there w s a l (differ a fa)) ∙ live_a in
+    free_after w s g sound l (sym (file_here w s l) ∙ sym (ap (λ i. file_of (after_step w s) i) here) ∙ live_b) a f old same ∙ sym here)
+    (λ fb. sound.apart a b f g (sym (file_there w s a l (differ a fa)) ∙ live_a) (sym (file_there w s b l (differ b fb)) ∙ live_b) same))
   where
     differ : (k : ℕ) → (k == s.id) ≡ false → k ≢ s.id
     differ k ne same = let t : (k == s.id) ≡ true = eq-eqb k s.id same in absurd (cc)

@@ -1,5 +1,5 @@
 -- The work of a file, and the world at a later time.
-use Rattle.std.proofs.Common.{ℕ, ◌≡◌, Bool, true, false, refl, ap, sym, ◌∙◌, subst, Some, None}
+use Rattle.std.proofs.Common.{ℕ, ◌≡◌, refl, subst, Some, None}
 use Rattle.std.specs.Prelude.{Option, option_map, IfSome, if◌then◌else◌}
 use Rattle.list_laws.proofs.BoolLemmas.{bool_cases}
 use Rattle.write_history.specs.World.{World, File, file_of, is_unready}

@@ -1,26 +1,25 @@
 -- What the readers of a draft see, as folds over its steps; and a draft with one step more.
-use Rattle.std.proofs.Common.{ℕ, zero, suc, ◌≡◌, ◌≢◌, ◌+◌, ◌*◌, ◌<◌, ◌≤◌, Bool, true, false, List, [], ◌∷◌, ◌++◌, length, get_or, filter, refl, ap, sym, ◌∙◌, subst, arith, Some, None, length-append}
-use Rattle.std.specs.Prelude.{Result, Ok, Err, IfOk, Option, option_map, is_some, if◌then◌else◌, ◌==◌, nat_lt, not, ◌&&◌, ◌||◌}
+use Rattle.std.proofs.Common.{ℕ, zero, suc, ◌≡◌, ◌+◌, ◌<◌, ◌≤◌, Bool, true, false, List, [], ◌∷◌, ◌++◌, length, get_or, filter, refl, ap, sym, ◌∙◌, subst, arith, Some, None, length-append}
+use Rattle.std.specs.Prelude.{Result, Ok, Err, IfOk, Option, option_map, is_some, if◌then◌else◌, ◌==◌, not, ◌&&◌, ◌||◌}
 use Rattle.std.specs.List.{fold, list_any}
-use Rattle.std.proofs.lemmas.Bool.{eqb-true, eq-eqb}
+use Rattle.std.proofs.lemmas.Bool.{eqb-true}
 use Rattle.list_laws.proofs.BoolLemmas.{bool_cases}
-use Rattle.vfs_core.specs.declared.row.FileRow.{FileRow}
 use Rattle.document_buf.specs.Document.{Document}
 use Rattle.write_history.specs.World.{World, File, file_in, file_of, id_at, is_open, count_of, next_id}
-use Rattle.write_history.specs.Effect.{put_at, with_file, is_uncommitted, max_files, max_entries}
+use Rattle.write_history.specs.Effect.{put_at, with_file, is_uncommitted, max_files}
 use Rattle.world_state.specs.declared.step.Step.{Step}
 use Rattle.world_state.specs.declared.step.DocEdit.{DocEdit}
 use Rattle.world_state.specs.declared.step.DocEdit.TheVariants.{Keep, Open, Insert, Erase, Commit, MarkSaved, Replace, Close}
 use Rattle.world_state.specs.RowEdits.{edited_row}
 use Rattle.world_state.specs.DocEdits.{edited_document, IsDocEditFit, IsWide, inserted_by}
-use Rattle.world_state.specs.Step.{row_part, document_part, stepped, drawn_by, after_step, after_steps}
+use Rattle.world_state.specs.Step.{row_part, document_part, stepped, after_step, after_steps}
 use Rattle.world_state.specs.Sound.{AreSoundFiles}
 use Rattle.world_state.specs.Lawful.{IsLawfulStep, AreLawfulFrom, AreWide, inserted_by_all}
 use Rattle.ide_world.specs.declared.look.Look.{Look}
 use Rattle.ide_world.specs.Drafted.{Drafted, IsDraft, world_now, drafted, IsKept}
 use Rattle.ide_world.specs.declared.draft.Draft.TheInside.{Inside}
 use Rattle.ide_world.specs.Walk.{row_after, look_of, look_after, edited_look, committed_after, edited_committed, text_after, edited_text, id_after, edits_texts, keeps_texts, IsTextEditFit, AreTextEditsFit, one, is_open_after}
-use Rattle.ide_world.proofs.StepLemmas.{part-after_step, row_part-stepped, document_part-stepped, reads_steps, sound_after_step, file_here}
+use Rattle.ide_world.proofs.StepLemmas.{part-after_step, row_part-stepped, document_part-stepped, reads_steps, sound_after_step}
 use Rattle.ide_world.proofs.EditLemmas.{text_of_document, committed_of, look-edited, committed-edited, text-edited, text_edit_fits, kept_text, kept_committed}
 use Rattle.ide_world.proofs.PathLemmas.{id_at-after_step}
 
@@ -67,11 +66,12 @@ entries_after_steps w (s ∷ ss) = entries_after_steps (after_step w s) ss
 
 texts_fit_from : (id : ℕ) (w : World) (ss : List Step) → AreSoundFiles w → AreLawfulFrom w ss → AreTextEditsFit id (text_of_document (document_part (file_of w id))) ss
 texts_fit_from id w [] sound l = tt
-texts_fit_from id w (s ∷ ss) sound l =
-    ((λ t. let P : ℕ → Type 0 = λ i. IsTextEditFit s.doc (text_of_document (document_part (file_of w i))) in
-        subst P (eqb-true s.id id t) (text_edit_fits s.doc (document_part (file_of w s.id)) l.0.doc)),
-     (let P : Option (List ℕ) → Type 0 = λ o. AreTextEditsFit id o ss in
-        subst P (text-step id w s sound l.0) (texts_fit_from id (after_step w s) ss (sound_after_step w s sound l.0) l.1)))
+texts_fit_from id w (s ∷ ss) sound l = (
+  (λ t. let P : ℕ → Type 0 = λ i. IsTextEditFit s.doc (text_of_document (document_part (file_of w i))) in
+      subst P (eqb-true s.id id t) (text_edit_fits s.doc (document_part (file_of w s.id)) l.0.doc)),
+  (let P : Option (List ℕ) → Type 0 = λ o. AreTextEditsFit id o ss in
+      subst P (text-step id w s sound l.0) (texts_fit_from id (after_step w s) ss (sound_after_step w s sound l.0) l.1)),
+)
 
 pub texts_fit : (d : Drafted) (id : ℕ) → IsDraft d → AreTextEditsFit id (text_of_document (document_part (file_of d.base id))) d.steps
 texts_fit d id h = texts_fit_from id d.base d.steps h.base.files h.lawful
@@ -88,8 +88,8 @@ same_text id text [] f = refl
 same_text id text (s ∷ ss) f = bool_cases (edits_texts id s) (λ b. (b || list_any (edits_texts id) ss) ≡ false → fold (text_after id) text (s ∷ ss) ≡ text)
     (λ t g. absurd (cc))
     (λ n g.
-      let e = untouched (s.id == id) (keeps_texts s.doc) text (edited_text s.doc text) n (kept_text s.doc text) in
-      ap (λ o. fold (text_after id) o ss) e ∙ same_text id text ss g)
+    let e = untouched (s.id == id) (keeps_texts s.doc) text (edited_text s.doc text) n (kept_text s.doc text) in
+    ap (λ o. fold (text_after id) o ss) e ∙ same_text id text ss g)
     f
 
 pub same_committed : (id : ℕ) (text : Option (List ℕ)) (ss : List Step) → list_any (edits_texts id) ss ≡ false → fold (committed_after id) text ss ≡ text
@@ -97,8 +97,8 @@ same_committed id text [] f = refl
 same_committed id text (s ∷ ss) f = bool_cases (edits_texts id s) (λ b. (b || list_any (edits_texts id) ss) ≡ false → fold (committed_after id) text (s ∷ ss) ≡ text)
     (λ t g. absurd (cc))
     (λ n g.
-      let e = untouched (s.id == id) (keeps_texts s.doc) text (edited_committed s.doc text) n (kept_committed s.doc text) in
-      ap (λ o. fold (committed_after id) o ss) e ∙ same_committed id text ss g)
+    let e = untouched (s.id == id) (keeps_texts s.doc) text (edited_committed s.doc text) n (kept_committed s.doc text) in
+    ap (λ o. fold (committed_after id) o ss) e ∙ same_committed id text ss g)
     f
 
 same_uncommitted : (d e : Option Document) → text_of_document d ≡ text_of_document e → committed_of d ≡ committed_of e → is_uncommitted d ≡ is_uncommitted e
@@ -168,12 +168,12 @@ is_open-part (Some file) = refl
 
 pub open_count-step : (w : World) (s : Step) → IsLawfulStep w s
     → count_of is_open (after_step w s) + one (is_some (document_part (file_of w s.id)))
-      ≡ count_of is_open w + one (is_some (edited_document s.doc (document_part (file_of w s.id))))
+    ≡ count_of is_open w + one (is_some (edited_document s.doc (document_part (file_of w s.id))))
 open_count-step w s l =
     let e = tally-with is_open refl s.id (stepped s (file_of w s.id)) w.files l.some l.within in
     let a : one (is_open (file_of w s.id)) ≡ one (is_some (document_part (file_of w s.id))) = ap one (is_open-part (file_of w s.id)) in
     let b : one (is_open (stepped s (file_of w s.id))) ≡ one (is_some (edited_document s.doc (document_part (file_of w s.id))))
-        = ap one (is_open-part (stepped s (file_of w s.id)) ∙ ap is_some (document_part-stepped w s l)) in
+    = ap one (is_open-part (stepped s (file_of w s.id)) ∙ ap is_some (document_part-stepped w s l)) in
     ap (λ n. count_of is_open (after_step w s) + n) (sym a) ∙ e ∙ ap (λ n. count_of is_open w + n) b
 
 length-inside : (place : ℕ) (file : Option File) (files : List (Option File)) → place < length files → length (put_at place file files) ≡ length files

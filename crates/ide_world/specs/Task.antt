@@ -1,5 +1,5 @@
 -- The work of indexing a file, and when index data still are of the world.
-use Rattle.std.specs.Prelude.{ℕ, ◌≡◌, List, Option, Some, None, IfSome, option_map, if◌then◌else◌}
+use Rattle.std.specs.Prelude.{ℕ, ◌≡◌, List, Option, None, IfSome, option_map, if◌then◌else◌}
 use Rattle.write_history.specs.World.{World, File, file_of, is_unready}
 
 -- a file with the content that it has at a stamp

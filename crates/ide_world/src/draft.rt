@@ -117,7 +117,8 @@ impl<'a> Draft<'a> {
 
     /// The row of a live file.
     pub(crate) fn row(&self, id: u32) -> Option<&FileRow>
-        ensures { option_copied result ≡ row_part (file_of (world_now self.now) id) }
+        ensures value { option_copied result ≡ row_part (file_of (world_now self.now) id) }
+        ensures draft { IsDraft self.now }
     {
         walk::row(self.steps.as_slice(), id, self.state.row(id))
     }
@@ -207,7 +208,11 @@ impl<'a> Draft<'a> {
         ensures value { result ≡ length (after_step (world_now self.now) step.now).files }
         ensures few { result ≤ 65536 }
     {
-        if step.id as usize > self.made { self.made + 1 } else { self.made }
+        if step.id as usize > self.made {
+            self.made + 1
+        } else {
+            self.made
+        }
     }
 
     /// Adds a step.

@@ -1,7 +1,8 @@
 //! How changes go in: they are judged and made ready, room is made for them, then they are installed and can't fail.
-ghost use Rattle.std.specs.Prelude.{◌≡◌, ◌<◌, ◌+◌, ℕ, List, [], ◌∷◌, true, Err, IfOk, IfErr, IfSome, OnOk, length};
+ghost use Rattle.std.specs.Prelude.{◌≡◌, ◌<◌, ◌+◌, ℕ, List, [], ◌∷◌, true, Err, Some, IfOk, IfErr, IfSome, OnOk, length};
 ghost use Rattle.std.specs.List.{list_all};
 ghost use Rattle.write_history.specs.declared.change.Change.{Change};
+ghost use Rattle.write_history.specs.declared.refusal.Refusal.{Refusal};
 ghost use Rattle.write_history.specs.declared.change.Change.TheVariants.{Intake};
 ghost use Rattle.write_history.specs.World.{empty_world};
 ghost use Rattle.write_history.specs.Changes.{AreFew};
@@ -78,6 +79,8 @@ pub fn prepare_group(
     requires edits { list_all is_edit changes.now ≡ true }
     ensures ready { IfOk result (IsReadyFor state.now.world) }
     ensures makes { IfOk result (λ ready. Makes state.now.world ready changes.now) }
+    ensures first { (change : Change) (rest : List Change) (why : Refusal) → changes.now ≡ change ∷ rest
+        → refusal_of state.now.world change ≡ Some why → result ≡ Err (record { place = 1; why = why }) }
     ensures refused { IfErr result (IsListRefusalOf (list_refusal state.now.world changes.now)) }
 {
     let mut draft = Draft::new(alloc, state, inserted_by_all(changes));

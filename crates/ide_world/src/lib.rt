@@ -14,7 +14,9 @@ mod refusal;
 mod walk;
 
 pub use data::{Job, Made};
-pub use group::{GroupRefusal, Ready, empty, install, prepare, prepare_group, prepare_intake, reserve};
+pub use group::{
+    GroupRefusal, Ready, empty, install, prepare, prepare_group, prepare_intake, reserve,
+};
 pub use index::{job, make};
 pub use overlay_index::{StubWalk, WordWalk};
 pub use readers::{content, counts, mark, next_id, path, shown};

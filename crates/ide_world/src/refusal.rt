@@ -30,7 +30,12 @@ pub(crate) fn refusal(draft: &Draft<'_>, change: &Change) -> Result<Option<Refus
         Change::Write { path, text: _ } => Ok(conflict_refusal(draft, path)),
         Change::Delete { path } => Ok(conflict_refusal(draft, path)),
         Change::OpenDoc { path } => Ok(open_refusal(draft, path)),
-        Change::Insert { path, at, text } => Ok(insert_refusal(draft, path, *at, text.as_text().len())),
+        Change::Insert { path, at, text } => Ok(insert_refusal(
+            draft,
+            path,
+            *at,
+            text.as_text().len(),
+        )),
         Change::Erase { path, from, to } => Ok(erase_refusal(draft, path, *from, *to)),
         Change::Commit { path } => Ok(closed_refusal(draft, path)),
         Change::Save { path } => Ok(closed_refusal(draft, path)),

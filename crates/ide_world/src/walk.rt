@@ -14,11 +14,7 @@ use vfs_core::FileRow;
 use world_state::{DocEdit, RowEdit, Step};
 
 /// The row of an id after steps.
-pub(crate) fn row<'a>(
-    steps: &'a [Step],
-    id: u32,
-    first: Option<&'a FileRow>,
-) -> Option<&'a FileRow>
+pub(crate) fn row<'a>(steps: &'a [Step], id: u32, first: Option<&'a FileRow>) -> Option<&'a FileRow>
     ensures { option_copied result ≡ fold (row_after id) (option_copied first.entry) steps.now }
 {
     let mut row = first;
@@ -108,10 +104,7 @@ pub(crate) fn committed<'a>(
     text
 }
 
-fn edited_committed<'a>(
-    edit: &'a DocEdit,
-    text: Option<&'a SharedText>,
-) -> Option<&'a SharedText>
+fn edited_committed<'a>(edit: &'a DocEdit, text: Option<&'a SharedText>) -> Option<&'a SharedText>
     ensures { option_copied result ≡ edited_committed edit.now (option_copied text.entry) }
 {
     match edit {
@@ -130,11 +123,7 @@ fn edited_committed<'a>(
 }
 
 /// The text of the document of an id after steps. Linear in the texts that the steps bring.
-pub(crate) fn text(
-    steps: &[Step],
-    id: u32,
-    first: Option<Text>,
-) -> Result<Option<Text>, AllocError>
+pub(crate) fn text(steps: &[Step], id: u32, first: Option<Text>) -> Result<Option<Text>, AllocError>
     requires { AreTextEditsFit id first steps.now }
     ensures { IfOk result (λ text. text ≡ fold (text_after id) first steps.now) }
 {

@@ -8,5 +8,5 @@ use Rattle.ide_world.proofs.walk.look.Given as goal
 abbrev pub invariant-loop-step : goal.invariant-loop-step
 invariant-loop-step l = record {
   same : fold (look_after l.id) l.look (drop l.step-index l.steps) ≡ fold (look_after l.id) l.fn.first l.steps;
-  short : IfSome l.look (λ look. look.len ≤ (l.step-index + 1) * max_chars)
+  short : IfSome l.look (λ look. look.len ≤ (l.step-index + 1) * max_chars);
 }
