@@ -31,7 +31,7 @@ module _ (o : Option ℕ) (answer : Answer) (expected : Result Answer AskRefusal
   dumb_looked l s watch e h (Err f) is =
       let (file, dumb, named) = unready_reply o answer e h in
       subst (λ (x : Result Answer AskRefusal). HasLooked {X = Answer} l s (Err f) (later_looks x) watch watch) (sym (told ∙ dumb))
-        (subst (λ (f : AskRefusal). HasLooked {X = Answer} l s (Err f) 0 watch watch) (sym (is ∙ named)) (looked_not l s watch))
+      (subst (λ (f : AskRefusal). HasLooked {X = Answer} l s (Err f) 0 watch watch) (sym (is ∙ named)) (looked_not l s watch))
 
   -- the answer, where no file is unready
   smart_reply : o ≡ None → expected ≡ Ok answer
