@@ -1,9 +1,9 @@
 -- Looks, one after another.
-use Rattle.std.proofs.Common.{ℕ, ◌≡◌, ◌≤◌, ◌+◌, ◌/◌, ◌%◌, ◌==◌, if◌then◌else◌, Bool, true, false, refl, ap, sym, subst, ◌∙◌, arith, Result, Ok, Err, IsErrAnd, le_refl, le_trans}
+use Rattle.std.proofs.Common.{ℕ, ◌≡◌, ◌≤◌, ◌+◌, ◌/◌, ◌%◌, ◌==◌, if◌then◌else◌, Bool, true, false, refl, ap, sym, subst, ◌∙◌, arith, Result, Ok, Err, IsErrAnd, le_trans}
 use Rattle.std.proofs.lemmas.Bool.{eqb-true, eqb-false}
 use Rattle.query_engine.specs.declared.answer.AskRefusal.{AskRefusal}
 use Rattle.query_engine.specs.declared.answer.AskRefusal.TheVariants.{NoSuchFile, NotReady, Cancelled, OutOfMemory}
-use Rattle.query_engine.specs.Looks.{counted_by, rows_a_look, looks_at, HasLooked, LooksThrough, StopsUnseen, StopsAtSight, EndsEarly}
+use Rattle.query_engine.specs.Looks.{counted_by, rows_a_look, looks_at, HasLooked, LooksThrough, StopsUnseen, EndsEarly}
 
 -- no look
 pub counted_by_none : (n : ℕ) → n ≡ counted_by 0 n

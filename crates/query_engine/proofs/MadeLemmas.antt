@@ -1,8 +1,7 @@
 -- Rows made one after another, with the looks between them.
-use Rattle.std.proofs.Common.{ℕ, ◌≡◌, ◌≤◌, ◌+◌, ◌/◌, List, [], ◌∷◌, ◌++◌, map, length, refl, ap, sym, subst, ◌∙◌, append_assoc, append-nil, arith, Result, Ok, Err}
+use Rattle.std.proofs.Common.{ℕ, ◌≡◌, ◌≤◌, ◌+◌, ◌/◌, List, [], ◌∷◌, ◌++◌, map, length, ap, sym, subst, ◌∙◌, append_assoc, append-nil, arith, Ok, Err}
 use Rattle.std.proofs.lemmas.List.{length-append, length-map}
 use Rattle.query_engine.specs.declared.answer.AskRefusal.{AskRefusal}
-use Rattle.query_engine.specs.declared.answer.AskRefusal.TheVariants.{OutOfMemory}
 use Rattle.query_engine.specs.Looks.{rows_a_look, looks_at, HasLooked, LooksThrough, StopsUnseen, EndsEarly}
 use Rattle.query_engine.proofs.LookLemmas.{looked_not, looked_next, looked_short, looked_unseen}
 

@@ -1,5 +1,5 @@
 -- Answers, by what is found.
-use Rattle.std.proofs.Common.{ℕ, ◌≡◌, ◌+◌, ◌/◌, List, map, length, refl, ap, sym, subst, ◌∙◌, Option, Some, None, IsSomeAnd, Result, Ok, Err, IfErr, IsErrAnd}
+use Rattle.std.proofs.Common.{ℕ, ◌≡◌, ◌/◌, List, map, length, refl, ap, sym, subst, ◌∙◌, Option, Some, None, IsSomeAnd, Result, Ok, Err, IfErr, IsErrAnd}
 use Rattle.std.proofs.lemmas.List.{length-map}
 use Rattle.query_engine.specs.declared.answer.Row.{Row}
 use Rattle.query_engine.specs.declared.answer.WordRow.{WordRow}

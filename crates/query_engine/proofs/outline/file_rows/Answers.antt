@@ -1,9 +1,9 @@
-use Rattle.std.proofs.Common.{ℕ, ◌≤◌, ◌+◌, length, drop, List, refl, ap, sym, subst, ◌∙◌}
+use Rattle.std.proofs.Common.{ℕ, ◌≤◌, ◌+◌, length, drop, List, refl, ap, sym, subst}
 use Rattle.query_engine.specs.declared.answer.Row.{Row}
 use Rattle.query_engine.specs.Listed.{AreFrom, text_at}
 use Rattle.query_engine.proofs.AheadLemmas.{next_left, from_start, from_next, placed, moved_on, made_of}
 use Rattle.query_engine.proofs.LookLemmas.{looked_as, looked_wanting}
-use Rattle.query_engine.proofs.MadeLemmas.{made_none, made_more, made_stopped, made_short, made_all}
+use Rattle.query_engine.proofs.MadeLemmas.{made_none, made_more, made_stopped, made_short}
 use Rattle.query_engine.proofs.outline.file_rows.Goals as goal
 
 pub loop-stub-init : goal.loop-stub-init

@@ -3,7 +3,7 @@ use Rattle.query_engine.specs.declared.answer.WordRow.{WordRow}
 use Rattle.query_engine.specs.Listed.{AreLive}
 use Rattle.query_engine.proofs.FoundLemmas.{word_row_made, live_rest}
 use Rattle.query_engine.proofs.LookLemmas.{looked_as, looked_wanting}
-use Rattle.query_engine.proofs.MadeLemmas.{made_none, made_more, made_stopped, made_short, made_all}
+use Rattle.query_engine.proofs.MadeLemmas.{made_none, made_more, made_stopped, made_short}
 use Rattle.query_engine.proofs.word_rows.word_rows.Goals as goal
 
 pub loop-file-init : goal.loop-file-init
