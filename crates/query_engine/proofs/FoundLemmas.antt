@@ -1,5 +1,5 @@
 -- What is found in the files of a world.
-use Rattle.std.proofs.Common.{ℕ, zero, suc, ◌≡◌, ◌≤◌, ◌<◌, ◌+◌, ◌==◌, if◌then◌else◌, Bool, true, false, List, [], ◌∷◌, ◌++◌, map, filter, length, get_or, Option, Some, None, option_map, option_to_list, unwrap_or, IsSome, IfSome, All, refl, ap, sym, subst, ◌∙◌, arith}
+use Rattle.std.proofs.Common.{ℕ, suc, ◌≡◌, ◌≤◌, ◌<◌, ◌+◌, if◌then◌else◌, Bool, true, false, List, [], ◌∷◌, ◌++◌, map, filter, length, get_or, Option, Some, None, option_map, option_to_list, unwrap_or, IsSome, IfSome, All, refl, ap, sym, subst, ◌∙◌, arith}
 use Rattle.std.specs.Option.{option_map_or}
 use Rattle.std.proofs.lemmas.Bool.{eq-eqb, ne_eqb}
 use Rattle.std.proofs.lemmas.List.{map-append}
@@ -11,7 +11,7 @@ use Rattle.stub_tree.specs.Lawful.{IsLawfulList}
 use Rattle.decl_parser.specs.Listing.{listing_of, IsNamedIn}
 use Rattle.java_tokens.specs.Words.{words_of, mask_in}
 use Rattle.write_history.specs.World.{World, File, file_of, shown_text}
-use Rattle.ide_world.specs.Found.{found, found_from, found_in, stubs_in, masks_in}
+use Rattle.world_state.specs.Found.{found, found_from, found_in, stubs_in, masks_in}
 use Rattle.query_engine.specs.declared.answer.WordRow.{WordRow}
 use Rattle.query_engine.specs.Reply.{of_files, of_java, of_world, row_of, rows_in, word_in, word_row}
 use Rattle.query_engine.specs.Listed.{Listed, AreLive, AreAhead, AreFrom, listed_at, offset_in, path_at, text_at, row_found, word_found}
@@ -81,7 +81,7 @@ stub_rows_of world id file is (s ∷ stubs) =
 pub stub_rows_found : (fits : Stub → Bool) (world : World) → map (row_found world) (found (stubs_in fits) world) ≡ of_world (rows_in fits) world
 stub_rows_found fits world =
     rows_from (row_found world) (stubs_in fits) (rows_in fits) world
-      (λ id file is. stub_rows_of world id file is (filter fits (listing_of (shown_text file)))) 1 world.files (at_all world)
+    (λ id file is. stub_rows_of world id file is (filter fits (listing_of (shown_text file)))) 1 world.files (at_all world)
 
 -- the row of a word of one file
 word_rows_of : (world : World) (id : ℕ) (file : File) → file_of world id ≡ Some file → (mask : Option ℕ)
@@ -93,7 +93,7 @@ word_rows_of world id file is (Some mask) = ap (λ o. record { file = id; path =
 pub word_rows_found : (name : List ℕ) (world : World) → map (word_found world) (found (masks_in name) world) ≡ of_world (word_in name) world
 word_rows_found name world =
     rows_from (word_found world) (masks_in name) (word_in name) world
-      (λ id file is. word_rows_of world id file is (mask_in (words_of (shown_text file)) name)) 1 world.files (at_all world)
+    (λ id file is. word_rows_of world id file is (mask_in (words_of (shown_text file)) name)) 1 world.files (at_all world)
 
 -- what is found is of live files
 live_from : {X : Type 0} (read : List ℕ → List X) (world : World) (id : ℕ) (files : List (Option File)) → AreAt world id files → AreLive world (found_from read id files)
@@ -101,8 +101,8 @@ live_from read world id [] at = λ k d inside. absurd (omega (arith, inside))
 live_from read world id (None ∷ files) at = live_from read world (id + 1) files (at_tail world id None files at)
 live_from {X} read world id (Some file ∷ files) at =
     All-append (λ (f : ℕ × X). IsSome (file_of world f.0)) (map (λ x. (id, x)) (found_in read file)) (found_from read (id + 1) files)
-      (All-map (λ (f : ℕ × X). IsSome (file_of world f.0)) (λ x. (id, x)) (found_in read file) (λ k d inside. live_is world id file (at_head world id (Some file) files at)))
-      (live_from read world (id + 1) files (at_tail world id (Some file) files at))
+    (All-map (λ (f : ℕ × X). IsSome (file_of world f.0)) (λ x. (id, x)) (found_in read file) (λ k d inside. live_is world id file (at_head world id (Some file) files at)))
+    (live_from read world (id + 1) files (at_tail world id (Some file) files at))
 
 pub live_found : {X : Type 0} (read : List ℕ → List X) (world : World) → AreLive world (found read world)
 live_found read world = live_from read world 1 world.files (at_all world)
@@ -132,10 +132,12 @@ ahead_chain : (world : World) (id : ℕ) → IsSome (file_of world id) → (rest
     → (length (text_at world id) ≤ max_chars → AreFrom (length (text_at world id)) (offset_in before id) stubs) → AreAhead world before (map (λ s. (id, s)) stubs ++ rest)
 unfolding IsBelow
 ahead_chain world id live rest others [] before below from = others before below
-ahead_chain world id live rest others (s ∷ stubs) before below from =
-    (live, (λ short. ((from short).0, (from short).1)),
-     ahead_chain world id live rest others stubs (Some (listed_at world id s.at)) (omega arith)
-       (λ short. subst (λ n. AreFrom (length (text_at world id)) n stubs) (sym (offset_same world id s.at)) (from short).2))
+ahead_chain world id live rest others (s ∷ stubs) before below from = (
+  live,
+  (λ short. ((from short).0, (from short).1)),
+  ahead_chain world id live rest others stubs (Some (listed_at world id s.at)) (omega arith)
+      (λ short. subst (λ n. AreFrom (length (text_at world id)) n stubs) (sym (offset_same world id s.at)) (from short).2),
+)
 
 module _ (lawful : (text : List ℕ) → length text ≤ max_chars → IsLawfulList (listing_of text)) (named : (text : List ℕ) → All (IsNamedIn text) (listing_of text)) where
   -- the declarations of a file that pass a test

@@ -1,9 +1,9 @@
 -- Looks, one after another.
-use Rattle.std.proofs.Common.{ℕ, ◌≡◌, ◌≤◌, ◌+◌, ◌/◌, ◌%◌, ◌==◌, if◌then◌else◌, Bool, true, false, refl, ap, sym, subst, ◌∙◌, arith, Result, Ok, Err, IsErrAnd, le_refl, le_trans}
+use Rattle.std.proofs.Common.{ℕ, ◌≡◌, ◌≤◌, ◌+◌, ◌/◌, ◌%◌, ◌==◌, if◌then◌else◌, Bool, true, false, refl, ap, sym, subst, ◌∙◌, arith, Result, Ok, Err, IsErrAnd, le_trans}
 use Rattle.std.proofs.lemmas.Bool.{eqb-true, eqb-false}
 use Rattle.query_engine.specs.declared.answer.AskRefusal.{AskRefusal}
 use Rattle.query_engine.specs.declared.answer.AskRefusal.TheVariants.{NoSuchFile, NotReady, Cancelled, OutOfMemory}
-use Rattle.query_engine.specs.Looks.{counted_by, rows_a_look, looks_at, HasLooked, LooksThrough, StopsUnseen, StopsAtSight, EndsEarly}
+use Rattle.query_engine.specs.Looks.{counted_by, rows_a_look, looks_at, HasLooked, LooksThrough, StopsUnseen, EndsEarly}
 
 -- no look
 pub counted_by_none : (n : ℕ) → n ≡ counted_by 0 n
@@ -101,7 +101,7 @@ module _ {W : Type 0} (l s : W → ℕ) where
       → LooksThrough l s (rows / rows_a_look) old mid → HasLooked l s r (looks_at rows') mid new → HasLooked l s r (rows' / rows_a_look) old new
   looked_next rows rows' r old mid new more p q =
       looked_on (rows / rows_a_look) (looks_at rows') (rows' / rows_a_look) r old mid new
-        (subst (λ n. rows / rows_a_look + looks_at n ≡ n / rows_a_look) (sym more) (looks_next rows)) p q
+      (subst (λ n. rows / rows_a_look + looks_at n ≡ n / rows_a_look) (sym more) (looks_next rows)) p q
 
   -- a call that gives the refusal of another
   pub looked_as : (X Y : Type 0) (n : ℕ) (r : Result Y AskRefusal) (e : AskRefusal) (old new : W) → IsErrAnd r (λ f. f ≡ e)

@@ -1,8 +1,7 @@
 -- Rows made one after another, with the looks between them.
-use Rattle.std.proofs.Common.{ℕ, ◌≡◌, ◌≤◌, ◌+◌, ◌/◌, List, [], ◌∷◌, ◌++◌, map, length, refl, ap, sym, subst, ◌∙◌, append_assoc, append-nil, arith, Result, Ok, Err}
+use Rattle.std.proofs.Common.{ℕ, ◌≡◌, ◌≤◌, ◌+◌, ◌/◌, List, [], ◌∷◌, ◌++◌, map, length, ap, sym, subst, ◌∙◌, append_assoc, append-nil, arith, Ok, Err}
 use Rattle.std.proofs.lemmas.List.{length-append, length-map}
 use Rattle.query_engine.specs.declared.answer.AskRefusal.{AskRefusal}
-use Rattle.query_engine.specs.declared.answer.AskRefusal.TheVariants.{OutOfMemory}
 use Rattle.query_engine.specs.Looks.{rows_a_look, looks_at, HasLooked, LooksThrough, StopsUnseen, EndsEarly}
 use Rattle.query_engine.proofs.LookLemmas.{looked_not, looked_next, looked_short, looked_unseen}
 
@@ -57,7 +56,7 @@ module _ {W F R : Type 0} (l s : W → ℕ) (row : F → R) (all : List F) where
       → EndsEarly e → IsMade l s row all rows left old mid → HasLooked {X = X} l s (Err e) (looks_at n) mid new → HasLooked {X = X} l s (Err e) (length all / rows_a_look) old new
   made_stopped X rows rows' y x left left' n e old mid new next grown is count early h q =
       looked_short l s X (length rows' / rows_a_look) (length all / rows_a_look) e old new (few_looks rows' left' (joined rows rows' y x left left' next grown is h.made)) early
-        (looked_next l s {X = X} (length rows) (length rows') (Err e) old mid new (more rows rows' y grown) h.looked (subst (λ k. HasLooked {X = X} l s (Err e) (looks_at k) mid new) count q))
+      (looked_next l s {X = X} (length rows) (length rows') (Err e) old mid new (more rows rows' y grown) h.looked (subst (λ k. HasLooked {X = X} l s (Err e) (looks_at k) mid new) count q))
 
   -- want of memory on the way
   pub made_short : (rows : List R) (left : List F) (old new : W) → IsMade l s row all rows left old new → StopsUnseen l s (length all / rows_a_look) old new

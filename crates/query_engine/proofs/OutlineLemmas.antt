@@ -22,7 +22,7 @@ id_live world path id is = of (position (has_path path) world.files) refl (sym i
     of None at none = absurd (subst (λ (o : Option ℕ). MatchOption o (Unit {0}) (λ x. ⊥)) none tt)
     of (Some i) at some =
         subst (λ n. IsSome (file_of world n)) (ap (λ o. unwrap_or o 0) some)
-          (path_live path (get_or world.files i None) (position-Some (has_path path) world.files i None at).1)
+        (path_live path (get_or world.files i None) (position-Some (has_path path) world.files i None at).1)
 
 -- so its text is there
 pub text_there : (o : Option File) → None ≡ option_map shown_text o → IsSome o → ⊥
@@ -42,4 +42,4 @@ pub listing_from : ((text : List ℕ) → All (IsNamedIn text) (listing_of text)
     → shown ≡ stubs → IsLawfulList stubs → stubs ≡ listing_of text → AreFrom (length (text_at world id)) 0 shown
 listing_from named world id text stubs shown is same lawful listed =
     subst (λ t. AreFrom (length t) 0 shown) (text_found world id text is)
-      (subst (AreFrom (length text) 0) (sym same) (from_listing text stubs lawful (subst (All (IsNamedIn text)) (sym listed) (named text))))
+    (subst (AreFrom (length text) 0) (sym same) (from_listing text stubs lawful (subst (All (IsNamedIn text)) (sym listed) (named text))))

@@ -1,5 +1,5 @@
 -- Answers, by what is found.
-use Rattle.std.proofs.Common.{ℕ, ◌≡◌, ◌+◌, ◌/◌, List, map, length, refl, ap, sym, subst, ◌∙◌, Option, Some, None, IsSomeAnd, Result, Ok, Err, IfErr, IsErrAnd}
+use Rattle.std.proofs.Common.{ℕ, ◌≡◌, ◌/◌, List, map, length, refl, ap, sym, subst, ◌∙◌, Option, Some, None, IsSomeAnd, Result, Ok, Err, IfErr, IsErrAnd}
 use Rattle.std.proofs.lemmas.List.{length-map}
 use Rattle.query_engine.specs.declared.answer.Row.{Row}
 use Rattle.query_engine.specs.declared.answer.WordRow.{WordRow}
@@ -31,7 +31,7 @@ module _ (o : Option ℕ) (answer : Answer) (expected : Result Answer AskRefusal
   dumb_looked l s watch e h (Err f) is =
       let (file, dumb, named) = unready_reply o answer e h in
       subst (λ (x : Result Answer AskRefusal). HasLooked {X = Answer} l s (Err f) (later_looks x) watch watch) (sym (told ∙ dumb))
-        (subst (λ (f : AskRefusal). HasLooked {X = Answer} l s (Err f) 0 watch watch) (sym (is ∙ named)) (looked_not l s watch))
+      (subst (λ (f : AskRefusal). HasLooked {X = Answer} l s (Err f) 0 watch watch) (sym (is ∙ named)) (looked_not l s watch))
 
   -- the answer, where no file is unready
   smart_reply : o ≡ None → expected ≡ Ok answer

@@ -1,5 +1,5 @@
 -- A file whose rows are being made, and where its declarations stand.
-use Rattle.std.specs.Prelude.{ℕ, ◌≡◌, ◌≤◌, ◌==◌, if◌then◌else◌, List, [], ◌∷◌, length, Option, Some, IsSome, IfSome, All}
+use Rattle.std.specs.Prelude.{ℕ, ◌≡◌, ◌≤◌, ◌==◌, if◌then◌else◌, List, [], ◌∷◌, length, Option, Some, IsSome, All}
 use Rattle.std.specs.Option.{option_map_or}
 use Rattle.ide_text.specs.Text.{max_chars}
 use Rattle.stub_tree.specs.declared.stub.Stub.{Stub}

@@ -1,5 +1,5 @@
 -- How often a call looks at its watch, and what it sees.
-use Rattle.std.specs.Prelude.{ℕ, ◌≡◌, ◌≤◌, ◌+◌, ◌/◌, ◌%◌, ◌==◌, if◌then◌else◌, List, length, Result, Ok, Err, max, min}
+use Rattle.std.specs.Prelude.{ℕ, ◌≡◌, ◌≤◌, ◌+◌, ◌/◌, ◌%◌, ◌==◌, if◌then◌else◌, length, Result, Ok, Err, max, min}
 use Rattle.action_lock.specs.Counts.{counted, HasRisen}
 use Rattle.query_engine.specs.declared.answer.Answer.{Answer}
 use Rattle.query_engine.specs.declared.answer.Answer.TheVariants.{Rows, Words, Counts}

@@ -1,9 +1,9 @@
-use Rattle.std.proofs.Common.{ℕ, ◌≤◌, ◌+◌, length, drop, List, refl, ap, sym, subst, ◌∙◌}
+use Rattle.std.proofs.Common.{ℕ, ◌≤◌, ◌+◌, length, drop, List, refl, ap, sym, subst}
 use Rattle.query_engine.specs.declared.answer.Row.{Row}
 use Rattle.query_engine.specs.Listed.{AreFrom, text_at}
 use Rattle.query_engine.proofs.AheadLemmas.{next_left, from_start, from_next, placed, moved_on, made_of}
 use Rattle.query_engine.proofs.LookLemmas.{looked_as, looked_wanting}
-use Rattle.query_engine.proofs.MadeLemmas.{made_none, made_more, made_stopped, made_short, made_all}
+use Rattle.query_engine.proofs.MadeLemmas.{made_none, made_more, made_stopped, made_short}
 use Rattle.query_engine.proofs.outline.file_rows.Goals as goal
 
 pub loop-stub-init : goal.loop-stub-init
@@ -45,6 +45,6 @@ loop-stub-preserved g c = record {
 pub returns-in_err-look_after-clause-looked : goal.returns-in_err-look_after-clause-looked
 returns-in_err-look_after-clause-looked g c = looked_as _ _ Row _ _ c.from_residual-in_err-look_after.result _ _ _ c.from_residual-in_err-look_after.ensures.1
     (made_stopped _ _ _ _ Row c.loop-stub.rows c.push.new.self c.in_ok-row.field-0 c.stub-item.result _ _ c.len.result _ _ c.loop-stub.watch c.look_after.new.watch
-      (next_left c.args.stubs.now c.loop-stub.stub-index c.stub-item.result c.loop-stub-test.true c.stub-item.is) c.in_ok-push.ensures.ok
-      (made_of c.args.state.now.world _ c.args.id c.stub-item.result c.loop-stub.file c.in_ok-row.field-0 c.loop-stub.invariant.file c.in_ok-row.ensures.row) c.len.ensures
-      c.in_err-look_after.ensures.early c.loop-stub.invariant.rows c.in_err-look_after.ensures.looked)
+    (next_left c.args.stubs.now c.loop-stub.stub-index c.stub-item.result c.loop-stub-test.true c.stub-item.is) c.in_ok-push.ensures.ok
+    (made_of c.args.state.now.world _ c.args.id c.stub-item.result c.loop-stub.file c.in_ok-row.field-0 c.loop-stub.invariant.file c.in_ok-row.ensures.row) c.len.ensures
+    c.in_err-look_after.ensures.early c.loop-stub.invariant.rows c.in_err-look_after.ensures.looked)

@@ -10,4 +10,4 @@ file_rows-requires-clause-live g c = id_live c.args.state.now.world c.args.path.
 pub file_rows-requires-clause-ahead : goal.file_rows-requires-clause-ahead
 file_rows-requires-clause-ahead g c =
     listing_from c.names_are_identifiers.ensures c.args.state.now.world c.in-Some.id c.in-Some-shown.text.now c.in_ok-stubs.stubs c.as_slice.result.now
-      c.in-Some-shown.ensures c.as_slice.ensures.stubs c.as_slice.ensures.lawful c.in_ok-stubs.ensures
+    c.in-Some-shown.ensures c.as_slice.ensures.stubs c.as_slice.ensures.lawful c.in_ok-stubs.ensures

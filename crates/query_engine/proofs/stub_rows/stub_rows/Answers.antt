@@ -48,5 +48,5 @@ loop-id-preserved g c = record {
 pub returns-in_err-look_after-clause-looked : goal.returns-in_err-look_after-clause-looked
 returns-in_err-look_after-clause-looked g c = looked_as _ _ Row _ _ c.from_residual-in_err-look_after.result _ _ _ c.from_residual-in_err-look_after.ensures.1
     (made_stopped _ _ _ _ Row c.loop-id.rows c.push.new.self c.in_ok-row.field-0 (c.in-Some.id, c.in-Some.stub.now) c.loop-id.id-iterator c.next.new.self c.len.result _ _ c.loop-id.watch c.look_after.new.watch
-      c.in-Some.ensures.steps c.in_ok-push.ensures.ok (row_made c.args.state.now.world _ _ c.in-Some.stub.now c.continued-file.result _ c.continued-file.ensures.file c.in_ok-row.ensures.row) c.len.ensures
-      c.in_err-look_after.ensures.early c.loop-id.invariant.rows c.in_err-look_after.ensures.looked)
+    c.in-Some.ensures.steps c.in_ok-push.ensures.ok (row_made c.args.state.now.world _ _ c.in-Some.stub.now c.continued-file.result _ c.continued-file.ensures.file c.in_ok-row.ensures.row) c.len.ensures
+    c.in_err-look_after.ensures.early c.loop-id.invariant.rows c.in_err-look_after.ensures.looked)

@@ -3,7 +3,7 @@ use Rattle.query_engine.specs.declared.answer.WordRow.{WordRow}
 use Rattle.query_engine.specs.Listed.{AreLive}
 use Rattle.query_engine.proofs.FoundLemmas.{word_row_made, live_rest}
 use Rattle.query_engine.proofs.LookLemmas.{looked_as, looked_wanting}
-use Rattle.query_engine.proofs.MadeLemmas.{made_none, made_more, made_stopped, made_short, made_all}
+use Rattle.query_engine.proofs.MadeLemmas.{made_none, made_more, made_stopped, made_short}
 use Rattle.query_engine.proofs.word_rows.word_rows.Goals as goal
 
 pub loop-file-init : goal.loop-file-init
@@ -31,4 +31,4 @@ loop-file-preserved g c = record {
 pub returns-in_err-look_after-clause-looked : goal.returns-in_err-look_after-clause-looked
 returns-in_err-look_after-clause-looked g c = looked_as _ _ WordRow _ _ c.from_residual-in_err-look_after.result _ _ _ c.from_residual-in_err-look_after.ensures.1
     (made_stopped _ _ _ _ WordRow c.loop-file.rows c.push.new.self _ (c.in-Some.file, c.in-Some.mask) c.loop-file.file-iterator c.next.new.self c.len.result _ _ c.loop-file.watch c.look_after.new.watch
-      c.in-Some.ensures.steps c.in_ok-push.ensures.ok (word_row_made c.args.state.now.world _ _ _ _ c.in-Some-path.ensures c.in_ok-copy.ensures) c.len.ensures c.in_err-look_after.ensures.early c.loop-file.invariant.rows c.in_err-look_after.ensures.looked)
+    c.in-Some.ensures.steps c.in_ok-push.ensures.ok (word_row_made c.args.state.now.world _ _ _ _ c.in-Some-path.ensures c.in_ok-copy.ensures) c.len.ensures c.in_err-look_after.ensures.early c.loop-file.invariant.rows c.in_err-look_after.ensures.looked)
