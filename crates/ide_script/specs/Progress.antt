@@ -1,6 +1,6 @@
 -- How a run in progress keeps its history.
 use Rattle.std.specs.Prelude.{◌≡◌, List}
-use Rattle.write_history.specs.declared.change.Entry.{Entry}
+use Rattle.write_history.specs.declared.entry.Entry.{Entry}
 use Rattle.write_history.specs.Fold.{fold, IsLegal}
 use Rattle.ide_script.specs.declared.session.Session.TheInside.{Inside}
 

@@ -1,5 +1,5 @@
 //! The whole program, over any source, tree and sink.
-ghost use Rattle.std.specs.Prelude.{◌≡◌, ◌≢◌, ◌↔◌, ◌<◌, ℕ, List, Err, length, map, string_bytes, IfOk, IfErr};
+ghost use Rattle.std.specs.Prelude.{◌≡◌, false, ◌≢◌, ◌↔◌, ◌<◌, ℕ, List, Err, length, map, string_bytes, IfOk, IfErr};
 ghost use Rattle.ide_io.specs.Known.{TakesAtMost};
 ghost use Rattle.script_lang.specs.Lines.{max_bytes};
 ghost use Rattle.transcripts.specs.Transcript.{transcript_of};
