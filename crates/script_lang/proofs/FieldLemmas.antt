@@ -1,7 +1,7 @@
 -- Paths and numbers, by characters and by bytes.
-use Rattle.std.proofs.Common.{◌≡◌, ◌≢◌, ◌∙◌, ◌⊎◌, inl, inr, ℕ, zero, suc, ◌+◌, ◌<◌, ◌≤◌, ◌^◌, true, false, Bool, eqb, leb, List, [], ◌∷◌, length, get_or, Option, Some, None, Result, Ok, Err, cond, refl, sym, ap, subst, arith, lit<}
-use Rattle.std.specs.Str.{chars, IsUtf8, bytes_eq, IsAscii}
-use Rattle.std.specs.Str.Parse.{ParsesUnsigned, IsNumeral, AllDigits, digits_value, without_leading_plus}
+use Rattle.std.proofs.Common.{◌≡◌, ◌≢◌, ◌∙◌, ◌⊎◌, inl, inr, ℕ, zero, suc, ◌<◌, ◌≤◌, ◌^◌, true, false, Bool, eqb, leb, List, [], ◌∷◌, length, get_or, Option, Some, None, Result, Ok, Err, cond, refl, sym, ap, subst, arith, lit<}
+use Rattle.std.specs.Str.{chars, IsUtf8, bytes_eq}
+use Rattle.std.specs.Str.Parse.{ParsesUnsigned, AllDigits, digits_value}
 use Rattle.std.specs.Fmt.{decimal}
 use Rattle.std.specs.Result.{result_ok}
 use lib.Utf8.{encodes}
@@ -9,7 +9,7 @@ use Rattle.std.proofs.lemmas.Bool.{cases_Bool, eqb-true, eqb-false, eq-eqb, ne_e
 use mathlib.Core.Bool.{not, ◌||◌}
 use Rattle.std.proofs.lemmas.Fmt.{decimal_is_IsNumeral, decimal-digits_value, IsAscii-decimal, parse-decimal, first_decimal, decimal_nonempty, decimal_digit}
 use Rattle.std.proofs.lemmas.List.{nil_from_length}
-use Rattle.std.proofs.lemmas.Option.{cond_some, none-some, same_Some}
+use Rattle.std.proofs.lemmas.Option.{none-some, same_Some}
 use Rattle.std.proofs.lemmas.Slice.Eq.{bytes_eq-Decides}
 use Rattle.std.proofs.lemmas.Str.{chars-nil, encodes-chars, chars-IsAscii, IsUtf8-from_ascii}
 use Rattle.std.proofs.lemmas.Str.Parse.{IsNumeralModel, numerals_by_value, tells_digits, parse_plain}
@@ -105,8 +105,8 @@ is_plain-decimal (suc n) small =
 pub number_of-other : (bs : List ℕ) → IsUtf8 bs → is_plain bs ≡ false → None ≡ number_of (chars bs)
 number_of-other bs text other =
     number_of-none (chars bs) (λ n fits e.
-        let small : n < 2 ^ 64 = omega arith in
-        false≢true (sym other ∙ ap is_plain (digits_bytes bs n text fits e) ∙ is_plain-decimal n small))
+    let small : n < 2 ^ 64 = omega arith in
+    false≢true (sym other ∙ ap is_plain (digits_bytes bs n text fits e) ∙ is_plain-decimal n small))
 
 -- plain bytes that are read as a number are its digits, and others are the digits of none
 own : IsNumeralModel (AllDigits 10) (digits_value 10)
@@ -128,7 +128,7 @@ number_of-plain {E} bs (Ok n) text plain parsed =
     number_of-read bs n plain read.0 read.1
 number_of-plain {E} bs (Err e) text plain parsed =
     number_of-none (chars bs) (λ n fits is.
-        let small : n < 2 ^ 64 = omega arith in
-        let narrow : n < 2 ^ 32 = omega arith in
-        let f = parse-decimal {E = E} 32 n bs (Err e) narrow small (digits_bytes bs n text fits is) parsed in
-        cc)
+    let small : n < 2 ^ 64 = omega arith in
+    let narrow : n < 2 ^ 32 = omega arith in
+    let f = parse-decimal {E = E} 32 n bs (Err e) narrow small (digits_bytes bs n text fits is) parsed in
+    cc)

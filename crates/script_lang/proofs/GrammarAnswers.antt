@@ -1,12 +1,12 @@
 -- What the answers of `parse` say by the grammar.
-use Rattle.std.proofs.Common.{◌≡◌, ◌⊎◌, inl, inr, ℕ, ◌+◌, ◌≤◌, List, ◌∷◌, [], ◌++◌, length, Option, Some, None, Result, Ok, Err, IfOk, IfErr, MatchResult, refl, ap, sym, ◌∙◌, subst}
+use Rattle.std.proofs.Common.{◌≡◌, inl, inr, ℕ, ◌≤◌, List, length, Option, Some, None, Result, Ok, Err, IfOk, IfErr, MatchResult, refl, ap, sym, ◌∙◌, subst}
 use Rattle.std.specs.Result.{IsErrAnd}
 use Rattle.script_lang.specs.Held.{AreOfScript}
 use Rattle.script_lang.proofs.HeldLemmas.{AreOfScript-HoldScript}
-use Rattle.script_lang.specs.Grammar.{AreLines, HoldScript, IsScript, BeginScript, IsFirstBadLine, IsOpenAtEnd, IsRefused}
+use Rattle.script_lang.specs.Grammar.{AreLines, IsScript, BeginScript, IsFirstBadLine, IsOpenAtEnd, IsRefused}
 use Rattle.script_lang.specs.Lines.{max_bytes, lines_of}
 use Rattle.script_lang.specs.Parts.{Parts}
-use Rattle.script_lang.specs.Reading.{OpenGroup, State, start, parts_at, finished_open, finished, read_from, finished_read, script_of, IsRefusalOf}
+use Rattle.script_lang.specs.Reading.{OpenGroup, State, start, parts_at, finished_open, read_from, finished_read, script_of, IsRefusalOf}
 use Rattle.script_lang.specs.declared.refusal.ScriptRefusal.{ScriptRefusal}
 use Rattle.script_lang.specs.declared.refusal.ScriptRefusal.TheVariants.{BadLine, OutOfMemory}
 use Rattle.script_lang.proofs.GrammarBegins.{BeginScript-read_from, begins_no_script}

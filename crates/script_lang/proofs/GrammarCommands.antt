@@ -1,18 +1,18 @@
 -- The command of a line is the one whose form it is.
-use Rattle.std.proofs.Common.{◌≡◌, ◌⊎◌, inl, inr, ℕ, ◌≤◌, true, false, leb, cond, List, [], ◌∷◌, ◌++◌, Option, Some, None, option_map, refl, ap, sym, ◌∙◌, subst, codes, arith}
+use Rattle.std.proofs.Common.{◌≡◌, ◌⊎◌, inl, inr, ℕ, ◌≤◌, true, leb, cond, List, ◌∷◌, ◌++◌, Option, Some, None, option_map, refl, ap, sym, ◌∙◌, subst, codes, arith}
 use Rattle.std.specs.Fmt.{decimal}
 use Rattle.std.specs.Option.{option_and_then}
 use Rattle.std.specs.Str.{bytes_eq}
 use Rattle.std.proofs.lemmas.Bool.{leb-true, le-leb, and_parts}
-use Rattle.std.proofs.lemmas.Option.{none-some, same_Some, cond_some}
+use Rattle.std.proofs.lemmas.Option.{same_Some, cond_some}
 use Rattle.std.proofs.lemmas.Slice.Eq.{bytes_eq-Decides}
 use mathlib.Core.Bool.{◌&&◌}
 use Rattle.java_tokens.specs.Identifier.{is_word}
 use Rattle.write_history.specs.declared.change.Change.{Change}
 use Rattle.write_history.specs.declared.change.Change.TheVariants as change
-use Rattle.script_lang.specs.Commands.{max_attempts, path_command, text_change, attempts_of, soft_command, command_with, change_of_parts, change_of, asked_or, command_of}
+use Rattle.script_lang.specs.Commands.{max_attempts, path_command, text_change, attempts_of, command_with, change_of, asked_or, command_of}
 use Rattle.script_lang.specs.Fields.{space, max_number, parts_at_space, two_fields, path_of, last_path, number_of}
-use Rattle.script_lang.specs.Grammar.{IsPath, IsQuoted, spaced, HasPath, HasPathAndText, HasName, IsChangeLine, IsQueryLine, IsCommandLine}
+use Rattle.script_lang.specs.Grammar.{IsPath, HasPath, HasPathAndText, IsChangeLine, IsQueryLine, IsCommandLine}
 use Rattle.script_lang.specs.Keywords.{keywords, query_keywords, keyword_of, query_keyword_of}
 use Rattle.script_lang.specs.Queries.{name_query, query_with, query_of_parts, query_of}
 use Rattle.script_lang.specs.Quotes.{text_of_field}
@@ -180,32 +180,32 @@ IsCommandLine-with (key.OfText keyword) line rest made e read =
     let found = option_map-some (λ p. command.Change (text_change keyword p.0 p.1)) (two_fields path_of text_of_field rest) made read in
     let q = path_and-some text_of_field rest found.0 found.1 in
     subst (IsCommandLine line) found.2 (IsChangeLine-text keyword line found.0.0 found.0.1
-      (q.0, e ∙ ap (λ p. spelled_text keyword ++ space ∷ p) q.1, q.2, IsQuoted-text_of_field q.0 found.0.1 q.3))
+    (q.0, e ∙ ap (λ p. spelled_text keyword ++ space ∷ p) q.1, q.2, IsQuoted-text_of_field q.0 found.0.1 q.3))
 IsCommandLine-with key.Insert line rest made e read =
     let found = option_map-some (λ p. command.Change (change.Insert p.0 p.1.0 p.1.1)) (two_fields path_of (two_fields number_of text_of_field) rest) made read in
     let q = path_and-some (two_fields number_of text_of_field) rest found.0 found.1 in
     let r = number_and-some text_of_field q.0 found.0.1 q.3 in
     subst (IsCommandLine line) found.2
-      (r.0, e ∙ ap (λ p. codes "insert" ++ space ∷ p) (q.1 ∙ ap (λ p. found.0.0 ++ space ∷ p) r.1), q.2, r.2, IsQuoted-text_of_field r.0 found.0.1.1 r.3)
+    (r.0, e ∙ ap (λ p. codes "insert" ++ space ∷ p) (q.1 ∙ ap (λ p. found.0.0 ++ space ∷ p) r.1), q.2, r.2, IsQuoted-text_of_field r.0 found.0.1.1 r.3)
 IsCommandLine-with key.Erase line rest made e read =
     let found = option_map-some (λ p. command.Change (change.Erase p.0 p.1.0 p.1.1)) (two_fields path_of (two_fields number_of number_of) rest) made read in
     let q = path_and-some (two_fields number_of number_of) rest found.0 found.1 in
     let r = number_and-some number_of q.0 found.0.1 q.3 in
     let to = number_of-some r.0 found.0.1.1 r.3 in
     subst (IsCommandLine line) found.2
-      (e ∙ ap (λ p. codes "erase" ++ space ∷ p) (q.1 ∙ ap (λ p. found.0.0 ++ space ∷ p) (r.1 ∙ ap (λ p. decimal found.0.1.0 ++ space ∷ p) to.0)), q.2, r.2, to.1)
+    (e ∙ ap (λ p. codes "erase" ++ space ∷ p) (q.1 ∙ ap (λ p. found.0.0 ++ space ∷ p) (r.1 ∙ ap (λ p. decimal found.0.1.0 ++ space ∷ p) to.0)), q.2, r.2, to.1)
 IsCommandLine-with key.Move line rest made e read =
     let found = option_map-some (λ p. command.Change (change.Move p.0 p.1)) (two_fields path_of last_path rest) made read in
     let q = path_and-some last_path rest found.0 found.1 in
     let to = last_path-some q.0 found.0.1 q.3 in
     subst (IsCommandLine line) found.2
-      (e ∙ ap (λ p. codes "move" ++ space ∷ p) (q.1 ∙ ap (λ p. found.0.0 ++ space ∷ p) to.0), q.2, to.1)
+    (e ∙ ap (λ p. codes "move" ++ space ∷ p) (q.1 ∙ ap (λ p. found.0.0 ++ space ∷ p) to.0), q.2, to.1)
 IsCommandLine-with key.Soft line rest made e read =
     let found = option_map-some (λ p. command.Soft p.0 p.1) (two_fields attempts_of query_of rest) made read in
     let q = two_fields-some attempts_of query_of rest found.0 found.1 in
     let n = attempts_of-some q.0.0 found.0.0 q.3 in
     subst (IsCommandLine line) found.2
-      (q.0.1, e ∙ ap (λ p. codes "soft" ++ space ∷ p) (q.1 ∙ ap (λ p. p ++ space ∷ q.0.1) n.0), n.1, n.2, IsQueryLine-query_of q.0.1 found.0.1 q.4)
+    (q.0.1, e ∙ ap (λ p. codes "soft" ++ space ∷ p) (q.1 ∙ ap (λ p. p ++ space ∷ q.0.1) n.0), n.1, n.2, IsQueryLine-query_of q.0.1 found.0.1 q.4)
 
 IsCommandLine-change_of : (line : List ℕ) (made : Command) → change_of line ≡ Some made → IsCommandLine line made
 unfolding change_of
@@ -233,9 +233,12 @@ keyed_path keyword line path e is = (key.OfPath keyword, path, e, ap (option_map
 
 keyed_text : (keyword : TextKeyword) (line path text : List ℕ) → HasPathAndText (spelled_text keyword) line path text → IsKeyed line (command.Change (text_change keyword path text))
 keyed_text keyword line path text (field, e, is, quoted) =
-    let f : List ℕ × List ℕ → Command = λ p. command.Change (text_change keyword p.0 p.1) in
-    (key.OfText keyword, path ++ space ∷ field, e,
-      ap (option_map f) (path_and-found text_of_field path field text is (text_of_field-IsQuoted field text quoted)))
+    let f : List ℕ × List ℕ → Command = λ p. command.Change (text_change keyword p.0 p.1) in (
+      key.OfText keyword,
+      path ++ space ∷ field,
+      e,
+      ap (option_map f) (path_and-found text_of_field path field text is (text_of_field-IsQuoted field text quoted)),
+    )
 
 pub IsKeyed-IsChangeLine : (line : List ℕ) (c : Change) → IsChangeLine line c → IsKeyed line (command.Change c)
 IsKeyed-IsChangeLine line (change.Create path text) is = keyed_text text_key.Create line path text is
@@ -244,14 +247,20 @@ IsKeyed-IsChangeLine line (change.Delete path) (e, is) = keyed_path path_key.Del
 IsKeyed-IsChangeLine line (change.OpenDoc path) (e, is) = keyed_path path_key.Open line path e is
 IsKeyed-IsChangeLine line (change.Insert path at text) (field, e, is, fits, quoted) =
     let f : List ℕ × (ℕ × List ℕ) → Command = λ p. command.Change (change.Insert p.0 p.1.0 p.1.1) in
-    let piece = number_and-found text_of_field at field text fits (text_of_field-IsQuoted field text quoted) in
-    (key.Insert, path ++ space ∷ (decimal at ++ space ∷ field), e,
-      ap (option_map f) (path_and-found (two_fields number_of text_of_field) path (decimal at ++ space ∷ field) (at, text) is piece))
+    let piece = number_and-found text_of_field at field text fits (text_of_field-IsQuoted field text quoted) in (
+      key.Insert,
+      path ++ space ∷ (decimal at ++ space ∷ field),
+      e,
+      ap (option_map f) (path_and-found (two_fields number_of text_of_field) path (decimal at ++ space ∷ field) (at, text) is piece),
+    )
 IsKeyed-IsChangeLine line (change.Erase path from to) (e, is, fits, fits') =
     let f : List ℕ × (ℕ × ℕ) → Command = λ p. command.Change (change.Erase p.0 p.1.0 p.1.1) in
-    let range = number_and-found number_of from (decimal to) to fits (number_of-decimal to fits') in
-    (key.Erase, path ++ space ∷ (decimal from ++ space ∷ decimal to), e,
-      ap (option_map f) (path_and-found (two_fields number_of number_of) path (decimal from ++ space ∷ decimal to) (from, to) is range))
+    let range = number_and-found number_of from (decimal to) to fits (number_of-decimal to fits') in (
+      key.Erase,
+      path ++ space ∷ (decimal from ++ space ∷ decimal to),
+      e,
+      ap (option_map f) (path_and-found (two_fields number_of number_of) path (decimal from ++ space ∷ decimal to) (from, to) is range),
+    )
 IsKeyed-IsChangeLine line (change.Commit path) (e, is) = keyed_path path_key.Commit line path e is
 IsKeyed-IsChangeLine line (change.Save path) (e, is) = keyed_path path_key.Save line path e is
 IsKeyed-IsChangeLine line (change.CloseDoc path) (e, is) = keyed_path path_key.Close line path e is
@@ -267,9 +276,12 @@ pub IsKeyed-soft : (line : List ℕ) (attempts : ℕ) (q : Query) → IsCommandL
 IsKeyed-soft line attempts q (rest, e, some, few, is) =
     let f : ℕ × Query → Command = λ p. command.Soft p.0 p.1 in
     let fits : attempts ≤ max_number = omega arith in
-    let read = query_of-IsAsked rest q (IsAsked-IsQueryLine rest q is) in
-    (key.Soft, decimal attempts ++ space ∷ rest, e,
-      ap (option_map f) (two_fields-found attempts_of query_of (decimal attempts) rest attempts q (no_space-decimal attempts fits) (attempts_of-decimal attempts some few) read))
+    let read = query_of-IsAsked rest q (IsAsked-IsQueryLine rest q is) in (
+      key.Soft,
+      decimal attempts ++ space ∷ rest,
+      e,
+      ap (option_map f) (two_fields-found attempts_of query_of (decimal attempts) rest attempts q (no_space-decimal attempts fits) (attempts_of-decimal attempts some few) read),
+    )
 
 query_of-keyword : (keyword : Keyword) (rest : List ℕ) → query_of (spelled keyword ++ space ∷ rest) ≡ None
 unfolding query_of

@@ -1,14 +1,12 @@
 -- What a line is, is what the grammar says of it.
-use Rattle.std.proofs.Common.{◌≡◌, ◌≢◌, ◌⊎◌, inl, inr, ℕ, ◌<◌, true, false, Bool, eqb, cond, List, [], ◌∷◌, ◌++◌, Option, Some, None, refl, ap, sym, ◌∙◌, subst, lit<, codes}
+use Rattle.std.proofs.Common.{◌≡◌, ◌≢◌, inl, inr, ℕ, ◌<◌, true, false, Bool, eqb, cond, List, ◌∷◌, ◌++◌, Option, Some, None, refl, ap, sym, ◌∙◌, subst, lit<, codes}
 use Rattle.std.specs.Str.{chars, IsUtf8, is_utf8}
 use lib.Utf8.{encode, encodes, scalars}
 use Rattle.std.proofs.lemmas.Str.{encodes-chars, chars-encodes, encode_ascii, is_utf8-from_IsUtf8, IsUtf8-from_is_utf8}
-use Rattle.write_history.specs.declared.change.Change.{Change}
-use Rattle.write_history.specs.declared.change.Change.TheVariants as change
 use Rattle.script_lang.specs.Contents.{lone_contents, lone_content, content_from, alone_or, content_of_text, content_of_bytes, content_of}
 use Rattle.script_lang.specs.Commands.{command_of}
 use Rattle.script_lang.specs.Fields.{space}
-use Rattle.script_lang.specs.Grammar.{DropsReturn, IsPassedBy, IsCommandLine, IsKept, IsLine}
+use Rattle.script_lang.specs.Grammar.{IsCommandLine, IsKept, IsLine}
 use Rattle.script_lang.specs.Lines.{without_return, is_passed_by, number_sign}
 use Rattle.script_lang.specs.declared.command.Command.{Command}
 use Rattle.script_lang.specs.declared.command.Command.TheVariants as command

@@ -1,5 +1,5 @@
 -- A group that is open at the end of all lines.
-use Rattle.std.proofs.Common.{◌≡◌, ◌≢◌, ◌⊎◌, inl, inr, ℕ, ◌+◌, true, ltb, eqb, List, [], ◌∷◌, ◌++◌, length, Option, Some, None, Result, Ok, refl, ap, sym, ◌∙◌, subst, arith}
+use Rattle.std.proofs.Common.{◌≡◌, ◌⊎◌, inl, inr, ℕ, ◌+◌, ltb, eqb, List, [], ◌∷◌, ◌++◌, length, Option, Some, None, Ok, refl, ap, sym, ◌∙◌, arith}
 use Rattle.std.specs.List.{All}
 use Rattle.std.proofs.lemmas.List.Elements.{All-nil, All-cons}
 use Rattle.std.proofs.lemmas.Option.{none-some, same_Some, cond_some}
@@ -8,7 +8,6 @@ use Rattle.write_history.specs.declared.change.Change.{Change}
 use Rattle.script_lang.specs.Contents.{content_of}
 use Rattle.script_lang.specs.Grammar.{IsLine, IsInGroup}
 use Rattle.script_lang.specs.Reading.{OpenGroup, State, may_stand, next_lane, may_end, with_line, with_section, after_open, after, read_from}
-use Rattle.script_lang.specs.declared.command.Command.{Command}
 use Rattle.script_lang.specs.declared.command.Command.TheVariants as command
 use Rattle.script_lang.specs.declared.content.Content.{Content}
 use Rattle.script_lang.specs.declared.content.Content.TheVariants as content

@@ -1,12 +1,11 @@
 -- A script is read line by line just where the grammar has it.
-use Rattle.std.proofs.Common.{◌≡◌, ◌≢◌, ◌⊎◌, inl, inr, ℕ, ◌+◌, ◌≤◌, List, [], ◌∷◌, ◌++◌, length, Option, Some, None, Result, Ok, Err, refl, ap, sym, ◌∙◌, subst, arith}
+use Rattle.std.proofs.Common.{◌≡◌, ◌≢◌, ℕ, ◌+◌, List, [], ◌∷◌, Option, Some, None, Ok, Err, refl, ap, sym, ◌∙◌, subst}
 use Rattle.std.proofs.lemmas.Option.{none-some}
 use Rattle.script_lang.specs.Contents.{content_of}
 use Rattle.script_lang.specs.Grammar.{IsLine, AreContents, Rest, nothing, HoldRest}
 use Rattle.script_lang.specs.Reading.{OpenGroup, State, after_open, after, read_from}
 use Rattle.script_lang.specs.declared.content.Content.{Content}
 use Rattle.script_lang.specs.declared.content.Content.TheVariants as content
-use Rattle.script_lang.specs.declared.refusal.ScriptRefusal.{ScriptRefusal}
 use Rattle.script_lang.specs.declared.refusal.ScriptRefusal.TheVariants.{BadLine}
 use Rattle.script_lang.proofs.GrammarContents.{IsLine-content_of, content_of-IsLine}
 use Rattle.script_lang.proofs.GrammarTurns.{IsRoomy, no_group, turn_held, turn_read, IsRoomy-after}

@@ -1,13 +1,11 @@
 -- The script of bytes is the one that the grammar has, and the line that is named is the one that the grammar names.
-use Rattle.std.proofs.Common.{◌≡◌, ◌≢◌, ◌⊎◌, inl, inr, ℕ, ◌+◌, ◌<◌, ◌≤◌, eqb, cond, List, [], ◌∷◌, ◌++◌, length, Option, Some, None, Result, Ok, Err, IfOk, IfErr, MatchResult, refl, ap, sym, ◌∙◌, subst, arith, append_assoc}
-use Rattle.std.proofs.lemmas.List.{append-nil}
-use Rattle.script_lang.specs.Grammar.{AreLines, AreContents, Rest, nothing, HoldRest, whole, HoldScript, IsScript, BeginScript, IsFirstBadLine, IsOpenAtEnd, IsRefused}
+use Rattle.std.proofs.Common.{◌≡◌, ℕ, ◌≤◌, List, length, Option, Some, None, Result, Ok, Err, refl, ap, sym, ◌∙◌, subst}
+use Rattle.script_lang.specs.Grammar.{HoldRest, whole, HoldScript, IsScript}
 use Rattle.script_lang.specs.Lines.{max_bytes, lines_of}
 use Rattle.script_lang.specs.Parts.{Parts}
-use Rattle.script_lang.specs.Reading.{OpenGroup, State, start, parts_at, finished_open, finished, read_from, finished_read, script_of, IsRefusalOf}
+use Rattle.script_lang.specs.Reading.{OpenGroup, State, start, parts_at, finished_open, finished, read_from, finished_read, script_of}
 use Rattle.script_lang.specs.declared.line.Section.TheVariants.{Prelude}
 use Rattle.script_lang.specs.declared.refusal.ScriptRefusal.{ScriptRefusal}
-use Rattle.script_lang.specs.declared.refusal.ScriptRefusal.TheVariants.{BadLine, OutOfMemory}
 use Rattle.script_lang.proofs.GrammarLines.{AreLines-lines_of, lines_of-AreLines}
 use Rattle.script_lang.proofs.GrammarReading.{IsHeld-read_from, read_from-held}
 use Rattle.script_lang.proofs.JoinedLemmas.{joined, joined-nothing}

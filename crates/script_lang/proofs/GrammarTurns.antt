@@ -1,17 +1,16 @@
 -- One line more of a script, by the grammar and as it is read.
-use Rattle.std.proofs.Common.{◌≡◌, ◌⊎◌, inl, inr, ℕ, ◌+◌, ◌<◌, ◌≤◌, true, false, Bool, eqb, ltb, cond, List, [], ◌∷◌, ◌++◌, length, Option, Some, None, option_map, refl, ap, sym, ◌∙◌, subst, arith}
+use Rattle.std.proofs.Common.{◌≡◌, ℕ, ◌+◌, ◌≤◌, true, false, Bool, eqb, ltb, cond, List, [], ◌∷◌, ◌++◌, length, Option, Some, None, refl, ap, ◌∙◌, subst, arith}
 use Rattle.std.proofs.lemmas.Bool.{eqb-false, ne_eqb, ltb-true, lt-ltb}
 use Rattle.std.proofs.lemmas.List.{length-append}
 use Rattle.std.proofs.lemmas.Option.{none-some, same_Some, cond_some}
-use Rattle.write_history.specs.Changes.{max_changes, AreFew}
+use Rattle.write_history.specs.Changes.{max_changes}
 use Rattle.script_lang.specs.Grammar.{Rest, first_comes, lane_comes, last_comes, HoldRest}
 use Rattle.script_lang.specs.Reading.{OpenGroup, State, may_stand, next_lane, may_end, with_line, with_section, after_open}
 use Rattle.script_lang.specs.declared.command.Command.{Command}
 use Rattle.script_lang.specs.declared.command.Command.TheVariants as command
 use Rattle.script_lang.specs.declared.content.Content.{Content}
 use Rattle.script_lang.specs.declared.content.Content.TheVariants as content
-use Rattle.script_lang.specs.declared.line.Section.{Section}
-use Rattle.script_lang.specs.declared.line.Section.TheVariants.{Prelude, Lane, Finally}
+use Rattle.script_lang.specs.declared.line.Section.TheVariants.{Finally}
 use Rattle.script_lang.proofs.JoinedLemmas.{joined, joined-line, joined-lane, joined-last}
 use Rattle.script_lang.proofs.OptionLemmas.{option_map-some}
 
@@ -78,8 +77,11 @@ turn_inside s group number content.End lines rest next few e =
     let t = cond_none (eqb (length group.changes) 0) (with_line (no_group s) group.number line) next e in
     let some : 1 ≤ length group.changes = (let h = eqb-false (length group.changes) 0 t.0 in omega (arith, h)) in
     subst (λ (t : State). IsTurn s (Some group) number content.End lines rest t) t.1
-    (λ h. (first_comes group.number line rest, (record { some = some; few = few }, (rest, refl, h)),
-      joined-line s.section s.prelude s.lanes s.here (record { number = group.number; command = line }) rest))
+    (λ h. (
+      first_comes group.number line rest,
+      (record { some = some; few = few }, (rest, refl, h)),
+      joined-line s.section s.prelude s.lanes s.here (record { number = group.number; command = line }) rest,
+    ))
 turn_inside s group number content.Bad lines rest next few e = absurd (none-some next e)
 
 pub turn_held : (s : State) (opened : Option OpenGroup) (number : ℕ) (c : Content) (lines : List Content) (rest : Rest) (next : State) → IsRoomy opened
@@ -138,9 +140,13 @@ pub turn_read : (s : State) (opened : Option OpenGroup) (number : ℕ) (c : Cont
     → (next : State) × (rest : Rest) × (after_open opened (no_group s) number c ≡ Some next)
     × HoldRest next.section next.open_group (number + 1) lines rest × (joined s first ≡ joined next rest)
 turn_read s None number content.PassedBy lines first h = (no_group s, first, refl, h, refl)
-turn_read s None number (content.Holds made) lines first (stands, (rest, e, h)) =
-    (with_line (no_group s) number made, rest, rw stands refl, h,
-      ap (joined s) e ∙ joined-line s.section s.prelude s.lanes s.here (record { number = number; command = made }) rest)
+turn_read s None number (content.Holds made) lines first (stands, (rest, e, h)) = (
+  with_line (no_group s) number made,
+  rest,
+  rw stands refl,
+  h,
+  ap (joined s) e ∙ joined-line s.section s.prelude s.lanes s.here (record { number = number; command = made }) rest,
+)
 turn_read s None number content.Lane lines first (lane, may, (rest, e, h)) =
     (with_section (no_group s) lane, rest, rw may refl, h, ap (joined s) e ∙ joined-lane s lane rest may)
 turn_read s None number content.Finally lines first (may, (rest, e, h)) =
@@ -150,9 +156,13 @@ turn_read s None number content.Group lines first h =
 turn_read s None number content.End lines first h = absurd h
 turn_read s None number content.Bad lines first h = absurd h
 turn_read s (Some group) number content.PassedBy lines first h = (record s { open_group = Some group }, first, refl, h, refl)
-turn_read s (Some group) number (content.Holds (command.Change c)) lines first (room, h) =
-    (record s { open_group = Some (record { number = group.number; changes = group.changes ++ c ∷ [] }) }, first,
-      rw (lt-ltb (length group.changes) max_changes room) refl, h, refl)
+turn_read s (Some group) number (content.Holds (command.Change c)) lines first (room, h) = (
+  record s { open_group = Some (record { number = group.number; changes = group.changes ++ c ∷ [] }) },
+  first,
+  rw (lt-ltb (length group.changes) max_changes room) refl,
+  h,
+  refl,
+)
 turn_read s (Some group) number (content.Holds (command.Group changes)) lines first h = absurd h
 turn_read s (Some group) number (content.Holds (command.Load path)) lines first h = absurd h
 turn_read s (Some group) number (content.Holds command.Settle) lines first h = absurd h
@@ -162,7 +172,11 @@ turn_read s (Some group) number content.Lane lines first h = absurd h
 turn_read s (Some group) number content.Finally lines first h = absurd h
 turn_read s (Some group) number content.Group lines first h = absurd h
 turn_read s (Some group) number content.End lines first (few, (rest, e, h)) =
-    let some : length group.changes ≡ 0 → ⊥ = λ f. omega (arith, few.some) in
-    (with_line (no_group s) group.number (command.Group group.changes), rest, rw (ne_eqb (length group.changes) 0 some) refl, h,
-      ap (joined s) e ∙ joined-line s.section s.prelude s.lanes s.here (record { number = group.number; command = command.Group group.changes }) rest)
+    let some : length group.changes ≡ 0 → ⊥ = λ f. omega (arith, few.some) in (
+      with_line (no_group s) group.number (command.Group group.changes),
+      rest,
+      rw (ne_eqb (length group.changes) 0 some) refl,
+      h,
+      ap (joined s) e ∙ joined-line s.section s.prelude s.lanes s.here (record { number = group.number; command = command.Group group.changes }) rest,
+    )
 turn_read s (Some group) number content.Bad lines first h = absurd h

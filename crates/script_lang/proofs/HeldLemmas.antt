@@ -1,5 +1,5 @@
 -- What the commands of a script are.
-use Rattle.std.proofs.Common.{◌≡◌, ℕ, ◌+◌, ◌<◌, ◌≤◌, true, ltb, List, [], ◌∷◌, ◌++◌, length, Option, Some, None, refl, ap, sym, ◌∙◌, subst, arith}
+use Rattle.std.proofs.Common.{◌≡◌, ℕ, ◌+◌, ◌≤◌, true, ltb, List, [], ◌∷◌, ◌++◌, length, Option, Some, None, refl, sym, subst, arith}
 use Rattle.std.specs.List.{All}
 use Rattle.std.specs.Str.{chars}
 use Rattle.std.proofs.lemmas.Bool.{false≢true, ltb-true}
@@ -7,10 +7,10 @@ use Rattle.std.proofs.lemmas.List.Elements.{All-nil, All-cons, All-append}
 use Rattle.std.proofs.lemmas.Option.{none-some, same_Some, cond_some}
 use Rattle.write_history.specs.declared.change.Change.{Change}
 use Rattle.write_history.specs.declared.change.Change.TheVariants as change
-use Rattle.script_lang.specs.Grammar.{IsLine, AreContents, IsChangeLine, IsCommandLine, Rest, nothing, first_comes, lane_comes, last_comes, HoldRest, HoldScript, whole, IsScript}
+use Rattle.script_lang.specs.Grammar.{IsLine, AreContents, IsChangeLine, IsCommandLine, Rest, nothing, first_comes, lane_comes, last_comes, HoldRest, HoldScript, whole}
 use Rattle.script_lang.specs.Held.{IsNoIntake, IsOfLine, IsNoLoad, AreOfPrelude, AreOfSection, AreOfScript}
 use Rattle.script_lang.specs.Parts.{Parts}
-use Rattle.script_lang.specs.Reading.{OpenGroup, max_lanes, may_stand, next_lane, may_end}
+use Rattle.script_lang.specs.Reading.{OpenGroup, max_lanes, may_stand, next_lane}
 use Rattle.script_lang.specs.declared.command.Command.{Command}
 use Rattle.script_lang.specs.declared.command.Command.TheVariants as command
 use Rattle.script_lang.specs.declared.content.Content.{Content}

@@ -38,6 +38,7 @@ joined-nothing s = by_section s.section
   where
     none : s.here ++ [] ≡ s.here
     none = append-nil s.here
+
     by_section : (section : Section) → joined_at section s.prelude s.lanes (s.here ++ []) [] [] ≡ parts_at section s.prelude s.lanes s.here
     by_section Prelude = same_parts _ _ none (append-nil s.lanes) refl
     by_section (Lane number) = same_parts _ _ refl (append-nil (s.lanes ++ (s.here ++ []) ∷ []) ∙ ap (λ l. s.lanes ++ l ∷ []) none) refl
@@ -55,11 +56,14 @@ joined-lane s lane rest e = by_section s.section e
   where
     none : s.here ++ [] ≡ s.here
     none = append-nil s.here
+
     at : Section → Section → Type 0
     at section next = joined_at section s.prelude s.lanes (s.here ++ []) (rest.here ∷ rest.lanes) rest.last
         ≡ joined_at next (prelude_at section s.prelude s.here) (lanes_at section s.lanes s.here) ([] ++ rest.here) rest.lanes rest.last
+
     number_lane : (section : Section) (number : ℕ) → ((k : ℕ) → at section (Lane k)) → Lane number ≡ lane → at section lane
     number_lane section number all f = subst (at section) f (all number)
+
     by_section : (section : Section) → next_lane section ≡ Some lane → at section lane
     by_section Prelude f =
         number_lane Prelude 1 (λ k. same_parts _ _ none (sym (append_assoc s.lanes (rest.here ∷ []) rest.lanes)) refl) (same_Some (Lane 1) lane f)
@@ -67,7 +71,7 @@ joined-lane s lane rest e = by_section s.section e
         let made = cond_some (ltb number 16) (Lane (number + 1)) lane f in
         number_lane (Lane number) (number + 1)
         (λ k. same_parts _ _ refl
-          (ap (λ l. (s.lanes ++ l ∷ []) ++ rest.here ∷ rest.lanes) none ∙ sym (append_assoc (s.lanes ++ s.here ∷ []) (rest.here ∷ []) rest.lanes)) refl)
+        (ap (λ l. (s.lanes ++ l ∷ []) ++ rest.here ∷ rest.lanes) none ∙ sym (append_assoc (s.lanes ++ s.here ∷ []) (rest.here ∷ []) rest.lanes)) refl)
         made.1
     by_section Finally f = absurd (none-some lane f)
 
@@ -76,6 +80,7 @@ joined-last s rest e = by_section s.section e
   where
     none : s.here ++ [] ≡ s.here
     none = append-nil s.here
+
     by_section : (section : Section) → may_end section ≡ true → joined_at section s.prelude s.lanes (s.here ++ []) [] rest.here
         ≡ joined_at Finally (prelude_at section s.prelude s.here) (lanes_at section s.lanes s.here) ([] ++ rest.here) rest.lanes rest.last
     by_section Prelude f = same_parts _ _ none (append-nil s.lanes) refl

@@ -1,9 +1,7 @@
 -- A script, read line by line.
-use Rattle.std.proofs.Common.{◌≡◌, ℕ, ◌+◌, List, [], ◌∷◌, ◌++◌, length, Option, Some, None, Result, Ok, Err, refl, ap, sym, ◌∙◌, arith}
-use Rattle.std.specs.Option.{option_map_or}
+use Rattle.std.proofs.Common.{◌≡◌, ℕ, ◌+◌, List, [], ◌∷◌, Some, None, Result, Err, refl, ap, sym, ◌∙◌}
 use Rattle.script_lang.specs.Contents.{content_of}
 use Rattle.script_lang.specs.Lines.{lines_of}
-use Rattle.script_lang.specs.Parts.{Parts}
 use Rattle.script_lang.specs.Reading.{State, after, finished, finished_read, read_from}
 use Rattle.script_lang.specs.declared.content.Content.{Content}
 use Rattle.script_lang.specs.declared.refusal.ScriptRefusal.{ScriptRefusal}

@@ -1,7 +1,6 @@
 -- The numbers of a script's commands rise.
-use Rattle.std.proofs.Common.{◌≡◌, ℕ, ◌+◌, ◌<◌, ◌≤◌, List, [], ◌∷◌, ◌++◌, Option, Some, None, refl, ap, sym, ◌∙◌, subst, arith}
-use Rattle.write_history.specs.declared.change.Change.{Change}
-use Rattle.script_lang.specs.Grammar.{Rest, nothing, first_comes, lane_comes, last_comes, HoldRest, HoldScript, whole}
+use Rattle.std.proofs.Common.{ℕ, ◌+◌, ◌<◌, ◌≤◌, List, [], ◌∷◌, ◌++◌, Option, Some, None, sym, subst, arith}
+use Rattle.script_lang.specs.Grammar.{Rest, first_comes, lane_comes, last_comes, HoldRest, HoldScript, whole}
 use Rattle.std.specs.List.{flat_map}
 use Rattle.script_lang.specs.Held.{RiseFrom, all_lines}
 use Rattle.script_lang.specs.Parts.{Parts}
@@ -51,7 +50,7 @@ rises_outside section number content.Lane contents rest (lane, may, (more, e, he
 rises_outside section number content.Finally contents rest (may, (more, e, held)) later =
     let here : RiseFrom (number + 1) more.here
     = RiseFrom-front (number + 1) more.here (flat_map (λ lane. lane) more.lanes)
-      (RiseFrom-front (number + 1) (more.here ++ flat_map (λ lane. lane) more.lanes) more.last (later Finally None more tt held)) in
+    (RiseFrom-front (number + 1) (more.here ++ flat_map (λ lane. lane) more.lanes) more.last (later Finally None more tt held)) in
     let rise : RiseFrom number (to_come (last_comes more)) = RiseFrom-less number (number + 1) more.here (omega arith) here in
     subst (λ (r : Rest). RiseFrom number (to_come r)) (sym e) rise
 rises_outside section number content.Group contents rest held later =

@@ -135,7 +135,10 @@ fn path_and_text(alloc: Global, fields: &str) -> Result<Option<(Name, SharedText
 }
 
 /// A path, a place and a text.
-fn path_and_piece(alloc: Global, fields: &str) -> Result<Option<(Name, (u32, SharedText))>, AllocError>
+fn path_and_piece(
+    alloc: Global,
+    fields: &str,
+) -> Result<Option<(Name, (u32, SharedText))>, AllocError>
     ensures { IfOk result (λ found. found ≡ two_fields path_of (two_fields number_of text_of_field) (chars fields.now)) }
 {
     let Some((path, piece)) = parts_at_space(fields) else {

@@ -128,7 +128,12 @@ impl Reader {
     }
 
     /// The script with one line more, where a line that is so may follow.
-    pub(crate) fn after(mut self, alloc: Global, number: u32, content: Content) -> Result<Option<Reader>, AllocError>
+    pub(crate) fn after(
+        mut self,
+        alloc: Global,
+        number: u32,
+        content: Content,
+    ) -> Result<Option<Reader>, AllocError>
         ensures { IfOk result (λ next. next ≡ after self number content) }
     {
         match self.group.take() {
@@ -138,7 +143,12 @@ impl Reader {
     }
 
     /// The script with one line more, where no group is open.
-    fn in_section(mut self, alloc: Global, number: u32, content: Content) -> Result<Option<Reader>, AllocError>
+    fn in_section(
+        mut self,
+        alloc: Global,
+        number: u32,
+        content: Content,
+    ) -> Result<Option<Reader>, AllocError>
         ensures { IfOk result (λ next. next ≡ in_section self number content) }
     {
         match content {
@@ -245,7 +255,13 @@ impl Reader {
 }
 
 /// The sections, where the commands of the section at hand are all there.
-fn closed_sections(alloc: Global, section: Section, prelude: Part, mut lanes: Vec<Part>, here: Part) -> Result<Sections, AllocError>
+fn closed_sections(
+    alloc: Global,
+    section: Section,
+    prelude: Part,
+    mut lanes: Vec<Part>,
+    here: Part,
+) -> Result<Sections, AllocError>
     ensures { IfOk result (λ sections. sections ≡ parts_at section prelude lanes.items here) }
 {
     match section {
@@ -287,7 +303,9 @@ fn next_lane(section: Section) -> Option<Section>
 {
     match section {
         Section::Prelude => Some(Section::Lane { number: 1 }),
-        Section::Lane { number } if number < MAX_LANES => Some(Section::Lane { number: number + 1 }),
+        Section::Lane { number } if number < MAX_LANES => Some(Section::Lane {
+            number: number + 1,
+        }),
         _ => None,
     }
 }

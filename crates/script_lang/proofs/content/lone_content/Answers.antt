@@ -19,9 +19,11 @@ returns-in-end c = rw (lone_content-chars _ c.utf8.text, c.in-end.is) refl
 
 pub returns-in_default : goal.returns-in_default
 returns-in_default c =
-    rw (lone_content-chars _ c.utf8.text,
-    bytes_eq-false _ _ c.in_default.not-settle,
-    bytes_eq-false _ _ c.in_default.not-lane,
-    bytes_eq-false _ _ c.in_default.not-finally,
-    bytes_eq-false _ _ c.in_default.not-group,
-    bytes_eq-false _ _ c.in_default.not-end) refl
+    rw (
+      lone_content-chars _ c.utf8.text,
+      bytes_eq-false _ _ c.in_default.not-settle,
+      bytes_eq-false _ _ c.in_default.not-lane,
+      bytes_eq-false _ _ c.in_default.not-finally,
+      bytes_eq-false _ _ c.in_default.not-group,
+      bytes_eq-false _ _ c.in_default.not-end,
+    ) refl

@@ -40,16 +40,18 @@ returns-in-soft c = rw (keyword_of-chars _ c.utf8.word, c.in-soft.is) refl
 
 pub returns-in_default : goal.returns-in_default
 returns-in_default c =
-    rw (keyword_of-chars _ c.utf8.word,
-    bytes_eq-false _ _ c.in_default.not-load,
-    bytes_eq-false _ _ c.in_default.not-create,
-    bytes_eq-false _ _ c.in_default.not-write,
-    bytes_eq-false _ _ c.in_default.not-delete,
-    bytes_eq-false _ _ c.in_default.not-open,
-    bytes_eq-false _ _ c.in_default.not-insert,
-    bytes_eq-false _ _ c.in_default.not-erase,
-    bytes_eq-false _ _ c.in_default.not-commit,
-    bytes_eq-false _ _ c.in_default.not-save,
-    bytes_eq-false _ _ c.in_default.not-close,
-    bytes_eq-false _ _ c.in_default.not-move,
-    bytes_eq-false _ _ c.in_default.not-soft) refl
+    rw (
+      keyword_of-chars _ c.utf8.word,
+      bytes_eq-false _ _ c.in_default.not-load,
+      bytes_eq-false _ _ c.in_default.not-create,
+      bytes_eq-false _ _ c.in_default.not-write,
+      bytes_eq-false _ _ c.in_default.not-delete,
+      bytes_eq-false _ _ c.in_default.not-open,
+      bytes_eq-false _ _ c.in_default.not-insert,
+      bytes_eq-false _ _ c.in_default.not-erase,
+      bytes_eq-false _ _ c.in_default.not-commit,
+      bytes_eq-false _ _ c.in_default.not-save,
+      bytes_eq-false _ _ c.in_default.not-close,
+      bytes_eq-false _ _ c.in_default.not-move,
+      bytes_eq-false _ _ c.in_default.not-soft,
+    ) refl

@@ -19,9 +19,11 @@ returns-in-outline c = rw (query_keyword_of-chars _ c.utf8.word, c.in-outline.is
 
 pub returns-in_default : goal.returns-in_default
 returns-in_default c =
-    rw (query_keyword_of-chars _ c.utf8.word,
-    bytes_eq-false _ _ c.in_default.not-class,
-    bytes_eq-false _ _ c.in_default.not-supers,
-    bytes_eq-false _ _ c.in_default.not-method,
-    bytes_eq-false _ _ c.in_default.not-word,
-    bytes_eq-false _ _ c.in_default.not-outline) refl
+    rw (
+      query_keyword_of-chars _ c.utf8.word,
+      bytes_eq-false _ _ c.in_default.not-class,
+      bytes_eq-false _ _ c.in_default.not-supers,
+      bytes_eq-false _ _ c.in_default.not-method,
+      bytes_eq-false _ _ c.in_default.not-word,
+      bytes_eq-false _ _ c.in_default.not-outline,
+    ) refl
