@@ -20,7 +20,8 @@ use Rattle.script_lang.specs.declared.keyword.TextKeyword.TheVariants as text_ke
 use Rattle.script_lang.specs.declared.keyword.QueryKeyword.{QueryKeyword}
 use Rattle.script_lang.specs.declared.keyword.QueryKeyword.TheVariants as query_key
 use Rattle.script_lang.specs.declared.keyword.NameKeyword.TheVariants as name_key
-use Rattle.script_lang.proofs.GrammarCommands.{spelled, spelled_query, IsAsked, IsKeyed, IsAsked-IsQueryLine, IsKeyed-IsChangeLine, IsKeyed-load, IsKeyed-soft, IsCommandLine-command_of, command_of-IsKeyed, command_of-IsAsked}
+use Rattle.script_lang.proofs.GrammarCommands.{spelled, IsKeyed, IsKeyed-IsChangeLine, IsKeyed-load, IsKeyed-soft, IsCommandLine-command_of, command_of-IsKeyed, command_of-IsAsked}
+use Rattle.script_lang.proofs.GrammarQueries.{spelled_query, IsAsked, IsAsked-IsQueryLine}
 use Rattle.script_lang.proofs.GrammarFields.{look_up-some}
 use Rattle.script_lang.proofs.GrammarLines.{without_return-DropsReturn, DropsReturn-without_return, is_passed_by-IsPassedBy, IsPassedBy-is_passed_by}
 
