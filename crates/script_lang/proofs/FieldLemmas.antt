@@ -112,7 +112,8 @@ number_of-other bs text other =
 own : IsNumeralModel (AllDigits 10) (digits_value 10)
 own = numerals_by_value (AllDigits 10) tells_digits
 
-number_of-read : (bs : List ℕ) (n : ℕ) → is_plain bs ≡ true → AllDigits 10 bs × (0 < length bs) × (digits_value 10 bs < 2 ^ 32) → n ≡ digits_value 10 bs
+number_of-read : (bs : List ℕ) (n : ℕ) → is_plain bs ≡ true → AllDigits 10 bs × (0 < length bs) × (digits_value 10 bs < 2 ^ 32)
+    → n ≡ digits_value 10 bs
     → Some n ≡ number_of (chars bs)
 number_of-read bs n plain read is =
     let fits : n ≤ max_number = omega (arith, read.2, is) in
@@ -122,7 +123,8 @@ number_of-read bs n plain read is =
     let all : chars bs ≡ decimal n = ap chars digits ∙ chars-IsAscii (decimal n) (IsAscii-decimal n small) in
     sym (ap number_of all ∙ number_of-decimal n fits)
 
-pub number_of-plain : {E : Type 0} (bs : List ℕ) (r : Result ℕ E) → IsUtf8 bs → is_plain bs ≡ true → ParsesUnsigned 32 10 bs r → result_ok r ≡ number_of (chars bs)
+pub number_of-plain : {E : Type 0} (bs : List ℕ) (r : Result ℕ E) → IsUtf8 bs → is_plain bs ≡ true → ParsesUnsigned 32 10 bs r
+    → result_ok r ≡ number_of (chars bs)
 number_of-plain {E} bs (Ok n) text plain parsed =
     let read = parse_plain own {E = E} 32 bs (Ok n) parsed (IsPlain-is_plain bs plain).0 in
     number_of-read bs n plain read.0 read.1

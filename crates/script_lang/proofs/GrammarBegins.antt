@@ -52,7 +52,8 @@ completed_filled s group number e some =
     = ap (after s number) end_line ∙ ap (λ o. after_open o (no_group s) number content.End) e ∙ closes in
     (codes "end" ∷ [], end, read_from-more s end number (codes "end") [] step, refl)
 
-completed_more : (s next : State) (number : ℕ) (line : List ℕ) → after s number (content_of line) ≡ Some next → IsCompleted next (number + 1) → IsCompleted s number
+completed_more : (s next : State) (number : ℕ) (line : List ℕ) → after s number (content_of line) ≡ Some next → IsCompleted next (number + 1)
+    → IsCompleted s number
 completed_more s next number line e (more, end, read, closed) = (line ∷ more, end, read_from-more s next number line more e ∙ read, closed)
 
 completed_empty : (s : State) (group : OpenGroup) (number : ℕ) → s.open_group ≡ Some group → length group.changes ≡ 0 → IsCompleted s number
@@ -91,7 +92,8 @@ BeginScript-read_from lines end e =
     }
 
 -- with a line that may not follow they begin none
-pub begins_no_script : (front : List (List ℕ)) (line : List ℕ) (end : State) → read_from start 1 front ≡ Ok end → after end (length front + 1) (content_of line) ≡ None
+pub begins_no_script : (front : List (List ℕ)) (line : List ℕ) (end : State) → read_from start 1 front ≡ Ok end
+    → after end (length front + 1) (content_of line) ≡ None
     → BeginScript (front ++ line ∷ []) → ⊥
 begins_no_script front line end e none begins =
     let whole : finished_read (read_from start 1 ((front ++ line ∷ []) ++ begins.more)) ≡ Ok begins.script

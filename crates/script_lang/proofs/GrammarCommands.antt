@@ -69,7 +69,8 @@ attempts_of-decimal n some few =
     rw (number_of-decimal n fits, le-leb 1 n some, le-leb n max_attempts few) refl
 
 -- the form of a command other than a question
-IsCommandLine-path : (keyword : PathKeyword) (line path : List ℕ) → line ≡ spelled_path keyword ++ space ∷ path → IsPath path → IsCommandLine line (path_command keyword path)
+IsCommandLine-path : (keyword : PathKeyword) (line path : List ℕ) → line ≡ spelled_path keyword ++ space ∷ path → IsPath path
+    → IsCommandLine line (path_command keyword path)
 IsCommandLine-path path_key.Load line path e is = (e, is)
 IsCommandLine-path path_key.Delete line path e is = (e, is)
 IsCommandLine-path path_key.Open line path e is = (e, is)
@@ -77,7 +78,8 @@ IsCommandLine-path path_key.Commit line path e is = (e, is)
 IsCommandLine-path path_key.Save line path e is = (e, is)
 IsCommandLine-path path_key.Close line path e is = (e, is)
 
-IsChangeLine-text : (keyword : TextKeyword) (line path text : List ℕ) → HasPathAndText (spelled_text keyword) line path text → IsChangeLine line (text_change keyword path text)
+IsChangeLine-text : (keyword : TextKeyword) (line path text : List ℕ) → HasPathAndText (spelled_text keyword) line path text
+    → IsChangeLine line (text_change keyword path text)
 IsChangeLine-text text_key.Create line path text is = is
 IsChangeLine-text text_key.Write line path text is = is
 
@@ -92,7 +94,8 @@ number_and-found : {B : Type 0} (rest : List ℕ → Option B) (n : ℕ) (after 
     → two_fields number_of rest (decimal n ++ space ∷ after) ≡ Some (n, y)
 number_and-found rest n after y fits e = two_fields-found number_of rest (decimal n) after n y (no_space-decimal n fits) (number_of-decimal n fits) e
 
-IsCommandLine-with : (keyword : Keyword) (line rest : List ℕ) (made : Command) → line ≡ spelled keyword ++ space ∷ rest → command_with keyword rest ≡ Some made → IsCommandLine line made
+IsCommandLine-with : (keyword : Keyword) (line rest : List ℕ) (made : Command) → line ≡ spelled keyword ++ space ∷ rest
+    → command_with keyword rest ≡ Some made → IsCommandLine line made
 IsCommandLine-with (key.OfPath keyword) line rest made e read =
     let found = option_map-some (path_command keyword) (last_path rest) made read in
     let path = last_path-some rest found.0 found.1 in
@@ -136,7 +139,8 @@ IsCommandLine-change_of line made read =
     let split = AreParts-parts_at_space line parts.0 parts.1 in
     IsCommandLine-with found.0 line parts.0.1 made (split.0 ∙ ap (λ k. k ++ space ∷ parts.0.1) (spelled-keyword_of parts.0.0 found.0 found.1)) found.2
 
-asked_or-some : (line : List ℕ) (q : Option Query) (made : Command) → query_of line ≡ q → asked_or q (change_of line) ≡ Some made → IsCommandLine line made
+asked_or-some : (line : List ℕ) (q : Option Query) (made : Command) → query_of line ≡ q → asked_or q (change_of line) ≡ Some made
+    → IsCommandLine line made
 asked_or-some line (Some q) made asked read =
     subst (IsCommandLine line) (same_Some (command.Ask q) made read) (IsQueryLine-query_of line q asked)
 asked_or-some line None made asked read = IsCommandLine-change_of line made read
@@ -149,10 +153,12 @@ IsCommandLine-command_of line made read = asked_or-some line (query_of line) mad
 abbrev pub IsKeyed : List ℕ → Command → Type 0
 IsKeyed line made = (keyword : Keyword) × (rest : List ℕ) × (line ≡ spelled keyword ++ space ∷ rest) × (command_with keyword rest ≡ Some made)
 
-keyed_path : (keyword : PathKeyword) (line path : List ℕ) → line ≡ spelled_path keyword ++ space ∷ path → IsPath path → IsKeyed line (path_command keyword path)
+keyed_path : (keyword : PathKeyword) (line path : List ℕ) → line ≡ spelled_path keyword ++ space ∷ path → IsPath path
+    → IsKeyed line (path_command keyword path)
 keyed_path keyword line path e is = (key.OfPath keyword, path, e, ap (option_map (path_command keyword)) (last_path-IsPath path is))
 
-keyed_text : (keyword : TextKeyword) (line path text : List ℕ) → HasPathAndText (spelled_text keyword) line path text → IsKeyed line (command.Change (text_change keyword path text))
+keyed_text : (keyword : TextKeyword) (line path text : List ℕ) → HasPathAndText (spelled_text keyword) line path text
+    → IsKeyed line (command.Change (text_change keyword path text))
 keyed_text keyword line path text (field, e, is, quoted) =
     let f : List ℕ × List ℕ → Command = λ p. command.Change (text_change keyword p.0 p.1) in (
       key.OfText keyword,

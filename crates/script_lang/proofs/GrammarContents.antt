@@ -75,7 +75,8 @@ IsLine-content_of line c e other =
     (without_return line, DropsReturn-without_return line, IsKept-by (without_return line) c (is_passed_by (without_return line)) (is_utf8 (without_return line)) refl refl e other)
 
 -- a text that begins with an ASCII character other than `#` isn't passed by
-is_passed_by-char : (bytes : List ℕ) (c : ℕ) (cs : List ℕ) → IsUtf8 bytes → chars bytes ≡ c ∷ cs → c < 128 → eqb c number_sign ≡ false → is_passed_by bytes ≡ false
+is_passed_by-char : (bytes : List ℕ) (c : ℕ) (cs : List ℕ) → IsUtf8 bytes → chars bytes ≡ c ∷ cs → c < 128 → eqb c number_sign ≡ false
+    → is_passed_by bytes ≡ false
 is_passed_by-char bytes c cs text e ascii other =
     let begins : bytes ≡ c ∷ encodes cs
     = sym (encodes-chars bytes text) ∙ ap encodes e ∙ ap (λ l. l ++ encodes cs) (encode_ascii c ascii) in
@@ -140,7 +141,8 @@ lone_content-query query_key.Outline rest = refl
 abbrev ReadsAs : List ℕ → Content → Type 0
 ReadsAs text c = BeginsPlain text × (content_of_text text ≡ c)
 
-ReadsAs-command : (text : List ℕ) (made : Command) → BeginsPlain text → lone_content text ≡ None → command_of text ≡ Some made → ReadsAs text (content.Holds made)
+ReadsAs-command : (text : List ℕ) (made : Command) → BeginsPlain text → lone_content text ≡ None → command_of text ≡ Some made
+    → ReadsAs text (content.Holds made)
 unfolding content_of_text
 ReadsAs-command text made plain alone read = (plain, rw (alone, read) refl)
 
@@ -177,7 +179,8 @@ content_of_bytes-ReadsAs : (bytes : List ℕ) (c : Content) → IsUtf8 bytes →
 content_of_bytes-ReadsAs bytes c text (plain, read) = content_of_bytes-text bytes text plain ∙ read
 
 -- a word of ASCII characters that is a whole line
-content_of_bytes-word : (bytes k : List ℕ) (c : Content) → bytes ≡ k → encodes k ≡ k → scalars k ≡ true → BeginsPlain k → lone_content k ≡ Some c → content_of_bytes bytes ≡ c
+content_of_bytes-word : (bytes k : List ℕ) (c : Content) → bytes ≡ k → encodes k ≡ k → scalars k ≡ true → BeginsPlain k → lone_content k ≡ Some c
+    → content_of_bytes bytes ≡ c
 content_of_bytes-word bytes k c e ascii fits plain alone =
     let text : IsUtf8 bytes = subst IsUtf8 (sym e) (k, (fits, ascii)) in
     let all : chars bytes ≡ k = ap chars e ∙ ap chars (sym ascii) ∙ chars-encodes k fits in

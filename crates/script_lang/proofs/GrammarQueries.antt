@@ -33,13 +33,15 @@ spelled-query_keyword_of word keyword e =
     look_up-some (λ w k. w ≡ spelled_query k) query_keywords word keyword (refl, (refl, (refl, (refl, (refl, tt))))) e
 
 -- a question's form
-IsQueryLine-name : (keyword : NameKeyword) (line name : List ℕ) → line ≡ spelled_name keyword ++ space ∷ name → is_word name ≡ true → IsQueryLine line (name_query keyword name)
+IsQueryLine-name : (keyword : NameKeyword) (line name : List ℕ) → line ≡ spelled_name keyword ++ space ∷ name → is_word name ≡ true
+    → IsQueryLine line (name_query keyword name)
 IsQueryLine-name name_key.Class line name e whole = (e, whole)
 IsQueryLine-name name_key.Supers line name e whole = (e, whole)
 IsQueryLine-name name_key.Method line name e whole = (e, whole)
 IsQueryLine-name name_key.Word line name e whole = (e, whole)
 
-IsQueryLine-with : (keyword : QueryKeyword) (line rest : List ℕ) (q : Query) → line ≡ spelled_query keyword ++ space ∷ rest → query_with keyword rest ≡ Some q → IsQueryLine line q
+IsQueryLine-with : (keyword : QueryKeyword) (line rest : List ℕ) (q : Query) → line ≡ spelled_query keyword ++ space ∷ rest
+    → query_with keyword rest ≡ Some q → IsQueryLine line q
 IsQueryLine-with (query_key.OfName keyword) line rest q e read =
     let made = cond_some (is_word rest) (name_query keyword rest) q read in
     subst (IsQueryLine line) made.1 (IsQueryLine-name keyword line rest e made.0)
@@ -48,7 +50,8 @@ IsQueryLine-with query_key.Outline line rest q e read =
     let found = last_path-some rest made.0 made.1 in
     subst (IsQueryLine line) made.2 (e ∙ ap (λ p. codes "outline" ++ space ∷ p) found.0, found.1)
 
-IsQueryLine-parts : (line : List ℕ) (parts : Option (List ℕ × List ℕ)) (q : Query) → parts_at_space line ≡ parts → query_of_parts line parts ≡ Some q → IsQueryLine line q
+IsQueryLine-parts : (line : List ℕ) (parts : Option (List ℕ × List ℕ)) (q : Query) → parts_at_space line ≡ parts → query_of_parts line parts ≡ Some q
+    → IsQueryLine line q
 IsQueryLine-parts line None q e read =
     let made = cond_some (bytes_eq line (codes "status")) query.Status q read in
     subst (IsQueryLine line) made.1 ((bytes_eq-Decides line (codes "status")).0 made.0)
@@ -66,7 +69,8 @@ abbrev pub IsAsked : List ℕ → Query → Type 0
 IsAsked line q = ((line ≡ codes "status") × (q ≡ query.Status))
     ⊎ ((keyword : QueryKeyword) × (rest : List ℕ) × (line ≡ spelled_query keyword ++ space ∷ rest) × (query_with keyword rest ≡ Some q))
 
-asked_name : (keyword : NameKeyword) (line name : List ℕ) → line ≡ spelled_name keyword ++ space ∷ name → is_word name ≡ true → IsAsked line (name_query keyword name)
+asked_name : (keyword : NameKeyword) (line name : List ℕ) → line ≡ spelled_name keyword ++ space ∷ name → is_word name ≡ true
+    → IsAsked line (name_query keyword name)
 asked_name keyword line name e whole = inr (query_key.OfName keyword, name, e, rw whole refl)
 
 pub IsAsked-IsQueryLine : (line : List ℕ) (q : Query) → IsQueryLine line q → IsAsked line q

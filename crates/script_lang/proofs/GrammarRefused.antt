@@ -33,7 +33,8 @@ pub record StopsAt (s : State) (number : ℕ) (lines : List (List ℕ)) (bad : S
   pub before : read_from s number front ≡ Ok end
   pub none : after end (length front + number) (content_of line) ≡ None
 
-StopsAt-more : (s next : State) (number : ℕ) (line : List ℕ) (lines : List (List ℕ)) (bad : ScriptRefusal) → after s number (content_of line) ≡ Some next
+StopsAt-more : (s next : State) (number : ℕ) (line : List ℕ) (lines : List (List ℕ)) (bad : ScriptRefusal)
+    → after s number (content_of line) ≡ Some next
     → StopsAt next (number + 1) lines bad → StopsAt s number (line ∷ lines) bad
 StopsAt-more s next number line lines bad e stop =
     let n : length stop.front + (number + 1) ≡ length (line ∷ stop.front) + number = omega arith in
@@ -76,14 +77,16 @@ StopsAt-line s number line lines bad more e = by_next (after s number (content_o
     by_next (Some next) is =
         StopsAt-more s next number line lines bad is (more next (sym (read_from-more s next number line lines is) ∙ e))
 
-pub StopsAt-read_from : (s : State) (number : ℕ) (lines : List (List ℕ)) (bad : ScriptRefusal) → read_from s number lines ≡ Err bad → StopsAt s number lines bad
+pub StopsAt-read_from : (s : State) (number : ℕ) (lines : List (List ℕ)) (bad : ScriptRefusal) → read_from s number lines ≡ Err bad
+    → StopsAt s number lines bad
 unfolding read_from
 StopsAt-read_from s number [] bad e = absurd cc
 StopsAt-read_from s number (line ∷ lines) bad e =
     StopsAt-line s number line lines bad (λ next f. StopsAt-read_from next (number + 1) lines bad f) e
 
 -- an open group has room after all lines
-pub IsRoomy-read_from : (s end : State) (number : ℕ) (lines : List (List ℕ)) → IsRoomy s.open_group → read_from s number lines ≡ Ok end → IsRoomy end.open_group
+pub IsRoomy-read_from : (s end : State) (number : ℕ) (lines : List (List ℕ)) → IsRoomy s.open_group → read_from s number lines ≡ Ok end
+    → IsRoomy end.open_group
 unfolding read_from
 IsRoomy-read_from s end number [] roomy e =
     let same : s ≡ end = cc in

@@ -14,7 +14,8 @@ use Rattle.script_lang.proofs.JoinedLemmas.{joined, joined-nothing}
 whole_read : (s : State) (script : Parts) → finished s ≡ Ok script → (s.open_group ≡ None) × (parts_at s.section s.prelude s.lanes s.here ≡ script)
 whole_read s script e = by_group s.open_group refl e
   where
-    by_group : (group : Option OpenGroup) → s.open_group ≡ group → finished_open group s ≡ Ok script → (s.open_group ≡ None) × (parts_at s.section s.prelude s.lanes s.here ≡ script)
+    by_group : (group : Option OpenGroup) → s.open_group ≡ group → finished_open group s ≡ Ok script
+        → (s.open_group ≡ None) × (parts_at s.section s.prelude s.lanes s.here ≡ script)
     by_group None is f = (is, cc)
     by_group (Some group) is f = absurd cc
 
@@ -22,7 +23,8 @@ pub finished-closed : (s : State) → s.open_group ≡ None → finished s ≡ O
 finished-closed s e = rw e refl
 
 -- the lines hold the script that is read from them
-pub HoldScript-finished : (lines : List (List ℕ)) (r : Result State ScriptRefusal) (script : Parts) → read_from start 1 lines ≡ r → finished_read r ≡ Ok script → HoldScript lines script
+pub HoldScript-finished : (lines : List (List ℕ)) (r : Result State ScriptRefusal) (script : Parts) → read_from start 1 lines ≡ r
+    → finished_read r ≡ Ok script → HoldScript lines script
 HoldScript-finished lines (Err refusal) script is e = absurd cc
 HoldScript-finished lines (Ok end) script is e =
     let done = whole_read end script e in

@@ -55,7 +55,8 @@ turn_outside s number content.Group lines rest next e =
 turn_outside s number content.End lines rest next e = absurd (none-some next e)
 turn_outside s number content.Bad lines rest next e = absurd (none-some next e)
 
-turn_inside : (s : State) (group : OpenGroup) (number : ℕ) (c : Content) (lines : List Content) (rest : Rest) (next : State) → length group.changes ≤ max_changes
+turn_inside : (s : State) (group : OpenGroup) (number : ℕ) (c : Content) (lines : List Content) (rest : Rest) (next : State)
+    → length group.changes ≤ max_changes
     → after_open (Some group) (no_group s) number c ≡ Some next → IsTurn s (Some group) number c lines rest next
 turn_inside s group number content.PassedBy lines rest next few e =
     subst (λ (t : State). IsTurn s (Some group) number content.PassedBy lines rest t) (same_Some (record s { open_group = Some group }) next e) (λ h. (rest, h, refl))
@@ -84,7 +85,8 @@ turn_inside s group number content.End lines rest next few e =
     ))
 turn_inside s group number content.Bad lines rest next few e = absurd (none-some next e)
 
-pub turn_held : (s : State) (opened : Option OpenGroup) (number : ℕ) (c : Content) (lines : List Content) (rest : Rest) (next : State) → IsRoomy opened
+pub turn_held : (s : State) (opened : Option OpenGroup) (number : ℕ) (c : Content) (lines : List Content) (rest : Rest) (next : State)
+    → IsRoomy opened
     → after_open opened (no_group s) number c ≡ Some next → HoldRest next.section next.open_group (number + 1) lines rest
     → (first : Rest) × HoldRest s.section opened number (c ∷ lines) first × (joined s first ≡ joined next rest)
 turn_held s None number c lines rest next few e = turn_outside s number c lines rest next e

@@ -34,6 +34,7 @@ reads_bad s number content rest line behind u cut is e before =
     ap finished_read (sym before ∙ ap (read_from s number) cut ∙ read_from-bad s number line (lines_of behind) step)
 
 -- at the end
-pub reads_end : (s : State) (number : ℕ) (rest : List ℕ) (u : Result State ScriptRefusal) → rest ≡ [] → read_from s number (lines_of rest) ≡ u → finished_read u ≡ finished s
+pub reads_end : (s : State) (number : ℕ) (rest : List ℕ) (u : Result State ScriptRefusal) → rest ≡ [] → read_from s number (lines_of rest) ≡ u
+    → finished_read u ≡ finished s
 unfolding read_from lines_of
 reads_end s number rest u done before = ap finished_read (sym (rw done at before))

@@ -37,7 +37,8 @@ abbrev RiseLater : ℕ → List Content → Type 0
 RiseLater number contents = (section : Section) (opened : Option OpenGroup) (rest : Rest) → IsBefore opened number
     → HoldRest section opened number contents rest → Rises opened number rest
 
-rises_outside : (section : Section) (number : ℕ) (c : Content) (contents : List Content) (rest : Rest) → HoldRest section None number (c ∷ contents) rest
+rises_outside : (section : Section) (number : ℕ) (c : Content) (contents : List Content) (rest : Rest)
+    → HoldRest section None number (c ∷ contents) rest
     → RiseLater (number + 1) contents → RiseFrom number (to_come rest)
 rises_outside section number content.PassedBy contents rest held later =
     RiseFrom-less number (number + 1) (to_come rest) (omega arith) (later section None rest tt held)
@@ -78,7 +79,8 @@ rises_inside section group number content.End contents rest before (few, (more, 
     subst (λ (r : Rest). RiseFrom group.number (to_come r)) (sym e) rise
 rises_inside section group number content.Bad contents rest before held later = absurd held
 
-rises_end : (section : Section) (opened : Option OpenGroup) (number : ℕ) (rest : Rest) → HoldRest section opened number [] rest → Rises opened number rest
+rises_end : (section : Section) (opened : Option OpenGroup) (number : ℕ) (rest : Rest) → HoldRest section opened number [] rest
+    → Rises opened number rest
 rises_end section None number rest e = subst (λ (r : Rest). RiseFrom number (to_come r)) (sym e) tt
 rises_end section (Some group) number rest held = absurd held
 

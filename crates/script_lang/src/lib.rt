@@ -5,6 +5,7 @@ mod command;
 mod command_line;
 mod content;
 mod field;
+mod group;
 mod keyword;
 mod line;
 mod query;
@@ -13,6 +14,7 @@ mod quoted;
 mod reader;
 mod refusal;
 mod script;
+mod sections;
 mod split;
 
 pub use command::{Command, MAX_ATTEMPTS};
