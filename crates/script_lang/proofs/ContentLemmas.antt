@@ -23,7 +23,8 @@ content_of-text line kept content e shown text is =
     let at_kept : content ≡ content_of_bytes kept = rw (shown, is_utf8-from_IsUtf8 kept text) is in
     at_kept ∙ ap content_of_bytes e
 
-pub content_of-result : {E : Type 0} (line kept text : List ℕ) (r : Result Content E) → text ≡ kept → kept ≡ without_return line → is_passed_by kept ≡ false → IsUtf8 kept
+pub content_of-result : {E : Type 0} (line kept text : List ℕ) (r : Result Content E) → text ≡ kept → kept ≡ without_return line
+    → is_passed_by kept ≡ false → IsUtf8 kept
     → IfOk r (λ content. content ≡ content_of_text (chars text)) → IfOk r (λ content. content ≡ content_of line)
 content_of-result line kept text (Ok content) same e shown is read =
     content_of-text line kept content e shown is (read ∙ ap (λ bs. content_of_text (chars bs)) same)

@@ -1,7 +1,7 @@
 -- Paths and numbers, by characters and by bytes.
-use Rattle.std.proofs.Common.{◌≡◌, ◌≢◌, ◌∙◌, ◌⊎◌, inl, inr, ℕ, zero, suc, ◌+◌, ◌<◌, ◌≤◌, ◌^◌, true, false, Bool, eqb, leb, List, [], ◌∷◌, length, get_or, Option, Some, None, Result, Ok, Err, cond, refl, sym, ap, subst, arith, lit<}
-use Rattle.std.specs.Str.{chars, IsUtf8, bytes_eq, IsAscii}
-use Rattle.std.specs.Str.Parse.{ParsesUnsigned, IsNumeral, AllDigits, digits_value, without_leading_plus}
+use Rattle.std.proofs.Common.{◌≡◌, ◌≢◌, ◌∙◌, ◌⊎◌, inl, inr, ℕ, zero, suc, ◌<◌, ◌≤◌, ◌^◌, true, false, Bool, eqb, leb, List, [], ◌∷◌, length, get_or, Option, Some, None, Result, Ok, Err, cond, refl, sym, ap, subst, arith, lit<}
+use Rattle.std.specs.Str.{chars, IsUtf8, bytes_eq}
+use Rattle.std.specs.Str.Parse.{ParsesUnsigned, AllDigits, digits_value}
 use Rattle.std.specs.Fmt.{decimal}
 use Rattle.std.specs.Result.{result_ok}
 use lib.Utf8.{encodes}
@@ -9,7 +9,7 @@ use Rattle.std.proofs.lemmas.Bool.{cases_Bool, eqb-true, eqb-false, eq-eqb, ne_e
 use mathlib.Core.Bool.{not, ◌||◌}
 use Rattle.std.proofs.lemmas.Fmt.{decimal_is_IsNumeral, decimal-digits_value, IsAscii-decimal, parse-decimal, first_decimal, decimal_nonempty, decimal_digit}
 use Rattle.std.proofs.lemmas.List.{nil_from_length}
-use Rattle.std.proofs.lemmas.Option.{cond_some, none-some, same_Some}
+use Rattle.std.proofs.lemmas.Option.{none-some, same_Some}
 use Rattle.std.proofs.lemmas.Slice.Eq.{bytes_eq-Decides}
 use Rattle.std.proofs.lemmas.Str.{chars-nil, encodes-chars, chars-IsAscii, IsUtf8-from_ascii}
 use Rattle.std.proofs.lemmas.Str.Parse.{IsNumeralModel, numerals_by_value, tells_digits, parse_plain}
@@ -112,7 +112,8 @@ number_of-other bs text other =
 own : IsNumeralModel (AllDigits 10) (digits_value 10)
 own = numerals_by_value (AllDigits 10) tells_digits
 
-number_of-read : (bs : List ℕ) (n : ℕ) → is_plain bs ≡ true → AllDigits 10 bs × (0 < length bs) × (digits_value 10 bs < 2 ^ 32) → n ≡ digits_value 10 bs
+number_of-read : (bs : List ℕ) (n : ℕ) → is_plain bs ≡ true → AllDigits 10 bs × (0 < length bs) × (digits_value 10 bs < 2 ^ 32)
+    → n ≡ digits_value 10 bs
     → Some n ≡ number_of (chars bs)
 number_of-read bs n plain read is =
     let fits : n ≤ max_number = omega (arith, read.2, is) in
@@ -122,7 +123,8 @@ number_of-read bs n plain read is =
     let all : chars bs ≡ decimal n = ap chars digits ∙ chars-IsAscii (decimal n) (IsAscii-decimal n small) in
     sym (ap number_of all ∙ number_of-decimal n fits)
 
-pub number_of-plain : {E : Type 0} (bs : List ℕ) (r : Result ℕ E) → IsUtf8 bs → is_plain bs ≡ true → ParsesUnsigned 32 10 bs r → result_ok r ≡ number_of (chars bs)
+pub number_of-plain : {E : Type 0} (bs : List ℕ) (r : Result ℕ E) → IsUtf8 bs → is_plain bs ≡ true → ParsesUnsigned 32 10 bs r
+    → result_ok r ≡ number_of (chars bs)
 number_of-plain {E} bs (Ok n) text plain parsed =
     let read = parse_plain own {E = E} 32 bs (Ok n) parsed (IsPlain-is_plain bs plain).0 in
     number_of-read bs n plain read.0 read.1

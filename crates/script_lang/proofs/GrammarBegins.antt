@@ -1,8 +1,7 @@
 -- Lines that are read begin a script: what is open may be ended.
-use Rattle.std.proofs.Common.{◌≡◌, ◌≢◌, ◌⊎◌, inl, inr, ℕ, zero, suc, ◌+◌, ◌<◌, ◌≤◌, List, [], ◌∷◌, ◌++◌, length, Option, Some, None, Result, Ok, Err, refl, ap, sym, ◌∙◌, subst, arith, append_assoc, codes}
-use Rattle.std.specs.List.{All}
+use Rattle.std.proofs.Common.{◌≡◌, ◌≢◌, ℕ, zero, suc, ◌+◌, ◌<◌, List, [], ◌∷◌, ◌++◌, length, Option, Some, None, Ok, refl, ap, sym, ◌∙◌, subst, arith, append_assoc, codes}
 use Rattle.std.specs.Str.{chars, IsUtf8}
-use lib.Utf8.{encode, encodes}
+use lib.Utf8.{encode}
 use Rattle.std.proofs.lemmas.Bool.{ne_eqb, lt-ltb}
 use Rattle.std.proofs.lemmas.List.{length-append}
 use Rattle.std.proofs.lemmas.List.Elements.{All-nil, All-cons}
@@ -12,17 +11,15 @@ use Rattle.write_history.specs.declared.change.Change.{Change}
 use Rattle.write_history.specs.declared.change.Change.TheVariants as change
 use Rattle.script_lang.specs.Contents.{content_of}
 use Rattle.script_lang.specs.Fields.{space}
-use Rattle.script_lang.specs.Grammar.{IsPath, IsKept, IsCommandLine, HoldScript, BeginScript}
+use Rattle.script_lang.specs.Grammar.{IsPath, IsCommandLine, BeginScript}
 use Rattle.script_lang.specs.Parts.{Parts}
-use Rattle.script_lang.specs.Reading.{OpenGroup, State, start, with_line, after_open, after, parts_at, finished, read_from, finished_read}
-use Rattle.script_lang.specs.declared.command.Command.{Command}
+use Rattle.script_lang.specs.Reading.{OpenGroup, State, start, with_line, after_open, after, parts_at, read_from, finished_read}
 use Rattle.script_lang.specs.declared.command.Command.TheVariants as command
-use Rattle.script_lang.specs.declared.content.Content.{Content}
 use Rattle.script_lang.specs.declared.content.Content.TheVariants as content
 use Rattle.script_lang.proofs.GrammarContents.{content_of-kept}
-use Rattle.script_lang.proofs.GrammarRefused.{read_from-append, IsRoomy-read_from}
+use Rattle.script_lang.proofs.GrammarRefused.{read_from-append}
 use Rattle.script_lang.proofs.GrammarScript.{HoldScript-finished, finished-HoldScript, finished-closed}
-use Rattle.script_lang.proofs.GrammarTurns.{IsRoomy, no_group}
+use Rattle.script_lang.proofs.GrammarTurns.{no_group}
 use Rattle.script_lang.proofs.ReadingLemmas.{read_from-more, read_from-bad}
 
 -- a line that ends a group, and one that has a change
@@ -55,7 +52,8 @@ completed_filled s group number e some =
     = ap (after s number) end_line ∙ ap (λ o. after_open o (no_group s) number content.End) e ∙ closes in
     (codes "end" ∷ [], end, read_from-more s end number (codes "end") [] step, refl)
 
-completed_more : (s next : State) (number : ℕ) (line : List ℕ) → after s number (content_of line) ≡ Some next → IsCompleted next (number + 1) → IsCompleted s number
+completed_more : (s next : State) (number : ℕ) (line : List ℕ) → after s number (content_of line) ≡ Some next → IsCompleted next (number + 1)
+    → IsCompleted s number
 completed_more s next number line e (more, end, read, closed) = (line ∷ more, end, read_from-more s next number line more e ∙ read, closed)
 
 completed_empty : (s : State) (group : OpenGroup) (number : ℕ) → s.open_group ≡ Some group → length group.changes ≡ 0 → IsCompleted s number
@@ -94,7 +92,8 @@ BeginScript-read_from lines end e =
     }
 
 -- with a line that may not follow they begin none
-pub begins_no_script : (front : List (List ℕ)) (line : List ℕ) (end : State) → read_from start 1 front ≡ Ok end → after end (length front + 1) (content_of line) ≡ None
+pub begins_no_script : (front : List (List ℕ)) (line : List ℕ) (end : State) → read_from start 1 front ≡ Ok end
+    → after end (length front + 1) (content_of line) ≡ None
     → BeginScript (front ++ line ∷ []) → ⊥
 begins_no_script front line end e none begins =
     let whole : finished_read (read_from start 1 ((front ++ line ∷ []) ++ begins.more)) ≡ Ok begins.script

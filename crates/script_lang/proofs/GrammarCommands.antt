@@ -1,37 +1,30 @@
 -- The command of a line is the one whose form it is.
-use Rattle.std.proofs.Common.{◌≡◌, ◌⊎◌, inl, inr, ℕ, ◌≤◌, true, false, leb, cond, List, [], ◌∷◌, ◌++◌, Option, Some, None, option_map, refl, ap, sym, ◌∙◌, subst, codes, arith}
+use Rattle.std.proofs.Common.{◌≡◌, ℕ, ◌≤◌, leb, cond, List, ◌∷◌, ◌++◌, Option, Some, None, option_map, refl, ap, ◌∙◌, subst, codes, arith}
 use Rattle.std.specs.Fmt.{decimal}
 use Rattle.std.specs.Option.{option_and_then}
-use Rattle.std.specs.Str.{bytes_eq}
 use Rattle.std.proofs.lemmas.Bool.{leb-true, le-leb, and_parts}
-use Rattle.std.proofs.lemmas.Option.{none-some, same_Some, cond_some}
-use Rattle.std.proofs.lemmas.Slice.Eq.{bytes_eq-Decides}
+use Rattle.std.proofs.lemmas.Option.{same_Some, cond_some}
 use mathlib.Core.Bool.{◌&&◌}
-use Rattle.java_tokens.specs.Identifier.{is_word}
 use Rattle.write_history.specs.declared.change.Change.{Change}
 use Rattle.write_history.specs.declared.change.Change.TheVariants as change
-use Rattle.script_lang.specs.Commands.{max_attempts, path_command, text_change, attempts_of, soft_command, command_with, change_of_parts, change_of, asked_or, command_of}
+use Rattle.script_lang.specs.Commands.{max_attempts, path_command, text_change, attempts_of, command_with, change_of, asked_or, command_of}
 use Rattle.script_lang.specs.Fields.{space, max_number, parts_at_space, two_fields, path_of, last_path, number_of}
-use Rattle.script_lang.specs.Grammar.{IsPath, IsQuoted, spaced, HasPath, HasPathAndText, HasName, IsChangeLine, IsQueryLine, IsCommandLine}
-use Rattle.script_lang.specs.Keywords.{keywords, query_keywords, keyword_of, query_keyword_of}
-use Rattle.script_lang.specs.Queries.{name_query, query_with, query_of_parts, query_of}
+use Rattle.script_lang.specs.Grammar.{IsPath, HasPath, HasPathAndText, IsChangeLine, IsCommandLine}
+use Rattle.script_lang.specs.Keywords.{keywords, keyword_of}
+use Rattle.script_lang.specs.Queries.{query_of}
 use Rattle.script_lang.specs.Quotes.{text_of_field}
 use Rattle.script_lang.specs.declared.command.Command.{Command}
 use Rattle.script_lang.specs.declared.command.Command.TheVariants as command
 use Rattle.queries.specs.declared.query.Query.{Query}
-use Rattle.queries.specs.declared.query.Query.TheVariants as query
 use Rattle.script_lang.specs.declared.keyword.Keyword.{Keyword}
 use Rattle.script_lang.specs.declared.keyword.Keyword.TheVariants as key
 use Rattle.script_lang.specs.declared.keyword.PathKeyword.{PathKeyword}
 use Rattle.script_lang.specs.declared.keyword.PathKeyword.TheVariants as path_key
 use Rattle.script_lang.specs.declared.keyword.TextKeyword.{TextKeyword}
 use Rattle.script_lang.specs.declared.keyword.TextKeyword.TheVariants as text_key
-use Rattle.script_lang.specs.declared.keyword.QueryKeyword.{QueryKeyword}
-use Rattle.script_lang.specs.declared.keyword.QueryKeyword.TheVariants as query_key
-use Rattle.script_lang.specs.declared.keyword.NameKeyword.{NameKeyword}
-use Rattle.script_lang.specs.declared.keyword.NameKeyword.TheVariants as name_key
 use Rattle.script_lang.proofs.FieldLemmas.{number_of-some, number_of-decimal}
 use Rattle.script_lang.proofs.GrammarFields.{AreParts-parts_at_space, last_path-some, last_path-IsPath, no_space-decimal, two_fields-some, two_fields-found, path_and-some, path_and-found, look_up-some}
+use Rattle.script_lang.proofs.GrammarQueries.{IsAsked, IsAsked-IsQueryLine, IsQueryLine-query_of, query_of-IsAsked}
 use Rattle.script_lang.proofs.GrammarQuotes.{IsQuoted-text_of_field, text_of_field-IsQuoted}
 use Rattle.script_lang.proofs.OptionLemmas.{option_map-some, option_and_then-some}
 
@@ -56,82 +49,10 @@ spelled key.Erase = codes "erase"
 spelled key.Move = codes "move"
 spelled key.Soft = codes "soft"
 
-abbrev pub spelled_name : NameKeyword → List ℕ
-spelled_name name_key.Class = codes "class"
-spelled_name name_key.Supers = codes "supers"
-spelled_name name_key.Method = codes "method"
-spelled_name name_key.Word = codes "word"
-
-abbrev pub spelled_query : QueryKeyword → List ℕ
-spelled_query (query_key.OfName keyword) = spelled_name keyword
-spelled_query query_key.Outline = codes "outline"
-
 spelled-keyword_of : (word : List ℕ) (keyword : Keyword) → keyword_of word ≡ Some keyword → word ≡ spelled keyword
 spelled-keyword_of word keyword e =
     look_up-some (λ w k. w ≡ spelled k) keywords word keyword
     (refl, (refl, (refl, (refl, (refl, (refl, (refl, (refl, (refl, (refl, (refl, (refl, tt)))))))))))) e
-
-spelled-query_keyword_of : (word : List ℕ) (keyword : QueryKeyword) → query_keyword_of word ≡ Some keyword → word ≡ spelled_query keyword
-spelled-query_keyword_of word keyword e =
-    look_up-some (λ w k. w ≡ spelled_query k) query_keywords word keyword (refl, (refl, (refl, (refl, (refl, tt))))) e
-
--- a question's form
-IsQueryLine-name : (keyword : NameKeyword) (line name : List ℕ) → line ≡ spelled_name keyword ++ space ∷ name → is_word name ≡ true → IsQueryLine line (name_query keyword name)
-IsQueryLine-name name_key.Class line name e whole = (e, whole)
-IsQueryLine-name name_key.Supers line name e whole = (e, whole)
-IsQueryLine-name name_key.Method line name e whole = (e, whole)
-IsQueryLine-name name_key.Word line name e whole = (e, whole)
-
-IsQueryLine-with : (keyword : QueryKeyword) (line rest : List ℕ) (q : Query) → line ≡ spelled_query keyword ++ space ∷ rest → query_with keyword rest ≡ Some q → IsQueryLine line q
-IsQueryLine-with (query_key.OfName keyword) line rest q e read =
-    let made = cond_some (is_word rest) (name_query keyword rest) q read in
-    subst (IsQueryLine line) made.1 (IsQueryLine-name keyword line rest e made.0)
-IsQueryLine-with query_key.Outline line rest q e read =
-    let made = option_map-some query.Outline (last_path rest) q read in
-    let found = last_path-some rest made.0 made.1 in
-    subst (IsQueryLine line) made.2 (e ∙ ap (λ p. codes "outline" ++ space ∷ p) found.0, found.1)
-
-IsQueryLine-parts : (line : List ℕ) (parts : Option (List ℕ × List ℕ)) (q : Query) → parts_at_space line ≡ parts → query_of_parts line parts ≡ Some q → IsQueryLine line q
-IsQueryLine-parts line None q e read =
-    let made = cond_some (bytes_eq line (codes "status")) query.Status q read in
-    subst (IsQueryLine line) made.1 ((bytes_eq-Decides line (codes "status")).0 made.0)
-IsQueryLine-parts line (Some p) q e read =
-    let found = option_and_then-some (λ keyword. query_with keyword p.1) (query_keyword_of p.0) q read in
-    let parts = AreParts-parts_at_space line p e in
-    IsQueryLine-with found.0 line p.1 q (parts.0 ∙ ap (λ k. k ++ space ∷ p.1) (spelled-query_keyword_of p.0 found.0 found.1)) found.2
-
-IsQueryLine-query_of : (line : List ℕ) (q : Query) → query_of line ≡ Some q → IsQueryLine line q
-unfolding query_of
-IsQueryLine-query_of line q read = IsQueryLine-parts line (parts_at_space line) q refl read
-
--- and the question is read from it
-abbrev pub IsAsked : List ℕ → Query → Type 0
-IsAsked line q = ((line ≡ codes "status") × (q ≡ query.Status))
-    ⊎ ((keyword : QueryKeyword) × (rest : List ℕ) × (line ≡ spelled_query keyword ++ space ∷ rest) × (query_with keyword rest ≡ Some q))
-
-asked_name : (keyword : NameKeyword) (line name : List ℕ) → line ≡ spelled_name keyword ++ space ∷ name → is_word name ≡ true → IsAsked line (name_query keyword name)
-asked_name keyword line name e whole = inr (query_key.OfName keyword, name, e, rw whole refl)
-
-pub IsAsked-IsQueryLine : (line : List ℕ) (q : Query) → IsQueryLine line q → IsAsked line q
-IsAsked-IsQueryLine line (query.Class name) (e, whole) = asked_name name_key.Class line name e whole
-IsAsked-IsQueryLine line (query.Supers name) (e, whole) = asked_name name_key.Supers line name e whole
-IsAsked-IsQueryLine line (query.Method name) (e, whole) = asked_name name_key.Method line name e whole
-IsAsked-IsQueryLine line (query.Word name) (e, whole) = asked_name name_key.Word line name e whole
-IsAsked-IsQueryLine line (query.Outline path) (e, is) = inr (query_key.Outline, path, e, ap (option_map query.Outline) (last_path-IsPath path is))
-IsAsked-IsQueryLine line query.Status e = inl (e, refl)
-
-query_of-with : (keyword : QueryKeyword) (rest : List ℕ) → query_of (spelled_query keyword ++ space ∷ rest) ≡ query_with keyword rest
-unfolding query_of
-query_of-with (query_key.OfName name_key.Class) rest = refl
-query_of-with (query_key.OfName name_key.Supers) rest = refl
-query_of-with (query_key.OfName name_key.Method) rest = refl
-query_of-with (query_key.OfName name_key.Word) rest = refl
-query_of-with query_key.Outline rest = refl
-
-query_of-IsAsked : (line : List ℕ) (q : Query) → IsAsked line q → query_of line ≡ Some q
-unfolding query_of
-query_of-IsAsked line q (inl (e, is)) = ap query_of e ∙ ap Some (sym is)
-query_of-IsAsked line q (inr (keyword, rest, e, read)) = ap query_of e ∙ query_of-with keyword rest ∙ read
 
 -- the number of attempts
 attempts_of-some : (field : List ℕ) (n : ℕ) → attempts_of field ≡ Some n → (field ≡ decimal n) × (1 ≤ n) × (n ≤ max_attempts)
@@ -148,7 +69,8 @@ attempts_of-decimal n some few =
     rw (number_of-decimal n fits, le-leb 1 n some, le-leb n max_attempts few) refl
 
 -- the form of a command other than a question
-IsCommandLine-path : (keyword : PathKeyword) (line path : List ℕ) → line ≡ spelled_path keyword ++ space ∷ path → IsPath path → IsCommandLine line (path_command keyword path)
+IsCommandLine-path : (keyword : PathKeyword) (line path : List ℕ) → line ≡ spelled_path keyword ++ space ∷ path → IsPath path
+    → IsCommandLine line (path_command keyword path)
 IsCommandLine-path path_key.Load line path e is = (e, is)
 IsCommandLine-path path_key.Delete line path e is = (e, is)
 IsCommandLine-path path_key.Open line path e is = (e, is)
@@ -156,7 +78,8 @@ IsCommandLine-path path_key.Commit line path e is = (e, is)
 IsCommandLine-path path_key.Save line path e is = (e, is)
 IsCommandLine-path path_key.Close line path e is = (e, is)
 
-IsChangeLine-text : (keyword : TextKeyword) (line path text : List ℕ) → HasPathAndText (spelled_text keyword) line path text → IsChangeLine line (text_change keyword path text)
+IsChangeLine-text : (keyword : TextKeyword) (line path text : List ℕ) → HasPathAndText (spelled_text keyword) line path text
+    → IsChangeLine line (text_change keyword path text)
 IsChangeLine-text text_key.Create line path text is = is
 IsChangeLine-text text_key.Write line path text is = is
 
@@ -171,7 +94,8 @@ number_and-found : {B : Type 0} (rest : List ℕ → Option B) (n : ℕ) (after 
     → two_fields number_of rest (decimal n ++ space ∷ after) ≡ Some (n, y)
 number_and-found rest n after y fits e = two_fields-found number_of rest (decimal n) after n y (no_space-decimal n fits) (number_of-decimal n fits) e
 
-IsCommandLine-with : (keyword : Keyword) (line rest : List ℕ) (made : Command) → line ≡ spelled keyword ++ space ∷ rest → command_with keyword rest ≡ Some made → IsCommandLine line made
+IsCommandLine-with : (keyword : Keyword) (line rest : List ℕ) (made : Command) → line ≡ spelled keyword ++ space ∷ rest
+    → command_with keyword rest ≡ Some made → IsCommandLine line made
 IsCommandLine-with (key.OfPath keyword) line rest made e read =
     let found = option_map-some (path_command keyword) (last_path rest) made read in
     let path = last_path-some rest found.0 found.1 in
@@ -215,7 +139,8 @@ IsCommandLine-change_of line made read =
     let split = AreParts-parts_at_space line parts.0 parts.1 in
     IsCommandLine-with found.0 line parts.0.1 made (split.0 ∙ ap (λ k. k ++ space ∷ parts.0.1) (spelled-keyword_of parts.0.0 found.0 found.1)) found.2
 
-asked_or-some : (line : List ℕ) (q : Option Query) (made : Command) → query_of line ≡ q → asked_or q (change_of line) ≡ Some made → IsCommandLine line made
+asked_or-some : (line : List ℕ) (q : Option Query) (made : Command) → query_of line ≡ q → asked_or q (change_of line) ≡ Some made
+    → IsCommandLine line made
 asked_or-some line (Some q) made asked read =
     subst (IsCommandLine line) (same_Some (command.Ask q) made read) (IsQueryLine-query_of line q asked)
 asked_or-some line None made asked read = IsCommandLine-change_of line made read
@@ -228,10 +153,12 @@ IsCommandLine-command_of line made read = asked_or-some line (query_of line) mad
 abbrev pub IsKeyed : List ℕ → Command → Type 0
 IsKeyed line made = (keyword : Keyword) × (rest : List ℕ) × (line ≡ spelled keyword ++ space ∷ rest) × (command_with keyword rest ≡ Some made)
 
-keyed_path : (keyword : PathKeyword) (line path : List ℕ) → line ≡ spelled_path keyword ++ space ∷ path → IsPath path → IsKeyed line (path_command keyword path)
+keyed_path : (keyword : PathKeyword) (line path : List ℕ) → line ≡ spelled_path keyword ++ space ∷ path → IsPath path
+    → IsKeyed line (path_command keyword path)
 keyed_path keyword line path e is = (key.OfPath keyword, path, e, ap (option_map (path_command keyword)) (last_path-IsPath path is))
 
-keyed_text : (keyword : TextKeyword) (line path text : List ℕ) → HasPathAndText (spelled_text keyword) line path text → IsKeyed line (command.Change (text_change keyword path text))
+keyed_text : (keyword : TextKeyword) (line path text : List ℕ) → HasPathAndText (spelled_text keyword) line path text
+    → IsKeyed line (command.Change (text_change keyword path text))
 keyed_text keyword line path text (field, e, is, quoted) =
     let f : List ℕ × List ℕ → Command = λ p. command.Change (text_change keyword p.0 p.1) in (
       key.OfText keyword,

@@ -1,14 +1,12 @@
 -- What a line is, is what the grammar says of it.
-use Rattle.std.proofs.Common.{◌≡◌, ◌≢◌, ◌⊎◌, inl, inr, ℕ, ◌<◌, true, false, Bool, eqb, cond, List, [], ◌∷◌, ◌++◌, Option, Some, None, refl, ap, sym, ◌∙◌, subst, lit<, codes}
+use Rattle.std.proofs.Common.{◌≡◌, ◌≢◌, inl, inr, ℕ, ◌<◌, true, false, Bool, eqb, cond, List, ◌∷◌, ◌++◌, Option, Some, None, refl, ap, sym, ◌∙◌, subst, lit<, codes}
 use Rattle.std.specs.Str.{chars, IsUtf8, is_utf8}
 use lib.Utf8.{encode, encodes, scalars}
 use Rattle.std.proofs.lemmas.Str.{encodes-chars, chars-encodes, encode_ascii, is_utf8-from_IsUtf8, IsUtf8-from_is_utf8}
-use Rattle.write_history.specs.declared.change.Change.{Change}
-use Rattle.write_history.specs.declared.change.Change.TheVariants as change
 use Rattle.script_lang.specs.Contents.{lone_contents, lone_content, content_from, alone_or, content_of_text, content_of_bytes, content_of}
 use Rattle.script_lang.specs.Commands.{command_of}
 use Rattle.script_lang.specs.Fields.{space}
-use Rattle.script_lang.specs.Grammar.{DropsReturn, IsPassedBy, IsCommandLine, IsKept, IsLine}
+use Rattle.script_lang.specs.Grammar.{IsCommandLine, IsKept, IsLine}
 use Rattle.script_lang.specs.Lines.{without_return, is_passed_by, number_sign}
 use Rattle.script_lang.specs.declared.command.Command.{Command}
 use Rattle.script_lang.specs.declared.command.Command.TheVariants as command
@@ -22,7 +20,8 @@ use Rattle.script_lang.specs.declared.keyword.TextKeyword.TheVariants as text_ke
 use Rattle.script_lang.specs.declared.keyword.QueryKeyword.{QueryKeyword}
 use Rattle.script_lang.specs.declared.keyword.QueryKeyword.TheVariants as query_key
 use Rattle.script_lang.specs.declared.keyword.NameKeyword.TheVariants as name_key
-use Rattle.script_lang.proofs.GrammarCommands.{spelled, spelled_query, IsAsked, IsKeyed, IsAsked-IsQueryLine, IsKeyed-IsChangeLine, IsKeyed-load, IsKeyed-soft, IsCommandLine-command_of, command_of-IsKeyed, command_of-IsAsked}
+use Rattle.script_lang.proofs.GrammarCommands.{spelled, IsKeyed, IsKeyed-IsChangeLine, IsKeyed-load, IsKeyed-soft, IsCommandLine-command_of, command_of-IsKeyed, command_of-IsAsked}
+use Rattle.script_lang.proofs.GrammarQueries.{spelled_query, IsAsked, IsAsked-IsQueryLine}
 use Rattle.script_lang.proofs.GrammarFields.{look_up-some}
 use Rattle.script_lang.proofs.GrammarLines.{without_return-DropsReturn, DropsReturn-without_return, is_passed_by-IsPassedBy, IsPassedBy-is_passed_by}
 
@@ -76,7 +75,8 @@ IsLine-content_of line c e other =
     (without_return line, DropsReturn-without_return line, IsKept-by (without_return line) c (is_passed_by (without_return line)) (is_utf8 (without_return line)) refl refl e other)
 
 -- a text that begins with an ASCII character other than `#` isn't passed by
-is_passed_by-char : (bytes : List ℕ) (c : ℕ) (cs : List ℕ) → IsUtf8 bytes → chars bytes ≡ c ∷ cs → c < 128 → eqb c number_sign ≡ false → is_passed_by bytes ≡ false
+is_passed_by-char : (bytes : List ℕ) (c : ℕ) (cs : List ℕ) → IsUtf8 bytes → chars bytes ≡ c ∷ cs → c < 128 → eqb c number_sign ≡ false
+    → is_passed_by bytes ≡ false
 is_passed_by-char bytes c cs text e ascii other =
     let begins : bytes ≡ c ∷ encodes cs
     = sym (encodes-chars bytes text) ∙ ap encodes e ∙ ap (λ l. l ++ encodes cs) (encode_ascii c ascii) in
@@ -141,7 +141,8 @@ lone_content-query query_key.Outline rest = refl
 abbrev ReadsAs : List ℕ → Content → Type 0
 ReadsAs text c = BeginsPlain text × (content_of_text text ≡ c)
 
-ReadsAs-command : (text : List ℕ) (made : Command) → BeginsPlain text → lone_content text ≡ None → command_of text ≡ Some made → ReadsAs text (content.Holds made)
+ReadsAs-command : (text : List ℕ) (made : Command) → BeginsPlain text → lone_content text ≡ None → command_of text ≡ Some made
+    → ReadsAs text (content.Holds made)
 unfolding content_of_text
 ReadsAs-command text made plain alone read = (plain, rw (alone, read) refl)
 
@@ -178,7 +179,8 @@ content_of_bytes-ReadsAs : (bytes : List ℕ) (c : Content) → IsUtf8 bytes →
 content_of_bytes-ReadsAs bytes c text (plain, read) = content_of_bytes-text bytes text plain ∙ read
 
 -- a word of ASCII characters that is a whole line
-content_of_bytes-word : (bytes k : List ℕ) (c : Content) → bytes ≡ k → encodes k ≡ k → scalars k ≡ true → BeginsPlain k → lone_content k ≡ Some c → content_of_bytes bytes ≡ c
+content_of_bytes-word : (bytes k : List ℕ) (c : Content) → bytes ≡ k → encodes k ≡ k → scalars k ≡ true → BeginsPlain k → lone_content k ≡ Some c
+    → content_of_bytes bytes ≡ c
 content_of_bytes-word bytes k c e ascii fits plain alone =
     let text : IsUtf8 bytes = subst IsUtf8 (sym e) (k, (fits, ascii)) in
     let all : chars bytes ≡ k = ap chars e ∙ ap chars (sym ascii) ∙ chars-encodes k fits in

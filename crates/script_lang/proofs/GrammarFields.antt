@@ -5,9 +5,9 @@ use Rattle.std.specs.List.{All}
 use Rattle.std.specs.Option.{option_zip}
 use Rattle.std.specs.Str.{bytes_eq}
 use Rattle.std.specs.Str.Parse.{AllDigits}
-use Rattle.std.proofs.lemmas.Bool.{cases_Bool, ne_eqb, eqb-true, eqb-false}
+use Rattle.std.proofs.lemmas.Bool.{cases_Bool, eqb-true, eqb-false}
 use Rattle.std.proofs.lemmas.Fmt.{decimal_is_IsNumeral}
-use Rattle.std.proofs.lemmas.List.Elements.{All-nil, All-cons, All-head, All-tail}
+use Rattle.std.proofs.lemmas.List.Elements.{All-nil, All-cons}
 use Rattle.std.proofs.lemmas.Option.{none-some, same_Some}
 use Rattle.std.proofs.lemmas.Slice.Eq.{bytes_eq-Decides}
 use Rattle.std.proofs.lemmas.Str.Parse.{digit_from_value}
@@ -27,7 +27,8 @@ AreParts-more c cs (front, back) q other e (split, none) =
     subst P e (ap (λ l. c ∷ l) split, All-cons (λ c. c ≢ space) c front other none)
 
 AreParts-step : (c : ℕ) (cs : List ℕ) (q : List ℕ × List ℕ) → ((p : List ℕ × List ℕ) → parts_at_space cs ≡ Some p → AreParts cs p)
-    → cond (eqb c space) (Some ([], cs)) (option_map (before_first_part c) (parts_at_space cs)) ≡ Some q → (eqb c space ≡ true) ⊎ (eqb c space ≡ false) → AreParts (c ∷ cs) q
+    → cond (eqb c space) (Some ([], cs)) (option_map (before_first_part c) (parts_at_space cs)) ≡ Some q
+    → (eqb c space ≡ true) ⊎ (eqb c space ≡ false) → AreParts (c ∷ cs) q
 AreParts-step c cs q more e (inl is_space) =
     let e' = rw is_space at e in
     let P : List ℕ × List ℕ → Type 0 = λ r. AreParts (c ∷ cs) r in
@@ -47,7 +48,8 @@ option_map-none f None e = refl
 option_map-none f (Some x) e = absurd (none-some (f x) (sym e))
 
 no_space-step : (c : ℕ) (cs : List ℕ) → (parts_at_space cs ≡ None → All (λ d. d ≢ space) cs)
-    → cond (eqb c space) (Some ([], cs)) (option_map (before_first_part c) (parts_at_space cs)) ≡ None → (eqb c space ≡ true) ⊎ (eqb c space ≡ false) → All (λ d. d ≢ space) (c ∷ cs)
+    → cond (eqb c space) (Some ([], cs)) (option_map (before_first_part c) (parts_at_space cs)) ≡ None → (eqb c space ≡ true) ⊎ (eqb c space ≡ false)
+    → All (λ d. d ≢ space) (c ∷ cs)
 no_space-step c cs more e (inl is_space) = absurd (none-some ([], cs) (sym (rw is_space at e)))
 no_space-step c cs more e (inr other) =
     All-cons (λ d. d ≢ space) c cs (eqb-false c space other) (more (option_map-none (before_first_part c) (parts_at_space cs) (rw other at e)))
@@ -75,7 +77,8 @@ path_of-IsPath (c ∷ cs) is = refl
 pub last_path-some : (field path : List ℕ) → last_path field ≡ Some path → (field ≡ path) × IsPath path
 last_path-some field path read = by_parts (parts_at_space field) refl read
   where
-    by_parts : (parts : Option (List ℕ × List ℕ)) → parts_at_space field ≡ parts → path_unless_parts parts field ≡ Some path → (field ≡ path) × IsPath path
+    by_parts : (parts : Option (List ℕ × List ℕ)) → parts_at_space field ≡ parts → path_unless_parts parts field ≡ Some path
+        → (field ≡ path) × IsPath path
     by_parts None e r = IsPath-of field path (no_space-parts_at_space field e) r
     by_parts (Some p) e r = absurd (none-some path r)
 
@@ -103,7 +106,8 @@ option_zip-some (Some x) (Some y) q e =
     let same = same_Some (x, y) q e in
     (ap (λ p. Some p.0) same, ap (λ p. Some p.1) same)
 
-pub two_fields-some : {A B : Type 0} (first : List ℕ → Option A) (rest : List ℕ → Option B) (fields : List ℕ) (q : A × B) → two_fields first rest fields ≡ Some q
+pub two_fields-some : {A B : Type 0} (first : List ℕ → Option A) (rest : List ℕ → Option B) (fields : List ℕ) (q : A × B)
+    → two_fields first rest fields ≡ Some q
     → (p : List ℕ × List ℕ) × (fields ≡ p.0 ++ space ∷ p.1) × All (λ c. c ≢ space) p.0 × (first p.0 ≡ Some q.0) × (rest p.1 ≡ Some q.1)
 two_fields-some first rest fields q e =
     let found = option_and_then-some (λ p. option_zip (first p.0) (rest p.1)) (parts_at_space fields) q e in
@@ -111,7 +115,8 @@ two_fields-some first rest fields q e =
     let both = option_zip-some (first found.0.0) (rest found.0.1) q found.2 in
     (found.0, parts.0, parts.1, both.0, both.1)
 
-pub two_fields-found : {A B : Type 0} (first : List ℕ → Option A) (rest : List ℕ → Option B) (field fields : List ℕ) (x : A) (y : B) → All (λ c. c ≢ space) field
+pub two_fields-found : {A B : Type 0} (first : List ℕ → Option A) (rest : List ℕ → Option B) (field fields : List ℕ) (x : A) (y : B)
+    → All (λ c. c ≢ space) field
     → first field ≡ Some x → rest fields ≡ Some y → two_fields first rest (field ++ space ∷ fields) ≡ Some (x, y)
 two_fields-found first rest field fields x y none a b = rw (parts_at_space-found field fields none, a, b) refl
 
@@ -139,7 +144,8 @@ look_up-step P word key one a other here more e (inl same) =
     subst (λ w. P w a) (sym ((bytes_eq-Decides word key).0 same)) (subst (P key) (same_Some one a e') here)
 look_up-step P word key one a other here more e (inr differs) = more (rw differs at e)
 
-pub look_up-some : {A : Type 0} (P : List ℕ → A → Type 0) (rows : List (List ℕ × A)) (word : List ℕ) (a : A) → HoldOfRows P rows → look_up rows word ≡ Some a → P word a
+pub look_up-some : {A : Type 0} (P : List ℕ → A → Type 0) (rows : List (List ℕ × A)) (word : List ℕ) (a : A) → HoldOfRows P rows
+    → look_up rows word ≡ Some a → P word a
 look_up-some P [] word a hold e = absurd (none-some a e)
 look_up-some P (row ∷ rows) word a hold e =
     look_up-step P word row.0 row.1 a (look_up rows word) hold.0 (look_up-some P rows word a hold.1) e (cases_Bool _)

@@ -18,7 +18,8 @@ AreLines-before b bs (line ∷ lines) other (plain, inr (e, filled, last)) =
     (All-cons (λ d. d ≢ line_feed) b line other plain, inr (ap (λ l. b ∷ l) e, (λ f. cc), last))
 
 -- bytes are their lines
-AreLines-cut : (b : ℕ) (bs : List ℕ) → AreLines bs (lines_of bs) → (eqb b line_feed ≡ true) ⊎ (eqb b line_feed ≡ false) → AreLines (b ∷ bs) (lines_of (b ∷ bs))
+AreLines-cut : (b : ℕ) (bs : List ℕ) → AreLines bs (lines_of bs) → (eqb b line_feed ≡ true) ⊎ (eqb b line_feed ≡ false)
+    → AreLines (b ∷ bs) (lines_of (b ∷ bs))
 unfolding lines_of
 AreLines-cut b bs more (inl feed) =
     rw feed (All-nil (λ d. d ≢ line_feed), inl (bs, ap (λ d. d ∷ bs) (eqb-true b line_feed feed), more))
@@ -96,7 +97,8 @@ ended_is_return line front e =
     let got : slice_get line (length front) ≡ Some carriage_return = ap (λ l. slice_get l (length front)) e ∙ return_at_end front in
     rw (n, got) refl
 
-drops_by : (line : List ℕ) → (is_return (slice_get line (length line - 1)) ≡ true) ⊎ (is_return (slice_get line (length line - 1)) ≡ false) → DropsReturn line (without_return line)
+drops_by : (line : List ℕ) → (is_return (slice_get line (length line - 1)) ≡ true) ⊎ (is_return (slice_get line (length line - 1)) ≡ false)
+    → DropsReturn line (without_return line)
 drops_by line (inl e) =
     inl (ends_in_return line e ∙ ap (λ k. k ++ carriage_return ∷ []) (sym (cond-true _ (take (length line - 1) line) line e)))
 drops_by line (inr e) =

@@ -1,5 +1,5 @@
 -- A group that is open at the end of all lines.
-use Rattle.std.proofs.Common.{◌≡◌, ◌≢◌, ◌⊎◌, inl, inr, ℕ, ◌+◌, true, ltb, eqb, List, [], ◌∷◌, ◌++◌, length, Option, Some, None, Result, Ok, refl, ap, sym, ◌∙◌, subst, arith}
+use Rattle.std.proofs.Common.{◌≡◌, ◌⊎◌, inl, inr, ℕ, ◌+◌, ltb, eqb, List, [], ◌∷◌, ◌++◌, length, Option, Some, None, Ok, refl, ap, sym, ◌∙◌, arith}
 use Rattle.std.specs.List.{All}
 use Rattle.std.proofs.lemmas.List.Elements.{All-nil, All-cons}
 use Rattle.std.proofs.lemmas.Option.{none-some, same_Some, cond_some}
@@ -8,7 +8,6 @@ use Rattle.write_history.specs.declared.change.Change.{Change}
 use Rattle.script_lang.specs.Contents.{content_of}
 use Rattle.script_lang.specs.Grammar.{IsLine, IsInGroup}
 use Rattle.script_lang.specs.Reading.{OpenGroup, State, may_stand, next_lane, may_end, with_line, with_section, after_open, after, read_from}
-use Rattle.script_lang.specs.declared.command.Command.{Command}
 use Rattle.script_lang.specs.declared.command.Command.TheVariants as command
 use Rattle.script_lang.specs.declared.content.Content.{Content}
 use Rattle.script_lang.specs.declared.content.Content.TheVariants as content
@@ -29,7 +28,8 @@ IsOpening (Some before) number c group = (group.number ≡ before.number)
 leaves_none : (made next : State) (group : OpenGroup) → made.open_group ≡ None → made ≡ next → next.open_group ≡ Some group → ⊥
 leaves_none made next group none e h = none-some group (sym none ∙ ap (λ t. t.open_group) e ∙ h)
 
-leaves_some : (made next : State) (before group : OpenGroup) → made.open_group ≡ Some before → made ≡ next → next.open_group ≡ Some group → group.number ≡ before.number
+leaves_some : (made next : State) (before group : OpenGroup) → made.open_group ≡ Some before → made ≡ next → next.open_group ≡ Some group
+    → group.number ≡ before.number
 leaves_some made next before group some e h =
     sym (ap (λ g. g.number) (same_Some before group (sym some ∙ ap (λ t. t.open_group) e ∙ h)))
 
@@ -101,7 +101,8 @@ OpensAt-more s next number line lines group e opens =
       after = opens.after;
     }
 
-OpensAt-here : (s : State) (number : ℕ) (line : List ℕ) (lines : List (List ℕ)) (group : ℕ) → s.open_group ≡ None → content_of line ≡ content.Group → group ≡ number
+OpensAt-here : (s : State) (number : ℕ) (line : List ℕ) (lines : List (List ℕ)) (group : ℕ) → s.open_group ≡ None → content_of line ≡ content.Group
+    → group ≡ number
     → All IsInGroup lines → OpensAt s number (line ∷ lines) group
 unfolding read_from
 OpensAt-here s number line lines group none is e all =
@@ -119,7 +120,8 @@ OpensAt-here s number line lines group none is e all =
       after = all;
     }
 
-IsInGroup-content_of : (line : List ℕ) (c : Content) → content_of line ≡ c → (c ≡ content.PassedBy) ⊎ ((change : Change) × (c ≡ content.Holds (command.Change change))) → IsInGroup line
+IsInGroup-content_of : (line : List ℕ) (c : Content) → content_of line ≡ c
+    → (c ≡ content.PassedBy) ⊎ ((change : Change) × (c ≡ content.Holds (command.Change change))) → IsInGroup line
 IsInGroup-content_of line c e (inl is) = inl (IsLine-content_of line content.PassedBy (e ∙ is) (λ f. cc))
 IsInGroup-content_of line c e (inr (change, is)) = inr (change, IsLine-content_of line (content.Holds (command.Change change)) (e ∙ is) (λ f. cc))
 
@@ -128,7 +130,8 @@ abbrev IsOpened : State → ℕ → List (List ℕ) → OpenGroup → Type 0
 IsOpened s number lines group = OpensAt s number lines group.number
     ⊎ ((before : OpenGroup) × (s.open_group ≡ Some before) × (group.number ≡ before.number) × All IsInGroup lines)
 
-IsOpened-line : (s next : State) (number : ℕ) (line : List ℕ) (lines : List (List ℕ)) (group : OpenGroup) → after s number (content_of line) ≡ Some next
+IsOpened-line : (s next : State) (number : ℕ) (line : List ℕ) (lines : List (List ℕ)) (group : OpenGroup)
+    → after s number (content_of line) ≡ Some next
     → IsOpened next (number + 1) lines group → IsOpened s number (line ∷ lines) group
 IsOpened-line s next number line lines group e (inl opens) = inl (OpensAt-more s next number line lines group.number e opens)
 IsOpened-line s next number line lines group e (inr (later, is, same, all)) = by_group s.open_group refl (opening s s.open_group number (content_of line) next later e is)
@@ -138,7 +141,8 @@ IsOpened-line s next number line lines group e (inr (later, is, same, all)) = by
     by_group (Some before) some (numbered, inside) =
         inr (before, some, same ∙ numbered, All-cons IsInGroup line lines (IsInGroup-content_of line (content_of line) refl inside) all)
 
-IsOpened-read_from : (s end : State) (number : ℕ) (lines : List (List ℕ)) (group : OpenGroup) → read_from s number lines ≡ Ok end → end.open_group ≡ Some group → IsOpened s number lines group
+IsOpened-read_from : (s end : State) (number : ℕ) (lines : List (List ℕ)) (group : OpenGroup) → read_from s number lines ≡ Ok end
+    → end.open_group ≡ Some group → IsOpened s number lines group
 unfolding read_from
 IsOpened-read_from s end number [] group e some =
     let same : s ≡ end = cc in
@@ -147,11 +151,13 @@ IsOpened-read_from s end number (line ∷ lines) group e some =
     let first = read_first s number line lines end e in
     IsOpened-line s first.0 number line lines group first.1 (IsOpened-read_from first.0 end (number + 1) lines group first.2 some)
 
-never_before : (s : State) (number : ℕ) (lines : List (List ℕ)) (group : OpenGroup) → s.open_group ≡ None → IsOpened s number lines group → OpensAt s number lines group.number
+never_before : (s : State) (number : ℕ) (lines : List (List ℕ)) (group : OpenGroup) → s.open_group ≡ None → IsOpened s number lines group
+    → OpensAt s number lines group.number
 never_before s number lines group none (inl opens) = opens
 never_before s number lines group none (inr (before, some, numbered, all)) = absurd (none-some before (sym none ∙ some))
 
 -- from the first line on
-pub OpensAt-read_from : (s end : State) (number : ℕ) (lines : List (List ℕ)) (group : OpenGroup) → s.open_group ≡ None → read_from s number lines ≡ Ok end
+pub OpensAt-read_from : (s end : State) (number : ℕ) (lines : List (List ℕ)) (group : OpenGroup) → s.open_group ≡ None
+    → read_from s number lines ≡ Ok end
     → end.open_group ≡ Some group → OpensAt s number lines group.number
 OpensAt-read_from s end number lines group none e some = never_before s number lines group none (IsOpened-read_from s end number lines group e some)

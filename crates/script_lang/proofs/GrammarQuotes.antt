@@ -24,14 +24,16 @@ behind (c ∷ cs) text e = absurd (none-some text e)
 abbrev EndsQuoted : List ℕ → List ℕ → Type 0
 EndsQuoted cs text = (spelling : List ℕ) × (cs ≡ spelling ++ quote ∷ []) × AreSpelled text spelling
 
-EndsQuoted-more : (first cs : List ℕ) (c : ℕ) (rest text : List ℕ) → IsSpelling c first → c ∷ rest ≡ text → EndsQuoted cs rest → EndsQuoted (first ++ cs) text
+EndsQuoted-more : (first cs : List ℕ) (c : ℕ) (rest text : List ℕ) → IsSpelling c first → c ∷ rest ≡ text → EndsQuoted cs rest
+    → EndsQuoted (first ++ cs) text
 EndsQuoted-more first cs c rest text is e (spelling, ends, spelled) =
     let all : first ++ cs ≡ (first ++ spelling) ++ quote ∷ [] = ap (λ l. first ++ l) ends ∙ sym (append_assoc first spelling (quote ∷ [])) in
     let P : List ℕ → Type 0 = λ t. EndsQuoted (first ++ cs) t in
     subst P e (first ++ spelling, all, (first, spelling, refl, is, spelled))
 
 -- one step between the quotes, by what the character is
-ends_at_quote : (c : ℕ) (cs text : List ℕ) → c ≡ quote → (rest : List ℕ) × (unquoted_from Behind cs ≡ Some rest) × (rest ≡ text) → EndsQuoted (c ∷ cs) text
+ends_at_quote : (c : ℕ) (cs text : List ℕ) → c ≡ quote → (rest : List ℕ) × (unquoted_from Behind cs ≡ Some rest) × (rest ≡ text)
+    → EndsQuoted (c ∷ cs) text
 ends_at_quote c cs text e (rest, read, same) =
     let done = behind cs rest read in
     let P : List ℕ → Type 0 = λ t. EndsQuoted (c ∷ cs) t in
@@ -77,7 +79,8 @@ EndsQuoted-unquoted (c ∷ d ∷ cs) text e =
     ends_inside c (d ∷ cs) text (EndsQuoted-unquoted (d ∷ cs)) (λ t h. escaped_as d cs t (escape_of d) (EndsQuoted-unquoted cs) refl h) e (cases_Bool _) (cases_Bool _)
 
 -- what is spelled so is read
-unquoted-IsSpelling : (c : ℕ) (first rest cs : List ℕ) → IsSpelling c first → unquoted_from Inside rest ≡ Some cs → unquoted_from Inside (first ++ rest) ≡ Some (c ∷ cs)
+unquoted-IsSpelling : (c : ℕ) (first rest cs : List ℕ) → IsSpelling c first → unquoted_from Inside rest ≡ Some cs
+    → unquoted_from Inside (first ++ rest) ≡ Some (c ∷ cs)
 unfolding unquoted_from
 unquoted-IsSpelling c [] rest cs is read = absurd is
 unquoted-IsSpelling c (d ∷ []) rest cs (same, no_quote, no_backslash) read = rw (ne_eqb d quote no_quote, ne_eqb d backslash no_backslash, read, same) refl
@@ -109,7 +112,8 @@ unfolding unquoted_from
 outside [] text e = absurd (none-some text e)
 outside (c ∷ cs) text e = opened c cs text e (cases_Bool _)
 
-unquoted-in_quotes : (field text spelling : List ℕ) → field ≡ quote ∷ (spelling ++ quote ∷ []) → AreSpelled text spelling → unquoted_from Outside field ≡ Some text
+unquoted-in_quotes : (field text spelling : List ℕ) → field ≡ quote ∷ (spelling ++ quote ∷ []) → AreSpelled text spelling
+    → unquoted_from Outside field ≡ Some text
 unfolding unquoted_from
 unquoted-in_quotes field text spelling e spelled =
     let read = unquoted-AreSpelled text spelling spelled in

@@ -1,12 +1,11 @@
 -- A script is read line by line just where the grammar has it.
-use Rattle.std.proofs.Common.{◌≡◌, ◌≢◌, ◌⊎◌, inl, inr, ℕ, ◌+◌, ◌≤◌, List, [], ◌∷◌, ◌++◌, length, Option, Some, None, Result, Ok, Err, refl, ap, sym, ◌∙◌, subst, arith}
+use Rattle.std.proofs.Common.{◌≡◌, ◌≢◌, ℕ, ◌+◌, List, [], ◌∷◌, Option, Some, None, Ok, Err, refl, ap, sym, ◌∙◌, subst}
 use Rattle.std.proofs.lemmas.Option.{none-some}
 use Rattle.script_lang.specs.Contents.{content_of}
 use Rattle.script_lang.specs.Grammar.{IsLine, AreContents, Rest, nothing, HoldRest}
 use Rattle.script_lang.specs.Reading.{OpenGroup, State, after_open, after, read_from}
 use Rattle.script_lang.specs.declared.content.Content.{Content}
 use Rattle.script_lang.specs.declared.content.Content.TheVariants as content
-use Rattle.script_lang.specs.declared.refusal.ScriptRefusal.{ScriptRefusal}
 use Rattle.script_lang.specs.declared.refusal.ScriptRefusal.TheVariants.{BadLine}
 use Rattle.script_lang.proofs.GrammarContents.{IsLine-content_of, content_of-IsLine}
 use Rattle.script_lang.proofs.GrammarTurns.{IsRoomy, no_group, turn_held, turn_read, IsRoomy-after}
@@ -17,7 +16,8 @@ use Rattle.script_lang.proofs.ReadingLemmas.{read_from-more, read_from-bad}
 abbrev pub Follows : State → ℕ → List ℕ → List (List ℕ) → State → Type 0
 Follows s number line lines end = (next : State) × (after s number (content_of line) ≡ Some next) × (read_from next (number + 1) lines ≡ Ok end)
 
-pub read_first : (s : State) (number : ℕ) (line : List ℕ) (lines : List (List ℕ)) (end : State) → read_from s number (line ∷ lines) ≡ Ok end → Follows s number line lines end
+pub read_first : (s : State) (number : ℕ) (line : List ℕ) (lines : List (List ℕ)) (end : State) → read_from s number (line ∷ lines) ≡ Ok end
+    → Follows s number line lines end
 read_first s number line lines end e = by_next (after s number (content_of line)) refl
   where
     by_next : (o : Option State) → after s number (content_of line) ≡ o → Follows s number line lines end
@@ -46,14 +46,16 @@ IsHeld-none s end number e closed =
     let held : HoldRest s.section s.open_group number [] nothing = subst P (sym none) refl in
     ([], nothing, refl, held, ap (λ t. joined t nothing) e)
 
-IsHeld-line : (s next end : State) (number : ℕ) (line : List ℕ) (lines : List (List ℕ)) → IsRoomy s.open_group → after s number (content_of line) ≡ Some next
+IsHeld-line : (s next end : State) (number : ℕ) (line : List ℕ) (lines : List (List ℕ)) → IsRoomy s.open_group
+    → after s number (content_of line) ≡ Some next
     → IsHeld next (number + 1) lines end → IsHeld s number (line ∷ lines) end
 IsHeld-line s next end number line lines roomy e (contents, rest, are, held, same) =
     let turn = turn_held s s.open_group number (content_of line) contents rest next roomy e held in
     let is : IsLine line (content_of line) = IsLine-content_of line (content_of line) refl (follows_not_bad s next number line e) in
     (content_of line ∷ contents, turn.0, (content_of line, contents, refl, is, are), turn.1, turn.2 ∙ same)
 
-pub IsHeld-read_from : (s : State) (number : ℕ) (lines : List (List ℕ)) (end : State) → IsRoomy s.open_group → read_from s number lines ≡ Ok end → end.open_group ≡ None
+pub IsHeld-read_from : (s : State) (number : ℕ) (lines : List (List ℕ)) (end : State) → IsRoomy s.open_group → read_from s number lines ≡ Ok end
+    → end.open_group ≡ None
     → (contents : List Content) × (rest : Rest) × AreContents lines contents × HoldRest s.section s.open_group number contents rest × (joined s rest ≡ joined end nothing)
 unfolding read_from
 IsHeld-read_from s number [] end roomy e closed =
@@ -68,11 +70,13 @@ IsHeld-read_from s number (line ∷ lines) end roomy e closed =
 abbrev IsReadWhole : State → ℕ → List (List ℕ) → Rest → Type 0
 IsReadWhole s number lines rest = (end : State) × (read_from s number lines ≡ Ok end) × (end.open_group ≡ None) × (joined s rest ≡ joined end nothing)
 
-closed_held : (section : _) (opened : Option OpenGroup) (number : ℕ) (rest : Rest) → HoldRest section opened number [] rest → (opened ≡ None) × (rest ≡ nothing)
+closed_held : (section : _) (opened : Option OpenGroup) (number : ℕ) (rest : Rest) → HoldRest section opened number [] rest
+    → (opened ≡ None) × (rest ≡ nothing)
 closed_held section None number rest h = (refl, h)
 closed_held section (Some group) number rest h = absurd h
 
-IsReadWhole-none : (s : State) (number : ℕ) (contents : List Content) (rest : Rest) → contents ≡ [] → HoldRest s.section s.open_group number contents rest → IsReadWhole s number [] rest
+IsReadWhole-none : (s : State) (number : ℕ) (contents : List Content) (rest : Rest) → contents ≡ []
+    → HoldRest s.section s.open_group number contents rest → IsReadWhole s number [] rest
 unfolding read_from
 IsReadWhole-none s number contents rest e held =
     let h = subst (λ (l : List Content). HoldRest s.section s.open_group number l rest) e held in

@@ -1,27 +1,11 @@
 -- The line that is named where bytes spell no script.
-use Rattle.std.proofs.Common.{◌≡◌, ◌≢◌, ◌⊎◌, inl, inr, ℕ, ◌+◌, ◌<◌, ◌≤◌, true, false, eqb, cond, List, [], ◌∷◌, ◌++◌, length, Option, Some, None, Result, Ok, Err, refl, ap, sym, ◌∙◌, subst, arith, append_assoc, codes, lit<}
-use Rattle.std.specs.List.{All}
-use Rattle.std.specs.Str.{chars, IsUtf8}
-use lib.Utf8.{encode}
-use Rattle.std.proofs.lemmas.Bool.{ne_eqb}
-use Rattle.std.proofs.lemmas.List.{append-nil}
-use Rattle.std.proofs.lemmas.List.Elements.{All-nil, All-cons}
-use Rattle.std.proofs.lemmas.Option.{none-some, same_Some}
-use Rattle.write_history.specs.declared.change.Change.{Change}
-use Rattle.write_history.specs.declared.change.Change.TheVariants as change
+use Rattle.std.proofs.Common.{◌≡◌, ℕ, ◌+◌, List, [], ◌∷◌, ◌++◌, length, Option, Some, None, Ok, Err, refl, ap, sym, ◌∙◌, subst, arith}
 use Rattle.script_lang.specs.Contents.{content_of}
-use Rattle.script_lang.specs.Grammar.{IsLine, IsInGroup, Rest, HoldRest, HoldScript, BeginScript}
-use Rattle.script_lang.specs.Parts.{Parts}
-use Rattle.script_lang.specs.Reading.{OpenGroup, State, start, after_open, after, finished, read_from, finished_read}
-use Rattle.script_lang.specs.declared.command.Command.{Command}
-use Rattle.script_lang.specs.declared.command.Command.TheVariants as command
-use Rattle.script_lang.specs.declared.content.Content.{Content}
-use Rattle.script_lang.specs.declared.content.Content.TheVariants as content
+use Rattle.script_lang.specs.Reading.{State, after, read_from}
 use Rattle.script_lang.specs.declared.refusal.ScriptRefusal.{ScriptRefusal}
 use Rattle.script_lang.specs.declared.refusal.ScriptRefusal.TheVariants.{BadLine}
-use Rattle.script_lang.proofs.GrammarContents.{IsLine-content_of}
 use Rattle.script_lang.proofs.GrammarReading.{read_first}
-use Rattle.script_lang.proofs.GrammarTurns.{IsRoomy, no_group, IsRoomy-after}
+use Rattle.script_lang.proofs.GrammarTurns.{IsRoomy, IsRoomy-after}
 use Rattle.script_lang.proofs.ReadingLemmas.{read_from-more, read_from-bad}
 
 -- lines are read one list after another
@@ -49,7 +33,8 @@ pub record StopsAt (s : State) (number : ℕ) (lines : List (List ℕ)) (bad : S
   pub before : read_from s number front ≡ Ok end
   pub none : after end (length front + number) (content_of line) ≡ None
 
-StopsAt-more : (s next : State) (number : ℕ) (line : List ℕ) (lines : List (List ℕ)) (bad : ScriptRefusal) → after s number (content_of line) ≡ Some next
+StopsAt-more : (s next : State) (number : ℕ) (line : List ℕ) (lines : List (List ℕ)) (bad : ScriptRefusal)
+    → after s number (content_of line) ≡ Some next
     → StopsAt next (number + 1) lines bad → StopsAt s number (line ∷ lines) bad
 StopsAt-more s next number line lines bad e stop =
     let n : length stop.front + (number + 1) ≡ length (line ∷ stop.front) + number = omega arith in
@@ -92,14 +77,16 @@ StopsAt-line s number line lines bad more e = by_next (after s number (content_o
     by_next (Some next) is =
         StopsAt-more s next number line lines bad is (more next (sym (read_from-more s next number line lines is) ∙ e))
 
-pub StopsAt-read_from : (s : State) (number : ℕ) (lines : List (List ℕ)) (bad : ScriptRefusal) → read_from s number lines ≡ Err bad → StopsAt s number lines bad
+pub StopsAt-read_from : (s : State) (number : ℕ) (lines : List (List ℕ)) (bad : ScriptRefusal) → read_from s number lines ≡ Err bad
+    → StopsAt s number lines bad
 unfolding read_from
 StopsAt-read_from s number [] bad e = absurd cc
 StopsAt-read_from s number (line ∷ lines) bad e =
     StopsAt-line s number line lines bad (λ next f. StopsAt-read_from next (number + 1) lines bad f) e
 
 -- an open group has room after all lines
-pub IsRoomy-read_from : (s end : State) (number : ℕ) (lines : List (List ℕ)) → IsRoomy s.open_group → read_from s number lines ≡ Ok end → IsRoomy end.open_group
+pub IsRoomy-read_from : (s end : State) (number : ℕ) (lines : List (List ℕ)) → IsRoomy s.open_group → read_from s number lines ≡ Ok end
+    → IsRoomy end.open_group
 unfolding read_from
 IsRoomy-read_from s end number [] roomy e =
     let same : s ≡ end = cc in

@@ -1,13 +1,11 @@
 -- The script of bytes is the one that the grammar has, and the line that is named is the one that the grammar names.
-use Rattle.std.proofs.Common.{◌≡◌, ◌≢◌, ◌⊎◌, inl, inr, ℕ, ◌+◌, ◌<◌, ◌≤◌, eqb, cond, List, [], ◌∷◌, ◌++◌, length, Option, Some, None, Result, Ok, Err, IfOk, IfErr, MatchResult, refl, ap, sym, ◌∙◌, subst, arith, append_assoc}
-use Rattle.std.proofs.lemmas.List.{append-nil}
-use Rattle.script_lang.specs.Grammar.{AreLines, AreContents, Rest, nothing, HoldRest, whole, HoldScript, IsScript, BeginScript, IsFirstBadLine, IsOpenAtEnd, IsRefused}
+use Rattle.std.proofs.Common.{◌≡◌, ℕ, ◌≤◌, List, length, Option, Some, None, Result, Ok, Err, refl, ap, sym, ◌∙◌, subst}
+use Rattle.script_lang.specs.Grammar.{HoldRest, whole, HoldScript, IsScript}
 use Rattle.script_lang.specs.Lines.{max_bytes, lines_of}
 use Rattle.script_lang.specs.Parts.{Parts}
-use Rattle.script_lang.specs.Reading.{OpenGroup, State, start, parts_at, finished_open, finished, read_from, finished_read, script_of, IsRefusalOf}
+use Rattle.script_lang.specs.Reading.{OpenGroup, State, start, parts_at, finished_open, finished, read_from, finished_read, script_of}
 use Rattle.script_lang.specs.declared.line.Section.TheVariants.{Prelude}
 use Rattle.script_lang.specs.declared.refusal.ScriptRefusal.{ScriptRefusal}
-use Rattle.script_lang.specs.declared.refusal.ScriptRefusal.TheVariants.{BadLine, OutOfMemory}
 use Rattle.script_lang.proofs.GrammarLines.{AreLines-lines_of, lines_of-AreLines}
 use Rattle.script_lang.proofs.GrammarReading.{IsHeld-read_from, read_from-held}
 use Rattle.script_lang.proofs.JoinedLemmas.{joined, joined-nothing}
@@ -16,7 +14,8 @@ use Rattle.script_lang.proofs.JoinedLemmas.{joined, joined-nothing}
 whole_read : (s : State) (script : Parts) → finished s ≡ Ok script → (s.open_group ≡ None) × (parts_at s.section s.prelude s.lanes s.here ≡ script)
 whole_read s script e = by_group s.open_group refl e
   where
-    by_group : (group : Option OpenGroup) → s.open_group ≡ group → finished_open group s ≡ Ok script → (s.open_group ≡ None) × (parts_at s.section s.prelude s.lanes s.here ≡ script)
+    by_group : (group : Option OpenGroup) → s.open_group ≡ group → finished_open group s ≡ Ok script
+        → (s.open_group ≡ None) × (parts_at s.section s.prelude s.lanes s.here ≡ script)
     by_group None is f = (is, cc)
     by_group (Some group) is f = absurd cc
 
@@ -24,7 +23,8 @@ pub finished-closed : (s : State) → s.open_group ≡ None → finished s ≡ O
 finished-closed s e = rw e refl
 
 -- the lines hold the script that is read from them
-pub HoldScript-finished : (lines : List (List ℕ)) (r : Result State ScriptRefusal) (script : Parts) → read_from start 1 lines ≡ r → finished_read r ≡ Ok script → HoldScript lines script
+pub HoldScript-finished : (lines : List (List ℕ)) (r : Result State ScriptRefusal) (script : Parts) → read_from start 1 lines ≡ r
+    → finished_read r ≡ Ok script → HoldScript lines script
 HoldScript-finished lines (Err refusal) script is e = absurd cc
 HoldScript-finished lines (Ok end) script is e =
     let done = whole_read end script e in

@@ -1,17 +1,16 @@
 -- One line more of a script, by the grammar and as it is read.
-use Rattle.std.proofs.Common.{◌≡◌, ◌⊎◌, inl, inr, ℕ, ◌+◌, ◌<◌, ◌≤◌, true, false, Bool, eqb, ltb, cond, List, [], ◌∷◌, ◌++◌, length, Option, Some, None, option_map, refl, ap, sym, ◌∙◌, subst, arith}
+use Rattle.std.proofs.Common.{◌≡◌, ℕ, ◌+◌, ◌≤◌, true, false, Bool, eqb, ltb, cond, List, [], ◌∷◌, ◌++◌, length, Option, Some, None, refl, ap, ◌∙◌, subst, arith}
 use Rattle.std.proofs.lemmas.Bool.{eqb-false, ne_eqb, ltb-true, lt-ltb}
 use Rattle.std.proofs.lemmas.List.{length-append}
 use Rattle.std.proofs.lemmas.Option.{none-some, same_Some, cond_some}
-use Rattle.write_history.specs.Changes.{max_changes, AreFew}
+use Rattle.write_history.specs.Changes.{max_changes}
 use Rattle.script_lang.specs.Grammar.{Rest, first_comes, lane_comes, last_comes, HoldRest}
 use Rattle.script_lang.specs.Reading.{OpenGroup, State, may_stand, next_lane, may_end, with_line, with_section, after_open}
 use Rattle.script_lang.specs.declared.command.Command.{Command}
 use Rattle.script_lang.specs.declared.command.Command.TheVariants as command
 use Rattle.script_lang.specs.declared.content.Content.{Content}
 use Rattle.script_lang.specs.declared.content.Content.TheVariants as content
-use Rattle.script_lang.specs.declared.line.Section.{Section}
-use Rattle.script_lang.specs.declared.line.Section.TheVariants.{Prelude, Lane, Finally}
+use Rattle.script_lang.specs.declared.line.Section.TheVariants.{Finally}
 use Rattle.script_lang.proofs.JoinedLemmas.{joined, joined-line, joined-lane, joined-last}
 use Rattle.script_lang.proofs.OptionLemmas.{option_map-some}
 
@@ -56,7 +55,8 @@ turn_outside s number content.Group lines rest next e =
 turn_outside s number content.End lines rest next e = absurd (none-some next e)
 turn_outside s number content.Bad lines rest next e = absurd (none-some next e)
 
-turn_inside : (s : State) (group : OpenGroup) (number : ℕ) (c : Content) (lines : List Content) (rest : Rest) (next : State) → length group.changes ≤ max_changes
+turn_inside : (s : State) (group : OpenGroup) (number : ℕ) (c : Content) (lines : List Content) (rest : Rest) (next : State)
+    → length group.changes ≤ max_changes
     → after_open (Some group) (no_group s) number c ≡ Some next → IsTurn s (Some group) number c lines rest next
 turn_inside s group number content.PassedBy lines rest next few e =
     subst (λ (t : State). IsTurn s (Some group) number content.PassedBy lines rest t) (same_Some (record s { open_group = Some group }) next e) (λ h. (rest, h, refl))
@@ -85,7 +85,8 @@ turn_inside s group number content.End lines rest next few e =
     ))
 turn_inside s group number content.Bad lines rest next few e = absurd (none-some next e)
 
-pub turn_held : (s : State) (opened : Option OpenGroup) (number : ℕ) (c : Content) (lines : List Content) (rest : Rest) (next : State) → IsRoomy opened
+pub turn_held : (s : State) (opened : Option OpenGroup) (number : ℕ) (c : Content) (lines : List Content) (rest : Rest) (next : State)
+    → IsRoomy opened
     → after_open opened (no_group s) number c ≡ Some next → HoldRest next.section next.open_group (number + 1) lines rest
     → (first : Rest) × HoldRest s.section opened number (c ∷ lines) first × (joined s first ≡ joined next rest)
 turn_held s None number c lines rest next few e = turn_outside s number c lines rest next e

@@ -1,5 +1,5 @@
 -- What the commands of a script are.
-use Rattle.std.proofs.Common.{◌≡◌, ℕ, ◌+◌, ◌<◌, ◌≤◌, true, ltb, List, [], ◌∷◌, ◌++◌, length, Option, Some, None, refl, ap, sym, ◌∙◌, subst, arith}
+use Rattle.std.proofs.Common.{◌≡◌, ℕ, ◌+◌, ◌≤◌, true, ltb, List, [], ◌∷◌, ◌++◌, length, Option, Some, None, refl, sym, subst, arith}
 use Rattle.std.specs.List.{All}
 use Rattle.std.specs.Str.{chars}
 use Rattle.std.proofs.lemmas.Bool.{false≢true, ltb-true}
@@ -7,10 +7,10 @@ use Rattle.std.proofs.lemmas.List.Elements.{All-nil, All-cons, All-append}
 use Rattle.std.proofs.lemmas.Option.{none-some, same_Some, cond_some}
 use Rattle.write_history.specs.declared.change.Change.{Change}
 use Rattle.write_history.specs.declared.change.Change.TheVariants as change
-use Rattle.script_lang.specs.Grammar.{IsLine, AreContents, IsChangeLine, IsCommandLine, Rest, nothing, first_comes, lane_comes, last_comes, HoldRest, HoldScript, whole, IsScript}
+use Rattle.script_lang.specs.Grammar.{IsLine, AreContents, IsChangeLine, IsCommandLine, Rest, nothing, first_comes, lane_comes, last_comes, HoldRest, HoldScript, whole}
 use Rattle.script_lang.specs.Held.{IsNoIntake, IsOfLine, IsNoLoad, AreOfPrelude, AreOfSection, AreOfScript}
 use Rattle.script_lang.specs.Parts.{Parts}
-use Rattle.script_lang.specs.Reading.{OpenGroup, max_lanes, may_stand, next_lane, may_end}
+use Rattle.script_lang.specs.Reading.{OpenGroup, max_lanes, may_stand, next_lane}
 use Rattle.script_lang.specs.declared.command.Command.{Command}
 use Rattle.script_lang.specs.declared.command.Command.TheVariants as command
 use Rattle.script_lang.specs.declared.content.Content.{Content}
@@ -79,7 +79,8 @@ AreOf-none Prelude = All-nil of_prelude
 AreOf-none (Lane number) = All-nil of_section
 AreOf-none Finally = All-nil of_section
 
-AreOf-more : (section : Section) (line : Line) (lines : List Line) → may_stand section line.command ≡ true → IsOfLine line.command → AreOf section lines → AreOf section (line ∷ lines)
+AreOf-more : (section : Section) (line : Line) (lines : List Line) → may_stand section line.command ≡ true → IsOfLine line.command
+    → AreOf section lines → AreOf section (line ∷ lines)
 AreOf-more Prelude line lines stands is all = All-cons of_prelude line lines is all
 AreOf-more (Lane number) line lines stands is all = All-cons of_section line lines (is, IsNoLoad-lane number line.command stands) all
 AreOf-more Finally line lines stands is all = All-cons of_section line lines (is, IsNoLoad-last line.command stands) all
@@ -144,7 +145,8 @@ abbrev AreOfGroup : Option OpenGroup → Type 0
 AreOfGroup None = Unit {0}
 AreOfGroup (Some group) = All IsNoIntake group.changes
 
-AreRest-end : (section : Section) (opened : Option OpenGroup) (number : ℕ) (rest : Rest) → begun section ≤ max_lanes → HoldRest section opened number [] rest → AreRest section rest
+AreRest-end : (section : Section) (opened : Option OpenGroup) (number : ℕ) (rest : Rest) → begun section ≤ max_lanes
+    → HoldRest section opened number [] rest → AreRest section rest
 AreRest-end section None number rest few held = subst (AreRest section) (sym held) (AreRest-nothing section few)
 AreRest-end section (Some group) number rest few held = absurd held
 
@@ -153,7 +155,8 @@ abbrev AreLater : ℕ → List Content → Type 0
 AreLater number contents = (section : Section) (opened : Option OpenGroup) (rest : Rest) → begun section ≤ max_lanes → AreOfGroup opened
     → HoldRest section opened number contents rest → AreRest section rest
 
-AreRest-outside : (section : Section) (number : ℕ) (line : List ℕ) (c : Content) (contents : List Content) (rest : Rest) → begun section ≤ max_lanes → IsLine line c
+AreRest-outside : (section : Section) (number : ℕ) (line : List ℕ) (c : Content) (contents : List Content) (rest : Rest) → begun section ≤ max_lanes
+    → IsLine line c
     → HoldRest section None number (c ∷ contents) rest → AreLater (number + 1) contents → AreRest section rest
 AreRest-outside section number line content.PassedBy contents rest few is held later = later section None rest few tt held
 AreRest-outside section number line (content.Holds made) contents rest few is (stands, (more, e, held)) later =
@@ -168,8 +171,10 @@ AreRest-outside section number line content.Group contents rest few is held late
 AreRest-outside section number line content.End contents rest few is held later = absurd held
 AreRest-outside section number line content.Bad contents rest few is held later = absurd held
 
-AreRest-inside : (section : Section) (group : OpenGroup) (number : ℕ) (line : List ℕ) (c : Content) (contents : List Content) (rest : Rest) → begun section ≤ max_lanes
-    → All IsNoIntake group.changes → IsLine line c → HoldRest section (Some group) number (c ∷ contents) rest → AreLater (number + 1) contents → AreRest section rest
+AreRest-inside : (section : Section) (group : OpenGroup) (number : ℕ) (line : List ℕ) (c : Content) (contents : List Content) (rest : Rest)
+    → begun section ≤ max_lanes
+    → All IsNoIntake group.changes → IsLine line c → HoldRest section (Some group) number (c ∷ contents) rest → AreLater (number + 1) contents
+    → AreRest section rest
 AreRest-inside section group number line content.PassedBy contents rest few all is held later = later section (Some group) rest few all held
 AreRest-inside section group number line (content.Holds (command.Change c)) contents rest few all is (room, held) later =
     let one : All IsNoIntake (c ∷ []) = All-cons IsNoIntake c [] (IsOfLine-IsLine line (command.Change c) is) (All-nil IsNoIntake) in

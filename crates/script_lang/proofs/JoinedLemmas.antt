@@ -51,7 +51,8 @@ joined-line section prelude lanes here line rest =
     ap (λ l. joined_at section prelude lanes l rest.lanes rest.last) (sym (append_assoc here (line ∷ []) rest.here))
 
 -- another section
-pub joined-lane : (s : State) (lane : Section) (rest : Rest) → next_lane s.section ≡ Some lane → joined s (lane_comes rest) ≡ joined (with_section s lane) rest
+pub joined-lane : (s : State) (lane : Section) (rest : Rest) → next_lane s.section ≡ Some lane
+    → joined s (lane_comes rest) ≡ joined (with_section s lane) rest
 joined-lane s lane rest e = by_section s.section e
   where
     none : s.here ++ [] ≡ s.here

@@ -1,5 +1,5 @@
 -- Words that are looked up, by characters and by bytes.
-use Rattle.std.proofs.Common.{◌≡◌, ◌∙◌, ℕ, true, false, List, [], ◌∷◌, Option, Some, None, cond, refl, ap, codes}
+use Rattle.std.proofs.Common.{◌≡◌, ℕ, true, false, List, [], ◌∷◌, refl, codes}
 use Rattle.std.specs.Str.{chars, IsUtf8, bytes_eq}
 use lib.Utf8.{encode, encodes, scalars}
 use Rattle.std.proofs.lemmas.Bool.{false_from_ne_true}

@@ -9,6 +9,7 @@ pub mod ReadingLemmas
 pub mod GrammarLines
 pub mod GrammarQuotes
 pub mod GrammarFields
+pub mod GrammarQueries
 pub mod GrammarCommands
 pub mod GrammarContents
 pub mod JoinedLemmas

@@ -7,6 +7,7 @@ pub option_map-some : {A B : Type 0} (f : A → B) (o : Option A) (y : B) → op
 option_map-some f None y e = absurd (none-some y e)
 option_map-some f (Some x) y e = (x, refl, same_Some (f x) y e)
 
-pub option_and_then-some : {A B : Type 0} (f : A → Option B) (o : Option A) (y : B) → option_and_then f o ≡ Some y → (x : A) × (o ≡ Some x) × (f x ≡ Some y)
+pub option_and_then-some : {A B : Type 0} (f : A → Option B) (o : Option A) (y : B) → option_and_then f o ≡ Some y
+    → (x : A) × (o ≡ Some x) × (f x ≡ Some y)
 option_and_then-some f None y e = absurd (none-some y e)
 option_and_then-some f (Some x) y e = (x, refl, e)

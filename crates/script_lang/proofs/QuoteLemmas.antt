@@ -19,7 +19,8 @@ pub read_then-nil : (bs : List ℕ) (rest : Option (List ℕ)) → bs ≡ [] →
 read_then-nil bs None e = refl
 read_then-nil bs (Some cs) e = rw (e, chars-nil) refl
 
-read_then-more : (front more : List ℕ) (rest : Option (List ℕ)) → read_then front (option_map (λ cs. more ++ cs) rest) ≡ read_then (front ++ more) rest
+read_then-more : (front more : List ℕ) (rest : Option (List ℕ))
+    → read_then front (option_map (λ cs. more ++ cs) rest) ≡ read_then (front ++ more) rest
 read_then-more front more None = refl
 read_then-more front more (Some cs) = ap Some (sym (append_assoc front more cs))
 

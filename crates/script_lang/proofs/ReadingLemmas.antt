@@ -1,9 +1,7 @@
 -- A script, read line by line.
-use Rattle.std.proofs.Common.{◌≡◌, ℕ, ◌+◌, List, [], ◌∷◌, ◌++◌, length, Option, Some, None, Result, Ok, Err, refl, ap, sym, ◌∙◌, arith}
-use Rattle.std.specs.Option.{option_map_or}
+use Rattle.std.proofs.Common.{◌≡◌, ℕ, ◌+◌, List, [], ◌∷◌, Some, None, Result, Err, refl, ap, sym, ◌∙◌}
 use Rattle.script_lang.specs.Contents.{content_of}
 use Rattle.script_lang.specs.Lines.{lines_of}
-use Rattle.script_lang.specs.Parts.{Parts}
 use Rattle.script_lang.specs.Reading.{State, after, finished, finished_read, read_from}
 use Rattle.script_lang.specs.declared.content.Content.{Content}
 use Rattle.script_lang.specs.declared.refusal.ScriptRefusal.{ScriptRefusal}
@@ -36,6 +34,7 @@ reads_bad s number content rest line behind u cut is e before =
     ap finished_read (sym before ∙ ap (read_from s number) cut ∙ read_from-bad s number line (lines_of behind) step)
 
 -- at the end
-pub reads_end : (s : State) (number : ℕ) (rest : List ℕ) (u : Result State ScriptRefusal) → rest ≡ [] → read_from s number (lines_of rest) ≡ u → finished_read u ≡ finished s
+pub reads_end : (s : State) (number : ℕ) (rest : List ℕ) (u : Result State ScriptRefusal) → rest ≡ [] → read_from s number (lines_of rest) ≡ u
+    → finished_read u ≡ finished s
 unfolding read_from lines_of
 reads_end s number rest u done before = ap finished_read (sym (rw done at before))

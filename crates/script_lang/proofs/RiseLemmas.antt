@@ -1,7 +1,6 @@
 -- The numbers of a script's commands rise.
-use Rattle.std.proofs.Common.{◌≡◌, ℕ, ◌+◌, ◌<◌, ◌≤◌, List, [], ◌∷◌, ◌++◌, Option, Some, None, refl, ap, sym, ◌∙◌, subst, arith}
-use Rattle.write_history.specs.declared.change.Change.{Change}
-use Rattle.script_lang.specs.Grammar.{Rest, nothing, first_comes, lane_comes, last_comes, HoldRest, HoldScript, whole}
+use Rattle.std.proofs.Common.{ℕ, ◌+◌, ◌<◌, ◌≤◌, List, [], ◌∷◌, ◌++◌, Option, Some, None, sym, subst, arith}
+use Rattle.script_lang.specs.Grammar.{Rest, first_comes, lane_comes, last_comes, HoldRest, HoldScript, whole}
 use Rattle.std.specs.List.{flat_map}
 use Rattle.script_lang.specs.Held.{RiseFrom, all_lines}
 use Rattle.script_lang.specs.Parts.{Parts}
@@ -38,7 +37,8 @@ abbrev RiseLater : ℕ → List Content → Type 0
 RiseLater number contents = (section : Section) (opened : Option OpenGroup) (rest : Rest) → IsBefore opened number
     → HoldRest section opened number contents rest → Rises opened number rest
 
-rises_outside : (section : Section) (number : ℕ) (c : Content) (contents : List Content) (rest : Rest) → HoldRest section None number (c ∷ contents) rest
+rises_outside : (section : Section) (number : ℕ) (c : Content) (contents : List Content) (rest : Rest)
+    → HoldRest section None number (c ∷ contents) rest
     → RiseLater (number + 1) contents → RiseFrom number (to_come rest)
 rises_outside section number content.PassedBy contents rest held later =
     RiseFrom-less number (number + 1) (to_come rest) (omega arith) (later section None rest tt held)
@@ -51,7 +51,7 @@ rises_outside section number content.Lane contents rest (lane, may, (more, e, he
 rises_outside section number content.Finally contents rest (may, (more, e, held)) later =
     let here : RiseFrom (number + 1) more.here
     = RiseFrom-front (number + 1) more.here (flat_map (λ lane. lane) more.lanes)
-      (RiseFrom-front (number + 1) (more.here ++ flat_map (λ lane. lane) more.lanes) more.last (later Finally None more tt held)) in
+    (RiseFrom-front (number + 1) (more.here ++ flat_map (λ lane. lane) more.lanes) more.last (later Finally None more tt held)) in
     let rise : RiseFrom number (to_come (last_comes more)) = RiseFrom-less number (number + 1) more.here (omega arith) here in
     subst (λ (r : Rest). RiseFrom number (to_come r)) (sym e) rise
 rises_outside section number content.Group contents rest held later =
@@ -79,7 +79,8 @@ rises_inside section group number content.End contents rest before (few, (more, 
     subst (λ (r : Rest). RiseFrom group.number (to_come r)) (sym e) rise
 rises_inside section group number content.Bad contents rest before held later = absurd held
 
-rises_end : (section : Section) (opened : Option OpenGroup) (number : ℕ) (rest : Rest) → HoldRest section opened number [] rest → Rises opened number rest
+rises_end : (section : Section) (opened : Option OpenGroup) (number : ℕ) (rest : Rest) → HoldRest section opened number [] rest
+    → Rises opened number rest
 rises_end section None number rest e = subst (λ (r : Rest). RiseFrom number (to_come r)) (sym e) tt
 rises_end section (Some group) number rest held = absurd held
 

@@ -5,6 +5,7 @@ mod command;
 mod command_line;
 mod content;
 mod field;
+mod group;
 mod keyword;
 mod line;
 mod query_line;
@@ -12,6 +13,7 @@ mod quoted;
 mod reader;
 mod refusal;
 mod script;
+mod sections;
 mod split;
 
 pub use command::{Command, MAX_ATTEMPTS};

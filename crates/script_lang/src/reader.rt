@@ -1,94 +1,19 @@
 //! A script as far as it is read, line by line.
 ghost use Rattle.std.specs.Prelude.{◌≡◌, ◌<◌, ◌≤◌, ◌==◌, ◌++◌, ◌∷◌, [], IfOk, IfErr, Ok, length};
-ghost use Rattle.write_history.specs.Changes.{max_changes, AreFew};
-ghost use Rattle.script_lang.specs.declared.command.Command.TheVariants as command;
-ghost use Rattle.script_lang.specs.Reading.{start, after, in_section, in_group, with_command, with_section, with_change, with_group, finished, parts_at, IsRefusalOf, may_stand, next_lane};
+ghost use Rattle.script_lang.specs.Reading.{start, after, in_section, in_group, with_command, with_section, with_change, with_group, finished, IsRefusalOf, may_stand, next_lane};
 
 use crate::content::Content;
+use crate::group::Group;
 use crate::line::Part;
+use crate::sections::Sections;
 use crate::{Command, Line, ScriptRefusal, Section};
 use std::alloc::{AllocError, Global};
 use std::marker::Model;
 use std::mem;
-use write_history::{Change, Changes, MAX_CHANGES};
+use write_history::{Change, MAX_CHANGES};
 
 /// The most lanes of a script.
 pub const MAX_LANES: u32 = 16;
-
-/// The commands of a script, section by section.
-#[derive(Drop)]
-pub(crate) struct Sections {
-    pub(crate) prelude: Part,
-    pub(crate) lanes: Vec<Part>,
-    pub(crate) last: Part,
-}
-
-impl Model for Sections {
-    ghost use Rattle.script_lang.specs.Parts.{Parts};
-
-    ghost Value = { Parts };
-
-    ghost view = { λ s. record { prelude = s.prelude; lanes = s.lanes.items; last = s.last } };
-}
-
-/// A group that nothing has ended yet.
-#[derive(Drop)]
-pub(crate) struct Group {
-    number: u32,
-    changes: Vec<Change>,
-}
-
-impl Model for Group {
-    ghost use Rattle.std.specs.Prelude.{◌≤◌, length};
-    ghost use Rattle.write_history.specs.Changes.{max_changes};
-    ghost use Rattle.script_lang.specs.Reading.{OpenGroup};
-
-    ghost Value = { OpenGroup };
-
-    ghost view = { λ g. record { number = g.number; changes = g.changes.items } };
-
-    ghost invariant = { λ g. length g.changes.items ≤ max_changes };
-}
-
-impl Group {
-    /// A group that begins at a line.
-    fn new(alloc: Global, number: u32) -> Group
-        ensures { result ≡ record { number = number; changes = [] } }
-    {
-        Group {
-            number,
-            changes: Vec::new(alloc),
-        }
-    }
-
-    /// Adds a change.
-    fn push(&mut self, change: Change) -> Result<(), AllocError>
-        requires { length self.old.changes < max_changes }
-        ensures { IfOk result (λ _. self.new ≡ record { number = self.old.number; changes = self.old.changes ++ change ∷ [] }) }
-    {
-        self.changes.push(change)?;
-        Ok(())
-    }
-
-    /// The number of changes.
-    fn len(&self) -> usize
-        ensures count { result ≡ length self.now.changes }
-        ensures few { result ≤ max_changes }
-    {
-        self.changes.len()
-    }
-
-    /// The group as a command.
-    fn line(self) -> Line
-        requires { 1 ≤ length self.changes }
-        ensures { result ≡ record { number = self.number; command = command.Group self.changes } }
-    {
-        Line {
-            number: self.number,
-            command: Command::Group(Changes::from_vec(self.changes)),
-        }
-    }
-}
 
 /// A script as far as it is read.
 #[derive(Drop)]
@@ -249,40 +174,8 @@ impl Reader {
             Some(group) => Err(ScriptRefusal::BadLine {
                 number: group.number,
             }),
-            None => Ok(closed_sections(alloc, section, prelude, lanes, here)?),
+            None => Ok(Sections::closed(alloc, section, prelude, lanes, here)?),
         }
-    }
-}
-
-/// The sections, where the commands of the section at hand are all there.
-fn closed_sections(
-    alloc: Global,
-    section: Section,
-    prelude: Part,
-    mut lanes: Vec<Part>,
-    here: Part,
-) -> Result<Sections, AllocError>
-    ensures { IfOk result (λ sections. sections ≡ parts_at section prelude lanes.items here) }
-{
-    match section {
-        Section::Prelude => Ok(Sections {
-            prelude: here,
-            lanes,
-            last: Part::new(alloc),
-        }),
-        Section::Lane { .. } => {
-            lanes.push(here)?;
-            Ok(Sections {
-                prelude,
-                lanes,
-                last: Part::new(alloc),
-            })
-        }
-        Section::Finally => Ok(Sections {
-            prelude,
-            lanes,
-            last: here,
-        }),
     }
 }
 

@@ -7,7 +7,8 @@ ghost use Rattle.script_lang.specs.Lines.{max_bytes};
 ghost use Rattle.script_lang.specs.Parts.{Parts};
 
 use crate::content::content_of;
-use crate::reader::{Reader, Sections};
+use crate::reader::Reader;
+use crate::sections::Sections;
 use crate::split::first_line;
 use crate::{Line, ScriptRefusal};
 use std::alloc::Global;

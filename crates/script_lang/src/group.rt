@@ -1,0 +1,68 @@
+//! A group of changes, as far as it is read.
+ghost use Rattle.std.specs.Prelude.{◌≡◌, ◌<◌, ◌≤◌, ◌++◌, ◌∷◌, [], IfOk, length};
+ghost use Rattle.write_history.specs.Changes.{max_changes};
+ghost use Rattle.script_lang.specs.declared.command.Command.TheVariants as command;
+
+use crate::{Command, Line};
+use std::alloc::{AllocError, Global};
+use std::marker::Model;
+use write_history::{Change, Changes};
+
+/// A group that nothing has ended yet.
+#[derive(Drop)]
+pub(crate) struct Group {
+    pub(crate) number: u32,
+    changes: Vec<Change>,
+}
+
+impl Model for Group {
+    ghost use Rattle.std.specs.Prelude.{◌≤◌, length};
+    ghost use Rattle.write_history.specs.Changes.{max_changes};
+    ghost use Rattle.script_lang.specs.Reading.{OpenGroup};
+
+    ghost Value = { OpenGroup };
+
+    ghost view = { λ g. record { number = g.number; changes = g.changes.items } };
+
+    ghost invariant = { λ g. length g.changes.items ≤ max_changes };
+}
+
+impl Group {
+    /// A group that begins at a line.
+    pub(crate) fn new(alloc: Global, number: u32) -> Group
+        ensures { result ≡ record { number = number; changes = [] } }
+    {
+        Group {
+            number,
+            changes: Vec::new(alloc),
+        }
+    }
+
+    /// Adds a change.
+    pub(crate) fn push(&mut self, change: Change) -> Result<(), AllocError>
+        requires { length self.old.changes < max_changes }
+        ensures { IfOk result (λ _. self.new ≡ record { number = self.old.number; changes = self.old.changes ++ change ∷ [] }) }
+    {
+        self.changes.push(change)?;
+        Ok(())
+    }
+
+    /// The number of changes.
+    pub(crate) fn len(&self) -> usize
+        ensures count { result ≡ length self.now.changes }
+        ensures few { result ≤ max_changes }
+    {
+        self.changes.len()
+    }
+
+    /// The group as a command.
+    pub(crate) fn line(self) -> Line
+        requires { 1 ≤ length self.changes }
+        ensures { result ≡ record { number = self.number; command = command.Group self.changes } }
+    {
+        Line {
+            number: self.number,
+            command: Command::Group(Changes::from_vec(self.changes)),
+        }
+    }
+}
