@@ -30,11 +30,7 @@ pub(crate) fn read_loads<T: Tree>(
 }
 
 /// Reads the file of a command, where it is a load of a lawful path.
-fn read_load<T: Tree>(
-    alloc: Global,
-    command: &Command,
-    tree: &mut T,
-) -> Result<Loaded, PlayRefusal>
+fn read_load<T: Tree>(alloc: Global, command: &Command, tree: &mut T) -> Result<Loaded, PlayRefusal>
     ensures load { IfOk result (λ load. IsLoadOf (T.files tree.old) command.now load) }
     ensures files { T.files tree.new ≡ T.files tree.old }
     ensures fault { result ≡ Err PlayRefusal.TreeFault → HasFault (T.faults tree.old) (T.faults tree.new) }

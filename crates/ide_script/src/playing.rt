@@ -19,11 +19,7 @@ const PRELUDE: u32 = 0;
 
 /// Does the commands of a script in order, from the empty workspace. The lanes go one after the other, with the seats
 /// 1, 2, ... What the loads ask for is read before all else; a tree that fails ends it.
-pub fn play<T: Tree>(
-    alloc: Global,
-    script: &Script,
-    tree: &mut T,
-) -> Result<Played, PlayRefusal>
+pub fn play<T: Tree>(alloc: Global, script: &Script, tree: &mut T) -> Result<Played, PlayRefusal>
     ensures serial { IfOk result (λ played. Plays (T.files tree.old) script.now
         (record { history = played.history.entries; records = played.records; last = played.last })) }
     ensures legal { IfOk result (λ played. IsLegal played.history.entries) }
@@ -35,11 +31,7 @@ pub fn play<T: Tree>(
 }
 
 /// Plays a script for whose loads this was read.
-fn play_loaded(
-    alloc: Global,
-    script: &Script,
-    loads: &[Loaded],
-) -> Result<Played, AllocError>
+fn play_loaded(alloc: Global, script: &Script, loads: &[Loaded]) -> Result<Played, AllocError>
     ensures serial { IfOk result (λ played. record { history = played.history.entries; records = played.records; last = played.last }
         ≡ run_of loads.now script.now) }
     ensures legal { IfOk result (λ played. IsLegal played.history.entries) }

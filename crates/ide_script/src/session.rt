@@ -126,7 +126,13 @@ impl Session {
     }
 
     /// A load creates a file of what was read for it.
-    fn load(&mut self, seat: u32, line: u32, path: &Name, load: &Loaded) -> Result<Answer, AllocError>
+    fn load(
+        &mut self,
+        seat: u32,
+        line: u32,
+        path: &Name,
+        load: &Loaded,
+    ) -> Result<Answer, AllocError>
         ensures answer { IfOk result (λ answer. answer ≡ (load_step self.old seat line path.now load.now).answer) }
         ensures history { OnOk result (self.new ≡ self.old ++ (load_step self.old seat line path.now load.now).added) }
     {
@@ -224,7 +230,13 @@ impl Session {
     }
 
     /// Puts ready changes in as the entry of a line, and answers with its position.
-    fn accept(&mut self, ready: Ready, seat: u32, line: u32, changes: Changes) -> Result<Answer, AllocError>
+    fn accept(
+        &mut self,
+        ready: Ready,
+        seat: u32,
+        line: u32,
+        changes: Changes,
+    ) -> Result<Answer, AllocError>
         requires ready { IsReadyFor (fold self.old) ready }
         requires makes { Makes (fold self.old) ready changes }
         ensures answer { IfOk result (λ answer. answer ≡ Answer.Accepted (length self.old + 1)) }
@@ -253,7 +265,14 @@ fn answer_of(query: &Query, at: u64, found: Found) -> Answer
         (Found::Rows { rows }, Query::Outline { .. }) => Answer::Outline { at, rows },
         (Found::Rows { rows }, _) => Answer::Rows { at, rows },
         (Found::Words { rows }, _) => Answer::Words { at, rows },
-        (Found::Counts { files, docs, unready }, _) => Answer::Status {
+        (
+            Found::Counts {
+                files,
+                docs,
+                unready,
+            },
+            _,
+        ) => Answer::Status {
             at,
             files,
             docs,

@@ -148,8 +148,16 @@ impl fmt::Display for Answer {
     fn fmt<W: fmt::Write>(&self, f: &mut fmt::Formatter<W>) -> fmt::Result {
         match self {
             Answer::Accepted { .. } => f.write_str("accepted"),
-            Answer::Refused { at: _, place: None, why } => write!(f, "refused {why}"),
-            Answer::Refused { at: _, place: Some(place), why } => write!(f, "refused in {place} {why}"),
+            Answer::Refused {
+                at: _,
+                place: None,
+                why,
+            } => write!(f, "refused {why}"),
+            Answer::Refused {
+                at: _,
+                place: Some(place),
+                why,
+            } => write!(f, "refused in {place} {why}"),
             Answer::NotText { at } => write!(f, "not-text {at}"),
             Answer::TooLong { count } => write!(f, "too-long {count}"),
             Answer::Smart { .. } => f.write_str("smart"),
@@ -157,7 +165,12 @@ impl fmt::Display for Answer {
             Answer::Rows { at: _, rows } => write!(f, "rows {}", rows.len()),
             Answer::Outline { at: _, rows } => write!(f, "rows {}", rows.len()),
             Answer::Words { at: _, rows } => write!(f, "rows {}", rows.len()),
-            Answer::Status { at: _, files, docs, unready } => write!(f, "status files {files} open {docs} unready {unready}"),
+            Answer::Status {
+                at: _,
+                files,
+                docs,
+                unready,
+            } => write!(f, "status files {files} open {docs} unready {unready}"),
         }
     }
 }

@@ -11,25 +11,54 @@ use write_history::{History, Refusal};
 #[derive(Drop)]
 pub enum Answer {
     /// The change or group is the entry at this position.
-    Accepted { at: u64 },
+    Accepted {
+        at: u64,
+    },
     /// The first reason; of a group also the place of the change that it refuses, from 1.
-    Refused { at: u64, place: Option<u32>, why: Refusal },
+    Refused {
+        at: u64,
+        place: Option<u32>,
+        why: Refusal,
+    },
     /// The bytes of a load aren't UTF-8 from this one on.
-    NotText { at: usize },
+    NotText {
+        at: usize,
+    },
     /// The bytes of a load have this many characters, line breaks repaired.
-    TooLong { count: usize },
+    TooLong {
+        count: usize,
+    },
     /// No file is unready.
-    Smart { at: u64 },
+    Smart {
+        at: u64,
+    },
     /// The unready file with the lowest id has this path.
-    NotReady { at: u64, path: Name },
+    NotReady {
+        at: u64,
+        path: Name,
+    },
     /// The declarations that a question finds.
-    Rows { at: u64, rows: RowList },
+    Rows {
+        at: u64,
+        rows: RowList,
+    },
     /// The declarations of one file.
-    Outline { at: u64, rows: RowList },
+    Outline {
+        at: u64,
+        rows: RowList,
+    },
     /// The files that have a word.
-    Words { at: u64, rows: WordRows },
+    Words {
+        at: u64,
+        rows: WordRows,
+    },
     /// The numbers of live files, open documents and unready files.
-    Status { at: u64, files: u32, docs: u32, unready: u32 },
+    Status {
+        at: u64,
+        files: u32,
+        docs: u32,
+        unready: u32,
+    },
 }
 
 /// The answer to the command on a line of the script.

@@ -28,7 +28,11 @@ fn push_found_row(alloc: Global, out: &mut Vec<u8>, row: &Row) -> Result<(), All
 }
 
 /// Adds the lines of files that have a word.
-pub(crate) fn push_words(alloc: Global, out: &mut Vec<u8>, rows: &[WordRow]) -> Result<(), AllocError>
+pub(crate) fn push_words(
+    alloc: Global,
+    out: &mut Vec<u8>,
+    rows: &[WordRow],
+) -> Result<(), AllocError>
     ensures { OnOk result (out.new.items ≡ out.old.items ++ flat_map word_line rows.now) }
 {
     for row in rows {
