@@ -1,1 +1,3 @@
 pub mod EntryLemmas
+pub mod SettleLemmas
+pub mod RunLemmas

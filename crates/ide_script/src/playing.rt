@@ -59,8 +59,13 @@ fn play_prelude(
     requires { All (λ line. IsOfLine line.command) lines.now }
     ensures { OnOk result (done_of session.new records.new ≡ prelude_from (done_of session.old records.old) lines.now loads.now) }
 {
-    for (line, load) in lines.iter().zip(loads) {
+    let mut left = loads;
+    for line in lines {
+        let Some((load, rest)) = left.split_first() else {
+            return Ok(());
+        };
         do_line(session, records, PRELUDE, line, load)?;
+        left = rest;
     }
     Ok(())
 }

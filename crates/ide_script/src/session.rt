@@ -18,7 +18,7 @@ use script_lang::{Command, Line};
 use std::alloc::{AllocError, Global};
 use std::marker::Model;
 use transcripts::{Answer, Loaded};
-use write_history::laws::{histories_go_on, intake_readies_one};
+use write_history::laws::{histories_go_on, intake_readies_one, unready_files_have_an_order};
 use write_history::{Change, Changes, Entry, History, Refusal, is_lawful_path};
 
 /// The state and its history, seen by contracts as the entries of the history.
@@ -160,6 +160,7 @@ impl Session {
     {
         histories_go_on();
         intake_readies_one();
+        unready_files_have_an_order();
         while let Some(id) = self.state.lowest_unready() {
             if let Some(why) = self.take_in(seat, line, id)? {
                 return Ok(self.refused(None, why));
@@ -195,6 +196,7 @@ impl Session {
         requires { lowest_unready (fold self.now) ≡ Some id }
         ensures { IfOk result (λ made. IsMadeOf (fold self.now) id made.file made.stamp made.text) }
     {
+        unready_files_have_an_order();
         let Some(job) = job(&self.state, id)? else {
             unreachable!()
         };
@@ -205,6 +207,7 @@ impl Session {
     fn ask(&self, query: &Query) -> Result<Answer, AllocError>
         ensures { IfOk result (λ answer. answer ≡ (query_step self.now query.now).answer) }
     {
+        unready_files_have_an_order();
         let at = self.history.len();
         match ask_unwatched(self.alloc, &self.state, query) {
             Ok(found) => Ok(answer_of(query, at, found)),
