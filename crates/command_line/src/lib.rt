@@ -1,13 +1,8 @@
-// A library with one function.
+//! The words of the command line: what they ask for.
 #![tactic(auto)]
 
-ghost use Rattle.std.specs.Prelude.{◌≡◌};
-ghost use Rattle.command_line.specs.Echo.{echo_of};
+mod grammar;
+mod number;
+mod request;
 
-// The `ensures` clause is the contract: what `echo` returns is `echo_of` of its argument, a definition
-// in `specs/Echo.antt`, which a caller's clause can cite too.
-pub fn echo(x: usize) -> usize
-    ensures { result ≡ echo_of x }
-{
-    x
-}
+pub use request::{Request, WordsRefusal, request_of};

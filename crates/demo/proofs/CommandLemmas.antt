@@ -1,7 +1,6 @@
 -- One edit more.
-use Rattle.std.proofs.Common.{◌≡◌, ℕ, suc, ◌+◌, ◌*◌, ◌%◌, List, [], ◌∷◌, ◌++◌, refl, ap, ap₂, sym, ◌∙◌, arith}
+use Rattle.std.proofs.Common.{◌≡◌, ℕ, suc, ◌+◌, ◌*◌, ◌%◌, List, [], ◌∷◌, ◌++◌, refl, arith}
 use Rattle.demo.specs.declared.command.Command.{Command}
-use Rattle.demo.specs.declared.command.Verb.TheVariants.{Write}
 use Rattle.demo.specs.Draws.{after_draw, number_of, state_after}
 use Rattle.demo.specs.Commands.{edit_by, edits}
 

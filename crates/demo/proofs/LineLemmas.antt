@@ -1,5 +1,5 @@
 -- The pieces of a line.
-use Rattle.std.proofs.Common.{◌≡◌, ℕ, List, ◌++◌, codes, decimal, refl, ap, ◌∙◌, append_assoc}
+use Rattle.std.proofs.Common.{◌≡◌, ℕ, List, ◌++◌, codes, decimal, ap, ◌∙◌, append_assoc}
 use Rattle.demo.specs.declared.command.Command.{Command}
 use Rattle.demo.specs.Line.{letter_of, line_of, word_of}
 
