@@ -25,3 +25,7 @@ demo_bytes seed files edited =
     ++ codes "lane\n" ++ lines_of (filter is_of_first_lane (edits_of seed files edited))
     ++ codes "lane\n" ++ lines_of (filter is_of_second_lane (edits_of seed files edited))
     ++ last_section
+
+-- how long a script is at most, as any script that is played
+abbrev pub max_len : ℕ
+max_len = 16777216

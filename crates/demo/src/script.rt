@@ -1,7 +1,7 @@
 //! The script: the prelude, two lanes and the last section.
-ghost use Rattle.std.specs.Prelude.{◌≡◌, ◌++◌, ◌<◌, ◌≤◌, IfOk, OnOk, filter, false};
+ghost use Rattle.std.specs.Prelude.{length, ◌≡◌, ◌++◌, ◌<◌, ◌≤◌, IfOk, OnOk, filter, false};
 ghost use Rattle.demo.specs.Commands.{is_of_first_lane, is_of_second_lane};
-ghost use Rattle.demo.specs.Script.{demo_bytes, lines_of};
+ghost use Rattle.demo.specs.Script.{demo_bytes, lines_of, max_len};
 
 use crate::command::{Command, push_line};
 use crate::commands::{create_commands, edit_commands};
@@ -15,7 +15,8 @@ pub fn demo_script(alloc: Global, seed: u32, files: u32, edits: u32) -> Result<V
     requires some_file { 0 < files }
     requires few_files { files ≤ 10000 }
     requires few_edits { edits ≤ 50000 }
-    ensures { IfOk result (λ script. script.items ≡ demo_bytes seed files edits) }
+    ensures bytes { IfOk result (λ script. script.items ≡ demo_bytes seed files edits) }
+    ensures fits { OnOk result (length (demo_bytes seed files edits) ≤ max_len) }
 {
     let mut draws = Draws::new(seed);
     let creates = create_commands(alloc, &mut draws, files)?;
