@@ -82,11 +82,14 @@ has_exact_matches = refl
 taken : (words : List Text) (o : Option (Text × List Row)) → fault_of command words ≡ [] → o ≡ subcommand_of command words → request_by o ≡ request_of words
 taken words o none is = rw (none, is) refl
 
-pub ok_of-taken : (words : List Text) (o : Option (Text × List Row)) (read : Option Request) → fault_of command words ≡ [] → o ≡ subcommand_of command words
-    → read ≡ request_by o → IfOk (ok_or read Usage) (λ request. request_of words ≡ Some request)
-ok_of-taken words o None none is reads = tt
-ok_of-taken words o (Some r) none is reads = sym (taken words o none is) ∙ sym reads
+-- an answer has what is read, where something is read
+answers : (read : Option Request) (P : Request → Type 0) → ((r : Request) → read ≡ Some r → P r) → IfOk (ok_or read Usage) P
+answers None P h = tt
+answers (Some r) P h = h r refl
 
-pub in_range-read : (o : Option (Text × List Row)) (read : Option Request) → read ≡ request_by o → IfOk (ok_or read Usage) IsInRange
-in_range-read o None reads = tt
-in_range-read o (Some r) reads = request_by-in_range o r (sym reads)
+pub ok_of-taken : (words : List Text) (o : Option (Text × List Row)) → fault_of command words ≡ [] → o ≡ subcommand_of command words
+    → IfOk (ok_or (request_by o) Usage) (λ request. request_of words ≡ Some request)
+ok_of-taken words o none is = answers (request_by o) (λ r. request_of words ≡ Some r) (λ r reads. sym (taken words o none is) ∙ reads)
+
+pub in_range-read : (o : Option (Text × List Row)) → IfOk (ok_or (request_by o) Usage) IsInRange
+in_range-read o = answers (request_by o) IsInRange (request_by-in_range o)

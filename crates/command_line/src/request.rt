@@ -1,5 +1,5 @@
 //! What the words ask for.
-ghost use Rattle.std.specs.Prelude.{◌≡◌, ◌≢◌, map, string_bytes, IfOk};
+ghost use Rattle.std.specs.Prelude.{◌≡◌, ◌↔◌, ok_or, map, string_bytes, IfOk};
 ghost use Rattle.clap.specs.Words.{found_of, rows_of, subcommand_rows_of, kind_of};
 ghost use Rattle.command_line.specs.Request.{number_in, play_by, demo_by, request_by, request_of, IsInRange};
 
@@ -45,19 +45,26 @@ pub fn request_of(alloc: Global, words: &[String]) -> Result<Request, WordsRefus
         return Err(WordsRefusal::OutOfMemory);
     };
     match command.try_get_matches_from(words) {
-        Ok(matches) => request_by(&matches).ok_or(WordsRefusal::Usage),
+        Ok(matches) => judged(&matches),
         Err(error) => Err(refusal_by(&error)),
     }
 }
 
 /// Why `clap` takes no matches from the words.
 fn refusal_by(error: &Error) -> WordsRefusal
-    ensures { result ≡ WordsRefusal.Usage → kind_of error.now ≢ ErrorKind.OutOfMemory }
+    ensures { (result ≡ WordsRefusal.OutOfMemory) ↔ (kind_of error.now ≡ ErrorKind.OutOfMemory) }
 {
     match error.kind() {
         ErrorKind::OutOfMemory => WordsRefusal::OutOfMemory,
         _ => WordsRefusal::Usage,
     }
+}
+
+/// What words that `clap` takes ask for. They are refused where a number in them is faulty.
+fn judged(matches: &ArgMatches<'_>) -> Result<Request, WordsRefusal>
+    ensures { result ≡ ok_or (request_by (subcommand_rows_of matches.now)) WordsRefusal.Usage }
+{
+    request_by(matches).ok_or(WordsRefusal::Usage)
 }
 
 /// What the subcommand asks for, where its numbers have the form and the range.

@@ -13,10 +13,10 @@ returns-in-Ok-try_get_matches_from-clause-ok c =
     let none : fault_of command words ≡ [] = subst (λ (a : App). fault_of a words ≡ []) app (parse.kinds (ap is_simple_and_free app ∙ is_exact)) in
     let rows : subcommand_rows_of c.in-Ok-try_get_matches_from.matches ≡ subcommand_of command words
     = (parse.matches (ap is_simple app ∙ has_exact_matches)).1 ∙ ap (λ (a : App). subcommand_of a words) app in
-    subst (λ r. IfOk r (λ request. request_of words ≡ Some request)) (sym c.ok_or.ensures.value)
-    (ok_of-taken words (subcommand_rows_of c.in-Ok-try_get_matches_from.matches) c.request_by.result none rows c.request_by.ensures)
+    subst (λ r. IfOk r (λ request. request_of words ≡ Some request)) (sym c.judged.ensures)
+    (ok_of-taken words (subcommand_rows_of c.in-Ok-try_get_matches_from.matches) none rows)
 
 pub returns-in-Ok-try_get_matches_from-clause-in_range : goal.returns-in-Ok-try_get_matches_from-clause-in_range
 returns-in-Ok-try_get_matches_from-clause-in_range c =
-    subst (λ r. IfOk r IsInRange) (sym c.ok_or.ensures.value)
-    (in_range-read (subcommand_rows_of c.in-Ok-try_get_matches_from.matches) c.request_by.result c.request_by.ensures)
+    subst (λ r. IfOk r IsInRange) (sym c.judged.ensures)
+    (in_range-read (subcommand_rows_of c.in-Ok-try_get_matches_from.matches))
