@@ -20,11 +20,10 @@ pub fn create_commands(
     let mut commands = Vec::new(alloc);
     for before in 0..files {
         let file = before + 1;
-        let parent = draws.draw() % file;
         commands.push(Command {
             verb: Verb::Create,
             file,
-            parent,
+            parent: draws.draw() % file,
             method: file,
         })?;
     }
