@@ -1,5 +1,5 @@
 //! The commands of the script, drawn one after another.
-ghost use Rattle.std.specs.Prelude.{◌≡◌, ◌+◌, ◌*◌, ◌<◌, ◌≤◌, IfOk, OnOk};
+ghost use Rattle.std.specs.Prelude.{◌≡◌, ◌<◌, ◌≤◌, IfOk, OnOk};
 ghost use Rattle.demo.specs.Draws.{state_after};
 ghost use Rattle.demo.specs.Commands.{creates, edits};
 

@@ -1,5 +1,5 @@
 //! The draws: numbers that follow from a seed.
-ghost use Rattle.std.specs.Prelude.{◌≡◌, ◌<◌};
+ghost use Rattle.std.specs.Prelude.{◌≡◌};
 ghost use Rattle.demo.specs.Draws.{after_draw, number_of};
 
 /// Numbers below 32,768, drawn one after another.

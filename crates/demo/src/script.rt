@@ -1,5 +1,5 @@
 //! The script: the prelude, two lanes and the last section.
-ghost use Rattle.std.specs.Prelude.{length, ◌≡◌, ◌++◌, ◌<◌, ◌≤◌, IfOk, OnOk, filter, false};
+ghost use Rattle.std.specs.Prelude.{length, ◌≡◌, ◌++◌, ◌<◌, ◌≤◌, IfOk, OnOk, filter};
 ghost use Rattle.demo.specs.Commands.{is_of_first_lane, is_of_second_lane};
 ghost use Rattle.demo.specs.Script.{demo_bytes, lines_of, max_len};
 
@@ -11,7 +11,6 @@ use std::alloc::{AllocError, Global};
 /// The script of a seed: so many files, and so many edits of them in two lanes. The lanes edit different files, so the
 /// summary of its run is always the same. The time and the length grow with the number of files and edits.
 pub fn demo_script(alloc: Global, seed: u32, files: u32, edits: u32) -> Result<Vec<u8>, AllocError>
-    requires small_seed { seed < 2147483648 }
     requires some_file { 0 < files }
     requires few_files { files ≤ 10000 }
     requires few_edits { edits ≤ 50000 }
