@@ -1,0 +1,52 @@
+-- The definitions at words that are written out.
+use Rattle.std.proofs.Common.{◌≡◌, [], ◌∷◌, Some, None, codes, refl}
+use Rattle.clap.specs.Words.{Text}
+use Rattle.clap.proofs.OnLiterals.{clap_on_literals}
+use Rattle.command_line.specs.declared.request.Request.TheVariants.{Play, Demo}
+use Rattle.std.specs.Fmt.{digits}
+use Rattle.command_line.specs.Number.{number_of}
+use Rattle.command_line.specs.Request.{request_of}
+
+-- the name alone is `play`
+name_alone : (name : Text) → request_of (name ∷ []) ≡ Some Play
+unfolding clap_on_literals number_of digits
+name_alone name = refl
+
+play_said : (name : Text) → request_of (name ∷ codes "play" ∷ []) ≡ Some Play
+unfolding clap_on_literals number_of digits
+play_said name = refl
+
+-- what isn't given has its default
+demo_defaults : (name : Text) → request_of (name ∷ codes "demo" ∷ []) ≡ Some (Demo 1 8 32)
+unfolding clap_on_literals number_of digits
+demo_defaults name = refl
+
+-- a value stands in the next word or behind `=`
+demo_given : (name : Text) → request_of (name ∷ codes "demo" ∷ codes "--seed" ∷ codes "7" ∷ codes "--files=2" ∷ []) ≡ Some (Demo 7 2 32)
+unfolding clap_on_literals number_of digits
+demo_given name = refl
+
+no_files : (name : Text) → request_of (name ∷ codes "demo" ∷ codes "--files" ∷ codes "0" ∷ []) ≡ None
+unfolding clap_on_literals number_of digits
+no_files name = refl
+
+leading_zero : (name : Text) → request_of (name ∷ codes "demo" ∷ codes "--seed" ∷ codes "01" ∷ []) ≡ None
+unfolding clap_on_literals number_of digits
+leading_zero name = refl
+
+given_twice : (name : Text) → request_of (name ∷ codes "demo" ∷ codes "--seed" ∷ codes "1" ∷ codes "--seed" ∷ codes "1" ∷ []) ≡ None
+unfolding clap_on_literals number_of digits
+given_twice name = refl
+
+-- an option stands behind the subcommand
+option_first : (name : Text) → request_of (name ∷ codes "--workers" ∷ codes "0" ∷ codes "play" ∷ []) ≡ None
+unfolding clap_on_literals number_of digits
+option_first name = refl
+
+help_asked : (name : Text) → request_of (name ∷ codes "--help" ∷ []) ≡ None
+unfolding clap_on_literals number_of digits
+help_asked name = refl
+
+help_as_a_subcommand : (name : Text) → request_of (name ∷ codes "help" ∷ []) ≡ None
+unfolding clap_on_literals number_of digits
+help_as_a_subcommand name = refl

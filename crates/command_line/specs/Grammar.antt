@@ -1,0 +1,31 @@
+-- The command as clap is told of it.
+use Rattle.std.specs.Prelude.{◌≡◌, false, [], ◌∷◌, Some, codes}
+use Rattle.clap.specs.Words.{App, Rule, Text, app_of, new_app, new_rule, with_rule, with_subcommand}
+use Rattle.clap.specs.declared.builder.command.Command.{Command}
+use Rattle.clap.specs.declared.builder.command.Command.TheViews.{out-Command as fields_of}
+
+-- an option `--name N`, with the digits that it has where it isn't given
+abbrev pub number_option : Text → Text → Rule
+number_option name default = record (new_rule name) { long = Some name; defaults = default ∷ [] }
+
+-- `play --workers N`
+abbrev pub play_command : App
+play_command = with_rule (new_app (codes "play")) (number_option (codes "workers") (codes "0"))
+
+-- `demo --seed S --files N --edits M --workers N`
+abbrev pub demo_command : App
+demo_command =
+    with_rule (with_rule (with_rule (with_rule (new_app (codes "demo"))
+    (number_option (codes "seed") (codes "1")))
+    (number_option (codes "files") (codes "8")))
+    (number_option (codes "edits") (codes "32")))
+    (number_option (codes "workers") (codes "0"))
+
+-- the whole command, with these two subcommands
+abbrev pub command : App
+command = with_subcommand (with_subcommand (new_app (codes "ide")) play_command.top) demo_command.top
+
+-- what a parse reads of the command is this, and no argument of it is global
+pub record IsCommandOf (app : App) (c : Command) : Type 0 where
+  pub shape : app_of c ≡ app
+  pub local : (fields_of c).has_globals ≡ false

@@ -1,0 +1,42 @@
+//! The command as `clap` is told of it.
+ghost use Rattle.std.specs.Prelude.{◌≡◌, IfOk, false};
+ghost use Rattle.clap.specs.Words.{rule_of};
+ghost use Rattle.command_line.specs.Grammar.{number_option, play_command, demo_command, command, IsCommandOf};
+
+use clap::{Arg, Command};
+use std::alloc::{AllocError, Global};
+
+/// An option with a number, and the number that it has where it isn't given.
+fn number_option<'a>(alloc: Global, name: &'a str, default: &'a str) -> Arg<'a>
+    ensures rule { rule_of result ≡ number_option name.entry.now default.entry.now }
+    ensures local { result.global ≡ false }
+{
+    Arg::new(alloc, name).long(name).default_value(default)
+}
+
+/// The subcommand `play`.
+fn play_command<'a>(alloc: Global) -> Result<Command<'a>, AllocError>
+    ensures { IfOk result (IsCommandOf play_command) }
+{
+    Command::new(alloc, "play").arg(number_option(alloc, "workers", "0"))
+}
+
+/// The subcommand `demo`.
+fn demo_command<'a>(alloc: Global) -> Result<Command<'a>, AllocError>
+    ensures { IfOk result (IsCommandOf demo_command) }
+{
+    Command::new(alloc, "demo")
+        .arg(number_option(alloc, "seed", "1"))?
+        .arg(number_option(alloc, "files", "8"))?
+        .arg(number_option(alloc, "edits", "32"))?
+        .arg(number_option(alloc, "workers", "0"))
+}
+
+/// The whole command.
+pub fn command<'a>(alloc: Global) -> Result<Command<'a>, AllocError>
+    ensures { IfOk result (IsCommandOf command) }
+{
+    Command::new(alloc, "ide")
+        .subcommand(play_command(alloc)?)?
+        .subcommand(demo_command(alloc)?)
+}

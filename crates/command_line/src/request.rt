@@ -1,0 +1,110 @@
+//! What the words ask for.
+ghost use Rattle.std.specs.Prelude.{◌≡◌, ◌↔◌, ok_or, map, string_bytes, IfOk};
+ghost use Rattle.clap.specs.Words.{found_of, rows_of, subcommand_rows_of, kind_of};
+ghost use Rattle.command_line.specs.Request.{number_in, play_by, demo_by, request_by, request_of, IsInRange};
+
+use crate::grammar::command;
+use crate::number::number_between;
+use clap::error::ErrorKind;
+use clap::{ArgMatches, Error};
+use std::alloc::Global;
+
+/// The highest seed.
+const MAX_SEED: u32 = 2_147_483_647;
+/// The highest number of files.
+const MAX_FILES: u32 = 10_000;
+/// The highest number of edits.
+const MAX_EDITS: u32 = 50_000;
+/// The highest number of workers: until lanes run on threads there are none.
+const MAX_WORKERS: u32 = 0;
+
+/// What the program is asked to do.
+#[derive(Clone, Copy, Debug, PartialEq, Eq)]
+pub enum Request {
+    /// A script is read from standard input and played.
+    Play,
+    /// A script is made from a seed and played.
+    Demo { seed: u32, files: u32, edits: u32 },
+}
+
+/// Why no request is read from the words.
+#[derive(Clone, Copy, Debug, PartialEq, Eq)]
+pub enum WordsRefusal {
+    /// The words are outside the grammar, or ask for help.
+    Usage,
+    OutOfMemory,
+}
+
+/// What the words ask for. The first of them is the program's name.
+pub fn request_of(alloc: Global, words: &[String]) -> Result<Request, WordsRefusal>
+    ensures ok { IfOk result (λ request. request_of (map string_bytes words.now) ≡ Some request) }
+    ensures usage { result ≡ Err WordsRefusal.Usage → request_of (map string_bytes words.now) ≡ None }
+    ensures in_range { IfOk result IsInRange }
+{
+    let Ok(command) = command(alloc) else {
+        return Err(WordsRefusal::OutOfMemory);
+    };
+    match command.try_get_matches_from(words) {
+        Ok(matches) => judged(&matches),
+        Err(error) => Err(refusal_by(&error)),
+    }
+}
+
+/// Why `clap` takes no matches from the words.
+fn refusal_by(error: &Error) -> WordsRefusal
+    ensures { (result ≡ WordsRefusal.OutOfMemory) ↔ (kind_of error.now ≡ ErrorKind.OutOfMemory) }
+{
+    match error.kind() {
+        ErrorKind::OutOfMemory => WordsRefusal::OutOfMemory,
+        _ => WordsRefusal::Usage,
+    }
+}
+
+/// What words that `clap` takes ask for. They are refused where a number in them is faulty.
+fn judged(matches: &ArgMatches<'_>) -> Result<Request, WordsRefusal>
+    ensures { result ≡ ok_or (request_by (subcommand_rows_of matches.now)) WordsRefusal.Usage }
+{
+    request_by(matches).ok_or(WordsRefusal::Usage)
+}
+
+/// What the subcommand asks for, where its numbers have the form and the range.
+fn request_by(matches: &ArgMatches<'_>) -> Option<Request>
+    ensures { result ≡ request_by (subcommand_rows_of matches.now) }
+{
+    match matches.subcommand() {
+        None => Some(Request::Play),
+        Some((name, options)) => {
+            if name == "play" {
+                play_by(options)
+            } else {
+                demo_by(options)
+            }
+        }
+    }
+}
+
+/// What `play` with these options asks for.
+fn play_by(options: &ArgMatches<'_>) -> Option<Request>
+    ensures { result ≡ play_by (rows_of (found_of options.now)) }
+{
+    number_in(options, "workers", 0, MAX_WORKERS)?;
+    Some(Request::Play)
+}
+
+/// What `demo` with these options asks for.
+fn demo_by(options: &ArgMatches<'_>) -> Option<Request>
+    ensures { result ≡ demo_by (rows_of (found_of options.now)) }
+{
+    let seed = number_in(options, "seed", 0, MAX_SEED)?;
+    let files = number_in(options, "files", 1, MAX_FILES)?;
+    let edits = number_in(options, "edits", 0, MAX_EDITS)?;
+    number_in(options, "workers", 0, MAX_WORKERS)?;
+    Some(Request::Demo { seed, files, edits })
+}
+
+/// The number that an option has, where it lies within these bounds.
+fn number_in(options: &ArgMatches<'_>, name: &str, least: u32, most: u32) -> Option<u32>
+    ensures { result ≡ number_in (rows_of (found_of options.now)) name.now least most }
+{
+    number_between(least, most, options.get_str(name)?)
+}

@@ -1,0 +1,4 @@
+mod OnLiterals
+pub mod LineLemmas
+pub mod CommandLemmas
+pub mod LengthLemmas

@@ -1,0 +1,9 @@
+use Rattle.std.proofs.Common.{◌≡◌, ◌*◌}
+use Rattle.demo.specs.Draws.{state_after}
+use Rattle.demo.specs.Commands.{edits}
+use Rattle.demo.proofs.commands.edit_commands.Given as goal
+
+-- the commands so far, and the state after their draws
+abbrev pub invariant-loop-before : goal.invariant-loop-before
+invariant-loop-before l =
+    (l.commands.items ≡ edits l.fn.draws.state l.files l.before) × (l.draws.state ≡ state_after l.fn.draws.state (2 * l.before))

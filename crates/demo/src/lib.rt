@@ -1,0 +1,9 @@
+//! The script of the `demo` command: classes that extend one another, and two lanes that rewrite them, all drawn from a seed.
+#![tactic(auto)]
+
+mod command;
+mod commands;
+mod draws;
+mod script;
+
+pub use script::demo_script;

@@ -1,0 +1,8 @@
+//! Tests of `command_line` and `demo`: what words ask for, and the script of a seed.
+#![tactic(auto)]
+
+#[cfg(test)]
+mod scripts;
+mod tables;
+#[cfg(test)]
+mod words;
