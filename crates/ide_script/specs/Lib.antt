@@ -1,12 +1,13 @@
 -- Where a script leads, and how a run ends
 pub mod Play
-pub mod CommandLine
 pub mod Status
 pub mod Run
 -- How a run keeps its place
 pub mod Progress
 pub mod Settle
--- What these cite from below: scripts, transcripts, the history, and the outside
+-- What these cite from below: words, scripts, transcripts, the history, and the outside
+pub use Rattle.command_line.specs.Request
+pub use Rattle.demo.specs.Script
 pub use Rattle.script_lang.specs.Grammar
 pub use Rattle.transcripts.specs.Loads
 pub use Rattle.transcripts.specs.Serial

@@ -1,20 +1,28 @@
 -- How a run of the program ends.
-use Rattle.std.specs.Prelude.{ℕ, ◌≡◌, ◌≢◌, ◌↔◌, ◌+◌, ◌⊎◌, false, List, Option}
+use Rattle.std.specs.Prelude.{ℕ, ◌≡◌, ◌≢◌, ◌+◌, ◌⊎◌, List, [], ◌∷◌, codes, Option, Some, None}
 use Rattle.std.specs.Io.KnownBytes.{append_known}
 use Rattle.ide_io.specs.Known.{ReadsToEnd, TakesPrefix, TakesCount}
 use Rattle.ide_io.specs.Fault.{HasFault, next_count}
 use Rattle.ide_io.specs.Files.{Files}
+use Rattle.command_line.specs.declared.request.Request.{Request}
+use Rattle.command_line.specs.declared.request.Request.TheVariants.{Play, Demo}
+use Rattle.command_line.specs.Request.{request_of}
+use Rattle.demo.specs.Script.{demo_bytes}
 use Rattle.script_lang.specs.Lines.{max_bytes}
 use Rattle.script_lang.specs.Parts.{Parts}
 use Rattle.script_lang.specs.Grammar.{IsScript, IsRefused}
 use Rattle.script_lang.specs.declared.refusal.ScriptRefusal.TheVariants.{BadLine}
-use Rattle.transcripts.specs.Serial.{Ended}
-use Rattle.transcripts.specs.Transcript.{transcript_of}
+use Rattle.transcripts.specs.Serial.{Ended, run_of}
+use Rattle.transcripts.specs.Transcript.{transcript_of, summary_of}
 use Rattle.ide_script.specs.declared.status.Status.{Status}
 use Rattle.ide_script.specs.declared.status.Status.TheVariants.{Done, Usage, BadScript, SourceFault, TreeFault, SinkFault, OutOfMemory, ScriptTooLong}
 use Rattle.ide_script.specs.Status.{number_of, fault_line}
-use Rattle.ide_script.specs.Play.{Plays}
-use Rattle.ide_script.specs.CommandLine.{is_command_line}
+use Rattle.ide_script.specs.Play.{Plays, no_loads}
+
+-- the words of a command line: the program's name where the system gives none
+abbrev pub given_words : List (List ℕ) → List (List ℕ)
+given_words [] = codes "ide" ∷ []
+given_words (name ∷ words) = name ∷ words
 
 -- the source was read to its end, and its bytes spell the script
 pub record GivesScript {S : Type 0} (left : S → Option (List ℕ)) (ends : S → ℕ) (old new : S) (script : Parts) : Type 0 where
@@ -46,18 +54,66 @@ pub record WritesPrefix {S : Type 0} (left : S → Option (List ℕ)) (ends : S 
   pub played : PlaysSource left ends old new files ended
   pub taken : TakesPrefix before after (transcript_of ended)
 
--- when each answer comes, and what was read and written then
-abbrev pub RunEnds : {S T K : Type 0} → (S → Option (List ℕ)) → (S → ℕ) → (S → ℕ) → (T → Option Files) → (T → ℕ) → (K → Option (List ℕ)) → (K → ℕ)
+-- where the script of a demo leads
+pub record PlaysDemo (seed files edits : ℕ) (ended : Ended) : Type 0 where
+  pub script : Parts
+  pub spelled : IsScript (demo_bytes seed files edits) script
+  pub is : ended ≡ run_of (no_loads script.prelude) script
+
+-- the sink took exactly the summary of a demo, after what it held
+pub record WritesSummary (seed files edits : ℕ) (before after : Option (List ℕ)) : Type 0 where
+  pub ended : Ended
+  pub played : PlaysDemo seed files edits ended
+  pub taken : after ≡ append_known before (summary_of ended)
+
+-- the sink took a prefix of the summary of a demo
+pub record WritesSummaryPrefix (seed files edits : ℕ) (before after : Option (List ℕ)) : Type 0 where
+  pub ended : Ended
+  pub played : PlaysDemo seed files edits ended
+  pub taken : TakesPrefix before after (summary_of ended)
+
+-- when each answer to a `play` comes, and what was read and written then
+abbrev pub PlayEnds : {S T K : Type 0} → (S → Option (List ℕ)) → (S → ℕ) → (S → ℕ) → (T → Option Files) → (T → ℕ) → (K → Option (List ℕ)) → (K → ℕ)
     → S → S → T → T → K → K → Status → Type 0
-RunEnds left ends faults files losses taken misses source source' tree tree' sink sink' Done = WritesTranscript left ends source source' (files tree) (taken sink) (taken sink')
-RunEnds left ends faults files losses taken misses source source' tree tree' sink sink' (BadScript line) = GivesBadLine left ends source source' line
-RunEnds left ends faults files losses taken misses source source' tree tree' sink sink' ScriptTooLong = TakesCount (max_bytes + 1) (left source) (left source')
-RunEnds left ends faults files losses taken misses source source' tree tree' sink sink' SourceFault = HasFault (faults source) (faults source')
-RunEnds left ends faults files losses taken misses source source' tree tree' sink sink' TreeFault = HasFault (losses tree) (losses tree')
-RunEnds left ends faults files losses taken misses source source' tree tree' sink sink' SinkFault =
+PlayEnds left ends faults files losses taken misses source source' tree tree' sink sink' Done = WritesTranscript left ends source source' (files tree) (taken sink) (taken sink')
+PlayEnds left ends faults files losses taken misses source source' tree tree' sink sink' (BadScript line) = GivesBadLine left ends source source' line
+PlayEnds left ends faults files losses taken misses source source' tree tree' sink sink' ScriptTooLong = TakesCount (max_bytes + 1) (left source) (left source')
+PlayEnds left ends faults files losses taken misses source source' tree tree' sink sink' SourceFault = HasFault (faults source) (faults source')
+PlayEnds left ends faults files losses taken misses source source' tree tree' sink sink' TreeFault = HasFault (losses tree) (losses tree')
+PlayEnds left ends faults files losses taken misses source source' tree tree' sink sink' SinkFault =
     HasFault (misses sink) (misses sink') × WritesPrefix left ends source source' (files tree) (taken sink) (taken sink')
-RunEnds left ends faults files losses taken misses source source' tree tree' sink sink' OutOfMemory = Unit {0}
-RunEnds left ends faults files losses taken misses source source' tree tree' sink sink' Usage = Unit {0}
+PlayEnds left ends faults files losses taken misses source source' tree tree' sink sink' OutOfMemory = Unit {0}
+PlayEnds left ends faults files losses taken misses source source' tree tree' sink sink' Usage = ⊥
+
+-- when each answer to a `demo` comes, and what was written then
+abbrev pub DemoEnds : {K : Type 0} → (K → Option (List ℕ)) → (K → ℕ) → ℕ → ℕ → ℕ → K → K → Status → Type 0
+DemoEnds taken misses seed files edits sink sink' Done = WritesSummary seed files edits (taken sink) (taken sink')
+DemoEnds taken misses seed files edits sink sink' SinkFault = HasFault (misses sink) (misses sink') × WritesSummaryPrefix seed files edits (taken sink) (taken sink')
+DemoEnds taken misses seed files edits sink sink' OutOfMemory = Unit {0}
+DemoEnds taken misses seed files edits sink sink' (BadScript line) = IsRefused (demo_bytes seed files edits) (BadLine line)
+DemoEnds taken misses seed files edits sink sink' Usage = ⊥
+DemoEnds taken misses seed files edits sink sink' SourceFault = ⊥
+DemoEnds taken misses seed files edits sink sink' TreeFault = ⊥
+DemoEnds taken misses seed files edits sink sink' ScriptTooLong = ⊥
+
+-- when each answer to faulty words comes
+abbrev pub WordsEnd : Status → Type 0
+WordsEnd status = (status ≡ Usage) ⊎ (status ≡ OutOfMemory)
+
+-- when each answer comes, by what the words ask for, and what was read and written then
+abbrev pub RunEnds : {S T K : Type 0} → (S → Option (List ℕ)) → (S → ℕ) → (S → ℕ) → (T → Option Files) → (T → ℕ) → (K → Option (List ℕ)) → (K → ℕ)
+    → Option Request → S → S → T → T → K → K → Status → Type 0
+RunEnds left ends faults files losses taken misses None source source' tree tree' sink sink' status = WordsEnd status
+RunEnds left ends faults files losses taken misses (Some Play) source source' tree tree' sink sink' status =
+    PlayEnds left ends faults files losses taken misses source source' tree tree' sink sink' status
+RunEnds left ends faults files losses taken misses (Some (Demo seed count edits)) source source' tree tree' sink sink' status =
+    DemoEnds taken misses seed count edits sink sink' status
+
+-- words that ask for no script: faulty ones, and those of a demo
+abbrev pub AsksNothing : Option Request → Type 0
+AsksNothing None = Unit {0}
+AsksNothing (Some Play) = ⊥
+AsksNothing (Some (Demo seed files edits)) = Unit {0}
 
 -- the end was told once, or not at all
 abbrev pub TellsEndOnce : ℕ → ℕ → Type 0
@@ -73,6 +129,17 @@ ReadStops left ends faults old new Done = ⊥
 ReadStops left ends faults old new Usage = ⊥
 ReadStops left ends faults old new TreeFault = ⊥
 ReadStops left ends faults old new SinkFault = ⊥
+
+-- why a demo wasn't played
+abbrev pub DemoStops : ℕ → ℕ → ℕ → Status → Type 0
+DemoStops seed files edits (BadScript line) = IsRefused (demo_bytes seed files edits) (BadLine line)
+DemoStops seed files edits OutOfMemory = Unit {0}
+DemoStops seed files edits ScriptTooLong = ⊥
+DemoStops seed files edits SourceFault = ⊥
+DemoStops seed files edits Done = ⊥
+DemoStops seed files edits Usage = ⊥
+DemoStops seed files edits TreeFault = ⊥
+DemoStops seed files edits SinkFault = ⊥
 
 -- how the writing of some bytes ended
 abbrev pub WriteEnds : {K : Type 0} → (K → Option (List ℕ)) → (K → ℕ) → K → K → List ℕ → Status → Type 0
@@ -95,7 +162,6 @@ pub record EndsWith {S T K E : Type 0} (left : S → Option (List ℕ)) (ends fa
   pub status : Status
   pub numbered : number ≡ number_of status
   pub line : TellsStatus told flaws error error' status
-  pub run : RunEnds left ends faults files losses taken misses source source' tree tree' sink sink' status
-  pub usage : (status ≡ Usage) ↔ (is_command_line words ≡ false)
-  pub unread : status ≡ Usage → (source' ≡ source) × (tree' ≡ tree)
+  pub run : RunEnds left ends faults files losses taken misses (request_of words) source source' tree tree' sink sink' status
+  pub unread : AsksNothing (request_of words) → (source' ≡ source) × (tree' ≡ tree)
   pub silent : status ≢ Done → status ≢ SinkFault → sink' ≡ sink

@@ -4,9 +4,8 @@ ghost use Rattle.std.specs.Io.KnownBytes.{append_known};
 ghost use Rattle.ide_io.specs.Fault.{HasFault};
 ghost use Rattle.ide_io.specs.Known.{TakesAtMost};
 ghost use Rattle.script_lang.specs.Lines.{max_bytes};
-ghost use Rattle.ide_script.specs.CommandLine.{given_words};
 ghost use Rattle.ide_script.specs.Status.{number_of, fault_line};
-ghost use Rattle.ide_script.specs.Run.{EndsWith, TellsEndOnce, TellsStatus};
+ghost use Rattle.ide_script.specs.Run.{EndsWith, TellsEndOnce, TellsStatus, given_words};
 
 use crate::{Status, run_ide};
 use ide_io::{Failed, Sink, Source, Tree, write_all};

@@ -11,7 +11,7 @@ mod status;
 mod system;
 
 pub use entry::{finish, run_main};
-pub use playing::play;
+pub use playing::{play, play_without_loads};
 pub use refusal::PlayRefusal;
 pub use run::run_ide;
 pub use status::Status;

@@ -4,7 +4,7 @@ ghost use Rattle.ide_io.specs.Fault.{HasFault};
 ghost use Rattle.write_history.specs.Fold.{IsLegal};
 ghost use Rattle.script_lang.specs.Held.{IsOfLine};
 ghost use Rattle.transcripts.specs.Serial.{prelude_from, section_from, lanes_from, run_of, after_step, step_of};
-ghost use Rattle.ide_script.specs.Play.{Plays, done_of};
+ghost use Rattle.ide_script.specs.Play.{Plays, done_of, no_loads};
 
 use crate::PlayRefusal;
 use crate::loads::read_loads;
@@ -28,6 +28,26 @@ pub fn play<T: Tree>(alloc: Global, script: &Script, tree: &mut T) -> Result<Pla
 {
     let loads = read_loads(alloc, script.prelude(), tree)?;
     Ok(play_loaded(alloc, script, &loads)?)
+}
+
+/// Does the commands of a script that has no load.
+pub fn play_without_loads(alloc: Global, script: &Script) -> Result<Played, AllocError>
+    ensures serial { IfOk result (λ played. record { history = played.history.entries; records = played.records; last = played.last }
+        ≡ run_of (no_loads script.now.prelude) script.now) }
+{
+    let loads = nothing_loaded(alloc, script.prelude())?;
+    play_loaded(alloc, script, &loads)
+}
+
+/// That nothing was read for any of these lines.
+fn nothing_loaded(alloc: Global, lines: &[Line]) -> Result<Vec<Loaded>, AllocError>
+    ensures { IfOk result (λ loads. loads.items ≡ no_loads lines.now) }
+{
+    let mut loads = Vec::with_capacity(alloc, lines.len())?;
+    for _line in lines {
+        loads.push(Loaded::Nothing)?;
+    }
+    Ok(loads)
 }
 
 /// Plays a script for whose loads this was read.

@@ -1,22 +1,24 @@
 //! The whole program, over any source, tree and sink.
-ghost use Rattle.std.specs.Prelude.{◌≡◌, false, ◌≢◌, ◌↔◌, ◌<◌, ℕ, List, Err, length, map, string_bytes, IfOk, IfErr};
+ghost use Rattle.std.specs.Prelude.{◌≡◌, ◌≢◌, ◌↔◌, ◌<◌, ℕ, List, Err, length, map, string_bytes, IfOk, IfErr};
 ghost use Rattle.ide_io.specs.Known.{TakesAtMost};
 ghost use Rattle.script_lang.specs.Lines.{max_bytes};
-ghost use Rattle.transcripts.specs.Transcript.{transcript_of};
-ghost use Rattle.ide_script.specs.CommandLine.{is_command_line};
-ghost use Rattle.ide_script.specs.Run.{RunEnds, GivesScript, TellsEndOnce, ReadStops, WriteEnds};
+ghost use Rattle.command_line.specs.Request.{request_of, IsInRange};
+ghost use Rattle.transcripts.specs.Transcript.{transcript_of, summary_of};
+ghost use Rattle.ide_script.specs.Run.{RunEnds, PlayEnds, DemoEnds, GivesScript, TellsEndOnce, ReadStops, WriteEnds, PlaysDemo, DemoStops, AsksNothing};
 
-use crate::{PlayRefusal, Status, play};
+use crate::{PlayRefusal, Status, play, play_without_loads};
+use command_line::{Request, WordsRefusal, request_of};
+use demo::demo_script;
 use ide_io::{ReadAllError, Sink, Source, Tree, read_all, write_all};
 use script_lang::{MAX_BYTES, Script, ScriptRefusal, parse};
 use std::alloc::Global;
 use std::sync::Wait;
 use std::thread::Threads;
-use transcripts::{Played, transcript};
+use transcripts::{Played, summary, transcript};
 
-/// Runs the program. The words begin with its name; the source gives the script, the tree what its loads ask for, and
-/// the sink takes the transcript, of which nothing is written before the run is known to end with `Done`, `SinkFault` or
-/// `OutOfMemory`.
+/// Runs the program. The words begin with its name. `play` takes its script from the source and what its loads ask for
+/// from the tree, and writes the transcript; `demo` writes the summary of a script of its own. Nothing is written before
+/// the run is known to end with `Done`, `SinkFault` or `OutOfMemory`.
 pub fn run_ide<R: Threads + Wait, S: Source, T: Tree, K: Sink>(
     rt: &R,
     alloc: Global,
@@ -27,14 +29,14 @@ pub fn run_ide<R: Threads + Wait, S: Source, T: Tree, K: Sink>(
 ) -> Status
     requires { 0 < length words.now }
 
-    // When each answer comes, and what was read and written then.
-    ensures ends { RunEnds S.left S.ends S.faults T.files T.faults K.taken K.faults script.old script.new tree.old tree.new out.old out.new result }
-    ensures usage { (result ≡ Status.Usage) ↔ (is_command_line (map string_bytes words.now) ≡ false) }
+    // When each answer comes, by what the words ask for, and what was read and written then.
+    ensures ends { RunEnds S.left S.ends S.faults T.files T.faults K.taken K.faults (request_of (map string_bytes words.now))
+        script.old script.new tree.old tree.new out.old out.new result }
 
-    // How much is read: at most one byte past the longest script, and nothing after the end; with a faulty command line nothing.
+    // How much is read: at most one byte past the longest script, and nothing after the end; nothing unless the words ask for `play`.
     ensures within { result ≢ Status.ScriptTooLong → TakesAtMost max_bytes (S.left script.old) (S.left script.new) }
     ensures end_once { TellsEndOnce (S.ends script.old) (S.ends script.new) }
-    ensures unread { result ≡ Status.Usage → (script.new ≡ script.old) × (tree.new ≡ tree.old) }
+    ensures unread { AsksNothing (request_of (map string_bytes words.now)) → (script.new ≡ script.old) × (tree.new ≡ tree.old) }
 
     // What stays the same: nothing is written before the run is known to end so, and no fault is met but that which is told.
     ensures silent { result ≢ Status.Done → result ≢ Status.SinkFault → out.new ≡ out.old }
@@ -42,20 +44,11 @@ pub fn run_ide<R: Threads + Wait, S: Source, T: Tree, K: Sink>(
     ensures tree_quiet { result ≢ Status.TreeFault → T.faults tree.new ≡ T.faults tree.old }
     ensures sink_quiet { result ≢ Status.SinkFault → K.faults out.new ≡ K.faults out.old }
 {
-    if !is_play(words) {
-        return Status::Usage;
-    }
-    run_play(alloc, script, tree, out)
-}
-
-/// Whether the words are the program's name alone, or the name and `play`.
-fn is_play(words: &[String]) -> bool
-    ensures { result ≡ is_command_line (map string_bytes words.now) }
-{
-    match words {
-        [_] => true,
-        [_, word] => word.as_str() == "play",
-        _ => false,
+    match request_of(alloc, words) {
+        Ok(Request::Play) => run_play(alloc, script, tree, out),
+        Ok(Request::Demo { seed, files, edits }) => run_demo(alloc, seed, files, edits, out),
+        Err(WordsRefusal::Usage) => Status::Usage,
+        Err(WordsRefusal::OutOfMemory) => Status::OutOfMemory,
     }
 }
 
@@ -66,8 +59,7 @@ fn run_play<S: Source, T: Tree, K: Sink>(
     tree: &mut T,
     out: &mut K,
 ) -> Status
-    ensures ends { RunEnds S.left S.ends S.faults T.files T.faults K.taken K.faults source.old source.new tree.old tree.new out.old out.new result }
-    ensures played { result ≢ Status.Usage }
+    ensures ends { PlayEnds S.left S.ends S.faults T.files T.faults K.taken K.faults source.old source.new tree.old tree.new out.old out.new result }
     ensures within { result ≢ Status.ScriptTooLong → TakesAtMost max_bytes (S.left source.old) (S.left source.new) }
     ensures end_once { TellsEndOnce (S.ends source.old) (S.ends source.new) }
     ensures silent { result ≢ Status.Done → result ≢ Status.SinkFault → out.new ≡ out.old }
@@ -114,6 +106,50 @@ fn write_transcript<K: Sink>(alloc: Global, played: &Played, out: &mut K) -> Sta
     ensures quiet { result ≢ Status.SinkFault → K.faults out.new ≡ K.faults out.old }
 {
     match transcript(alloc, played) {
+        Ok(bytes) => write_bytes(&bytes, out),
+        Err(_) => Status::OutOfMemory,
+    }
+}
+
+/// Plays the script of a demo and writes its summary.
+fn run_demo<K: Sink>(alloc: Global, seed: u32, files: u32, edits: u32, out: &mut K) -> Status
+    requires { IsInRange (Request.Demo seed files edits) }
+    ensures ends { DemoEnds K.taken K.faults seed files edits out.old out.new result }
+    ensures silent { result ≢ Status.Done → result ≢ Status.SinkFault → out.new ≡ out.old }
+    ensures quiet { result ≢ Status.SinkFault → K.faults out.new ≡ K.faults out.old }
+{
+    match play_demo(alloc, seed, files, edits) {
+        Ok(played) => write_summary(alloc, &played, out),
+        Err(status) => status,
+    }
+}
+
+/// Plays the script of a demo.
+fn play_demo(alloc: Global, seed: u32, files: u32, edits: u32) -> Result<Played, Status>
+    requires { IsInRange (Request.Demo seed files edits) }
+    ensures ok { IfOk result (λ played. PlaysDemo seed files edits (record { history = played.history.entries; records = played.records; last = played.last })) }
+    ensures err { IfErr result (λ status. DemoStops seed files edits status) }
+{
+    let Ok(bytes) = demo_script(alloc, seed, files, edits) else {
+        return Err(Status::OutOfMemory);
+    };
+    match parse(alloc, &bytes) {
+        Ok(script) => match play_without_loads(alloc, &script) {
+            Ok(played) => Ok(played),
+            Err(_) => Err(Status::OutOfMemory),
+        },
+        Err(ScriptRefusal::BadLine { number }) => Err(Status::BadScript { line: number }),
+        Err(ScriptRefusal::OutOfMemory) => Err(Status::OutOfMemory),
+    }
+}
+
+/// Writes the summary of a run.
+fn write_summary<K: Sink>(alloc: Global, played: &Played, out: &mut K) -> Status
+    ensures ends { WriteEnds K.taken K.faults out.old out.new
+        (summary_of (record { history = played.now.history.entries; records = played.now.records; last = played.now.last })) result }
+    ensures quiet { result ≢ Status.SinkFault → K.faults out.new ≡ K.faults out.old }
+{
+    match summary(alloc, played) {
         Ok(bytes) => write_bytes(&bytes, out),
         Err(_) => Status::OutOfMemory,
     }
