@@ -1,9 +1,9 @@
 //! The work of indexing a file, before and after it is done.
 ghost use Rattle.std.specs.Prelude.{◌≡◌};
-ghost use Rattle.java_tokens.specs.Words.{words_of};
+ghost use Rattle.overlay_index.specs.Parts.{parts_of};
 
 use ide_text::SharedText;
-use java_tokens::WordList;
+use overlay_index::FileData;
 
 /// An unready file as it was when its index data are to be made.
 #[derive(Drop)]
@@ -19,6 +19,6 @@ pub struct Made {
     pub file: u32,
     pub stamp: u64,
     pub text: SharedText,
-    pub words: WordList,
-    ghost of_text: { words ≡ words_of text },
+    pub parts: FileData,
+    ghost of_text: { parts ≡ parts_of text },
 }

@@ -1,21 +1,23 @@
-//! The state of a workspace: its files, kept so that a change and a question find what they speak of.
+//! The state of a workspace as its users change it: changes are judged and made ready, then go in and can't fail.
 #![tactic(auto)]
 
-mod change;
 mod data;
+mod documents;
+mod draft;
+mod files;
+mod group;
 mod index;
-mod outline;
-mod path;
-mod paths;
-mod postings;
-mod reply;
-mod rows;
-mod state;
-mod unready;
+pub mod laws;
+mod look;
+mod readers;
+mod refusal;
+mod walk;
 
-pub use change::{Ready, install, prepare, prepare_intake, reserve};
 pub use data::{Job, Made};
-pub use index::{job, lowest_unready, make};
-pub use outline::{OutlineRefusal, OutlineRow, OutlineRows, ask_outline};
-pub use reply::{WordRefusal, WordRow, WordRows, ask_word};
-pub use state::{State, empty};
+pub use group::{
+    GroupRefusal, Ready, empty, install, prepare, prepare_group, prepare_intake, reserve,
+};
+pub use index::{job, make};
+pub use overlay_index::{StubWalk, WordWalk};
+pub use readers::{content, counts, mark, next_id, path, shown};
+pub use world_state::State;

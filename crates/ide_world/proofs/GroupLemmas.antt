@@ -1,0 +1,170 @@
+-- A list of changes, made one after another on a draft.
+use Rattle.std.proofs.Common.{ℕ, suc, ◌≡◌, ◌+◌, ◌<◌, ◌≤◌, Bool, true, false, List, [], ◌∷◌, ◌++◌, length, get_or, drop, add-one, refl, ap, sym, ◌∙◌, subst, arith, Some, None}
+use Rattle.std.specs.Prelude.{◌&&◌, Result, Ok, Err, OnOk, Option, option_map}
+use Rattle.std.proofs.lemmas.Bool.{leb-false}
+use Rattle.write_history.specs.declared.change.Change.{Change}
+use Rattle.write_history.specs.declared.refusal.Refusal.{Refusal}
+use Rattle.write_history.specs.declared.refusal.Refusal.TheVariants.{NoSuchFile, PathTaken, BadPath, NotOpen, AlreadyOpen, BadRange, Unsaved, Uncommitted, Conflict, FilesFull, DocsFull, TextFull, Stale, HistoryFull, OutOfMemory}
+use Rattle.write_history.specs.World.{World}
+use Rattle.write_history.specs.Effect.{Reason, reasons, history_full, refusal_of, max_entries}
+use Rattle.write_history.specs.Fold.{effect_of, effects_of, ListRefusal, one_later, refusal_or, list_refusal}
+use Rattle.write_history.proofs.PutLemmas.{NoneStands, accepted_reasons}
+use Rattle.world_state.specs.declared.step.Step.{Step}
+use Rattle.world_state.specs.Step.{after_steps}
+use Rattle.world_state.specs.Lawful.{AreLawful, AreWide, inserted_by_all}
+use Rattle.ide_world.specs.Ready.{Makes, IsReadyFor, IsRefusalOf, IsListRefusalOf, is_want_of_memory, is_edit}
+use Rattle.ide_world.specs.Drafted.{Drafted, IsDraft, IsExtended, world_now, inserted_by_change, inserted_by_changes}
+use Rattle.ide_world.specs.Builds.{Builds}
+use Rattle.ide_world.proofs.WalkLemmas.{entries_after_steps, after_steps-push, inserted-push, pushed}
+use Rattle.std.proofs.lemmas.List.{length-append}
+use Rattle.std.proofs.Math.Seq.{drop-cons}
+use Rattle.std.specs.List.{list_all}
+
+-- a refusal that stands so many places later
+abbrev pub later_by : ℕ → ListRefusal → ListRefusal
+later_by n refusal = record { place = refusal.place + n; why = refusal.why }
+
+-- of a list of changes from a world, so many are made on a draft, and these are left
+pub record IsSoFar (w : World) (changes : List Change) (i : ℕ) (rest : List Change) (d : Drafted) : Type 0 where
+  pub base : d.base ≡ w
+  pub refusal : list_refusal w changes ≡ option_map (later_by i) (list_refusal (world_now d) rest)
+  pub effect : effects_of (world_now d) rest ≡ effects_of w changes
+  pub count : length d.steps ≡ i
+  pub width : d.wide ≡ inserted_by_changes changes
+  pub inserted : inserted_by_all d.steps + inserted_by_changes rest ≡ inserted_by_changes changes
+  pub entries : 1 ≤ i → w.entries < max_entries
+
+later_by-zero : (o : Option ListRefusal) → o ≡ option_map (later_by 0) o
+later_by-zero None = refl
+later_by-zero (Some r) = let e : r.place ≡ r.place + 0 = omega arith in let f : ℕ → Option ListRefusal = λ n. Some (record { place = n; why = r.why }) in ap f e
+
+later_by-suc : (n : ℕ) (o : Option ListRefusal) → option_map (later_by n) (option_map one_later o) ≡ option_map (later_by (n + 1)) o
+later_by-suc n None = refl
+later_by-suc n (Some r) = let e : r.place + 1 + n ≡ r.place + (n + 1) = omega arith in let f : ℕ → Option ListRefusal = λ k. Some (record { place = k; why = r.why }) in ap f e
+
+pub starts : (w : World) (changes : List Change) (d : Drafted) → d.base ≡ w → d.steps ≡ [] → d.wide ≡ inserted_by_changes changes → IsSoFar w changes 0 changes d
+starts w changes d base steps wide =
+    let world : world_now d ≡ w = ap (λ ss. after_steps d.base ss) steps ∙ base in
+    record {
+      base = base;
+      refusal = later_by-zero (list_refusal w changes) ∙ sym (ap (λ x. option_map (later_by 0) (list_refusal x changes)) world);
+      effect = ap (λ x. effects_of x changes) world;
+      count = ap length steps;
+      width = wide;
+      inserted = ap (λ ss. inserted_by_all ss + inserted_by_changes changes) steps ∙ omega arith;
+      entries = λ l. absurd (omega arith);
+    }
+
+none_last : (rs : List Reason) (r : Reason) → NoneStands (rs ++ r ∷ []) → r.stands ≡ false
+none_last [] r h = h.0
+none_last (x ∷ rs) r h = none_last rs r h.1
+
+-- an accepted change finds room in the history
+pub has_entries : (w : World) (change : Change) → refusal_of w change ≡ None → w.entries < max_entries
+has_entries w change accepted = leb-false max_entries w.entries (none_last (reasons w change) (history_full w) (accepted_reasons w change accepted))
+
+accepted_first : (o : Option Refusal) (later : Option ListRefusal) → o ≡ None → refusal_or o later ≡ option_map one_later later
+accepted_first o later e = ap (λ x. refusal_or x later) e
+
+pub turns : (w : World) (changes : List Change) (i : ℕ) (change : Change) (rest : List Change) (d new : Drafted) → IsSoFar w changes i (change ∷ rest) d
+    → refusal_of (world_now d) change ≡ None → IsExtended d new change → IsSoFar w changes (i + 1) rest new
+turns w changes i change rest d new h accepted e = record {
+  base = e.base ∙ h.base;
+  refusal = h.refusal ∙ ap (option_map (later_by i)) (accepted_first (refusal_of (world_now d) change) (list_refusal (effect_of (world_now d) change) rest) accepted)
+      ∙ later_by-suc i (list_refusal (effect_of (world_now d) change) rest) ∙ sym (ap (λ x. option_map (later_by (i + 1)) (list_refusal x rest)) e.effect);
+  effect = ap (λ x. effects_of x rest) e.effect ∙ h.effect;
+  count = let a = e.count in let b = h.count in omega arith;
+  width = e.room ∙ h.width;
+  inserted = let a = e.inserted in let b = h.inserted in omega arith;
+  entries = λ l.
+      let small = has_entries (world_now d) change accepted in
+      let same : (world_now d).entries ≡ w.entries = entries_after_steps d.base d.steps ∙ ap (λ (x : World). x.entries) h.base in
+      omega arith;
+}
+
+known : (o : Option Refusal) (why : Refusal) → IsRefusalOf o why → is_want_of_memory why ≡ false → o ≡ Some why
+known o NoSuchFile h n = h
+known o PathTaken h n = h
+known o BadPath h n = h
+known o NotOpen h n = h
+known o AlreadyOpen h n = h
+known o (BadRange len) h n = h
+known o Unsaved h n = h
+known o Uncommitted h n = h
+known o Conflict h n = h
+known o FilesFull h n = h
+known o DocsFull h n = h
+known o (TextFull count) h n = h
+known o (Stale made present) h n = h
+known o HistoryFull h n = h
+known o OutOfMemory h n = absurd (cc)
+
+pub refused_at : (w : World) (changes : List Change) (i place : ℕ) (change : Change) (rest : List Change) (d : Drafted) (why : Refusal) → IsSoFar w changes i (change ∷ rest) d
+    → IsRefusalOf (refusal_of (world_now d) change) why → place ≡ i + 1 → IsListRefusalOf (list_refusal w changes) (record { place = place; why = why })
+refused_at w changes i place change rest d why h r at_place = λ n.
+    let e = known (refusal_of (world_now d) change) why r n in
+    let f : ℕ → Option ListRefusal = λ k. Some (record { place = k; why = why }) in
+    let p : 1 + i ≡ place = omega arith in
+    h.refusal ∙ ap (λ o. option_map (later_by i) (refusal_or o (list_refusal (effect_of (world_now d) change) rest))) e ∙ ap f p
+
+pub finished : (w : World) (changes : List Change) (i : ℕ) (d : Drafted) → IsSoFar w changes i [] d → IsDraft d → 1 ≤ i → IsReadyFor w d.steps × Makes w d.steps changes
+finished w changes i d h draft some =
+    let each : AreLawful d.base d.steps = record {
+      each = draft.lawful;
+      few = draft.few;
+      wide = let P : ℕ → Type 0 = λ n. AreWide n d.steps in subst P (let a = h.width in let b = h.inserted in omega arith) draft.wide;
+    } in (
+      record { lawful = let P : World → Type 0 = λ x. AreLawful x d.steps in subst P h.base each; entries = h.entries some },
+      record { accepted = h.refusal; effect = sym (ap (λ x. after_steps x d.steps) h.base) ∙ h.effect },
+    )
+
+-- a single change
+pub single : (w : World) (change : Change) (d new : Drafted) → d.base ≡ w → d.steps ≡ [] → d.wide ≡ inserted_by_change change
+    → refusal_of (world_now d) change ≡ None → IsExtended d new change → IsReadyFor w new.steps × Makes w new.steps (change ∷ [])
+single w change d new base steps wide accepted e =
+    let start = starts w (change ∷ []) d base steps (wide ∙ omega arith) in
+    finished w (change ∷ []) 1 new (turns w (change ∷ []) 0 change [] d new start accepted e) e.draft (omega arith)
+
+-- the draft after the step of a change
+pub extended : (d new : Drafted) (change : Change) (step : Step) → IsDraft d → length d.steps < 64 → Builds (world_now d) d.wide change step
+    → new ≡ record { base = d.base; steps = d.steps ++ step ∷ []; wide = d.wide } → IsExtended d new change
+extended d new change step draft few builds same =
+    let after : Drafted = record { base = d.base; steps = d.steps ++ step ∷ []; wide = d.wide } in
+    let P : Drafted → Type 0 = λ x. IsExtended d x change in
+    subst P (sym same) (record {
+      draft = pushed d step draft builds.lawful few builds.room;
+      base = refl;
+      room = refl;
+      effect = after_steps-push d.base d.steps step ∙ builds.effect;
+      count = length-append d.steps (step ∷ []);
+      inserted = inserted-push d.steps step ∙ ap (λ n. inserted_by_all d.steps + n) builds.inserted;
+    })
+
+-- where a draft has no step, its world is that of its state
+pub world_at_first : (w : World) (d : Drafted) → d.base ≡ w → d.steps ≡ [] → world_now d ≡ w
+world_at_first w d base steps = ap (λ ss. after_steps d.base ss) steps ∙ base
+
+pub on_ok : {A E P Q : Type 0} (r : Result A E) → OnOk r P → (P → Q) → OnOk r Q
+on_ok (Ok a) h f = f h
+on_ok (Err e) h f = tt
+
+-- one turn over the changes
+pub record IsTurned (w : World) (changes : List Change) (i : ℕ) (d : Drafted) : Type 0 where
+  pub so_far : IsSoFar w changes i (drop i changes) d
+  pub edits : list_all is_edit (drop i changes) ≡ true
+
+and_right : (a b : Bool) → (a && b) ≡ true → b ≡ true
+and_right true b h = h
+and_right false b h = absurd (cc)
+
+pub turn_at : (w : World) (changes : List Change) (i : ℕ) (item : Change) (d new : Drafted) → i < length changes → item ≡ get_or changes i item
+    → IsSoFar w changes i (drop i changes) d → list_all is_edit (drop i changes) ≡ true
+    → refusal_of (world_now d) item ≡ None → IsExtended d new item → IsTurned w changes (i + 1) new
+turn_at w changes i item d new inside is so_far edits accepted e =
+    let rest = drop (i + 1) changes in
+    let split : drop i changes ≡ item ∷ rest =
+    drop-cons changes i item inside ∙ ap (λ x. x ∷ drop (suc i) changes) (sym is) ∙ ap (λ n. item ∷ drop n changes) (sym (add-one i)) in
+    record {
+      so_far = let P : List Change → Type 0 = λ l. IsSoFar w changes i l d in turns w changes i item rest d new (subst P split so_far) accepted e;
+      edits = and_right (is_edit item) (list_all is_edit rest) (sym (ap (list_all is_edit) split) ∙ edits);
+    }

@@ -1,0 +1,496 @@
+-- The step of each kind of change makes it.
+use Rattle.std.proofs.Common.{ℕ, ◌≡◌, ◌+◌, ◌<◌, ◌≤◌, Bool, true, false, List, length, refl, ap, sym, ◌∙◌, subst, arith, Some, None, ltb-false}
+use Rattle.std.specs.Prelude.{Option, IfSome, is_some, is_none, unwrap_or, option_map, not, ◌||◌, nat_lt, ◌==◌, bytes_eq}
+use Rattle.std.specs.Option.{option_and_then}
+use Rattle.std.specs.Cmp.Lexicographic.{bytes_decides}
+use Rattle.std.proofs.lemmas.Bool.{leb-false, eqb-true}
+use Rattle.std.proofs.lemmas.Option.{IfSome_then}
+use Rattle.vfs_core.specs.declared.row.FileRow.{FileRow}
+use Rattle.ide_text.specs.Text.{max_chars}
+use Rattle.document_buf.specs.Document.{Document, opened, inserted, erased, committed, replaced}
+use Rattle.dumb_mode.specs.Filter.{is_java}
+use Rattle.overlay_index.specs.Parts.{Parts, parts_of, no_parts}
+use Rattle.write_history.specs.declared.change.Change.TheVariants.{Create, Write, Delete, OpenDoc, Insert, Erase, Commit, Save, CloseDoc, Intake, Move}
+use Rattle.write_history.specs.World.{World, File, file_of, id_at, document_at, next_id}
+use Rattle.write_history.specs.Effect.{Put, refusal_of, document_len, is_unsaved, is_uncommitted, max_files, new_file, rewritten, with_document, edited, saved, taken_in, closed, moved, stamp_of}
+use Rattle.write_history.specs.Fold.{after_put, effect_of}
+use Rattle.write_history.proofs.PutLemmas.{live_is_made, none_at_free, accepted_reasons}
+use Rattle.world_state.specs.declared.step.Step.{Step}
+use Rattle.world_state.specs.declared.step.RowEdit.TheVariants as row_edit
+use Rattle.world_state.specs.declared.step.DocEdit.{DocEdit}
+use Rattle.document_buf.specs.Held.{HeldDoc}
+use Rattle.world_state.specs.declared.step.DocEdit.TheVariants as doc_edit
+use Rattle.world_state.specs.declared.step.IndexEdit.{IndexEdit}
+use Rattle.world_state.specs.declared.step.IndexEdit.TheVariants as index_edit
+use Rattle.world_state.specs.IndexEdits.{Indexed, edited_index}
+use Rattle.world_state.specs.Step.{file_with, row_part, document_part, stepped, after_step}
+use Rattle.world_state.specs.Sound.{IsSoundLive, IsSoundFile, AreSoundFiles, HoldsIndex, HoldsLive}
+use Rattle.world_state.specs.Lawful.{IsLawfulStep}
+use Rattle.ide_world.specs.declared.look.Look.{Look}
+use Rattle.ide_world.specs.Walk.{look_of}
+use Rattle.ide_world.specs.Builds.{Builds, IsLiveAt, edit_step, overlay_edit, moved_index, close_index, intake_index}
+use Rattle.ide_world.proofs.PathLemmas.{id_at-of}
+use Rattle.ide_world.proofs.BuildLemmas.{IsFileAt, is_file_at, file_of_row, edit_effect, edit_lawful, kept_path, sound_at}
+
+-- the index data of a document's committed text
+abbrev overlay_parts : Option Document → Option Parts
+overlay_parts doc = option_map (λ d. parts_of d.committed) doc
+
+-- index data stay right where the committed text stays, and what is indexed at its stamp was so with the same content
+index_kept : (b : Bool) (f g : File) (held : Indexed) → overlay_parts f.document ≡ overlay_parts g.document
+    → (g.indexed ≡ Some g.stamp → (f.indexed ≡ Some f.stamp) × (f.content ≡ g.content)) → HoldsLive b f held → HoldsLive b g held
+index_kept false f g held e n h = h
+index_kept true f g held e n h = (h.0 ∙ e, λ i. let k = n i in h.1 k.0 ∙ ap parts_of k.1)
+
+-- a file isn't indexed at a stamp that is still to be drawn
+not_yet : (next : ℕ) (indexed : Option ℕ) → IfSome indexed (λ s. s < next) → indexed ≡ Some next → ⊥
+not_yet next indexed h e = let P : Option ℕ → Type 0 = λ o. IfSome o (λ s. s < next) in below (subst P e h)
+  where
+    below : next < next → ⊥
+    below l = absurd (omega arith)
+
+some_none : {A : Type 0} (a : A) → ◌≡◌ {A = Option A} (Some a) None → ⊥
+some_none a e = cc
+
+false_true : false ≡ true → ⊥
+false_true e = cc
+
+not_false : (b : Bool) → not b ≡ false → b ≡ true
+not_false true h = refl
+not_false false h = absurd (cc)
+
+-- the document at the path
+document_is : (w : World) (path : List ℕ) (id : ℕ) (row : FileRow) (doc : Option Document) → IsFileAt w path id row doc → document_at w path ≡ doc
+document_is w path id row doc h =
+    let of_id : Option ℕ → Option Document = λ o. option_and_then (λ f. f.document) (option_and_then (file_of w) o) in
+    let of_file : Option File → Option Document = λ o. option_and_then (λ f. f.document) o in
+    ap of_id h.at_path ∙ ap of_file h.live
+
+-- a sound file at a later stamp
+later : (next more : ℕ) (f : File) → IsSoundLive next f → IsSoundLive (next + more) f
+later next more f h = record {
+  stamp = let l = h.stamp in omega arith;
+  indexed = IfSome_then f.indexed h.indexed (λ s l. omega arith);
+  saved = h.saved;
+}
+
+-- ---- create
+
+next_is_free : (w : World) (o : Option File) → file_of w (next_id w) ≡ o → o ≡ None
+next_is_free w None e = refl
+next_is_free w (Some f) e = let l = live_is_made w.files (next_id w) f e in absurd (let le = l.1 in omega arith)
+
+index_new : (b : Bool) (f : File) (held : Indexed) → f.indexed ≡ None → f.document ≡ None → (held.base ≡ no_parts) × (held.overlay ≡ None) → HoldsLive b f held
+index_new false f held i d h = h
+index_new true f held i d h = (h.1 ∙ sym (ap overlay_parts d), λ e. absurd (some_none f.stamp (sym e ∙ i)))
+
+abbrev create_step : List ℕ → List ℕ → ℕ → ℕ → Step
+create_step path text id stamp = record { id = id; row = row_edit.Put (record { path = path; content = text; stamp = stamp; indexed = None }); doc = doc_edit.Keep; index = index_edit.Keep; draws = true }
+
+create_lawful : (w : World) (path text : List ℕ) → file_of w (next_id w) ≡ None → length w.files < max_files → is_some (id_at w path) ≡ false
+    → IsLawfulStep w (create_step path text (next_id w) w.next_stamp)
+create_lawful w path text none few free = record {
+  some = omega arith;
+  within = omega arith;
+  made = λ e. (few, refl);
+  path = λ other file live same. absurd (none_at_free w path other file free live same);
+  doc = tt;
+  whole = λ e. absurd (some_none {A = FileRow} (record { path = path; content = text; stamp = w.next_stamp; indexed = None }) e);
+  sound = let P : Option File → Type 0 = λ o. IsSoundFile (w.next_stamp + 1) (stepped (create_step path text (next_id w) w.next_stamp) o) in
+      subst P (sym none) (record { stamp = omega arith; indexed = tt; saved = tt });
+  index = let P : Option File → Type 0 = λ o. (held : Indexed) → HoldsIndex o held → HoldsIndex (stepped (create_step path text (next_id w) w.next_stamp) o) held in
+      subst P (sym none) (λ held h. index_new (is_java path) (new_file path text w.next_stamp) held refl refl h);
+}
+
+create_effect : (w : World) (path text : List ℕ) → file_of w (next_id w) ≡ None → after_step w (create_step path text (next_id w) w.next_stamp) ≡ effect_of w (Create path text)
+create_effect w path text none =
+    let to : Option File → Put = λ o. record { id = next_id w; file = stepped (create_step path text (next_id w) w.next_stamp) o; drawn = 1 } in
+    ap (λ o. after_put w (to o)) none
+
+pub create_builds : (w : World) (wide : ℕ) (path text : List ℕ) (id stamp : ℕ) → refusal_of w (Create path text) ≡ None → id ≡ next_id w → stamp ≡ w.next_stamp
+    → Builds w wide (Create path text) (create_step path text id stamp)
+create_builds w wide path text id stamp accepted e f =
+    let P : ℕ → Type 0 = λ i. Builds w wide (Create path text) (create_step path text i stamp) in
+    let Q : ℕ → Type 0 = λ s. Builds w wide (Create path text) (create_step path text (next_id w) s) in
+    let none = next_is_free w (file_of w (next_id w)) refl in
+    let r = accepted_reasons w (Create path text) accepted in
+    subst P (sym e) (subst Q (sym f) (record {
+      effect = create_effect w path text none;
+      lawful = create_lawful w path text none (leb-false max_files (length w.files) r.1.1.0) r.1.0;
+      room = tt;
+      inserted = refl;
+    }))
+
+-- ---- delete
+
+abbrev delete_step : ℕ → Step
+delete_step id = record { id = id; row = row_edit.Remove; doc = doc_edit.Close; index = index_edit.Drop; draws = false }
+
+pub delete_builds : (w : World) (wide : ℕ) (path : List ℕ) (id : ℕ) (row : FileRow) (doc : Option Document) → AreSoundFiles w → IsFileAt w path id row doc
+    → Builds w wide (Delete path) (delete_step id)
+delete_builds w wide path id row doc sound h = record {
+  effect = edit_effect w path row doc (delete_step id) 0 (λ f. None) h refl refl;
+  lawful = edit_lawful w path row doc (delete_step id) h tt tt (λ e. refl) tt (λ held k. (refl, refl));
+  room = tt;
+  inserted = refl;
+}
+
+-- ---- insert and erase
+
+abbrev insert_step : ℕ → ℕ → List ℕ → Step
+insert_step id at text = edit_step id (doc_edit.Insert at text)
+
+pub insert_builds : (w : World) (wide : ℕ) (path : List ℕ) (id at : ℕ) (text : List ℕ) (row : FileRow) (doc : Option Document) → AreSoundFiles w → IsFileAt w path id row doc
+    → refusal_of w (Insert path at text) ≡ None → Builds w wide (Insert path at text) (insert_step id at text)
+insert_builds w wide path id at text row None sound h accepted =
+    let r = accepted_reasons w (Insert path at text) accepted in
+    absurd (false_true (sym r.1.0 ∙ ap is_none (document_is w path id row None h)))
+insert_builds w wide path id at text row (Some d) sound h accepted =
+    let r = accepted_reasons w (Insert path at text) accepted in
+    let e = document_is w path id row (Some d) h in
+    let s = sound_at w path id row (Some d) sound h in
+    record {
+      effect = edit_effect w path row (Some d) (insert_step id at text) 0 (λ f. Some (edited (inserted at text) f)) h refl refl;
+      lawful = edit_lawful w path row (Some d) (insert_step id at text) h tt
+          (record {
+            inside = ltb-false (length d.text) at (sym (ap (λ o. nat_lt (document_len o) at) e) ∙ r.1.1.0);
+            fits = ltb-false max_chars (length d.text + length text) (sym (ap (λ o. nat_lt max_chars (document_len o + length text)) e) ∙ r.1.1.1.0);
+          })
+          (λ n. absurd (some_none row n))
+          (record { stamp = let l = s.stamp in omega arith; indexed = IfSome_then row.indexed s.indexed (λ x l. omega arith); saved = λ n. absurd (false_true n) })
+          (λ held k. index_kept (is_java row.path) (file_with (Some d) row) (file_with (Some (inserted at text d)) row) held refl (λ i. (i, refl)) k);
+      room = tt;
+      inserted = refl;
+    }
+
+abbrev erase_step : ℕ → ℕ → ℕ → Step
+erase_step id from to = edit_step id (doc_edit.Erase from to)
+
+or_left : (a b : Bool) → (a || b) ≡ false → a ≡ false
+or_left false b e = refl
+or_left true b e = absurd (cc)
+
+or_right : (a b : Bool) → (a || b) ≡ false → b ≡ false
+or_right false b e = e
+or_right true b e = absurd (cc)
+
+pub erase_builds : (w : World) (wide : ℕ) (path : List ℕ) (id from to : ℕ) (row : FileRow) (doc : Option Document) → AreSoundFiles w → IsFileAt w path id row doc
+    → refusal_of w (Erase path from to) ≡ None → Builds w wide (Erase path from to) (erase_step id from to)
+erase_builds w wide path id from to row None sound h accepted =
+    let r = accepted_reasons w (Erase path from to) accepted in
+    absurd (false_true (sym r.1.0 ∙ ap is_none (document_is w path id row None h)))
+erase_builds w wide path id from to row (Some d) sound h accepted =
+    let r = accepted_reasons w (Erase path from to) accepted in
+    let e = document_is w path id row (Some d) h in
+    let s = sound_at w path id row (Some d) sound h in
+    let both : (nat_lt (length d.text) to || nat_lt to from) ≡ false = sym (ap (λ o. nat_lt (document_len o) to || nat_lt to from) e) ∙ r.1.1.0 in
+    record {
+      effect = edit_effect w path row (Some d) (erase_step id from to) 0 (λ f. Some (edited (erased from to) f)) h refl refl;
+      lawful = edit_lawful w path row (Some d) (erase_step id from to) h tt
+          (record {
+            ordered = ltb-false to from (or_right (nat_lt (length d.text) to) (nat_lt to from) both);
+            inside = ltb-false (length d.text) to (or_left (nat_lt (length d.text) to) (nat_lt to from) both);
+          })
+          (λ n. absurd (some_none row n))
+          (record { stamp = let l = s.stamp in omega arith; indexed = IfSome_then row.indexed s.indexed (λ x l. omega arith); saved = λ n. absurd (false_true n) })
+          (λ held k. index_kept (is_java row.path) (file_with (Some d) row) (file_with (Some (erased from to d)) row) held refl (λ i. (i, refl)) k);
+      room = tt;
+      inserted = refl;
+    }
+
+-- ---- open
+
+index_opened : (b : Bool) (row : FileRow) (held : Indexed) → HoldsLive b (file_with None row) held
+    → HoldsLive b (file_with (Some (opened row.content)) row) (edited_index (overlay_edit b row.content) held)
+index_opened false row held h = h
+index_opened true row held h = (refl, h.1)
+
+pub open_builds : (w : World) (wide : ℕ) (path : List ℕ) (id : ℕ) (row : FileRow) (doc : Option Document) (new : HeldDoc) (index : IndexEdit) → AreSoundFiles w → IsFileAt w path id row doc
+    → refusal_of w (OpenDoc path) ≡ None → new.document ≡ opened row.content → wide ≤ new.spare → index ≡ overlay_edit (is_java row.path) row.content
+    → Builds w wide (OpenDoc path) (record { id = id; row = row_edit.Keep; doc = doc_edit.Open new; index = index; draws = false })
+open_builds w wide path id row (Some d) new index sound h accepted e room i =
+    let r = accepted_reasons w (OpenDoc path) accepted in
+    absurd (false_true (sym r.1.0 ∙ ap is_some (document_is w path id row (Some d) h)))
+open_builds w wide path id row None new index sound h accepted e room i =
+    let s = sound_at w path id row None sound h in
+    let step : Step = record { id = id; row = row_edit.Keep; doc = doc_edit.Open new; index = index; draws = false } in
+    let to : Document → Option File = λ d. Some (file_with (Some d) row) in
+    let P : Document → Type 0 = λ d. IsSoundFile (w.next_stamp + 0) (Some (file_with (Some d) row)) in
+    let Q : Document → Type 0 = λ d. (held : Indexed) → HoldsIndex (Some (file_with None row)) held → HoldsIndex (Some (file_with (Some d) row)) (edited_index index held) in
+    let R : IndexEdit → Type 0 = λ x. (held : Indexed) → HoldsIndex (Some (file_with None row)) held → HoldsIndex (Some (file_with (Some (opened row.content)) row)) (edited_index x held) in
+    record {
+      effect = edit_effect w path row None step 0 (λ f. Some (with_document (Some (opened f.content)) f)) h (ap to e) refl;
+      lawful = edit_lawful w path row None step h tt refl (λ n. absurd (some_none row n))
+          (subst P (sym e) (record { stamp = let l = s.stamp in omega arith; indexed = IfSome_then row.indexed s.indexed (λ x l. omega arith); saved = λ t. refl }))
+          (subst Q (sym e) (subst R (sym i) (λ held k. index_opened (is_java row.path) row held k)));
+      room = room;
+      inserted = refl;
+    }
+
+-- ---- commit
+
+index_committed : (b : Bool) (row : FileRow) (d : Document) (held : Indexed) → HoldsLive b (file_with (Some d) row) held
+    → HoldsLive b (file_with (Some (committed d)) row) (edited_index (overlay_edit b d.text) held)
+index_committed false row d held h = h
+index_committed true row d held h = (refl, h.1)
+
+pub commit_builds : (w : World) (wide : ℕ) (path : List ℕ) (id : ℕ) (row : FileRow) (doc : Option Document) (text : List ℕ) (index : IndexEdit) → AreSoundFiles w → IsFileAt w path id row doc
+    → Some text ≡ option_map (λ d. d.text) doc → index ≡ overlay_edit (is_java row.path) text
+    → Builds w wide (Commit path) (record { id = id; row = row_edit.Keep; doc = doc_edit.Commit text; index = index; draws = false })
+commit_builds w wide path id row None text index sound h t i = absurd (some_none text t)
+commit_builds w wide path id row (Some d) text index sound h t i =
+    let s = sound_at w path id row (Some d) sound h in
+    let same : text ≡ d.text = cc in
+    let step : Step = record { id = id; row = row_edit.Keep; doc = doc_edit.Commit text; index = index; draws = false } in
+    let is : index ≡ overlay_edit (is_java row.path) d.text = i ∙ ap (overlay_edit (is_java row.path)) same in
+    let R : IndexEdit → Type 0 = λ x. (held : Indexed) → HoldsIndex (Some (file_with (Some d) row)) held → HoldsIndex (Some (file_with (Some (committed d)) row)) (edited_index x held) in
+    record {
+      effect = edit_effect w path row (Some d) step 0 (λ f. Some (edited committed f)) h refl refl;
+      lawful = edit_lawful w path row (Some d) step h tt same (λ n. absurd (some_none row n))
+          (record { stamp = let l = s.stamp in omega arith; indexed = IfSome_then row.indexed s.indexed (λ x l. omega arith); saved = s.saved })
+          (subst R (sym is) (λ held k. index_committed (is_java row.path) row d held k));
+      room = tt;
+      inserted = refl;
+    }
+
+-- ---- save
+
+abbrev save_step : ℕ → FileRow → List ℕ → ℕ → Step
+save_step id row text stamp = record { id = id; row = row_edit.Put (record { path = row.path; content = text; stamp = stamp; indexed = row.indexed }); doc = doc_edit.MarkSaved; index = index_edit.Keep; draws = true }
+
+pub save_builds : (w : World) (wide : ℕ) (path : List ℕ) (id : ℕ) (row : FileRow) (doc : Option Document) (text : List ℕ) (stamp : ℕ) → AreSoundFiles w → IsFileAt w path id row doc
+    → Some text ≡ option_map (λ d. d.text) doc → stamp ≡ w.next_stamp → Builds w wide (Save path) (save_step id row text stamp)
+save_builds w wide path id row None text stamp sound h t n = absurd (some_none text t)
+save_builds w wide path id row (Some d) text stamp sound h t n =
+    let s = sound_at w path id row (Some d) sound h in
+    let same : text ≡ d.text = cc in
+    let P : ℕ → Type 0 = λ k. Builds w wide (Save path) (save_step id row text k) in
+    let Q : List ℕ → Type 0 = λ l. Builds w wide (Save path) (save_step id row l w.next_stamp) in
+    subst P (sym n) (subst Q (sym same) (record {
+      effect = edit_effect w path row (Some d) (save_step id row d.text w.next_stamp) 1 (λ f. Some (saved w.next_stamp f)) h refl refl;
+      lawful = edit_lawful w path row (Some d) (save_step id row d.text w.next_stamp) h (kept_path w path id row (Some d) sound h) tt (λ e. absurd (some_none {A = FileRow} (record { path = row.path; content = d.text; stamp = w.next_stamp; indexed = row.indexed }) e))
+          (record { stamp = omega arith; indexed = IfSome_then row.indexed s.indexed (λ x l. omega arith); saved = λ e. refl })
+          (λ held k. index_kept (is_java row.path) (file_with (Some d) row) (saved w.next_stamp (file_with (Some d) row)) held refl (λ i. absurd (not_yet w.next_stamp row.indexed s.indexed i)) k);
+      room = tt;
+      inserted = refl;
+    }))
+
+-- ---- close
+
+index_closed : (b : Bool) (row : FileRow) (d : Document) (held : Indexed) → d.committed ≡ row.content → HoldsLive b (file_with (Some d) row) held
+    → HoldsLive b (closed (file_with (Some d) row)) (edited_index (close_index b) held)
+index_closed false row d held e h = h
+index_closed true row d held e h = (refl, λ i. ap (λ o. unwrap_or o held.base) h.0 ∙ ap parts_of e)
+
+abbrev close_step : ℕ → FileRow → IndexEdit → Step
+close_step id row index = record { id = id; row = row_edit.Put (record { path = row.path; content = row.content; stamp = row.stamp; indexed = Some row.stamp }); doc = doc_edit.Close; index = index; draws = false }
+
+pub close_builds : (w : World) (wide : ℕ) (path : List ℕ) (id : ℕ) (row : FileRow) (doc : Option Document) (index : IndexEdit) → AreSoundFiles w → IsFileAt w path id row doc
+    → refusal_of w (CloseDoc path) ≡ None → index ≡ close_index (is_java row.path) → Builds w wide (CloseDoc path) (close_step id row index)
+close_builds w wide path id row None index sound h accepted i =
+    let r = accepted_reasons w (CloseDoc path) accepted in
+    absurd (false_true (sym r.1.0 ∙ ap is_none (document_is w path id row None h)))
+close_builds w wide path id row (Some d) index sound h accepted i =
+    let r = accepted_reasons w (CloseDoc path) accepted in
+    let e = document_is w path id row (Some d) h in
+    let s = sound_at w path id row (Some d) sound h in
+    let is_saved : d.saved ≡ true = not_false d.saved (sym (ap is_unsaved e) ∙ r.1.1.0) in
+    let is_committed : bytes_eq d.text d.committed ≡ true = not_false (bytes_eq d.text d.committed) (sym (ap is_uncommitted e) ∙ r.1.1.1.0) in
+    let same : d.committed ≡ row.content = sym ((bytes_decides d.text d.committed).0 is_committed) ∙ s.saved is_saved in
+    let R : IndexEdit → Type 0 = λ x. (held : Indexed) → HoldsIndex (Some (file_with (Some d) row)) held → HoldsIndex (Some (closed (file_with (Some d) row))) (edited_index x held) in
+    record {
+      effect = edit_effect w path row (Some d) (close_step id row index) 0 (λ f. Some (closed f)) h refl refl;
+      lawful = edit_lawful w path row (Some d) (close_step id row index) h (kept_path w path id row (Some d) sound h) tt (λ n. refl)
+          (record { stamp = let l = s.stamp in omega arith; indexed = let l = s.stamp in omega arith; saved = tt })
+          (subst R (sym i) (λ held k. index_closed (is_java row.path) row d held same k));
+      room = tt;
+      inserted = refl;
+    }
+
+-- ---- write
+
+abbrev write_step : ℕ → FileRow → List ℕ → ℕ → DocEdit → Step
+write_step id row text stamp doc = record { id = id; row = row_edit.Put (record { path = row.path; content = text; stamp = stamp; indexed = row.indexed }); doc = doc; index = index_edit.Keep; draws = true }
+
+pub write_closed_builds : (w : World) (wide : ℕ) (path : List ℕ) (id : ℕ) (row : FileRow) (doc : Option Document) (text : List ℕ) (stamp : ℕ) → AreSoundFiles w → IsFileAt w path id row doc
+    → doc ≡ None → stamp ≡ w.next_stamp → Builds w wide (Write path text) (write_step id row text stamp doc_edit.Keep)
+write_closed_builds w wide path id row (Some d) text stamp sound h t n = absurd (some_none d t)
+write_closed_builds w wide path id row None text stamp sound h t n =
+    let s = sound_at w path id row None sound h in
+    let step : Step = write_step id row text w.next_stamp doc_edit.Keep in
+    let P : ℕ → Type 0 = λ k. Builds w wide (Write path text) (write_step id row text k doc_edit.Keep) in
+    subst P (sym n) (record {
+      effect = edit_effect w path row None step 1 (λ f. Some (rewritten text w.next_stamp f)) h refl refl;
+      lawful = edit_lawful w path row None step h (kept_path w path id row None sound h) tt (λ e. refl)
+          (record { stamp = omega arith; indexed = IfSome_then row.indexed s.indexed (λ x l. omega arith); saved = tt })
+          (λ held k. index_kept (is_java row.path) (file_with None row) (rewritten text w.next_stamp (file_with None row)) held refl (λ i. absurd (not_yet w.next_stamp row.indexed s.indexed i)) k);
+      room = tt;
+      inserted = refl;
+    })
+
+pub write_open_builds : (w : World) (wide : ℕ) (path : List ℕ) (id : ℕ) (row : FileRow) (doc : Option Document) (text : List ℕ) (stamp : ℕ) (new : HeldDoc) → AreSoundFiles w → IsFileAt w path id row doc
+    → is_some doc ≡ true → stamp ≡ w.next_stamp → new.document ≡ opened text → wide ≤ new.spare → Builds w wide (Write path text) (write_step id row text stamp (doc_edit.Replace new))
+write_open_builds w wide path id row None text stamp new sound h t n e room = absurd (false_true t)
+write_open_builds w wide path id row (Some d) text stamp new sound h t n e room =
+    let s = sound_at w path id row (Some d) sound h in
+    let step : Step = write_step id row text w.next_stamp (doc_edit.Replace new) in
+    let P : ℕ → Type 0 = λ k. Builds w wide (Write path text) (write_step id row text k (doc_edit.Replace new)) in
+    let same : new.document.text ≡ text = ap (λ (x : Document). x.text) e in
+    let to : List ℕ → Option File = λ l. Some (record { path = row.path; content = text; stamp = w.next_stamp; indexed = row.indexed; document = Some (replaced l d) }) in
+    let S : List ℕ → Type 0 = λ l. IsSoundFile (w.next_stamp + 1) (to l) in
+    subst P (sym n) (record {
+      effect = edit_effect w path row (Some d) step 1 (λ f. Some (rewritten text w.next_stamp f)) h (ap to same) refl;
+      lawful = edit_lawful w path row (Some d) step h (kept_path w path id row (Some d) sound h) (refl, e ∙ ap opened (sym same)) (λ x. absurd (some_none {A = FileRow} (record { path = row.path; content = text; stamp = w.next_stamp; indexed = row.indexed }) x))
+          (subst S (sym same) (record { stamp = omega arith; indexed = IfSome_then row.indexed s.indexed (λ x l. omega arith); saved = λ x. refl }))
+          (λ held k. index_kept (is_java row.path) (file_with (Some d) row) (record { path = row.path; content = text; stamp = w.next_stamp; indexed = row.indexed; document = Some (replaced new.document.text d) }) held refl (λ i. absurd (not_yet w.next_stamp row.indexed s.indexed i)) k);
+      room = room;
+      inserted = refl;
+    })
+
+-- ---- intake
+
+index_taken : (b : Bool) (f : File) (held : Indexed) (text : List ℕ) → f.content ≡ text → HoldsLive b f held
+    → HoldsLive b (taken_in f.stamp f) (edited_index (intake_index b text) held)
+index_taken false f held text e h = h
+index_taken true f held text e h = (h.0, λ i. ap parts_of (sym e))
+
+abbrev intake_step : ℕ → FileRow → ℕ → IndexEdit → Step
+intake_step id row stamp index = record { id = id; row = row_edit.Put (record { path = row.path; content = row.content; stamp = row.stamp; indexed = Some stamp }); doc = doc_edit.Keep; index = index; draws = false }
+
+same_stamp : (w : World) (id stamp : ℕ) (f : File) → file_of w id ≡ Some f → refusal_of w (Intake id stamp) ≡ None → stamp ≡ f.stamp
+same_stamp w id stamp f live accepted =
+    let r = accepted_reasons w (Intake id stamp) accepted in
+    let t : (stamp == f.stamp) ≡ true = not_false (stamp == f.stamp) (sym (ap (λ o. not (stamp == stamp_of o)) live) ∙ r.1.0) in
+    eqb-true stamp f.stamp t
+
+pub intake_builds : (w : World) (wide : ℕ) (id stamp : ℕ) (row : FileRow) (doc : Option Document) (text : List ℕ) (index : IndexEdit) → AreSoundFiles w → file_of w id ≡ Some (file_with doc row)
+    → refusal_of w (Intake id stamp) ≡ None → IfSome (file_of w id) (λ f. f.stamp ≡ stamp → f.content ≡ text) → index ≡ intake_index (is_java row.path) text
+    → Builds w wide (Intake id stamp) (intake_step id row stamp index)
+intake_builds w wide id stamp row doc text index sound live accepted of_world i =
+    let f : File = file_with doc row in
+    let e : stamp ≡ row.stamp = same_stamp w id stamp f live accepted in
+    let O : Option File → Type 0 = λ o. IfSome o (λ f. f.stamp ≡ stamp → f.content ≡ text) in
+    let content : row.content ≡ text = (subst O live of_world) (sym e) in
+    let at_path = id_at-of w row.path id sound (record { file = f; live = live; same = refl }) in
+    let h : IsFileAt w row.path id row doc = record { at_path = at_path; live = live } in
+    let s = sound_at w row.path id row doc sound h in
+    let P : ℕ → Type 0 = λ k. Builds w wide (Intake id k) (intake_step id row k index) in
+    let to : Option File → Put = λ o. record { id = id; file = stepped (intake_step id row row.stamp index) o; drawn = 0 } in
+    let back : Option File → Put = λ o. record { id = id; file = option_map (taken_in row.stamp) o; drawn = 0 } in
+    let R : IndexEdit → Type 0 = λ x. (held : Indexed) → HoldsIndex (Some f) held → HoldsIndex (Some (taken_in row.stamp f)) (edited_index x held) in
+    subst P (sym e) (record {
+      effect = ap (λ o. after_put w (to o)) live ∙ sym (ap (λ o. after_put w (back o)) live);
+      lawful = edit_lawful w row.path row doc (intake_step id row row.stamp index) h (kept_path w row.path id row doc sound h) tt (λ x. absurd (some_none {A = FileRow} (record { path = row.path; content = row.content; stamp = row.stamp; indexed = Some row.stamp }) x))
+          (record { stamp = let l = s.stamp in omega arith; indexed = let l = s.stamp in omega arith; saved = s.saved })
+          (subst R (sym i) (λ held k. index_taken (is_java row.path) f held text content k));
+      room = tt;
+      inserted = refl;
+    })
+
+-- ---- move
+
+index_moved : (from to : Bool) (f g : File) (held : Indexed) → f.document ≡ g.document → (g.indexed ≡ Some g.stamp → ⊥) → HoldsLive from f held
+    → HoldsLive to g (edited_index (moved_index from to (option_map (λ d. d.committed) f.document)) held)
+index_moved true true f g held e n h = (h.0 ∙ ap overlay_parts e, λ i. absurd (n i))
+index_moved true false f g held e n h = (refl, refl)
+index_moved false false f g held e n h = h
+index_moved false true f g held e n h = entered f.document e
+  where
+    entered : (o : Option Document) → o ≡ g.document → HoldsLive true g (edited_index (moved_index false true (option_map (λ d. d.committed) o)) held)
+    entered None k = (h.1 ∙ ap overlay_parts k, λ i. absurd (n i))
+    entered (Some d) k = (ap overlay_parts k, λ i. absurd (n i))
+
+abbrev move_step : ℕ → FileRow → List ℕ → ℕ → IndexEdit → Step
+move_step id row to stamp index = record { id = id; row = row_edit.Put (record { path = to; content = row.content; stamp = stamp; indexed = row.indexed }); doc = doc_edit.Keep; index = index; draws = true }
+
+pub move_builds : (w : World) (wide : ℕ) (path to : List ℕ) (id : ℕ) (row : FileRow) (doc : Option Document) (stamp : ℕ) (index : IndexEdit) → AreSoundFiles w → IsFileAt w path id row doc
+    → refusal_of w (Move path to) ≡ None → stamp ≡ w.next_stamp → index ≡ moved_index (is_java row.path) (is_java to) (option_map (λ d. d.committed) doc)
+    → Builds w wide (Move path to) (move_step id row to stamp index)
+move_builds w wide path to id row doc stamp index sound h accepted n i =
+    let r = accepted_reasons w (Move path to) accepted in
+    let s = sound_at w path id row doc sound h in
+    let step : Step = move_step id row to w.next_stamp index in
+    let f : File = file_with doc row in
+    let g : File = moved to w.next_stamp f in
+    let P : ℕ → Type 0 = λ k. Builds w wide (Move path to) (move_step id row to k index) in
+    let R : IndexEdit → Type 0 = λ x. (held : Indexed) → HoldsIndex (Some f) held → HoldsIndex (Some g) (edited_index x held) in
+    subst P (sym n) (record {
+      effect = edit_effect w path row doc step 1 (λ f. Some (moved to w.next_stamp f)) h refl refl;
+      lawful = edit_lawful w path row doc step h (λ other file live same. absurd (none_at_free w to other file r.1.1.0 live same)) tt (λ x. absurd (some_none {A = FileRow} (record { path = to; content = row.content; stamp = w.next_stamp; indexed = row.indexed }) x))
+          (record { stamp = omega arith; indexed = IfSome_then row.indexed s.indexed (λ x l. omega arith); saved = s.saved })
+          (subst R (sym i) (λ held k. index_moved (is_java row.path) (is_java to) f g held refl (not_yet w.next_stamp row.indexed s.indexed) k));
+      room = tt;
+      inserted = refl;
+    })
+
+-- ---- the same, as the code has the parts
+
+pub create_from : (w : World) (wide : ℕ) (path text : List ℕ) (id made stamp : ℕ) (path' content' : List ℕ) → refusal_of w (Create path text) ≡ None
+    → made ≡ length w.files → id ≡ made + 1 → stamp ≡ w.next_stamp → path' ≡ path → content' ≡ text
+    → Builds w wide (Create path text) (create_step path' content' id stamp)
+create_from w wide path text id made stamp path' content' accepted m i s p t =
+    let P : List ℕ → Type 0 = λ x. Builds w wide (Create path text) (create_step x content' id stamp) in
+    let Q : List ℕ → Type 0 = λ x. Builds w wide (Create path text) (create_step path x id stamp) in
+    subst P (sym p) (subst Q (sym t) (create_builds w wide path text id stamp accepted (omega arith) s))
+
+pub save_from : (w : World) (wide : ℕ) (path : List ℕ) (id : ℕ) (row : FileRow) (path' content' text : List ℕ) (found : Option (List ℕ)) (stamp : ℕ) → AreSoundFiles w → IsLiveAt w path id row
+    → path' ≡ row.path → content' ≡ text → found ≡ option_map (λ d. d.text) (document_part (file_of w id)) → found ≡ Some text → stamp ≡ w.next_stamp
+    → Builds w wide (Save path) (record { id = id; row = row_edit.Put (record { path = path'; content = content'; stamp = stamp; indexed = row.indexed }); doc = doc_edit.MarkSaved; index = index_edit.Keep; draws = true })
+save_from w wide path id row path' content' text found stamp sound live p t f g s =
+    let step : List ℕ → List ℕ → Step = λ x y. record { id = id; row = row_edit.Put (record { path = x; content = y; stamp = stamp; indexed = row.indexed }); doc = doc_edit.MarkSaved; index = index_edit.Keep; draws = true } in
+    let P : List ℕ → Type 0 = λ x. Builds w wide (Save path) (step x content') in
+    let Q : List ℕ → Type 0 = λ x. Builds w wide (Save path) (step row.path x) in
+    subst P (sym p) (subst Q (sym t) (save_builds w wide path id row (document_part (file_of w id)) text stamp sound (is_file_at w path id row live) (sym g ∙ f) s))
+
+pub move_from : (w : World) (wide : ℕ) (path to : List ℕ) (id : ℕ) (row : FileRow) (path' content' : List ℕ) (stamp : ℕ) (index : IndexEdit) (found : Option (List ℕ)) → AreSoundFiles w → IsLiveAt w path id row
+    → refusal_of w (Move path to) ≡ None → path' ≡ to → content' ≡ row.content → stamp ≡ w.next_stamp
+    → found ≡ option_map (λ d. d.committed) (document_part (file_of w id)) → index ≡ moved_index (is_java row.path) (is_java to) found
+    → Builds w wide (Move path to) (record { id = id; row = row_edit.Put (record { path = path'; content = content'; stamp = stamp; indexed = row.indexed }); doc = doc_edit.Keep; index = index; draws = true })
+move_from w wide path to id row path' content' stamp index found sound live accepted p t s f i =
+    let step : List ℕ → List ℕ → Step = λ x y. record { id = id; row = row_edit.Put (record { path = x; content = y; stamp = stamp; indexed = row.indexed }); doc = doc_edit.Keep; index = index; draws = true } in
+    let P : List ℕ → Type 0 = λ x. Builds w wide (Move path to) (step x content') in
+    let Q : List ℕ → Type 0 = λ x. Builds w wide (Move path to) (step to x) in
+    subst P (sym p) (subst Q (sym t) (move_builds w wide path to id row (document_part (file_of w id)) stamp index sound (is_file_at w path id row live) accepted s (i ∙ ap (moved_index (is_java row.path) (is_java to)) f)))
+
+some_look : (doc : Option Document) (look : Option Look) (l : Look) → look ≡ option_map look_of doc → look ≡ Some l → is_some doc ≡ true
+some_look None look l e f = absurd (some_none l (sym f ∙ e))
+some_look (Some d) look l e f = refl
+
+none_look : (doc : Option Document) (look : Option Look) → look ≡ option_map look_of doc → look ≡ None → doc ≡ None
+none_look None look e f = refl
+none_look (Some d) look e f = absurd (some_none (look_of d) (sym e ∙ f))
+
+abbrev write_as : ℕ → FileRow → List ℕ → List ℕ → ℕ → DocEdit → Step
+write_as id row path content stamp doc = record { id = id; row = row_edit.Put (record { path = path; content = content; stamp = stamp; indexed = row.indexed }); doc = doc; index = index_edit.Keep; draws = true }
+
+write_as_built : (w : World) (wide : ℕ) (path : List ℕ) (id : ℕ) (row : FileRow) (path' content' text : List ℕ) (stamp : ℕ) (doc edit : DocEdit) → path' ≡ row.path → content' ≡ text → doc ≡ edit
+    → Builds w wide (Write path text) (write_as id row row.path text stamp edit) → Builds w wide (Write path text) (write_as id row path' content' stamp doc)
+write_as_built w wide path id row path' content' text stamp doc edit p t e built =
+    let P : List ℕ → Type 0 = λ x. Builds w wide (Write path text) (write_as id row x content' stamp doc) in
+    let Q : List ℕ → Type 0 = λ x. Builds w wide (Write path text) (write_as id row row.path x stamp doc) in
+    let R : DocEdit → Type 0 = λ x. Builds w wide (Write path text) (write_as id row row.path text stamp x) in
+    subst P (sym p) (subst Q (sym t) (subst R (sym e) built))
+
+pub write_open_from : (w : World) (wide : ℕ) (path : List ℕ) (id : ℕ) (row : FileRow) (path' content' text : List ℕ) (stamp : ℕ) (doc : DocEdit) (new : HeldDoc) (look : Option Look) (l : Look) (width : ℕ) → AreSoundFiles w → IsLiveAt w path id row
+    → path' ≡ row.path → content' ≡ text → stamp ≡ w.next_stamp → look ≡ option_map look_of (document_part (file_of w id)) → look ≡ Some l
+    → new.document ≡ opened text → width ≤ new.spare → width ≡ wide → doc ≡ doc_edit.Replace new → Builds w wide (Write path text) (write_as id row path' content' stamp doc)
+write_open_from w wide path id row path' content' text stamp doc new look l width sound live p t s e f document room width_is d =
+    let P : ℕ → Type 0 = λ n. n ≤ new.spare in
+    write_as_built w wide path id row path' content' text stamp doc (doc_edit.Replace new) p t d
+    (write_open_builds w wide path id row (document_part (file_of w id)) text stamp new sound (is_file_at w path id row live) (some_look (document_part (file_of w id)) look l e f) s document (subst P width_is room))
+
+pub write_closed_from : (w : World) (wide : ℕ) (path : List ℕ) (id : ℕ) (row : FileRow) (path' content' text : List ℕ) (stamp : ℕ) (doc : DocEdit) (look : Option Look) → AreSoundFiles w → IsLiveAt w path id row
+    → path' ≡ row.path → content' ≡ text → stamp ≡ w.next_stamp → look ≡ option_map look_of (document_part (file_of w id)) → look ≡ None
+    → doc ≡ doc_edit.Keep → Builds w wide (Write path text) (write_as id row path' content' stamp doc)
+write_closed_from w wide path id row path' content' text stamp doc look sound live p t s e f d =
+    write_as_built w wide path id row path' content' text stamp doc doc_edit.Keep p t d
+    (write_closed_builds w wide path id row (document_part (file_of w id)) text stamp sound (is_file_at w path id row live) (none_look (document_part (file_of w id)) look e f) s)
+
+pub intake_from : (w : World) (wide id stamp : ℕ) (row row' : FileRow) (text : List ℕ) (parts : Parts) (index : IndexEdit) → AreSoundFiles w → row_part (file_of w id) ≡ Some row → row' ≡ row
+    → refusal_of w (Intake id stamp) ≡ None → IfSome (file_of w id) (λ f. f.stamp ≡ stamp → f.content ≡ text) → parts ≡ parts_of text
+    → ((t : List ℕ) → parts ≡ parts_of t → index ≡ intake_index (is_java row'.path) t)
+    → Builds w wide (Intake id stamp) (intake_step id row' stamp index)
+intake_from w wide id stamp row row' text parts index sound live same accepted of_world made i =
+    let P : FileRow → Type 0 = λ r. Builds w wide (Intake id stamp) (intake_step id r stamp index) in
+    let is : index ≡ intake_index (is_java row.path) text = i text made ∙ ap (λ (r : FileRow). intake_index (is_java r.path) text) same in
+    subst P (sym same) (intake_builds w wide id stamp row (document_part (file_of w id)) text index sound (file_of_row (file_of w id) row live) accepted of_world is)

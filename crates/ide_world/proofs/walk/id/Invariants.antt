@@ -1,0 +1,7 @@
+use Rattle.std.proofs.Common.{◌≡◌, drop}
+use Rattle.std.specs.List.{fold}
+use Rattle.ide_world.specs.Walk.{id_after}
+use Rattle.ide_world.proofs.walk.id.Given as goal
+
+abbrev pub invariant-loop-step : goal.invariant-loop-step
+invariant-loop-step l = fold (id_after l.path) l.found (drop l.step-index l.steps) ≡ fold (id_after l.path) l.fn.first l.steps

@@ -1,0 +1,55 @@
+-- What it means that a step makes a change.
+use Rattle.std.specs.Prelude.{ℕ, ◌≡◌, Bool, true, false, List, Option, Some, None}
+use Rattle.vfs_core.specs.declared.row.FileRow.{FileRow}
+use Rattle.write_history.specs.declared.change.Change.{Change}
+use Rattle.write_history.specs.World.{World, file_of, id_at}
+use Rattle.write_history.specs.Fold.{effect_of}
+use Rattle.world_state.specs.declared.step.Step.{Step}
+use Rattle.world_state.specs.declared.step.RowEdit.TheVariants as row_edit
+use Rattle.world_state.specs.declared.step.DocEdit.{DocEdit}
+use Rattle.world_state.specs.declared.step.IndexEdit.{IndexEdit}
+use Rattle.world_state.specs.declared.step.IndexEdit.TheVariants.{Keep, SetBase, SetOverlay, ToBase, Drop}
+use Rattle.overlay_index.specs.Parts.{parts_of}
+use Rattle.world_state.specs.DocEdits.{IsWide, inserted_by}
+use Rattle.world_state.specs.Step.{after_step, row_part}
+use Rattle.world_state.specs.Lawful.{IsLawfulStep}
+use Rattle.ide_world.specs.Drafted.{inserted_by_change}
+
+-- the live file at a path has this id and this row
+pub record IsLiveAt (world : World) (path : List ℕ) (id : ℕ) (row : FileRow) : Type 0 where
+  pub at_path : id_at world path ≡ Some id
+  pub live : row_part (file_of world id) ≡ Some row
+
+-- the step does what the change does, and may be carried out; a document that it brings is wide enough
+pub record Builds (world : World) (wide : ℕ) (change : Change) (step : Step) : Type 0 where
+  pub effect : after_step world step ≡ effect_of world change
+  pub lawful : IsLawfulStep world step
+  pub room : IsWide wide step.doc
+  pub inserted : inserted_by step.doc ≡ inserted_by_change change
+
+-- the step that edits the document of a file and no more
+abbrev pub edit_step : ℕ → DocEdit → Step
+edit_step id edit = record { id = id; row = row_edit.Keep; doc = edit; index = Keep; draws = false }
+
+-- the index data of a text over those of the content, where the file passes the filter
+abbrev pub overlay_edit : Bool → List ℕ → IndexEdit
+overlay_edit false text = Keep
+overlay_edit true text = SetOverlay (parts_of text)
+
+-- what a move makes of index data: by whether the file passed the filter, whether it passes it now, and its committed text where it is open
+abbrev pub moved_index : Bool → Bool → Option (List ℕ) → IndexEdit
+moved_index true false committed = Drop
+moved_index false true (Some committed) = SetOverlay (parts_of committed)
+moved_index true true committed = Keep
+moved_index false false committed = Keep
+moved_index false true None = Keep
+
+-- what a close makes of index data: those of the document become those of the content
+abbrev pub close_index : Bool → IndexEdit
+close_index false = Keep
+close_index true = ToBase
+
+-- what an intake makes of index data
+abbrev pub intake_index : Bool → List ℕ → IndexEdit
+intake_index false text = Keep
+intake_index true text = SetBase (parts_of text)

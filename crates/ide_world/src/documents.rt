@@ -1,0 +1,160 @@
+//! The steps of changes to documents: open, insert, erase, commit, save, close.
+ghost use Rattle.std.specs.Prelude.{◌≡◌, ℕ, List, None, IfOk};
+ghost use Rattle.write_history.specs.declared.change.Change.TheVariants.{OpenDoc, Insert, Erase, Commit, Save, CloseDoc};
+ghost use Rattle.write_history.specs.Effect.{refusal_of};
+ghost use Rattle.dumb_mode.specs.Filter.{is_java};
+ghost use Rattle.ide_world.specs.Drafted.{world_now};
+ghost use Rattle.ide_world.specs.Builds.{Builds, overlay_edit, edit_step};
+
+use crate::draft::Draft;
+use document_buf::Doc;
+use dumb_mode::is_java;
+use ide_text::{Name, SharedText};
+use overlay_index::data_of;
+use std::alloc::{AllocError, Global};
+use vfs_core::FileRow;
+use world_state::{DocEdit, IndexEdit, RowEdit, Step};
+
+pub(crate) fn opened(alloc: Global, draft: &Draft<'_>, path: &Name) -> Result<Step, AllocError>
+    requires { refusal_of (world_now draft.now) (OpenDoc path.now) ≡ None }
+    ensures { IfOk result (Builds (world_now draft.now) draft.now.wide (OpenDoc path.now)) }
+{
+    let Some(found) = draft.find(path) else {
+        unreachable!()
+    };
+    Ok(Step {
+        id: found.id,
+        row: RowEdit::Keep,
+        doc: DocEdit::Open {
+            doc: Doc::open(alloc, &found.row.content, draft.wide())?,
+        },
+        index: overlay(alloc, &found.row.path, &found.row.content)?,
+        draws: false,
+    })
+}
+
+pub(crate) fn inserted(
+    draft: &Draft<'_>,
+    path: &Name,
+    at: u32,
+    text: &SharedText,
+) -> Result<Step, AllocError>
+    requires { refusal_of (world_now draft.now) (Insert path.now at text.now) ≡ None }
+    ensures { IfOk result (Builds (world_now draft.now) draft.now.wide (Insert path.now at text.now)) }
+{
+    let Some(found) = draft.find(path) else {
+        unreachable!()
+    };
+    Ok(edit_of(
+        found.id,
+        DocEdit::Insert {
+            at,
+            text: text.share()?,
+        },
+    ))
+}
+
+pub(crate) fn erased(draft: &Draft<'_>, path: &Name, from: u32, to: u32) -> Step
+    requires { refusal_of (world_now draft.now) (Erase path.now from to) ≡ None }
+    ensures { Builds (world_now draft.now) draft.now.wide (Erase path.now from to) result }
+{
+    let Some(found) = draft.find(path) else {
+        unreachable!()
+    };
+    edit_of(found.id, DocEdit::Erase { from, to })
+}
+
+/// The step that edits the document of a file and no more.
+fn edit_of(id: u32, doc: DocEdit) -> Step
+    ensures { result ≡ edit_step id doc }
+{
+    Step {
+        id,
+        row: RowEdit::Keep,
+        doc,
+        index: IndexEdit::Keep,
+        draws: false,
+    }
+}
+
+pub(crate) fn committed(alloc: Global, draft: &Draft<'_>, path: &Name) -> Result<Step, AllocError>
+    requires { refusal_of (world_now draft.now) (Commit path.now) ≡ None }
+    ensures { IfOk result (Builds (world_now draft.now) draft.now.wide (Commit path.now)) }
+{
+    let Some(found) = draft.find(path) else {
+        unreachable!()
+    };
+    let Some(text) = draft.text(found.id)? else {
+        unreachable!()
+    };
+    let text = SharedText::new(alloc, text)?;
+    let index = overlay(alloc, &found.row.path, &text)?;
+    Ok(Step {
+        id: found.id,
+        row: RowEdit::Keep,
+        doc: DocEdit::Commit { text },
+        index,
+        draws: false,
+    })
+}
+
+pub(crate) fn saved(alloc: Global, draft: &Draft<'_>, path: &Name) -> Result<Step, AllocError>
+    requires { refusal_of (world_now draft.now) (Save path.now) ≡ None }
+    ensures { IfOk result (Builds (world_now draft.now) draft.now.wide (Save path.now)) }
+{
+    let Some(found) = draft.find(path) else {
+        unreachable!()
+    };
+    let Some(text) = draft.text(found.id)? else {
+        unreachable!()
+    };
+    Ok(Step {
+        id: found.id,
+        row: RowEdit::Put {
+            row: FileRow {
+                path: found.row.path.copy()?,
+                content: SharedText::new(alloc, text)?,
+                stamp: draft.next_stamp(),
+                indexed: found.row.indexed,
+            },
+        },
+        doc: DocEdit::MarkSaved,
+        index: IndexEdit::Keep,
+        draws: true,
+    })
+}
+
+pub(crate) fn closed(draft: &Draft<'_>, path: &Name) -> Result<Step, AllocError>
+    requires { refusal_of (world_now draft.now) (CloseDoc path.now) ≡ None }
+    ensures { IfOk result (Builds (world_now draft.now) draft.now.wide (CloseDoc path.now)) }
+{
+    let Some(found) = draft.find(path) else {
+        unreachable!()
+    };
+    let mut row = found.row.copy()?;
+    row.indexed = Some(row.stamp);
+    let index = if is_java(&row.path) {
+        IndexEdit::ToBase
+    } else {
+        IndexEdit::Keep
+    };
+    Ok(Step {
+        id: found.id,
+        row: RowEdit::Put { row },
+        doc: DocEdit::Close,
+        index,
+        draws: false,
+    })
+}
+
+/// The index data of a text over those of the content, where the path passes the filter.
+fn overlay(alloc: Global, path: &Name, text: &SharedText) -> Result<IndexEdit, AllocError>
+    ensures { IfOk result (λ edit. edit ≡ overlay_edit (is_java path.now) text.now) }
+{
+    if !is_java(path) {
+        return Ok(IndexEdit::Keep);
+    }
+    Ok(IndexEdit::SetOverlay {
+        parts: data_of(alloc, text.as_text())?,
+    })
+}

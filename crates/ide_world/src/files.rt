@@ -1,0 +1,167 @@
+//! The steps of changes to files: create, write, delete, move, and the intake of index data.
+ghost use Rattle.std.specs.Prelude.{◌≡◌, ℕ, List, Option, None, IfOk, option_map};
+ghost use Rattle.write_history.specs.declared.change.Change.TheVariants.{Create, Write, Delete, Intake, Move};
+ghost use Rattle.std.specs.Option.{option_copied};
+ghost use Rattle.write_history.specs.Effect.{refusal_of};
+ghost use Rattle.dumb_mode.specs.Filter.{is_java};
+ghost use Rattle.ide_world.specs.Drafted.{world_now};
+ghost use Rattle.ide_world.specs.Builds.{Builds, moved_index, intake_index};
+ghost use Rattle.overlay_index.specs.Parts.{parts_of};
+ghost use Rattle.ide_world.specs.Task.{IsOfWorld};
+
+use crate::data::Made;
+use crate::draft::Draft;
+use document_buf::Doc;
+use dumb_mode::is_java;
+use ide_text::{Name, SharedText};
+use overlay_index::{FileData, data_of};
+use std::alloc::{AllocError, Global};
+use vfs_core::FileRow;
+use world_state::{DocEdit, IndexEdit, RowEdit, Step};
+
+pub(crate) fn created(draft: &Draft<'_>, path: &Name, text: &SharedText) -> Result<Step, AllocError>
+    requires { refusal_of (world_now draft.now) (Create path.now text.now) ≡ None }
+    ensures { IfOk result (Builds (world_now draft.now) draft.now.wide (Create path.now text.now)) }
+{
+    Ok(Step {
+        id: draft.made() as u32 + 1,
+        row: RowEdit::Put {
+            row: FileRow {
+                path: path.copy()?,
+                content: text.share()?,
+                stamp: draft.next_stamp(),
+                indexed: None,
+            },
+        },
+        doc: DocEdit::Keep,
+        index: IndexEdit::Keep,
+        draws: true,
+    })
+}
+
+pub(crate) fn written(
+    alloc: Global,
+    draft: &Draft<'_>,
+    path: &Name,
+    text: &SharedText,
+) -> Result<Step, AllocError>
+    requires { refusal_of (world_now draft.now) (Write path.now text.now) ≡ None }
+    ensures { IfOk result (Builds (world_now draft.now) draft.now.wide (Write path.now text.now)) }
+{
+    let Some(found) = draft.find(path) else {
+        unreachable!()
+    };
+    let doc = match draft.look(found.id) {
+        Some(_) => DocEdit::Replace {
+            doc: Doc::open(alloc, text, draft.wide())?,
+        },
+        None => DocEdit::Keep,
+    };
+    Ok(Step {
+        id: found.id,
+        row: RowEdit::Put {
+            row: FileRow {
+                path: found.row.path.copy()?,
+                content: text.share()?,
+                stamp: draft.next_stamp(),
+                indexed: found.row.indexed,
+            },
+        },
+        doc,
+        index: IndexEdit::Keep,
+        draws: true,
+    })
+}
+
+pub(crate) fn deleted(draft: &Draft<'_>, path: &Name) -> Step
+    requires { refusal_of (world_now draft.now) (Delete path.now) ≡ None }
+    ensures { Builds (world_now draft.now) draft.now.wide (Delete path.now) result }
+{
+    let Some(found) = draft.find(path) else {
+        unreachable!()
+    };
+    Step {
+        id: found.id,
+        row: RowEdit::Remove,
+        doc: DocEdit::Close,
+        index: IndexEdit::Drop,
+        draws: false,
+    }
+}
+
+pub(crate) fn moved(
+    alloc: Global,
+    draft: &Draft<'_>,
+    path: &Name,
+    to: &Name,
+) -> Result<Step, AllocError>
+    requires { refusal_of (world_now draft.now) (Move path.now to.now) ≡ None }
+    ensures { IfOk result (Builds (world_now draft.now) draft.now.wide (Move path.now to.now)) }
+{
+    let Some(found) = draft.find(path) else {
+        unreachable!()
+    };
+    Ok(Step {
+        id: found.id,
+        row: RowEdit::Put {
+            row: FileRow {
+                path: to.copy()?,
+                content: found.row.content.share()?,
+                stamp: draft.next_stamp(),
+                indexed: found.row.indexed,
+            },
+        },
+        doc: DocEdit::Keep,
+        index: moved_index(alloc, &found.row.path, to, draft.committed(found.id))?,
+        draws: true,
+    })
+}
+
+/// What a move makes of the index data: a file that leaves the filter loses them, and an open one that comes into it
+/// gets those of its committed text.
+fn moved_index(
+    alloc: Global,
+    path: &Name,
+    to: &Name,
+    committed: Option<&SharedText>,
+) -> Result<IndexEdit, AllocError>
+    ensures { IfOk result (λ edit. edit ≡ moved_index (is_java path.now) (is_java to.now) (option_copied committed.entry)) }
+{
+    match (is_java(path), is_java(to), committed) {
+        (true, false, _) => Ok(IndexEdit::Drop),
+        (false, true, Some(text)) => Ok(IndexEdit::SetOverlay {
+            parts: data_of(alloc, text.as_text())?,
+        }),
+        _ => Ok(IndexEdit::Keep),
+    }
+}
+
+pub(crate) fn taken_in(draft: &Draft<'_>, made: Made) -> Result<Step, AllocError>
+    requires accepted { refusal_of (world_now draft.now) (Intake made.file made.stamp) ≡ None }
+    requires of_world { IsOfWorld (world_now draft.now) (record { file = made.file; stamp = made.stamp; content = made.text }) }
+    ensures { IfOk result (Builds (world_now draft.now) draft.now.wide (Intake made.file made.stamp)) }
+{
+    let Some(row) = draft.row(made.file) else {
+        unreachable!()
+    };
+    let mut row = row.copy()?;
+    row.indexed = Some(made.stamp);
+    let index = intake_index(&row.path, made.parts);
+    Ok(Step {
+        id: made.file,
+        row: RowEdit::Put { row },
+        doc: DocEdit::Keep,
+        index,
+        draws: false,
+    })
+}
+
+/// What an intake makes of the index data.
+fn intake_index(path: &Name, parts: FileData) -> IndexEdit
+    ensures { (text : List ℕ) → parts ≡ parts_of text → result ≡ intake_index (is_java path.now) text }
+{
+    if !is_java(path) {
+        return IndexEdit::Keep;
+    }
+    IndexEdit::SetBase { parts }
+}

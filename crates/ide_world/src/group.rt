@@ -1,0 +1,222 @@
+//! How changes go in: they are judged and made ready, room is made for them, then they are installed and can't fail.
+ghost use Rattle.std.specs.Prelude.{◌≡◌, ◌<◌, ◌+◌, ℕ, List, [], ◌∷◌, true, Err, Some, IfOk, IfErr, IfSome, OnOk, length};
+ghost use Rattle.std.specs.List.{list_all};
+ghost use Rattle.write_history.specs.declared.change.Change.{Change};
+ghost use Rattle.write_history.specs.declared.refusal.Refusal.{Refusal};
+ghost use Rattle.write_history.specs.declared.change.Change.TheVariants.{Intake};
+ghost use Rattle.write_history.specs.World.{empty_world};
+ghost use Rattle.write_history.specs.Changes.{AreFew};
+ghost use Rattle.write_history.specs.Effect.{refusal_of, max_entries};
+ghost use Rattle.write_history.specs.Fold.{list_refusal, after_list};
+ghost use Rattle.world_state.specs.Held.{HasRoom};
+ghost use Rattle.ide_world.specs.Ready.{Makes, IsReadyFor, is_edit, IsRefusalOf, IsListRefusalOf};
+ghost use Rattle.ide_world.specs.Task.{IsOfWorld};
+ghost use Rattle.ide_world.specs.Drafted.{world_now, inserted_by_change, inserted_by_changes, IsExtended};
+ghost use Rattle.ide_world.specs.Builds.{Builds};
+
+use crate::data::Made;
+use crate::draft::Draft;
+use crate::refusal::{intake_refusal, refusal};
+use crate::{documents, files};
+use std::alloc::{AllocError, Global};
+use std::marker::Model;
+use world_state::{State, Step, Steps};
+use write_history::{Change, Refusal};
+
+/// Changes that are ready to go in, all memory for their data and texts taken: seen as the steps that make them.
+#[derive(Drop)]
+pub struct Ready {
+    steps: Steps,
+}
+
+impl Model for Ready {
+    ghost use Rattle.std.specs.Prelude.{List};
+    ghost use Rattle.world_state.specs.declared.step.Step.{Step};
+
+    ghost Value = { List Step };
+
+    ghost view = { λ r. r.steps };
+}
+
+/// The first refused change of a list.
+#[derive(Clone, Copy, Debug, PartialEq, Eq)]
+pub struct GroupRefusal {
+    /// Its place in the list, from 1.
+    pub place: u32,
+    pub why: Refusal,
+}
+
+/// The state without a file.
+pub fn empty(alloc: Global) -> Result<State, AllocError>
+    ensures { IfOk result (λ state. state.world ≡ empty_world) }
+{
+    Ok(State::empty(alloc))
+}
+
+/// Makes a change other than an intake ready, or gives the first reason to refuse it; that reason is found before
+/// memory is asked for.
+pub fn prepare(alloc: Global, state: &State, change: &Change) -> Result<Ready, Refusal>
+    requires { is_edit change.now ≡ true }
+    ensures ready { IfOk result (IsReadyFor state.now.world) }
+    ensures makes { IfOk result (λ ready. Makes state.now.world ready (change.now ∷ [])) }
+    ensures first { IfSome (refusal_of state.now.world change.now) (λ why. result ≡ Err why) }
+    ensures refused { IfErr result (IsRefusalOf (refusal_of state.now.world change.now)) }
+{
+    let mut draft = Draft::new(alloc, state, inserted_by(change));
+    extend(alloc, &mut draft, change)?;
+    Ok(Ready {
+        steps: draft.into_steps(),
+    })
+}
+
+/// Makes a list of changes ready, each judged where the earlier ones lead, or gives the first refused one.
+pub fn prepare_group(
+    alloc: Global,
+    state: &State,
+    changes: &[Change],
+) -> Result<Ready, GroupRefusal>
+    requires few { AreFew changes.now }
+    requires edits { list_all is_edit changes.now ≡ true }
+    ensures ready { IfOk result (IsReadyFor state.now.world) }
+    ensures makes { IfOk result (λ ready. Makes state.now.world ready changes.now) }
+    ensures first { (change : Change) (rest : List Change) (why : Refusal) → changes.now ≡ change ∷ rest
+        → refusal_of state.now.world change ≡ Some why → result ≡ Err (record { place = 1; why = why }) }
+    ensures refused { IfErr result (IsListRefusalOf (list_refusal state.now.world changes.now)) }
+{
+    let mut draft = Draft::new(alloc, state, inserted_by_all(changes));
+    for (index, change) in changes.iter().enumerate() {
+        if let Err(why) = extend(alloc, &mut draft, change) {
+            return Err(GroupRefusal {
+                place: index as u32 + 1,
+                why,
+            });
+        }
+    }
+    Ok(Ready {
+        steps: draft.into_steps(),
+    })
+}
+
+/// Makes the intake of index data ready, or gives the first reason to refuse it, before memory is asked for.
+pub fn prepare_intake(alloc: Global, state: &State, made: Made) -> Result<Ready, Refusal>
+    requires { IsOfWorld state.now.world (record { file = made.file; stamp = made.stamp; content = made.text }) }
+    ensures ready { IfOk result (IsReadyFor state.now.world) }
+    ensures makes { IfOk result (λ ready. Makes state.now.world ready (Intake made.file made.stamp ∷ [])) }
+    ensures first { IfSome (refusal_of state.now.world (Intake made.file made.stamp)) (λ why. result ≡ Err why) }
+    ensures refused { IfErr result (IsRefusalOf (refusal_of state.now.world (Intake made.file made.stamp))) }
+{
+    let mut draft = Draft::new(alloc, state, 0);
+    if let Some(refusal) = intake_refusal(&draft, made.file, made.stamp) {
+        return Err(refusal);
+    }
+    match taken_in(&mut draft, made) {
+        Ok(()) => Ok(Ready {
+            steps: draft.into_steps(),
+        }),
+        Err(_) => Err(Refusal::OutOfMemory),
+    }
+}
+
+/// Makes the room that the changes need.
+pub fn reserve(state: &mut State, ready: &Ready) -> Result<(), AllocError>
+    ensures room { OnOk result (HasRoom state.new ready.now) }
+    ensures same { state.new.world ≡ state.old.world }
+{
+    state.reserve(&ready.steps)
+}
+
+/// Puts the changes in. It takes no memory.
+pub fn install(state: &mut State, ready: Ready)
+    requires ready { IsReadyFor state.old.world ready }
+    requires room { HasRoom state.old ready }
+    ensures { (changes : List Change) → Makes state.old.world ready changes → state.new.world ≡ after_list state.old.world changes }
+{
+    let Ready { steps } = ready;
+    state.install(steps);
+}
+
+/// Makes one change more of a draft, or gives the first reason to refuse it.
+fn extend(alloc: Global, draft: &mut Draft<'_>, change: &Change) -> Result<(), Refusal>
+    requires edit { is_edit change.now ≡ true }
+    requires few { length draft.old.steps < 64 }
+    ensures accepted { OnOk result (refusal_of (world_now draft.old) change.now ≡ None) }
+    ensures extended { OnOk result (IsExtended draft.old draft.new change.now) }
+    ensures first { draft.old.steps ≡ [] → IfSome (refusal_of (world_now draft.old) change.now) (λ why. result ≡ Err why) }
+    ensures refused { IfErr result (IsRefusalOf (refusal_of (world_now draft.old) change.now)) }
+{
+    match refusal(draft, change) {
+        Ok(None) => (),
+        Ok(Some(why)) => return Err(why),
+        Err(_) => return Err(Refusal::OutOfMemory),
+    }
+    match add(alloc, draft, change) {
+        Ok(()) => Ok(()),
+        Err(_) => Err(Refusal::OutOfMemory),
+    }
+}
+
+/// Adds the step of an accepted change.
+fn add(alloc: Global, draft: &mut Draft<'_>, change: &Change) -> Result<(), AllocError>
+    requires edit { is_edit change.now ≡ true }
+    requires few { length draft.old.steps < 64 }
+    requires accepted { refusal_of (world_now draft.old) change.now ≡ None }
+    ensures { OnOk result (IsExtended draft.old draft.new change.now) }
+{
+    let step = step_of(alloc, draft, change)?;
+    draft.push(step)
+}
+
+/// Adds the step of an accepted intake.
+fn taken_in(draft: &mut Draft<'_>, made: Made) -> Result<(), AllocError>
+    requires few { length draft.old.steps < 64 }
+    requires accepted { refusal_of (world_now draft.old) (Intake made.file made.stamp) ≡ None }
+    requires of_world { IsOfWorld (world_now draft.old) (record { file = made.file; stamp = made.stamp; content = made.text }) }
+    ensures { OnOk result (IsExtended draft.old draft.new (Intake made.file made.stamp)) }
+{
+    let step = files::taken_in(draft, made)?;
+    draft.push(step)
+}
+
+/// The step of an accepted change.
+fn step_of(alloc: Global, draft: &Draft<'_>, change: &Change) -> Result<Step, AllocError>
+    requires edit { is_edit change.now ≡ true }
+    requires accepted { refusal_of (world_now draft.now) change.now ≡ None }
+    ensures { IfOk result (Builds (world_now draft.now) draft.now.wide change.now) }
+{
+    match change {
+        Change::Create { path, text } => files::created(draft, path, text),
+        Change::Write { path, text } => files::written(alloc, draft, path, text),
+        Change::Delete { path } => Ok(files::deleted(draft, path)),
+        Change::OpenDoc { path } => documents::opened(alloc, draft, path),
+        Change::Insert { path, at, text } => documents::inserted(draft, path, *at, text),
+        Change::Erase { path, from, to } => Ok(documents::erased(draft, path, *from, *to)),
+        Change::Commit { path } => documents::committed(alloc, draft, path),
+        Change::Save { path } => documents::saved(alloc, draft, path),
+        Change::CloseDoc { path } => documents::closed(draft, path),
+        Change::Intake { .. } => unreachable!(),
+        Change::Move { path, to } => files::moved(alloc, draft, path, to),
+    }
+}
+
+/// How many characters changes insert.
+fn inserted_by_all(changes: &[Change]) -> u32
+    requires { length changes.now < 65 }
+    ensures { result ≡ inserted_by_changes changes.now }
+{
+    let mut count = 0;
+    for change in changes {
+        count += inserted_by(change);
+    }
+    count
+}
+
+/// How many characters a change inserts.
+fn inserted_by(change: &Change) -> u32
+    ensures value { result ≡ inserted_by_change change.now }
+    ensures few { result < 1048577 }
+{
+    match change {
+        Change::Insert { text, .. } => text.as_text().len(),
+        _ => 0,
+    }
+}

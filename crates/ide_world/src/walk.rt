@@ -1,0 +1,224 @@
+//! Walks over steps: what they make of one part of a file, and of the id at a path.
+ghost use Rattle.std.specs.Prelude.{◌≡◌, ◌≤◌, ◌+◌, ◌*◌, List, ℕ, length, Option, Some, IfOk, IfSome, option_map};
+ghost use Rattle.std.specs.List.{fold, list_any};
+ghost use Rattle.std.specs.Option.{option_copied};
+ghost use Rattle.ide_text.specs.Text.{max_chars};
+ghost use Rattle.world_state.specs.RowEdits.{edited_row};
+ghost use Rattle.ide_world.specs.Walk.{row_after, look_after, edited_look, committed_after, edited_committed, id_after, moved_id, other_than, keeps_texts, edits_texts, text_after, edited_text, IsTextEditFit, AreTextEditsFit};
+ghost use Rattle.document_buf.specs.Document.{with_piece, without_part};
+
+use crate::look::Look;
+use ide_text::{Name, SharedText, Text};
+use std::alloc::AllocError;
+use vfs_core::FileRow;
+use world_state::{DocEdit, RowEdit, Step};
+
+/// The row of an id after steps.
+pub(crate) fn row<'a>(steps: &'a [Step], id: u32, first: Option<&'a FileRow>) -> Option<&'a FileRow>
+    ensures { option_copied result ≡ fold (row_after id) (option_copied first.entry) steps.now }
+{
+    let mut row = first;
+    for step in steps {
+        if step.id == id {
+            row = edited_row(&step.row, row);
+        }
+    }
+    row
+}
+
+fn edited_row<'a>(edit: &'a RowEdit, row: Option<&'a FileRow>) -> Option<&'a FileRow>
+    ensures { option_copied result ≡ edited_row edit.now (option_copied row.entry) }
+{
+    match edit {
+        RowEdit::Keep => row,
+        RowEdit::Put { row } => Some(row),
+        RowEdit::Remove => None,
+    }
+}
+
+/// What the document of an id looks like after steps.
+pub(crate) fn look(steps: &[Step], id: u32, first: Option<Look>) -> Option<Look>
+    requires few { length steps.now ≤ 64 }
+    requires short { IfSome first (λ look. look.len ≤ max_chars) }
+    ensures value { result ≡ fold (look_after id) first steps.now }
+    ensures short { IfSome result (λ look. look.len ≤ 65 * max_chars) }
+{
+    let mut look = first;
+    for step in steps {
+        if step.id == id {
+            look = edited_look(&step.doc, look);
+        }
+    }
+    look
+}
+
+fn edited_look(edit: &DocEdit, look: Option<Look>) -> Option<Look>
+    requires { IfSome look (λ look. look.len ≤ 64 * max_chars) }
+    ensures value { result ≡ edited_look edit.now look }
+    ensures short { (n : ℕ) → 1 ≤ n → IfSome look (λ look. look.len ≤ n * max_chars) → IfSome result (λ look. look.len ≤ (n + 1) * max_chars) }
+{
+    match edit {
+        DocEdit::Keep => look,
+        DocEdit::Open { doc } => Some(Look {
+            len: doc.len(),
+            saved: doc.saved(),
+        }),
+        DocEdit::Insert { at: _, text } => Some(Look {
+            len: look?.len + text.as_text().len(),
+            saved: false,
+        }),
+        DocEdit::Erase { from, to } => Some(Look {
+            len: look?.len.saturating_sub(to.saturating_sub(*from)),
+            saved: false,
+        }),
+        DocEdit::Commit { .. } => look,
+        DocEdit::MarkSaved => Some(Look {
+            len: look?.len,
+            saved: true,
+        }),
+        DocEdit::Replace { doc } => {
+            look?;
+            Some(Look {
+                len: doc.len(),
+                saved: true,
+            })
+        }
+        DocEdit::Close => None,
+    }
+}
+
+/// The committed text of the document of an id after steps.
+pub(crate) fn committed<'a>(
+    steps: &'a [Step],
+    id: u32,
+    first: Option<&'a SharedText>,
+) -> Option<&'a SharedText>
+    ensures { option_copied result ≡ fold (committed_after id) (option_copied first.entry) steps.now }
+{
+    let mut text = first;
+    for step in steps {
+        if step.id == id {
+            text = edited_committed(&step.doc, text);
+        }
+    }
+    text
+}
+
+fn edited_committed<'a>(edit: &'a DocEdit, text: Option<&'a SharedText>) -> Option<&'a SharedText>
+    ensures { option_copied result ≡ edited_committed edit.now (option_copied text.entry) }
+{
+    match edit {
+        DocEdit::Keep => text,
+        DocEdit::Open { doc } => Some(doc.committed()),
+        DocEdit::Insert { .. } => text,
+        DocEdit::Erase { .. } => text,
+        DocEdit::Commit { text: new } => {
+            text?;
+            Some(new)
+        }
+        DocEdit::MarkSaved => text,
+        DocEdit::Replace { .. } => text,
+        DocEdit::Close => None,
+    }
+}
+
+/// The text of the document of an id after steps. Linear in the texts that the steps bring.
+pub(crate) fn text(steps: &[Step], id: u32, first: Option<Text>) -> Result<Option<Text>, AllocError>
+    requires { AreTextEditsFit id first steps.now }
+    ensures { IfOk result (λ text. text ≡ fold (text_after id) first steps.now) }
+{
+    let mut text = first;
+    for step in steps {
+        if step.id == id {
+            text = edited_text(&step.doc, text)?;
+        }
+    }
+    Ok(text)
+}
+
+fn edited_text(edit: &DocEdit, text: Option<Text>) -> Result<Option<Text>, AllocError>
+    requires { IsTextEditFit edit.now text }
+    ensures { IfOk result (λ edited. edited ≡ edited_text edit.now text) }
+{
+    match edit {
+        DocEdit::Keep => Ok(text),
+        DocEdit::Open { doc } => Ok(Some(doc.text()?)),
+        DocEdit::Insert { at, text: piece } => inserted(text, *at, piece.as_text()),
+        DocEdit::Erase { from, to } => Ok(erased(text, *from, *to)),
+        DocEdit::Commit { .. } => Ok(text),
+        DocEdit::MarkSaved => Ok(text),
+        DocEdit::Replace { doc } => match text {
+            Some(_) => Ok(Some(doc.text()?)),
+            None => Ok(None),
+        },
+        DocEdit::Close => Ok(None),
+    }
+}
+
+fn inserted(text: Option<Text>, at: u32, piece: &Text) -> Result<Option<Text>, AllocError>
+    requires { IfSome text (λ t. (at ≤ length t) × (length t + length piece.now ≤ max_chars)) }
+    ensures { IfOk result (λ edited. edited ≡ option_map (with_piece at piece.now) text) }
+{
+    let Some(mut text) = text else {
+        return Ok(None);
+    };
+    text.insert(at, piece)?;
+    Ok(Some(text))
+}
+
+fn erased(text: Option<Text>, from: u32, to: u32) -> Option<Text>
+    requires { IfSome text (λ t. (from ≤ to) × (to ≤ length t)) }
+    ensures { result ≡ option_map (without_part from to) text }
+{
+    let mut text = text?;
+    text.erase(from, to);
+    Some(text)
+}
+
+/// Whether a step changes a text of the document of an id.
+pub(crate) fn edits_texts(steps: &[Step], id: u32) -> bool
+    ensures { result ≡ list_any (edits_texts id) steps.now }
+{
+    steps
+        .iter()
+        .any(|step| step.id == id && !keeps_texts(&step.doc))
+}
+
+fn keeps_texts(edit: &DocEdit) -> bool
+    ensures { result ≡ keeps_texts edit.now }
+{
+    match edit {
+        DocEdit::Keep => true,
+        DocEdit::MarkSaved => true,
+        _ => false,
+    }
+}
+
+/// The id at a path after steps.
+pub(crate) fn id(steps: &[Step], path: &Name, first: Option<u32>) -> Option<u32>
+    ensures { result ≡ fold (id_after path.now) first steps.now }
+{
+    let mut found = first;
+    for step in steps {
+        found = moved_id(path, step.id, &step.row, found);
+    }
+    found
+}
+
+fn moved_id(path: &Name, id: u32, edit: &RowEdit, found: Option<u32>) -> Option<u32>
+    ensures { result ≡ moved_id path.now id edit.now found }
+{
+    match edit {
+        RowEdit::Keep => found,
+        RowEdit::Put { row } if row.path == *path => Some(id),
+        RowEdit::Put { .. } => other_than(id, found),
+        RowEdit::Remove => other_than(id, found),
+    }
+}
+
+fn other_than(id: u32, found: Option<u32>) -> Option<u32>
+    ensures { result ≡ other_than id found }
+{
+    let found = found?;
+    if found == id { None } else { Some(found) }
+}
