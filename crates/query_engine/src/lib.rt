@@ -6,7 +6,6 @@ mod listed_file;
 mod looks;
 mod outline;
 mod question;
-mod reads;
 mod stub_rows;
 mod word_rows;
 

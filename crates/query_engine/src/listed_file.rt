@@ -5,12 +5,11 @@ ghost use Rattle.query_engine.specs.Reply.{row_of};
 ghost use Rattle.query_engine.specs.Listed.{listed_at, IsListed, offset_in};
 
 use crate::answer::Row;
-use crate::reads::{path, shown};
 use ide_text::{LineWalk, Name};
+use ide_world::{State, path, shown};
 use std::alloc::AllocError;
 use std::marker::Model;
 use stub_tree::Stub;
-use world_state::State;
 
 /// A file whose rows are being made, with one walk over its text for their lines and columns.
 #[derive(Drop)]

@@ -8,14 +8,13 @@ ghost use Rattle.query_engine.specs.Listed.{path_at, text_at, AreFrom};
 use crate::answer::{Answer, AskRefusal, RowList};
 use crate::listed_file::ListedFile;
 use crate::looks::look_after;
-use crate::reads::shown;
 use action_lock::Watch;
 use decl_parser::laws::names_are_identifiers;
 use decl_parser::stubs;
 use ide_text::Name;
+use ide_world::{State, shown};
 use std::alloc::Global;
 use stub_tree::Stub;
-use world_state::State;
 
 /// The declarations of the live file at a path.
 pub(crate) fn outline<W: Watch>(

@@ -12,9 +12,9 @@ use crate::stub_rows::stub_rows;
 use crate::word_rows::word_rows;
 use action_lock::Watch;
 use decl_parser::laws::{listings_are_lawful, names_are_identifiers};
+use ide_world::State;
 use queries::Query;
 use std::alloc::Global;
-use world_state::State;
 
 /// Answers a question. It looks at the watch as it begins and after each 256 rows, and ends where the watch sees that
 /// the work is to end.

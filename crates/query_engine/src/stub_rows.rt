@@ -8,9 +8,8 @@ use crate::answer::{AskRefusal, RowList};
 use crate::listed_file::ListedFile;
 use crate::looks::look_after;
 use action_lock::Watch;
-use overlay_index::StubWalk;
+use ide_world::{State, StubWalk};
 use std::alloc::Global;
-use world_state::State;
 
 /// The rows of the declarations that are found, file by file. Lines and columns are found in one walk over each
 /// file's text.

@@ -5,11 +5,9 @@ ghost use Rattle.query_engine.specs.Listed.{AreLive, word_found};
 
 use crate::answer::{AskRefusal, WordRow, WordRows};
 use crate::looks::look_after;
-use crate::reads::path;
 use action_lock::Watch;
-use overlay_index::WordWalk;
+use ide_world::{State, WordWalk, path};
 use std::alloc::Global;
-use world_state::State;
 
 /// The rows of the files in which a word is found.
 pub(crate) fn word_rows<W: Watch>(
