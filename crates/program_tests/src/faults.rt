@@ -1,5 +1,5 @@
 //! A table of calls on the source and on the sink that fail, and the longest script.
-use crate::running::run;
+use crate::running::{run, run_over, two_files};
 use ide_io::{BytesSink, BytesSource, Failing, FaultPlan};
 use std::test::Fail;
 
@@ -115,7 +115,7 @@ static CASES: [Case; 16] = [
     },
     // Whichever comes first: the words, the reading, the grammar, the writing.
     Case {
-        words: &["ide", "demo"],
+        words: &["ide", "dem"],
         script: "settle\n",
         read: 1,
         write: 1,
@@ -179,6 +179,27 @@ fn faults_of_source_and_sink(rt: HostRuntime) -> Result<(), Fail> {
             case.written,
             "at read {read} and write {write}"
         );
+    }
+    Ok(())
+}
+
+// Two loads are two calls on the tree; where one of them fails nothing is written.
+#[test]
+fn faults_of_the_tree(rt: HostRuntime) -> Result<(), Fail> {
+    for (call, wanted, written) in [
+        (1, "4 ide: tree fault\n", 0),
+        (2, "4 ide: tree fault\n", 0),
+        (3, "0 ", 62),
+    ] {
+        let mut source = BytesSource::new(b"load A.java\nload B.java\n");
+        let mut tree = Failing {
+            inner: two_files(rt.alloc())?,
+            plan: FaultPlan::new(vec![in rt.alloc(); call]?),
+        };
+        let mut sink = BytesSink::with_room(rt.alloc(), 1_000)?;
+        let status = run_over(&rt, IDE, &mut source, &mut tree, &mut sink)?;
+        assert_eq!(rt; status.as_str(), wanted, "at call {call}");
+        assert_eq!(rt; sink.bytes().len(), written, "at call {call}");
     }
     Ok(())
 }

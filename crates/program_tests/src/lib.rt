@@ -2,10 +2,16 @@
 #![tactic(auto)]
 
 #[cfg(test)]
+mod changes;
+#[cfg(test)]
 mod faults;
 #[cfg(test)]
 mod parts;
 #[cfg(test)]
+mod questions;
+#[cfg(test)]
 mod running;
 #[cfg(test)]
 mod scripts;
+#[cfg(test)]
+mod table;

@@ -1,8 +1,10 @@
 //! A script that is parsed, played and printed call by call.
 
-use ide_script::{play, transcript};
+use crate::running::two_files;
+use ide_script::play;
 use script_lang::parse;
 use std::test::Fail;
+use transcripts::{summary, transcript};
 
 const SCRIPT: &[u8] = b"create A.java \"class A {}\"\nsettle\nword A\n";
 
@@ -12,11 +14,12 @@ const TRANSCRIPT: &[u8] =
 #[test]
 fn parsed_played_and_printed(rt: HostRuntime) -> Result<(), Fail> {
     let script = parse(rt.alloc(), SCRIPT)?;
-    assert_eq!(rt; script.len(), 3);
-    let played = play(rt.alloc(), &script)?;
+    assert_eq!(rt; script.prelude().len(), 3);
+    let played = play(rt.alloc(), &script, &mut two_files(rt.alloc())?)?;
     assert_eq!(rt; played.history.len(), 2);
     assert_eq!(rt; played.records.as_slice().len(), 3);
     let printed = transcript(rt.alloc(), &played)?;
     assert_eq!(rt; printed.as_slice(), TRANSCRIPT);
+    assert_eq!(rt; summary(rt.alloc(), &played)?.len(), 0);
     Ok(())
 }
