@@ -1,7 +1,8 @@
 //! Reading what the loads of a prelude ask for.
-ghost use Rattle.std.specs.Prelude.{◌≡◌, ◌≢◌, IfOk, Err};
+ghost use Rattle.std.specs.Prelude.{◌≡◌, ◌≢◌, false, IfOk, Err};
 ghost use Rattle.ide_io.specs.Fault.{HasFault};
 ghost use Rattle.transcripts.specs.Loads.{AreLoadsOf, IsLoadOf, loaded_of};
+ghost use Rattle.ide_script.specs.Play.{asks_file, AskNoFile};
 
 use crate::PlayRefusal;
 use ide_io::{ReadFileError, Tree};
@@ -18,6 +19,7 @@ pub(crate) fn read_loads<T: Tree>(
     tree: &mut T,
 ) -> Result<Vec<Loaded>, PlayRefusal>
     ensures loads { IfOk result (λ loads. AreLoadsOf (T.files tree.old) lines.now loads.items) }
+    ensures unread { AskNoFile lines.now → tree.new ≡ tree.old }
     ensures fault { result ≡ Err PlayRefusal.TreeFault → HasFault (T.faults tree.old) (T.faults tree.new) }
     ensures quiet { result ≢ Err PlayRefusal.TreeFault → T.faults tree.new ≡ T.faults tree.old }
 {
@@ -33,6 +35,7 @@ pub(crate) fn read_loads<T: Tree>(
 fn read_load<T: Tree>(alloc: Global, command: &Command, tree: &mut T) -> Result<Loaded, PlayRefusal>
     ensures load { IfOk result (λ load. IsLoadOf (T.files tree.old) command.now load) }
     ensures files { T.files tree.new ≡ T.files tree.old }
+    ensures unread { asks_file command.now ≡ false → tree.new ≡ tree.old }
     ensures fault { result ≡ Err PlayRefusal.TreeFault → HasFault (T.faults tree.old) (T.faults tree.new) }
     ensures quiet { result ≢ Err PlayRefusal.TreeFault → T.faults tree.new ≡ T.faults tree.old }
 {

@@ -4,7 +4,7 @@ ghost use Rattle.ide_io.specs.Fault.{HasFault};
 ghost use Rattle.write_history.specs.Fold.{IsLegal};
 ghost use Rattle.script_lang.specs.Held.{IsOfLine};
 ghost use Rattle.transcripts.specs.Serial.{prelude_from, section_from, lanes_from, run_of, after_step, step_of};
-ghost use Rattle.ide_script.specs.Play.{Plays, done_of, no_loads};
+ghost use Rattle.ide_script.specs.Play.{Plays, AskNoFile, done_of, no_loads};
 
 use crate::PlayRefusal;
 use crate::loads::read_loads;
@@ -18,11 +18,12 @@ use transcripts::{Loaded, Played, Record, Records};
 const PRELUDE: u32 = 0;
 
 /// Does the commands of a script in order, from the empty workspace. The lanes go one after the other, with the seats
-/// 1, 2, ... What the loads ask for is read before all else; a tree that fails ends it.
+/// 1, 2, ... What the loads ask for is read before all else; a tree that fails ends it. A load of an unlawful path asks for nothing.
 pub fn play<T: Tree>(alloc: Global, script: &Script, tree: &mut T) -> Result<Played, PlayRefusal>
     ensures serial { IfOk result (λ played. Plays (T.files tree.old) script.now
         (record { history = played.history.entries; records = played.records; last = played.last })) }
     ensures legal { IfOk result (λ played. IsLegal played.history.entries) }
+    ensures unread { AskNoFile script.now.prelude → tree.new ≡ tree.old }
     ensures fault { result ≡ Err PlayRefusal.TreeFault → HasFault (T.faults tree.old) (T.faults tree.new) }
     ensures quiet { result ≢ Err PlayRefusal.TreeFault → T.faults tree.new ≡ T.faults tree.old }
 {

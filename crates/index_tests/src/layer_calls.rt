@@ -3,8 +3,51 @@ use ide_text::{Name, Text};
 use overlay_index::{FileData, Layers, data_of};
 use std::alloc::{AllocError, Global};
 
+/// A call on layers, or what a name is to find in them.
+#[derive(Clone, Copy)]
+pub enum Step {
+    /// A text becomes a file's base.
+    Base(u32, &'static str),
+    /// A text becomes a file's overlay.
+    Overlay(u32, &'static str),
+    /// A file's overlay becomes its base.
+    ToBase(u32),
+    /// A file goes.
+    Drop(u32),
+    /// The layers are copied, and the copy takes their place.
+    Copy,
+    /// A name finds just this.
+    Finds(&'static str, &'static str),
+}
+
+/// Goes through steps from empty layers on, and tells how many were as they say, up to the first that isn't.
+pub fn run(alloc: Global, steps: &[Step]) -> Result<usize, AllocError> {
+    let mut layers = Layers::new(alloc);
+    let mut right = 0usize;
+    for step in steps {
+        if !perform(alloc, &mut layers, *step)? {
+            return Ok(right);
+        }
+        right = right.saturating_add(1);
+    }
+    Ok(right)
+}
+
+/// Does one step, and tells whether it is as it says.
+fn perform(alloc: Global, layers: &mut Layers, step: Step) -> Result<bool, AllocError> {
+    match step {
+        Step::Base(file, text) => set_base(alloc, layers, file, text)?,
+        Step::Overlay(file, text) => set_overlay(alloc, layers, file, text)?,
+        Step::ToBase(file) => turn_to_base(layers, file),
+        Step::Drop(file) => drop_file(layers, file),
+        Step::Copy => *layers = layers.copy()?,
+        Step::Finds(name, wanted) => return finds(alloc, layers, name, wanted),
+    }
+    Ok(true)
+}
+
 /// The rows of a text that is known to be one.
-pub(crate) fn data(alloc: Global, text: &str) -> Result<FileData, AllocError> {
+fn data(alloc: Global, text: &str) -> Result<FileData, AllocError> {
     match Text::from_utf8(alloc, text.as_bytes()) {
         Ok(text) => data_of(alloc, &text),
         Err(_) => Err(AllocError),
@@ -12,12 +55,7 @@ pub(crate) fn data(alloc: Global, text: &str) -> Result<FileData, AllocError> {
 }
 
 /// Gives a file the rows of a text as its base.
-pub(crate) fn set_base(
-    alloc: Global,
-    layers: &mut Layers,
-    file: u32,
-    text: &str,
-) -> Result<(), AllocError> {
+fn set_base(alloc: Global, layers: &mut Layers, file: u32, text: &str) -> Result<(), AllocError> {
     let data = data(alloc, text)?;
     layers.reserve(file, &data)?;
     let gone = layers.set_base(file, data);
@@ -26,7 +64,7 @@ pub(crate) fn set_base(
 }
 
 /// Gives a file the rows of a text as its overlay.
-pub(crate) fn set_overlay(
+fn set_overlay(
     alloc: Global,
     layers: &mut Layers,
     file: u32,
@@ -40,19 +78,19 @@ pub(crate) fn set_overlay(
 }
 
 /// Lets a file's overlay be its base.
-pub(crate) fn turn_to_base(layers: &mut Layers, file: u32) {
+fn turn_to_base(layers: &mut Layers, file: u32) {
     let gone = layers.overlay_to_base(file);
     layers.sweep(file, &gone);
 }
 
 /// Takes a file out.
-pub(crate) fn drop_file(layers: &mut Layers, file: u32) {
+fn drop_file(layers: &mut Layers, file: u32) {
     let gone = layers.drop_file(file);
     layers.sweep(file, &gone);
 }
 
 /// The files and offsets, or files and masks, that a name finds: as a type, by a super, as a method and as a word.
-pub(crate) fn found(alloc: Global, layers: &Layers, name: &str) -> Result<String, AllocError> {
+fn found(alloc: Global, layers: &Layers, name: &str) -> Result<String, AllocError> {
     let name = Name::of(alloc, name)?;
     let mut out = String::new(alloc);
     for (file, stub) in layers.type_rows(&name) {
@@ -74,11 +112,6 @@ pub(crate) fn found(alloc: Global, layers: &Layers, name: &str) -> Result<String
 }
 
 /// Whether just this is found.
-pub(crate) fn finds(
-    alloc: Global,
-    layers: &Layers,
-    name: &str,
-    wanted: &str,
-) -> Result<bool, AllocError> {
+fn finds(alloc: Global, layers: &Layers, name: &str, wanted: &str) -> Result<bool, AllocError> {
     Ok(found(alloc, layers, name)?.as_str() == wanted)
 }
