@@ -139,7 +139,7 @@ impl<H: Home> ActionLock<H> {
     }
 }
 
-// The one element.
+/// The one element.
 fn only<T>(mut slots: Vec<T>) -> T
     requires { (value : T) × (slots.items ≡ value ∷ []) }
     ensures { slots.items ≡ result ∷ [] }

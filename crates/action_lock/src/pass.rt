@@ -40,7 +40,7 @@ impl<H: Home> Pass<H> {
         self.sights
     }
 
-    // Keeps the share of a read.
+    /// Keeps the share of a read.
     pub(crate) fn keep(&mut self, share: H::Share)
         requires { self.old.share ≡ None }
         ensures { (self.new.share ≡ Some share) × (self.new.seat ≡ self.old.seat) }
@@ -50,7 +50,7 @@ impl<H: Home> Pass<H> {
         };
     }
 
-    // Gives the share of a read out.
+    /// Gives the share of a read out.
     pub(crate) fn let_go(&mut self) -> H::Share
         requires { (share : H.Share) × (self.old.share ≡ Some share) }
         ensures { (self.old.share ≡ Some result) × (self.new.share ≡ None) × (self.new.seat ≡ self.old.seat) }
@@ -58,7 +58,7 @@ impl<H: Home> Pass<H> {
         self.share.take().unwrap()
     }
 
-    // Lets the share of a read go, if it has one.
+    /// Lets the share of a read go, if it has one.
     pub(crate) fn clear(&mut self)
         ensures { (self.new.share ≡ None) × (self.new.seat ≡ self.old.seat) }
     {

@@ -21,7 +21,7 @@ use std::thread;
 const SPINS: u32 = 100;
 
 impl<H: Home> ActionLock<H> {
-    // The one step that decides a read.
+    /// The one step that decides a read.
     pub(crate) fn enter(&self, pass: &mut Pass<H>) -> u64
         requires { IsAt self.now pass.old Out }
         ensures same { IsSamePass pass.old pass.new }
@@ -34,7 +34,7 @@ impl<H: Home> ActionLock<H> {
         found
     }
 
-    // The home value is given back, and the pass is counted as a reader.
+    /// The home value is given back, and the pass is counted as a reader.
     pub(crate) fn hold(&self, pass: &mut Pass<H>)
         requires { IsEntering self.now pass.old }
         ensures same { IsSamePass pass.old pass.new }
@@ -45,7 +45,7 @@ impl<H: Home> ActionLock<H> {
         shared.fetch_add::<Hold>(&mut pass.seat, GATE, READER - TURN);
     }
 
-    // A reader leaves. It has let its share go, so that none is out when a writer comes in.
+    /// A reader leaves. It has let its share go, so that none is out when a writer comes in.
     pub(crate) fn exit(&self, pass: &mut Pass<H>)
         requires reads { IsAt self.now pass.old Reading }
         requires no_share { pass.old.share ≡ None }
@@ -57,7 +57,7 @@ impl<H: Home> ActionLock<H> {
         shared.fetch_sub::<Exit>(&mut pass.seat, GATE, READER);
     }
 
-    // The turn is given back, with nothing done.
+    /// The turn is given back, with nothing done.
     pub(crate) fn back(&self, pass: &mut Pass<H>)
         requires { IsAt self.now pass.old Backing }
         ensures same { IsSamePass pass.old pass.new }
@@ -81,7 +81,7 @@ impl<H: Home> ActionLock<H> {
         found
     }
 
-    // A share of the home value that the pass has in hand.
+    /// A share of the home value that the pass has in hand.
     fn share_in_hand(&self, alloc: Global, pass: &mut Pass<H>) -> Result<H::Share, AllocError>
         requires { IsEntering self.now pass.old }
         ensures same { IsSamePass pass.old pass.new }
@@ -94,7 +94,7 @@ impl<H: Home> ActionLock<H> {
         home.share(alloc)
     }
 
-    // One attempt to read, by any pass that is out.
+    /// One attempt to read, by any pass that is out.
     pub(crate) fn try_enter(&self, alloc: Global, pass: &mut Pass<H>) -> Result<(), ReadRefusal>
         requires { IsOut self.now pass.old }
         ensures same { IsSamePass pass.old pass.new }
@@ -121,7 +121,7 @@ impl<H: Home> ActionLock<H> {
         Ok(())
     }
 
-    // Tries again until it is let in, or finds no memory.
+    /// Tries again until it is let in, or finds no memory.
     pub(crate) fn enter_waiting<R: Wait>(
         &self,
         rt: &R,
@@ -149,7 +149,7 @@ impl<H: Home> ActionLock<H> {
         self.linger(GATE, PENDING | TURN, 0);
     }
 
-    // Looks at these marks of the word until they are as awaited, for a short while, and then lets other threads run.
+    /// Looks at these marks of the word until they are as awaited, for a short while, and then lets other threads run.
     pub(crate) fn linger(&self, word: usize, marks: u64, awaited: u64)
         requires { word < 2 }
     {

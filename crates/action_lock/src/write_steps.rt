@@ -11,7 +11,7 @@ use crate::plays::{Abandon, Ask, Claim, Finish, Release, Take};
 use crate::words::{GATE, INTENT, PENDING, WRITING};
 
 impl<H: Home> ActionLock<H> {
-    // Asks for the intent, and answers whether it was free.
+    /// Asks for the intent, and answers whether it was free.
     pub(crate) fn take(&self, pass: &mut Pass<H>) -> bool
         requires { IsPassOf self.now pass.old }
         ensures same { IsSamePass pass.old pass.new }
@@ -23,7 +23,7 @@ impl<H: Home> ActionLock<H> {
         found == 0
     }
 
-    // The intent is given back.
+    /// The intent is given back.
     pub(crate) fn let_intent_go(&self, pass: &mut Pass<H>)
         requires { Intends self.now pass.old }
         ensures same { IsSamePass pass.old pass.new }
@@ -34,7 +34,7 @@ impl<H: Home> ActionLock<H> {
         shared.store::<Release>(&mut pass.seat, INTENT, 0);
     }
 
-    // The pending mark is set: from now on no reader enters.
+    /// The pending mark is set: from now on no reader enters.
     pub(crate) fn ask(&self, pass: &mut Pass<H>)
         requires { Intends self.now pass.old }
         ensures same { IsSamePass pass.old pass.new }
@@ -45,7 +45,7 @@ impl<H: Home> ActionLock<H> {
         shared.fetch_add::<Ask>(&mut pass.seat, GATE, PENDING);
     }
 
-    // The write begins, if no reader is in. Whether it did.
+    /// The write begins, if no reader is in. Whether it did.
     pub(crate) fn claim(&self, pass: &mut Pass<H>) -> bool
         requires { IsAsking self.now pass.old }
         ensures same { IsSamePass pass.old pass.new }
@@ -57,7 +57,7 @@ impl<H: Home> ActionLock<H> {
         found == PENDING
     }
 
-    // The home value is given back with one entry more, and the marks are taken back.
+    /// The home value is given back with one entry more, and the marks are taken back.
     pub(crate) fn end_write(&self, pass: &mut Pass<H>)
         requires writes { Writes self.now pass.old }
         requires added { HasAdded pass.old }
@@ -69,7 +69,7 @@ impl<H: Home> ActionLock<H> {
         shared.store::<Finish<H>>(&mut pass.seat, GATE, 0);
     }
 
-    // The home value is given back as it was, and the marks are taken back.
+    /// The home value is given back as it was, and the marks are taken back.
     pub(crate) fn undo_write(&self, pass: &mut Pass<H>)
         requires writes { Writes self.now pass.old }
         requires kept { HandStands pass.old (view_of pass.old).seen }

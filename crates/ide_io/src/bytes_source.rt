@@ -81,7 +81,7 @@ impl Source for BytesSource<'_> {
     }
 }
 
-// Copies as many bytes as there are, as there is room for, and at most `most`. Returns how many.
+/// Copies as many bytes as there are, as there is room for, and at most `most`. Returns how many.
 fn copy_front(from: &[u8], into: &mut [u8], most: usize) -> usize
     ensures count { result ≡ min (min (length from.now) (length into.old)) most }
     ensures copied { into.new ≡ take result from.now ++ drop result into.old }

@@ -49,7 +49,7 @@ impl<R: Files> Tree for FolderTree<'_, R> {
     }
 }
 
-// The bytes of the file at a path, if they are few enough.
+/// The bytes of the file at a path, if they are few enough.
 fn read_path<R: Files>(rt: &R, alloc: Global, path: &str) -> Result<Vec<u8>, ReadAllError>
     ensures { IfOk result (λ v. vec_len v ≤ max_file_len) }
 {

@@ -6,7 +6,7 @@ ghost use Rattle.write_history.specs.World.{document_at};
 ghost use Rattle.ide_world.specs.Drafted.{world_now};
 
 use crate::draft::Draft;
-use ide_text::Name;
+use ide_text::{MAX_CHARS, Name};
 use std::alloc::AllocError;
 use write_history::{Change, MAX_ENTRIES, Refusal, is_lawful_path};
 
@@ -15,9 +15,6 @@ const MAX_FILES: usize = 65_536;
 
 /// The most documents that are open at once.
 const MAX_DOCUMENTS: u32 = 1_024;
-
-/// The most characters of a document.
-const MAX_CHARS: u32 = 1_048_576;
 
 /// Why a change is refused, if it is. Memory is asked for only where a step of the draft changes the document that is
 /// to be closed.
@@ -102,7 +99,7 @@ fn insert_refusal(draft: &Draft<'_>, path: &Name, at: u32, count: u32) -> Option
     if at > look.len {
         return Some(Refusal::BadRange { length: look.len });
     }
-    if look.len + count > MAX_CHARS {
+    if (look.len + count) as usize > MAX_CHARS {
         return Some(Refusal::TextFull {
             count: look.len + count,
         });

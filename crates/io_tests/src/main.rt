@@ -20,7 +20,7 @@ fn main(rt: HostRuntime) -> io::Result<()> {
     copy_input(&rt)
 }
 
-// Writes what standard input has to standard output.
+/// Writes what standard input has to standard output.
 fn copy_input<R: Input + Print + AllocGlobal>(rt: &R) -> io::Result<()> {
     let mut input = StdinSource::<R>::new(rt.reader());
     let mut output = StdoutSink::new(io::writer(rt));

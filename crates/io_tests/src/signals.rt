@@ -19,7 +19,7 @@ struct Halting<T> {
 }
 
 impl<T> Halting<T> {
-    // Counts a call, which fails where there is trouble left.
+    /// Counts a call, which fails where there is trouble left.
     fn turn(&mut self) -> io::Result<()> {
         self.calls = self.calls.saturating_add(1);
         if self.signals > 0 {

@@ -23,7 +23,7 @@ fn read_with_limit<R: Print + AllocGlobal>(rt: &R, limit: usize) -> io::Result<(
     print_outcome(rt, &read_all(rt.alloc(), &mut source, limit))
 }
 
-// Reads with one call that fails, and then what is left.
+/// Reads with one call that fails, and then what is left.
 fn read_with_fault<R: Print + AllocGlobal>(rt: &R, call: u64) -> io::Result<()> {
     let alloc = rt.alloc();
     let mut source = Failing {

@@ -27,7 +27,7 @@ pub fn run<R: Files + Print + AllocGlobal>(rt: &R) -> io::Result<()> {
     println!(rt; "faults {}", folder.faults.get())
 }
 
-// A small file, one that is as long as may be, and one that is a byte longer.
+/// A small file, one that is as long as may be, and one that is a byte longer.
 fn memory_tree<R: AllocGlobal>(rt: &R) -> io::Result<MemoryTree> {
     let alloc = rt.alloc();
     let mut files = BTreeMap::new(alloc);

@@ -29,7 +29,7 @@ pub fn read_turns<R: Wait>(
     done
 }
 
-// One read: waits until it is let in, and answers whether nothing is written.
+/// One read: waits until it is let in, and answers whether nothing is written.
 fn finds_nothing<R: Wait>(
     rt: &R,
     alloc: Global,
@@ -65,7 +65,7 @@ pub fn write_turns<R: Wait>(
     }
 }
 
-// One write of number 0.
+/// One write of number 0.
 fn write_once<R: Wait>(rt: &R, lock: &ActionLock<Counter>, pass: &mut Pass<Counter>)
     requires pass { IsPassOf lock.now pass.old }
     requires leads { (view_of pass.old).number ≡ Some 0 }

@@ -11,7 +11,7 @@ use std::alloc::Global;
 use std::sync::Wait;
 use std::thread::{Threads, join_mut};
 
-// Two passes that read so many times each.
+/// Two passes that read so many times each.
 fn read_two<R: Threads + Wait + Sync>(
     rt: &R,
     alloc: Global,

@@ -26,7 +26,7 @@ pub fn finds_nothing<R: Wait>(
     }
 }
 
-// Work that is lent a share and a watch at the same time.
+/// Work that is lent a share and a watch at the same time.
 fn works<W: Watch>(share: &Arc<Vec<Note>>, watch: &mut W) -> bool
     requires { W.can_look watch.old }
     ensures again { W.can_look watch.new }

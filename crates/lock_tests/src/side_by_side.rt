@@ -27,7 +27,7 @@ impl Room {
         }
     }
 
-    // Whether all came in before the turns ran out. Nobody leaves before.
+    /// Whether all came in before the turns ran out. Nobody leaves before.
     fn fills(&self) -> bool {
         self.enter();
         self.is_full()
@@ -50,7 +50,7 @@ impl Room {
     }
 }
 
-// One attempt: whether all the others were in too, if it was let in.
+/// One attempt: whether all the others were in too, if it was let in.
 fn try_beside(
     alloc: Global,
     lock: &ActionLock<Board>,

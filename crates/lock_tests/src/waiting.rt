@@ -117,7 +117,7 @@ pub fn soft_and_write<R: Threads + Wait + Sync>(
     cancelled && written
 }
 
-// Takes the intent, and gives it back when the other was told.
+/// Takes the intent, and gives it back when the other was told.
 fn holds_until_told(
     lock: &ActionLock<Board>,
     pass: &mut Pass<Board>,
@@ -138,7 +138,7 @@ fn holds_until_told(
     }
 }
 
-// Asks for the intent while the other has it. Whether it was told so.
+/// Asks for the intent while the other has it. Whether it was told so.
 fn is_told(lock: &ActionLock<Board>, pass: &mut Pass<Board>, held: &Room, told: &Room) -> bool
     requires { IsPassOf lock.now pass.old }
     ensures { IsPassOf lock.now pass.new × ((view_of pass.new).number ≡ (view_of pass.old).number) }

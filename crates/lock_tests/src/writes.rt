@@ -123,7 +123,7 @@ pub fn change_twice<R: Wait, H: Home, C: Adds<H>>(
     second
 }
 
-// One change by a pass that intends.
+/// One change by a pass that intends.
 fn add<R: Wait, H: Home, C: Adds<H>>(
     rt: &R,
     lock: &ActionLock<H>,

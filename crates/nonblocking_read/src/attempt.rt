@@ -17,7 +17,7 @@ pub(crate) enum Miss {
     OutOfMemory,
 }
 
-// Enters, works, and leaves.
+/// Enters, works, and leaves.
 pub(crate) fn attempt<H: Home, K: Work<H>, G: Gate>(
     alloc: Global,
     lock: &ActionLock<H>,

@@ -183,7 +183,7 @@ fn faults_of_source_and_sink(rt: HostRuntime) -> Result<(), Fail> {
     Ok(())
 }
 
-// Two loads are two calls on the tree; where one of them fails nothing is written.
+/// Two loads are two calls on the tree; where one of them fails nothing is written.
 #[test]
 fn faults_of_the_tree(rt: HostRuntime) -> Result<(), Fail> {
     for (call, wanted, written) in [
@@ -204,7 +204,7 @@ fn faults_of_the_tree(rt: HostRuntime) -> Result<(), Fail> {
     Ok(())
 }
 
-// A sink with room for 5 bytes fails at the second write.
+/// A sink with room for 5 bytes fails at the second write.
 #[test]
 fn longest_script_and_least_room(rt: HostRuntime) -> Result<(), Fail> {
     for (len, room, wanted, written) in [
@@ -227,7 +227,7 @@ fn longest_script_and_least_room(rt: HostRuntime) -> Result<(), Fail> {
     Ok(())
 }
 
-// A transcript of more than 65,536 bytes, and a script of as many, are no reason to be short of memory.
+/// A transcript of more than 65,536 bytes, and a script of as many, are no reason to be short of memory.
 #[test]
 fn long_transcript(rt: HostRuntime) -> Result<(), Fail> {
     let alloc = rt.alloc();

@@ -152,7 +152,7 @@ fn the_longest_texts(rt: HostRuntime) {
     assert_eq!(rt; length_of(rt.alloc(), full + 1, b"\xff"), refusal);
 }
 
-// In a text of ASCII characters and in another.
+/// In a text of ASCII characters and in another.
 #[test]
 fn places_of_a_text(rt: HostRuntime) -> Result<(), Fail> {
     for bytes in [b"ab\r\n\r\xc3\xa9x".as_slice(), b"ab\r\n\rcx", b"ab\n\ncx"] {
@@ -174,7 +174,7 @@ fn places_of_a_text(rt: HostRuntime) -> Result<(), Fail> {
     Ok(())
 }
 
-// In a text of ASCII characters, and in one with characters of two, three and four bytes.
+/// In a text of ASCII characters, and in one with characters of two, three and four bytes.
 #[test]
 fn names_of_a_text(rt: HostRuntime) -> Result<(), Fail> {
     for (bytes, second) in [

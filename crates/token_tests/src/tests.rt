@@ -243,7 +243,7 @@ fn words_of_texts(rt: HostRuntime) -> Result<(), Fail> {
     Ok(())
 }
 
-// Enough words that the table in which they are found grows several times.
+/// Enough words that the table in which they are found grows several times.
 #[test]
 fn many_words(rt: HostRuntime) -> Result<(), Fail> {
     let mut text = String::new(rt.alloc());
