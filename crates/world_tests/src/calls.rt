@@ -13,6 +13,8 @@ use write_history::Change;
 #[derive(Clone, Copy)]
 pub enum Edit {
     Create(&'static str),
+    Write(&'static str),
+    Delete,
     Open,
     Insert(u32, &'static str),
     Commit,
@@ -43,7 +45,7 @@ fn put(alloc: Global, state: &mut State, edit: Edit) -> Result<bool, AllocError>
 }
 
 /// The change that an edit is.
-fn change_of(alloc: Global, edit: Edit) -> Result<Change, AllocError>
+pub(crate) fn change_of(alloc: Global, edit: Edit) -> Result<Change, AllocError>
     ensures { IfOk result (λ change. is_edit change ≡ true) }
 {
     let path = Name::of(alloc, "A.java")?;
@@ -52,6 +54,11 @@ fn change_of(alloc: Global, edit: Edit) -> Result<Change, AllocError>
             path,
             text: text_of(alloc, text)?,
         },
+        Edit::Write(text) => Change::Write {
+            path,
+            text: text_of(alloc, text)?,
+        },
+        Edit::Delete => Change::Delete { path },
         Edit::Open => Change::OpenDoc { path },
         Edit::Insert(at, text) => Change::Insert {
             path,
