@@ -1,10 +1,12 @@
 //! The workspace under the lock: its state, and the history that led to it.
-ghost use Rattle.std.specs.Prelude.{◌≡◌, ◌≤◌, ◌∷◌, ◌++◌, [], length, IfOk, OnOk, OnErr};
+ghost use Rattle.std.specs.Prelude.{◌≡◌, ◌≤◌, ◌∷◌, ◌++◌, [], length, true, IfOk, IfSome, OnOk, OnErr};
 ghost use Rattle.std.proofs.Common.{sym, ◌∙◌};
+ghost use Rattle.write_history.specs.World.{file_of, is_unready};
 ghost use Rattle.write_history.specs.Effect.{max_entries};
 ghost use Rattle.write_history.specs.Fold.{fold, IsLegal};
 ghost use Rattle.ide_world.specs.Ready.{IsReadyFor, Makes};
 
+use crate::changed::first_unready;
 use crate::kept::Kept;
 use crate::share::IdeShare;
 use action_lock::Home;
@@ -71,13 +73,14 @@ impl IdeHome {
     }
 
     /// Lets changes that are ready in, as one entry, or leaves all as it was where there is no memory. The state is
-    /// copied only where a share of it is still out.
-    pub fn accept(&mut self, ready: Ready, entry: Entry) -> Result<(), AllocError>
+    /// copied only where a share of it is still out. The answer is the first of the changed files that is unready now.
+    pub fn accept(&mut self, ready: Ready, entry: Entry) -> Result<Option<u32>, AllocError>
         requires ready { IsReadyFor (fold self.old) ready }
         requires makes { Makes (fold self.old) ready entry.changes }
         ensures ok { OnOk result (self.new ≡ self.old ++ entry ∷ []) }
         ensures legal { IsLegal self.new }
         ensures bounded { length self.new ≤ max_entries }
+        ensures unready { IfOk result (λ file. IfSome file (λ id. is_unready (file_of (fold self.new) id) ≡ true)) }
         ensures err { OnErr result (self.new ≡ self.old) }
     {
         histories_go_on();
@@ -85,8 +88,9 @@ impl IdeHome {
         let kept = Arc::make_mut(&mut self.kept)?;
         reserve(&mut kept.state, &ready)?;
         install(&mut kept.state, ready);
+        let unready = first_unready(&kept.state, entry.changes.as_slice());
         self.history.push(entry);
-        Ok(())
+        Ok(unready)
     }
 }
 

@@ -1,6 +1,7 @@
 //! The workspace as the value under a lock: its history, its shares, and entries that go in under an intent.
 #![tactic(auto)]
 
+mod changed;
 mod home;
 mod kept;
 pub mod laws;
