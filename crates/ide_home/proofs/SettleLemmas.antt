@@ -118,7 +118,7 @@ full_by : (world : World) (refusal : ListRefusal) (o : Option Refusal) → o ≡
 full_by world refusal o is refused = bool_cases (nat_le max_entries world.entries)
     (λ b. o ≡ (if b then Some HistoryFull else None) → IsFullFor world refusal.why)
     (λ t p. let seen : refusal_or (Some HistoryFull) None ≡ Some refusal = sym (ap (λ w. refusal_or w None) p) ∙ refused in
-        record { reason = cc; full = leb-true max_entries world.entries t })
+    record { reason = cc; full = leb-true max_entries world.entries t })
     (λ f p. absurd (let seen : refusal_or None None ≡ Some refusal = sym (ap (λ w. refusal_or w None) p) ∙ refused in cc))
     is
 

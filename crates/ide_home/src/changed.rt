@@ -63,13 +63,7 @@ fn path_after(change: &Change) -> Option<&Name> {
 fn moved_path<'a>(path: &'a Name, change: &'a Change) -> Option<&'a Name> {
     match change {
         Change::Move { path: from, to } => Some(if from.same(path) { to } else { path }),
-        Change::Delete { path: gone } => {
-            if gone.same(path) {
-                None
-            } else {
-                Some(path)
-            }
-        }
+        Change::Delete { path: gone } => { if gone.same(path) { None } else { Some(path) } }
         _ => Some(path),
     }
 }
