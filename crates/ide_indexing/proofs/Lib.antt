@@ -1,0 +1,5 @@
+pub mod ReadLemmas
+pub mod MadeLemmas
+pub mod StepLemmas
+pub mod TurnLemmas
+pub mod SettleLemmas

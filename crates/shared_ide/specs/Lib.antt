@@ -1,0 +1,13 @@
+-- What callers may rest on: which passes are of a workspace, and the hints that changes put
+pub mod Passes
+pub mod Hints
+-- What public clauses cite from below
+pub use Rattle.action_lock.specs.Advances
+pub use Rattle.ide_home.specs.Made
+pub use Rattle.ide_home.specs.Settle
+pub use Rattle.ide_calls.specs.Change
+pub use Rattle.ide_calls.specs.Replied
+pub use Rattle.ide_calls.specs.SoftRefusal
+pub use Rattle.ide_indexing.specs.Settling
+pub use Rattle.ide_indexing.specs.Step
+pub use Rattle.index_workers.specs.Work

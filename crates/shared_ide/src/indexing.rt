@@ -1,0 +1,76 @@
+//! Indexing of the shared workspace.
+ghost use Rattle.std.specs.Prelude.{◌≡◌, IfOk, IfErr, OnErr, Option};
+ghost use Rattle.action_lock.specs.Advances.{Advances};
+ghost use Rattle.job_queue.specs.declared.hint.Hint.{Hint};
+ghost use Rattle.job_queue.specs.Passes.{queue_view};
+ghost use Rattle.ide_indexing.specs.Settling.{IsSettled, HasStopped};
+ghost use Rattle.ide_indexing.specs.Step.{HasStepped};
+ghost use Rattle.index_workers.specs.Hints.{after_take, file_of_hint, HasOnlyTaken};
+ghost use Rattle.index_workers.specs.Passes.{ide_view, IsSameIdePass};
+ghost use Rattle.index_workers.specs.Work.{HasWorked, HasWorkedInPart};
+ghost use Rattle.shared_ide.specs.Passes.{IsIdePassOf};
+
+use crate::shared::SharedIde;
+use action_lock::Gate;
+use ide_indexing::{SettleRefusal, Step};
+use index_workers::{IdePass, Worked};
+use std::alloc::{AllocError, Global};
+use std::sync::Wait;
+
+impl SharedIde {
+    /// Takes every unready file in, in order of ids, one entry each, for a line of a script. It answers with the number of
+    /// entries after which no file is unready. It may wait for ever.
+    pub fn settle<R: Wait>(
+        &self,
+        rt: &R,
+        alloc: Global,
+        pass: &mut IdePass,
+        line: u32,
+    ) -> Result<u64, SettleRefusal>
+        requires { IsIdePassOf self.now pass.old }
+        ensures pass { IsIdePassOf self.now pass.new × IsSameIdePass pass.old pass.new }
+        ensures advances { Advances (ide_view pass.old) (ide_view pass.new) }
+        ensures ok { IfOk result (IsSettled line (ide_view pass.old) (ide_view pass.new)) }
+        ensures err { IfErr result (HasStopped line (ide_view pass.old) (ide_view pass.new)) }
+        ensures hints { pass.new.queue ≡ pass.old.queue }
+    {
+        ide_indexing::settle(rt, alloc, &self.lock, &mut pass.lock, line)
+    }
+
+    /// Takes a hint, if there is one, and does a step of indexing: of the hinted file if it is unready, else of the unready
+    /// file with the lowest id. It may wait for ever.
+    pub fn index_step<R: Wait, G: Gate>(
+        &self,
+        rt: &R,
+        alloc: Global,
+        pass: &mut IdePass,
+        gate: &G,
+    ) -> Result<Step, AllocError>
+        requires { IsIdePassOf self.now pass.old }
+        ensures pass { IsIdePassOf self.now pass.new × IsSameIdePass pass.old pass.new }
+        ensures advances { Advances (ide_view pass.old) (ide_view pass.new) }
+        ensures step { (hint : Option Hint) × (queue_view pass.new.queue ≡ after_take hint (queue_view pass.old.queue)) × IfOk result (HasStepped (file_of_hint hint) (ide_view pass.old) (ide_view pass.new)) }
+        ensures err { OnErr result ((ide_view pass.new).mine ≡ (ide_view pass.old).mine) }
+    {
+        index_workers::index_step(rt, alloc, &self.lock, &self.queue, pass, gate)
+    }
+
+    /// Makes steps until nothing is to be done and the gate tells it to end, or the history is full, or it has made
+    /// 131,072. Where memory is wanted, what it made so far stays. It may wait for ever.
+    pub fn worker<R: Wait, G: Gate>(
+        &self,
+        rt: &R,
+        alloc: Global,
+        pass: &mut IdePass,
+        gate: &G,
+    ) -> Result<Worked, AllocError>
+        requires { IsIdePassOf self.now pass.old }
+        ensures pass { IsIdePassOf self.now pass.new × IsSameIdePass pass.old pass.new }
+        ensures advances { Advances (ide_view pass.old) (ide_view pass.new) }
+        ensures hints { HasOnlyTaken (queue_view pass.old.queue) (queue_view pass.new.queue) }
+        ensures ok { IfOk result (HasWorked (ide_view pass.old) (ide_view pass.new)) }
+        ensures err { OnErr result (HasWorkedInPart (ide_view pass.old) (ide_view pass.new)) }
+    {
+        index_workers::worker(rt, alloc, &self.lock, &self.queue, pass, gate)
+    }
+}

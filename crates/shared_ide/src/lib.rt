@@ -1,0 +1,11 @@
+//! A workspace that threads share: every call of the product on one value, each thread with a pass of its own.
+#![tactic(auto)]
+
+mod changes;
+mod indexing;
+mod questions;
+mod shared;
+mod threads;
+
+pub use shared::SharedIde;
+pub use threads::may_go_to_threads;

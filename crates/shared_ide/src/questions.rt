@@ -1,0 +1,68 @@
+//! Questions about the shared workspace.
+ghost use Rattle.std.specs.Prelude.{◌≡◌, ◌<◌, IfOk, IfErr};
+ghost use Rattle.action_lock.specs.Advances.{Advances};
+ghost use Rattle.ide_calls.specs.Replied.{HasReplied};
+ghost use Rattle.ide_calls.specs.SoftRefusal.{IsSoftlyRefused};
+ghost use Rattle.index_workers.specs.Passes.{ide_view, IsSameIdePass};
+ghost use Rattle.shared_ide.specs.Passes.{IsIdePassOf};
+
+use crate::shared::SharedIde;
+use action_lock::Gate;
+use ide_calls::{Replied, SoftAskRefusal};
+use index_workers::IdePass;
+use queries::Query;
+use std::alloc::{AllocError, Global};
+use std::sync::Wait;
+
+impl SharedIde {
+    /// Answers a question by the whole history of a moment of this call. The gate is told `Reading` while the read is open.
+    /// It may wait for ever.
+    pub fn ask<R: Wait, G: Gate>(
+        &self,
+        rt: &R,
+        alloc: Global,
+        pass: &mut IdePass,
+        query: &Query,
+        gate: &G,
+    ) -> Result<Replied, AllocError>
+        requires { IsIdePassOf self.now pass.old }
+        ensures pass { IsIdePassOf self.now pass.new × IsSameIdePass pass.old pass.new }
+        ensures advances { Advances (ide_view pass.old) (ide_view pass.new) }
+        ensures mine { (ide_view pass.new).mine ≡ (ide_view pass.old).mine }
+        ensures ok { IfOk result (HasReplied (ide_view pass.old) (ide_view pass.new) query.now) }
+        ensures hints { pass.new.queue ≡ pass.old.queue }
+    {
+        ide_calls::ask(rt, alloc, &self.lock, &mut pass.lock, query, gate)
+    }
+
+    /// Answers a question as `ask` does, but gives way to writes: an attempt that sees that one waits ends, and after
+    /// `attempts` of them the call ends too. It may wait for ever.
+    pub fn soft_ask<R: Wait, G: Gate>(
+        &self,
+        rt: &R,
+        alloc: Global,
+        pass: &mut IdePass,
+        attempts: u32,
+        query: &Query,
+        gate: &G,
+    ) -> Result<Replied, SoftAskRefusal>
+        requires pass { IsIdePassOf self.now pass.old }
+        requires some { 0 < attempts }
+        ensures pass { IsIdePassOf self.now pass.new × IsSameIdePass pass.old pass.new }
+        ensures advances { Advances (ide_view pass.old) (ide_view pass.new) }
+        ensures mine { (ide_view pass.new).mine ≡ (ide_view pass.old).mine }
+        ensures ok { IfOk result (HasReplied (ide_view pass.old) (ide_view pass.new) query.now) }
+        ensures cancelled { IfErr result (IsSoftlyRefused (ide_view pass.old) (ide_view pass.new) attempts) }
+        ensures hints { pass.new.queue ≡ pass.old.queue }
+    {
+        ide_calls::soft_ask(
+            rt,
+            alloc,
+            &self.lock,
+            &mut pass.lock,
+            attempts,
+            query,
+            gate,
+        )
+    }
+}
