@@ -1,0 +1,5 @@
+use Rattle.job_queue.proofs.Ends.{knows}
+use Rattle.job_queue.proofs.laws.a_hint_is_taken_once.Goals as goal
+
+pub returns : goal.returns
+returns c = knows

@@ -1,0 +1,6 @@
+use Rattle.job_queue.proofs.TakeStep.{takes}
+use Rattle.job_queue.proofs.Ends.{stands}
+use Rattle.job_queue.proofs.queue.JobQueue.take.Goals as goal
+
+pub pop_as-requires-clause-rule : goal.pop_as-requires-clause-rule
+pop_as-requires-clause-rule g c = (takes _ _ _ c.args.pass.now.numbered, stands _ _)
