@@ -1,5 +1,5 @@
 -- The rule at the beginning, and what it says at the end.
-use Rattle.std.proofs.Common.{◌≡◌, ◌≢◌, ℕ, zero, suc, ◌+◌, List, [], ◌∷◌, ◌++◌, length, refl, ap, ◌∙◌, sym, subst, arith, All, nat_lt, eqb, eq-eqb, ne_eqb, ltb-false}
+use Rattle.std.proofs.Common.{◌≡◌, ◌≢◌, ℕ, zero, suc, ◌+◌, ◌<◌, List, [], ◌∷◌, ◌++◌, length, refl, ap, ◌∙◌, sym, subst, arith, Some, All, nat_lt, eqb, eq-eqb, ne_eqb, ltb-false, length-append}
 use mathlib.Core.Option.{some, some-injective, some-ne-none}
 use lib.ListN.{get_elem?}
 use Rattle.std.proofs.lemmas.Bool.Decides.{nat_tests}
@@ -8,11 +8,11 @@ use Rattle.job_queue.specs.declared.hint.Hint.{Hint}
 use Rattle.job_queue.specs.declared.view.Hand.{Hand}
 use Rattle.job_queue.specs.declared.view.QueueView.{QueueView}
 use Rattle.job_queue.specs.Hints.{bit, is_hint, times, hints_of, IsNumbered}
-use Rattle.job_queue.specs.Views.{hand, hands, weigh, first_view, IsLast}
+use Rattle.job_queue.specs.Views.{hand, hands, weigh, first_view, joined, IsLast}
 use Rattle.job_queue.specs.Rule.{IsHand, IsSound, IsKept, Stood}
 use Rattle.job_queue.specs.Accounts.{IsHandOf, IsKnown, IsAccounted}
 use Rattle.job_queue.proofs.HintLemmas.{by_number, times_own, times_other, times_few}
-use Rattle.job_queue.proofs.ViewLemmas.{own_weighs, count, apart}
+use Rattle.job_queue.proofs.ViewLemmas.{hands_are, own_weighs, count, apart}
 use Rattle.list_laws.specs.Totals.{total}
 use Rattle.list_laws.proofs.BoolLemmas.{bool_cases}
 use Rattle.list_laws.proofs.TotalLemmas.{total-append, total-at, total-only}
@@ -144,3 +144,21 @@ knows v items at = known items at.views at.kept at.seat v at.here
 -- what the last pass knows of all hints
 pub accounts : (v : QueueView) (items : List Hint) → Stood v items → IsLast v → IsAccounted v items
 accounts v items at last = accounted items at.views at.kept at.seat v at.here last
+
+-- no pass has met more than there are numbers
+pub few : (v : QueueView) (items : List Hint) → Stood v items → (n : ℕ) → v.number ≡ Some n → length v.ended < 65536
+few v items at n has =
+    let a = total-at count at.views at.seat v at.here in
+    let own = own_weighs (λ (h : Hand). 1) v n has in
+    let c = count_length v.ended in
+    let all = at.kept.counted.in_all in let limit = at.kept.counted.limit in omega arith
+
+-- how many passes were met, once another was met
+pub joined_met : (v w : QueueView) (n m a b : ℕ) → v.number ≡ Some n → w.number ≡ Some m → length v.ended ≡ a → length w.ended ≡ b
+    → (u : QueueView) → u ≡ joined v w → (items : List Hint) → Stood u items → (length u.ended ≡ a + (b + 1)) × (a + (b + 1) < 65536)
+joined_met v w n m a b has has' is is' u e items at =
+    let f = few u items at n (ap (λ (x : QueueView). x.number) e ∙ has) in
+    let g = ap (λ (x : QueueView). length x.ended) e in
+    let h = length-append v.ended (hands w) in
+    let i = ap length (hands_are w m has') in
+    let sum : length u.ended ≡ a + (b + 1) = omega arith in (sum, omega arith)

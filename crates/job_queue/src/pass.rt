@@ -1,5 +1,5 @@
 //! The token by which one thread uses a queue.
-ghost use Rattle.std.specs.Prelude.{◌≡◌, ◌≤◌, Some, length};
+ghost use Rattle.std.specs.Prelude.{◌≡◌, ◌<◌, Some, length};
 ghost use Rattle.std.proofs.Props.{props};
 ghost use Rattle.crossbeam_queue.specs.Passes.{view};
 
@@ -15,9 +15,13 @@ pub struct QueuePass {
     pub(crate) offered: u32,
     // How many numbers it has given, if it is number 0.
     pub(crate) drawn: u32,
+    // How many passes were met into it.
+    pub(crate) met: u32,
     ghost numbered: { (view seat).number ≡ Some number } by { Prim.hlevel props },
     ghost counts: { length (view seat).put ≡ offered },
     ghost draws: { (view seat).drawn ≡ drawn },
+    ghost meets: { length (view seat).ended ≡ met },
+    ghost few: { met < 65536 },
 }
 
 impl QueuePass {

@@ -1,5 +1,5 @@
 //! The queue of hints.
-ghost use Rattle.std.specs.Prelude.{◌≡◌, ◌≢◌, ◌<◌, List, ◌∷◌, length, Some, IfOk, IfErr, IfSome, IfNone, OnOk};
+ghost use Rattle.std.specs.Prelude.{◌≡◌, ◌≢◌, ◌<◌, ◌↔◌, IsTrue, List, ◌∷◌, length, Some, IfOk, IfErr, IfSome, IfNone, OnOk};
 ghost use Rattle.crossbeam_queue.specs.Fifo.{Held};
 ghost use Rattle.crossbeam_queue.specs.Passes.{ruled_capacity};
 ghost use Rattle.job_queue.specs.Accounts.{IsAccounted};
@@ -37,6 +37,7 @@ impl JobQueue {
             number: 0,
             offered: 0,
             drawn: 1,
+            met: 0,
         };
         Ok((JobQueue { ring }, pass))
     }
@@ -58,6 +59,7 @@ impl JobQueue {
             number,
             offered: 0,
             drawn: 0,
+            met: 0,
         }
     }
 
@@ -74,8 +76,11 @@ impl JobQueue {
             number: _,
             offered: _,
             drawn: _,
+            met,
         } = other;
         self.ring.absorb::<Glue>(&mut pass.seat, seat);
+        self.ring.learn_as::<Put>(&mut pass.seat);
+        pass.met += met + 1;
     }
 
     /// Puts a hint of this file at the end of the queue. It comes back only where 1,024 hints were in the queue at a moment of the call.
@@ -111,6 +116,13 @@ impl JobQueue {
         self.ring.pop_as::<Take, R>(rt, &mut pass.seat)
     }
 
+    /// Whether the pass is number 0, and every other number that was given was met into it.
+    pub fn is_last(&self, pass: &QueuePass) -> bool
+        ensures { IsTrue result ↔ IsLast (queue_view pass.now) }
+    {
+        pass.number == 0 && pass.drawn == pass.met + 1
+    }
+
     /// Ends the queue. Each hint that was put was taken once, or is left.
     pub fn close(self, pass: QueuePass)
         requires pass { IsQueuePassOf self pass }
@@ -122,6 +134,7 @@ impl JobQueue {
             number: _,
             offered: _,
             drawn: _,
+            met: _,
         } = pass;
         self.ring.learn_as::<Put>(&mut seat);
     }
