@@ -1,0 +1,3 @@
+pub mod ReadyLemmas
+pub mod WorkLemmas
+pub mod PassLemmas

@@ -1,0 +1,220 @@
+-- What one step more makes of a worker's run.
+use Rattle.std.proofs.Common.{ℕ, zero, suc, ◌≡◌, ◌≢◌, ◌⊎◌, inl, inr, ◌+◌, ◌<◌, ◌≤◌, List, [], ◌∷◌, ◌++◌, length, get_or, All, refl, ap, sym, ◌∙◌, subst, arith, ⊎_elim, Some, None, append_assoc, append-nil, length-append}
+use Rattle.std.specs.Prelude.{Option}
+use Rattle.std.proofs.lemmas.List.Elements.{All-append}
+use Rattle.list_laws.specs.Fronts.{IsFront}
+use Rattle.list_laws.proofs.FrontLemmas.{All-cons, All-weaken, front_trans}
+use Rattle.action_lock.specs.declared.view.View.{View}
+use Rattle.action_lock.specs.Advances.{Advances}
+use Rattle.action_lock.proofs.AdvanceLemmas.{advances_not, advances_on}
+use Rattle.write_history.specs.declared.change.Change.{Change}
+use Rattle.write_history.specs.declared.change.Change.TheVariants.{Intake}
+use Rattle.write_history.specs.declared.entry.Entry.{Entry}
+use Rattle.write_history.specs.Fold.{IsLegal}
+use Rattle.write_history.proofs.FoldLemmas.{IsLegal-split}
+use Rattle.ide_home.specs.Made.{HasMade}
+use Rattle.ide_home.specs.Settle.{entry_of}
+use Rattle.ide_indexing.specs.declared.step.Step.{Step}
+use Rattle.ide_indexing.specs.declared.step.Step.TheVariants.{Idle, Gone, Stale, Refused, Taken}
+use Rattle.ide_indexing.specs.Step.{HasStepped, HasTried}
+use Rattle.index_workers.specs.declared.worked.End.{End}
+use Rattle.index_workers.specs.declared.worked.End.TheVariants as end
+use Rattle.index_workers.specs.declared.worked.Worked.{Worked}
+use Rattle.index_workers.specs.Work.{Done, Leads, taken_by, GoesOn, IsEndOf, EndsWith, EndsBy, IsIntakeBy, AreApart, StandsIn, HasGone, HasGoneOn, HasWorked, HasWorkedInPart, max_turns}
+use Rattle.index_workers.proofs.ReadyLemmas.{not_unready}
+
+-- ---- lists
+
+-- an entry of a history stands in each longer one
+pub stands_on : (earlier later : List Entry) (e : Entry) → IsFront earlier later → StandsIn earlier e → StandsIn later e
+stands_on earlier later e front at = record {
+  before = at.before;
+  behind = at.behind ++ front.0;
+  are = front.1 ∙ ap (λ (l : List Entry). l ++ front.0) at.are ∙ append_assoc at.before (e ∷ at.behind) front.0;
+}
+
+all_stand : (earlier later : List Entry) (es : List Entry) → IsFront earlier later → All (StandsIn earlier) es → All (StandsIn later) es
+all_stand earlier later es front all = All-weaken (StandsIn earlier) (StandsIn later) es (λ e at. stands_on earlier later e front at) all
+
+apart_more : (es : List Entry) (f : Entry) → AreApart es → All (λ (e : Entry). f.changes ≢ e.changes) es → AreApart (es ++ f ∷ [])
+apart_more [] f apart new = ((λ k d l. absurd (omega arith)), tt)
+apart_more (e ∷ es) f apart new =
+    let P : Entry → Type 0 = λ g. g.changes ≢ e.changes in
+    (All-append P es (f ∷ []) apart.0 (All-cons P f [] (new 0 e (omega arith)) (λ k d l. absurd (omega arith))),
+      apart_more es f apart.1 (λ k d l. new (suc k) d (omega arith)))
+
+leads_more : (v w : View Entry) (steps : List Done) (d : Done) → Leads v steps w → HasStepped d.hint w d.after d.answer → Leads v (steps ++ d ∷ []) d.after
+leads_more v w [] d same stepped = (subst (λ (x : View Entry). HasStepped d.hint x d.after d.answer) same stepped, refl)
+leads_more v w (c ∷ cs) d leads stepped = (leads.0, leads_more c.after w cs d leads.1 stepped)
+
+-- ---- one step
+
+-- the step made no entry
+pub record MadeNone (v w : View Entry) (answer : Step) : Type 0 where
+  pub count : taken_by answer ≡ 0
+  pub mine : w.mine ≡ v.mine
+  pub advances : Advances v w
+
+-- the step made one entry, which takes a file in; no entry that had been seen did so at the same stamp
+pub record MadeOne (seat : ℕ) (v w : View Entry) (answer : Step) : Type 0 where
+  pub entry : Entry
+  pub count : taken_by answer ≡ 1
+  pub mine : w.mine ≡ v.mine ++ entry ∷ []
+  pub intake : IsIntakeBy seat entry
+  pub stands : StandsIn w.seen entry
+  pub new : (e : Entry) → StandsIn v.seen e → entry.changes ≢ e.changes
+  pub advances : Advances v w
+
+none_made : (v w : View Entry) (before own : List Entry) (answer : Step) → HasMade v w before own → own ≡ [] → taken_by answer ≡ 0 → MadeNone v w answer
+none_made v w before own answer made empty count = record {
+  count = count;
+  mine = made.mine ∙ ap (λ (l : List Entry). v.mine ++ l) empty ∙ append-nil v.mine;
+  advances = made.advances;
+}
+
+same_seat : (a b : ℕ) (o : Option ℕ) → o ≡ Some a → o ≡ Some b → a ≡ b
+same_seat a b o p q = cc
+
+one_made : (seat : ℕ) (v w : View Entry) (hint : Option ℕ) (place : ℕ) → v.number ≡ Some seat → HasTried hint v w (Taken place) → MadeOne seat v w (Taken place)
+one_made seat v w hint place number t =
+    let entry : Entry = entry_of t.seat 0 (Intake t.file t.stamp ∷ []) in
+    let own : t.own ≡ entry ∷ [] = t.answer.1 in
+    let seen : w.seen ≡ t.last ++ entry ∷ [] = t.made.seen ∙ ap (λ (l : List Entry). t.last ++ l) own in
+    let legal_last : IsLegal t.last = (IsLegal-split t.last (entry ∷ []) (subst IsLegal seen t.made.legal)).0 in
+    let legal : IsLegal t.first = (IsLegal-split t.first t.longer.0 (subst IsLegal t.longer.1 legal_last)).0 in
+    record {
+      entry = entry;
+      count = refl;
+      mine = t.made.mine ∙ ap (λ (l : List Entry). v.mine ++ l) own;
+      intake = record { file = t.file; stamp = t.stamp; is = ap (λ (s : ℕ). entry_of s 0 (Intake t.file t.stamp ∷ [])) (same_seat t.seat seat v.number t.number number) };
+      stands = record { before = t.last; behind = []; are = seen };
+      new = λ e at same. not_unready t.first e t.file t.stamp legal (stands_on v.seen t.first e t.known at) (sym same) t.stamped t.unready;
+      advances = t.made.advances;
+    }
+
+pub made_by : (seat : ℕ) (v w : View Entry) (hint : Option ℕ) (answer : Step) → v.number ≡ Some seat → HasStepped hint v w answer → MadeNone v w answer ⊎ MadeOne seat v w answer
+made_by seat v w hint (Idle len) number s = inl (none_made v w w.seen [] (Idle len) s.found refl refl)
+made_by seat v w hint (Gone id) number t = inl (none_made v w t.last t.own (Gone id) t.made t.answer.1 refl)
+made_by seat v w hint (Stale id made present) number t = inl (none_made v w t.last t.own (Stale id made present) t.made t.answer.2 refl)
+made_by seat v w hint (Refused len) number t = inl (none_made v w t.last t.own (Refused len) t.made t.answer.2 refl)
+made_by seat v w hint (Taken place) number t = inr (one_made seat v w hint place number t)
+
+-- ---- the run
+
+-- a run with one step more, and its entries
+record GoneFurther (seat : ℕ) (v u : View Entry) (steps : List Done) (own : List Entry) (taken : ℕ) : Type 0 where
+  all : List Entry
+  count : length all ≡ length own + taken
+  gone : HasGone seat v u steps all
+
+gone_further : (seat : ℕ) (v w u : View Entry) (steps : List Done) (own : List Entry) (hint : Option ℕ) (answer : Step) → HasGone seat v w steps own
+    → HasStepped hint w u answer → GoneFurther seat v u (steps ++ record { hint = hint; answer = answer; after = u } ∷ []) own (taken_by answer)
+gone_further seat v w u steps own hint answer gone stepped =
+    let d : Done = record { hint = hint; answer = answer; after = u } in
+    let number : w.number ≡ Some seat = gone.advances.number ∙ gone.number in
+    ⊎_elim
+    (λ (made : MadeNone w u answer). record {
+      all = own;
+      count = let c = made.count in omega arith;
+      gone = record {
+        leads = leads_more v w steps d gone.leads stepped;
+        number = gone.number;
+        advances = advances_on v w u gone.advances made.advances;
+        mine = made.mine ∙ gone.mine;
+        intakes = gone.intakes;
+        stand = all_stand w.seen u.seen own made.advances.seen gone.stand;
+        apart = gone.apart;
+      };
+    })
+    (λ (made : MadeOne seat w u answer). record {
+      all = own ++ made.entry ∷ [];
+      count = let c = made.count in omega (arith, length-append own (made.entry ∷ []));
+      gone = record {
+        leads = leads_more v w steps d gone.leads stepped;
+        number = gone.number;
+        advances = advances_on v w u gone.advances made.advances;
+        mine = made.mine ∙ ap (λ (l : List Entry). l ++ made.entry ∷ []) gone.mine ∙ append_assoc v.mine own (made.entry ∷ []);
+        intakes = All-append (IsIntakeBy seat) own (made.entry ∷ []) gone.intakes (All-cons (IsIntakeBy seat) made.entry [] made.intake (λ k e l. absurd (omega arith)));
+        stand = All-append (StandsIn u.seen) own (made.entry ∷ []) (all_stand w.seen u.seen own made.advances.seen gone.stand)
+            (All-cons (StandsIn u.seen) made.entry [] made.stands (λ k e l. absurd (omega arith)));
+        apart = apart_more own made.entry gone.apart (λ k e l. made.new (get_or own k e) (gone.stand k e l));
+      };
+    })
+    (made_by seat w u hint answer number stepped)
+
+-- before the first step
+pub not_yet : (seat : ℕ) (v : View Entry) → v.number ≡ Some seat → HasGoneOn seat 0 0 v v
+not_yet seat v number = record {
+  steps = [];
+  own = [];
+  gone = record {
+    leads = refl;
+    number = number;
+    advances = advances_not v;
+    mine = sym (append-nil v.mine);
+    intakes = λ k e l. absurd (omega arith);
+    stand = λ k e l. absurd (omega arith);
+    apart = tt;
+  };
+  going = λ k d l. absurd (omega arith);
+  turns_are = refl;
+  taken_are = refl;
+  few = omega arith;
+}
+
+taken_few : (answer : Step) → taken_by answer ≤ 1
+taken_few (Idle len) = omega arith
+taken_few (Gone id) = omega arith
+taken_few (Stale id made present) = omega arith
+taken_few (Refused len) = omega arith
+taken_few (Taken place) = omega arith
+
+-- after a step with which the worker goes on
+pub goes_on : (seat turns taken : ℕ) (v w u : View Entry) (hint : Option ℕ) (answer : Step) → HasGoneOn seat turns taken v w
+    → HasStepped hint w u answer → GoesOn answer → HasGoneOn seat (turns + 1) (taken + taken_by answer) v u
+goes_on seat turns taken v w u hint answer on stepped going =
+    let d : Done = record { hint = hint; answer = answer; after = u } in
+    let further = gone_further seat v w u on.steps on.own hint answer on.gone stepped in
+    let Going : Done → Type 0 = λ e. GoesOn e.answer in
+    record {
+      steps = on.steps ++ d ∷ [];
+      own = further.all;
+      gone = further.gone;
+      going = All-append Going on.steps (d ∷ []) on.going (All-cons Going d [] going (λ k e l. absurd (omega arith)));
+      turns_are = omega (arith, length-append on.steps (d ∷ []), on.turns_are);
+      taken_are = omega (arith, further.count, on.taken_are);
+      few = omega (arith, on.few, taken_few answer);
+    }
+
+ends_by : (end : End) (steps : List Done) → EndsWith end steps → (answer : Step) → IsEndOf answer end → EndsBy end steps
+ends_by (end.Idle len) steps ends answer is = ends
+ends_by (end.Refused len) steps ends answer is = ends
+ends_by end.Turns steps ends answer is = absurd is
+
+-- after a step with which the worker ends
+pub ends : (seat turns taken : ℕ) (v w u : View Entry) (hint : Option ℕ) (answer : Step) (why : End) → HasGoneOn seat turns taken v w
+    → HasStepped hint w u answer → IsEndOf answer why
+    → HasWorked v u (record { seat = seat; turns = turns + 1; taken = taken + taken_by answer; end = why })
+ends seat turns taken v w u hint answer why on stepped is =
+    let d : Done = record { hint = hint; answer = answer; after = u } in
+    let further = gone_further seat v w u on.steps on.own hint answer on.gone stepped in
+    record {
+      steps = on.steps ++ d ∷ [];
+      own = further.all;
+      gone = further.gone;
+      turns = omega (arith, length-append on.steps (d ∷ []), on.turns_are);
+      taken = omega (arith, further.count, on.taken_are);
+      ends = ends_by why (on.steps ++ d ∷ []) (record { before = on.steps; last = d; are = refl; ends = is; going = on.going }) answer is;
+    }
+
+-- after all steps
+pub all_turns : (seat taken : ℕ) (v w : View Entry) → HasGoneOn seat max_turns taken v w
+    → HasWorked v w (record { seat = seat; turns = max_turns; taken = taken; end = end.Turns })
+all_turns seat taken v w on = record {
+  steps = on.steps;
+  own = on.own;
+  gone = on.gone;
+  turns = on.turns_are;
+  taken = on.taken_are;
+  ends = (on.turns_are, on.going);
+}

@@ -1,0 +1,17 @@
+//! Workers that index a shared workspace: a pass of the lock and of the queue of hints, one step of indexing, and a worker's run.
+#![tactic(auto)]
+
+mod ending;
+mod hinting;
+mod pass;
+mod passes;
+mod stepping;
+mod worked;
+mod working;
+
+pub use hinting::hint;
+pub use pass::IdePass;
+pub use passes::{close, first, is_last, meet, split};
+pub use stepping::index_step;
+pub use worked::{End, Worked};
+pub use working::worker;

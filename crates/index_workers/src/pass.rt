@@ -1,0 +1,28 @@
+//! The token by which one thread uses a shared workspace.
+ghost use Rattle.std.specs.Prelude.{◌≡◌, Some};
+ghost use Rattle.action_lock.specs.Passes.{view_of};
+
+use action_lock::Pass;
+use ide_home::IdeHome;
+use job_queue::QueuePass;
+
+/// A pass of the lock, and one of the queue of hints with the same number. It has to be spent, by `meet` or `close`.
+pub struct IdePass {
+    pub lock: Pass<IdeHome>,
+    pub queue: QueuePass,
+}
+
+impl IdePass {
+    pub fn number(&self) -> u32
+        ensures { (view_of self.now.lock).number ≡ Some result }
+    {
+        self.lock.number()
+    }
+
+    /// How often it has found that a write waits, up to 2^64 - 1.
+    pub fn sights(&self) -> u64
+        ensures { result ≡ (view_of self.now.lock).sights }
+    {
+        self.lock.sights()
+    }
+}

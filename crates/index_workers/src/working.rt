@@ -1,0 +1,59 @@
+//! A worker's run.
+ghost use Rattle.std.specs.Prelude.{◌≡◌, IfOk, OnErr};
+ghost use Rattle.action_lock.specs.Advances.{Advances};
+ghost use Rattle.job_queue.specs.Passes.{queue_view};
+ghost use Rattle.index_workers.specs.Hints.{HasOnlyTaken};
+ghost use Rattle.index_workers.specs.Passes.{ide_view, IsIdePassOf, IsSameIdePass};
+ghost use Rattle.index_workers.specs.Work.{HasWorked, HasWorkedInPart};
+
+use crate::ending::{end_of, taken};
+use crate::pass::IdePass;
+use crate::stepping::index_step;
+use crate::worked::{End, Worked};
+use action_lock::{ActionLock, Gate};
+use ide_home::IdeHome;
+use job_queue::JobQueue;
+use std::alloc::{AllocError, Global};
+use std::sync::Wait;
+
+/// How many steps a worker makes at most.
+const TURNS: u32 = 131_072;
+
+/// Makes steps until nothing is to be done and the gate tells it to end, or the history is full, or it has made 131,072. Where memory
+/// is wanted, what it made so far stays.
+pub fn worker<R: Wait, G: Gate>(
+    rt: &R,
+    alloc: Global,
+    lock: &ActionLock<IdeHome>,
+    queue: &JobQueue,
+    pass: &mut IdePass,
+    gate: &G,
+) -> Result<Worked, AllocError>
+    requires { IsIdePassOf lock.now queue.now pass.old }
+    ensures pass { IsIdePassOf lock.now queue.now pass.new × IsSameIdePass pass.old pass.new }
+    ensures advances { Advances (ide_view pass.old) (ide_view pass.new) }
+    ensures hints { HasOnlyTaken (queue_view pass.old.queue) (queue_view pass.new.queue) }
+    ensures ok { IfOk result (HasWorked (ide_view pass.old) (ide_view pass.new)) }
+    ensures err { OnErr result (HasWorkedInPart (ide_view pass.old) (ide_view pass.new)) }
+{
+    let seat = pass.number();
+    let mut entries = 0;
+    for turn in 0..TURNS {
+        let step = index_step(rt, alloc, lock, queue, pass, gate)?;
+        entries += taken(&step);
+        if let Some(end) = end_of(gate, seat, &step) {
+            return Ok(Worked {
+                seat,
+                turns: turn + 1,
+                taken: entries,
+                end,
+            });
+        }
+    }
+    Ok(Worked {
+        seat,
+        turns: TURNS,
+        taken: entries,
+        end: End::Turns,
+    })
+}
