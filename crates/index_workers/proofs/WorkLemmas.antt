@@ -20,7 +20,7 @@ use Rattle.ide_indexing.specs.Step.{HasStepped, HasTried}
 use Rattle.index_workers.specs.declared.worked.End.{End}
 use Rattle.index_workers.specs.declared.worked.End.TheVariants as end
 use Rattle.index_workers.specs.declared.worked.Worked.{Worked}
-use Rattle.index_workers.specs.Work.{Done, Leads, taken_by, GoesOn, IsEndOf, EndsWith, EndsBy, IsIntakeBy, AreApart, StandsIn, HasGone, HasGoneOn, HasWorked, HasWorkedInPart, max_turns}
+use Rattle.index_workers.specs.Work.{Done, Leads, taken_by, GoesOn, IsEndOf, EndsWith, EndsBy, IsAtEnd, IsIntakeBy, AreApart, StandsIn, HasGone, HasGoneOn, HasWorked, HasWorkedInPart, max_turns}
 use Rattle.index_workers.proofs.ReadyLemmas.{not_unready}
 
 -- ---- lists
@@ -191,6 +191,15 @@ ends_by (end.Idle len) steps ends answer is = ends
 ends_by (end.Refused len) steps ends answer is = ends
 ends_by end.Turns steps ends answer is = absurd is
 
+at_end : (v w : View Entry) (hint : Option ℕ) (answer : Step) (why : End) → HasStepped hint v w answer → IsEndOf answer why → IsAtEnd why w
+at_end v w hint answer (end.Idle len) stepped is =
+    let idle : HasStepped hint v w (Idle len) = subst (HasStepped hint v w) is stepped in (idle.whole, idle.smart)
+at_end v w hint answer (end.Refused len) stepped is =
+    let t : HasStepped hint v w (Refused len) = subst (HasStepped hint v w) is stepped in
+    let seen : w.seen ≡ t.last = t.made.seen ∙ ap (λ (l : List Entry). t.last ++ l) t.answer.2 ∙ append-nil t.last in
+    (t.answer.0 ∙ sym (ap length seen), t.answer.1)
+at_end v w hint answer end.Turns stepped is = absurd is
+
 -- after a step with which the worker ends
 pub ends : (seat turns taken : ℕ) (v w u : View Entry) (hint : Option ℕ) (answer : Step) (why : End) → HasGoneOn seat turns taken v w
     → HasStepped hint w u answer → IsEndOf answer why
@@ -205,6 +214,7 @@ ends seat turns taken v w u hint answer why on stepped is =
       turns = omega (arith, length-append on.steps (d ∷ []), on.turns_are);
       taken = omega (arith, further.count, on.taken_are);
       ends = ends_by why (on.steps ++ d ∷ []) (record { before = on.steps; last = d; are = refl; ends = is; going = on.going }) answer is;
+      at_end = at_end w u hint answer why stepped is;
     }
 
 -- after all steps
@@ -217,4 +227,5 @@ all_turns seat taken v w on = record {
   turns = on.turns_are;
   taken = on.taken_are;
   ends = (on.turns_are, on.going);
+  at_end = tt;
 }

@@ -1,9 +1,12 @@
 -- What a worker does.
-use Rattle.std.specs.Prelude.{ℕ, ◌≡◌, ◌≢◌, ◌≤◌, List, [], ◌∷◌, ◌++◌, length, Option, Some, All, ⊤}
+use Rattle.std.specs.Prelude.{ℕ, ◌≡◌, ◌≢◌, ◌≤◌, List, [], ◌∷◌, ◌++◌, length, Option, Some, None, All, ⊤}
 use Rattle.action_lock.specs.declared.view.View.{View}
 use Rattle.action_lock.specs.Advances.{Advances}
 use Rattle.write_history.specs.declared.change.Change.TheVariants.{Intake}
 use Rattle.write_history.specs.declared.entry.Entry.{Entry}
+use Rattle.write_history.specs.World.{lowest_unready}
+use Rattle.write_history.specs.Effect.{max_entries}
+use Rattle.write_history.specs.Fold.{fold}
 use Rattle.ide_home.specs.Settle.{entry_of}
 use Rattle.ide_indexing.specs.declared.step.Step.{Step}
 use Rattle.ide_indexing.specs.declared.step.Step.TheVariants as step
@@ -63,6 +66,12 @@ EndsBy (Idle len) steps = EndsWith (Idle len) steps
 EndsBy (Refused len) steps = EndsWith (Refused len) steps
 EndsBy Turns steps = (length steps ≡ max_turns) × All (λ (d : Done). GoesOn d.answer) steps
 
+-- what holds of what a worker has seen when it ends so
+abbrev pub IsAtEnd : End → View Entry → Type 0
+IsAtEnd (Idle len) w = (len ≡ length w.seen) × (lowest_unready (fold w.seen) ≡ None)
+IsAtEnd (Refused len) w = (len ≡ length w.seen) × (len ≡ max_entries)
+IsAtEnd Turns w = ⊤
+
 -- the entry takes a file in at a stamp, made by the worker with this number
 pub record IsIntakeBy (seat : ℕ) (e : Entry) : Type 0 where
   pub file : ℕ
@@ -109,6 +118,7 @@ pub record HasWorked (v w : View Entry) (worked : Worked) : Type 0 where
   pub turns : length steps ≡ worked.turns
   pub taken : length own ≡ worked.taken
   pub ends : EndsBy worked.end steps
+  pub at_end : IsAtEnd worked.end w
 
 -- What a worker did for which memory was wanting: its steps so far stay, and after them it made nothing
 pub record HasWorkedInPart (v w : View Entry) : Type 0 where
