@@ -1,5 +1,6 @@
 -- Hints in lists: whose they are, how often each is there, and their turns.
-use Rattle.std.proofs.Common.{◌≡◌, ◌≢◌, ℕ, suc, ◌+◌, ◌<◌, ◌≤◌, Bool, false, List, [], ◌∷◌, ◌++◌, length, refl, ap, ◌∙◌, sym, All, arith, eqb, eq-eqb, ne_eqb, ◌&&◌}
+use Rattle.std.proofs.Common.{◌≡◌, ◌≢◌, ℕ, suc, ◌+◌, ◌<◌, ◌≤◌, Bool, false, List, [], ◌∷◌, ◌++◌, length, refl, ap}
+use Rattle.std.proofs.Common.{◌∙◌, sym, All, arith, eqb, eq-eqb, ne_eqb, ◌&&◌}
 use mathlib.Core.Logic.{dite}
 use native.Mathlib.Decide.{ℕ_discrete}
 use Rattle.std.proofs.lemmas.List.Elements.{All-append}
@@ -30,7 +31,8 @@ pub hints_past : (n : ℕ) (x : Hint) (xs : List Hint) → x.pusher ≢ n → hi
 hints_past n x xs ne = rw (ne_eqb x.pusher n ne) refl
 
 -- one more hint with the next turn
-pub numbered_more : (n turn : ℕ) (xs : List Hint) (x : Hint) → IsNumbered n turn xs → x.pusher ≡ n → x.turn ≡ turn + length xs → IsNumbered n turn (xs ++ x ∷ [])
+pub numbered_more : (n turn : ℕ) (xs : List Hint) (x : Hint) → IsNumbered n turn xs → x.pusher ≡ n → x.turn ≡ turn + length xs
+    → IsNumbered n turn (xs ++ x ∷ [])
 numbered_more n turn [] x all p t = (p, omega arith, tt)
 numbered_more n turn (y ∷ ys) x all p t = (all.0, all.1, numbered_more n (suc turn) ys x all.2 p (omega arith))
 
@@ -43,8 +45,10 @@ numbered_seam n turn (z ∷ zs) ys x all = let r = numbered_seam n (suc turn) zs
 pub rises_more : (xs : List Hint) (x : Hint) → Rises xs → All (λ y. x.pusher ≡ y.pusher → y.turn < x.turn) xs → Rises (xs ++ x ∷ [])
 rises_more [] x r before = ((λ k d l. absurd (omega arith)), tt)
 rises_more (y ∷ ys) x r before =
-    let P : Hint → Type 0 = λ z. z.pusher ≡ y.pusher → y.turn < z.turn in
-    (All-append P ys (x ∷ []) r.0 (All-cons P x [] (before 0 x (omega arith)) (λ k d l. absurd (omega arith))), rises_more ys x r.1 (λ k d l. before (suc k) d (omega arith)))
+    let P : Hint → Type 0 = λ z. z.pusher ≡ y.pusher → y.turn < z.turn in (
+      All-append P ys (x ∷ []) r.0 (All-cons P x [] (before 0 x (omega arith)) (λ k d l. absurd (omega arith))),
+      rises_more ys x r.1 (λ k d l. before (suc k) d (omega arith)),
+    )
 
 and_false : (a c : Bool) → (a && (false && c)) ≡ false
 and_false a c = bool_cases a (λ b. (b && (false && c)) ≡ false) (λ _. refl) (λ _. refl)
