@@ -3,6 +3,7 @@ use Rattle.std.proofs.Common.{ℕ, suc, ◌≡◌, ◌≢◌, ◌⊎◌, inl, in
 use Rattle.std.proofs.Common.{sym, ◌∙◌, subst, arith, ⊎_elim, Some, append_assoc, append-nil, length-append}
 use Rattle.std.specs.Prelude.{Option}
 use Rattle.std.proofs.lemmas.List.Elements.{All-append}
+use Rattle.std.proofs.lemmas.List.Quantifiers.{all_pairs_push}
 use Rattle.list_laws.specs.Fronts.{IsFront}
 use Rattle.list_laws.proofs.FrontLemmas.{All-cons, All-weaken}
 use Rattle.action_lock.specs.declared.view.View.{View}
@@ -35,14 +36,6 @@ stands_on earlier later e front at = record {
 
 all_stand : (earlier later : List Entry) (es : List Entry) → IsFront earlier later → All (StandsIn earlier) es → All (StandsIn later) es
 all_stand earlier later es front all = All-weaken (StandsIn earlier) (StandsIn later) es (λ e at. stands_on earlier later e front at) all
-
-apart_more : (es : List Entry) (f : Entry) → AreApart es → All (λ (e : Entry). f.changes ≢ e.changes) es → AreApart (es ++ f ∷ [])
-apart_more [] f apart new = ((λ k d l. absurd (omega arith)), tt)
-apart_more (e ∷ es) f apart new =
-    let P : Entry → Type 0 = λ g. g.changes ≢ e.changes in (
-      All-append P es (f ∷ []) apart.0 (All-cons P f [] (new 0 e (omega arith)) (λ k d l. absurd (omega arith))),
-      apart_more es f apart.1 (λ k d l. new (suc k) d (omega arith)),
-    )
 
 leads_more : (v w : View Entry) (steps : List Done) (d : Done) → Leads v steps w → HasStepped d.hint w d.after d.answer → Leads v (steps ++ d ∷ []) d.after
 leads_more v w [] d same stepped = (subst (λ (x : View Entry). HasStepped d.hint x d.after d.answer) same stepped, refl)
@@ -141,7 +134,8 @@ gone_further seat v w u steps own hint answer gone stepped =
             (All-cons (IsIntakeBy seat) made.entry [] made.intake (λ k e l. absurd (omega arith)));
         stand = All-append (StandsIn u.seen) own (made.entry ∷ []) (all_stand w.seen u.seen own made.advances.seen gone.stand)
             (All-cons (StandsIn u.seen) made.entry [] made.stands (λ k e l. absurd (omega arith)));
-        apart = apart_more own made.entry gone.apart (λ k e l. made.new (get_or own k e) (gone.stand k e l));
+        apart = all_pairs_push (λ (e f : Entry). e.changes ≢ f.changes) own made.entry gone.apart
+            (λ k e l same. made.new (get_or own k e) (gone.stand k e l) (sym same));
       };
     })
     (made_by seat w u hint answer number stepped)
@@ -158,7 +152,7 @@ not_yet seat v number = record {
     mine = sym (append-nil v.mine);
     intakes = λ k e l. absurd (omega arith);
     stand = λ k e l. absurd (omega arith);
-    apart = tt;
+    apart = λ i j e less l. absurd (omega arith);
   };
   going = λ k d l. absurd (omega arith);
   turns_are = refl;

@@ -31,7 +31,7 @@ first_sound = record {
   spent = λ none_there. absurd (cc);
   counts = λ _. refl;
   hands_are = All-cons (IsHand no_hints []) (hand 0 [] []) []
-      record { put = refl; rises = tt; early = λ k d l. absurd (omega arith) } (λ k d l. absurd (omega arith));
+      record { put = refl; rises = λ i j d less l. absurd (omega arith); early = λ k d l. absurd (omega arith) } (λ k d l. absurd (omega arith));
 }
 
 only_first : (seat : ℕ) (v : QueueView) → get_elem? (first_view ∷ []) seat ≡ some v → IsSound no_hints [] 1 v

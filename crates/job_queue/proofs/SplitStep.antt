@@ -59,7 +59,7 @@ module _ (items : List Hint) (views : List QueueView) (r : IsKept items views) (
     hands_are = All-cons (IsHand r.gone items) (hand v.drawn [] []) []
         record {
           put = sym (r.unused v.drawn (let d = is_drawn in omega arith));
-          rises = tt;
+          rises = λ i j d less l. absurd (omega arith);
           early = λ k d l. absurd (omega arith);
         }
         (λ k d l. absurd (omega arith));

@@ -68,7 +68,7 @@ module _ (x : Hint) (items : List Hint) (views : List QueueView) (r : IsKept (x 
       record {
         put = is.put ∙ sym (sent h.number);
         rises = rises_more h.took x is.rises
-            (All-weaken (λ (y : Hint). y.turn ≤ length (r.gone y.pusher)) (λ (y : Hint). x.pusher ≡ y.pusher → y.turn < x.turn) h.took
+            (All-weaken (λ (y : Hint). y.turn ≤ length (r.gone y.pusher)) (λ (y : Hint). y.pusher ≡ x.pusher → y.turn < x.turn) h.took
             (λ y le e. let same = ap (λ (n : ℕ). length (r.gone n)) e in let t = turn_is in omega arith) is.early);
         early = All-append Early h.took (x ∷ []) (early_later h.took is.early)
             (All-cons Early x [] (let t = turn_is in let o = own_longer in omega arith) (λ k d l. absurd (omega arith)));
