@@ -1,0 +1,42 @@
+-- How a change, or a group of changes, is answered.
+use Rattle.std.specs.Prelude.{ℕ, ◌≡◌, List, [], ◌∷◌, length, Some, None, false}
+use Rattle.action_lock.specs.declared.view.View.{View}
+use Rattle.nonblocking_read.specs.Soft.{HasOnlyRead}
+use Rattle.write_history.specs.declared.change.Change.{Change}
+use Rattle.write_history.specs.declared.entry.Entry.{Entry}
+use Rattle.write_history.specs.declared.refusal.Refusal.{Refusal}
+use Rattle.write_history.specs.Fold.{fold, list_refusal}
+use Rattle.ide_world.specs.Ready.{is_want_of_memory}
+use Rattle.ide_home.specs.Made.{HasMade, HasFound}
+use Rattle.ide_home.specs.Settle.{entry_of}
+use Rattle.ide_calls.specs.declared.change_refusal.ChangeRefusal.{ChangeRefusal}
+use Rattle.ide_calls.specs.declared.change_refusal.ChangeRefusal.TheVariants as change
+use Rattle.ide_calls.specs.declared.group_refusal.GroupChangeRefusal.{GroupChangeRefusal}
+use Rattle.ide_calls.specs.declared.group_refusal.GroupChangeRefusal.TheVariants as group
+
+-- The changes went in as one entry, right behind the history that a read of this call found, and after which none of them is refused.
+-- The entry has the pass's number, and is the last that the pass has seen
+pub record HasAccepted (v w : View Entry) (line : ℕ) (changes : List Change) (at : ℕ) : Type 0 where
+  pub before : List Entry
+  pub seat : ℕ
+  pub own : v.number ≡ Some seat
+  pub accepted : list_refusal (fold before) changes ≡ None
+  pub made : HasMade v w before (entry_of seat line changes ∷ [])
+  pub is_at : at ≡ length w.seen
+
+-- After the history that is now seen the change at this place of the list is the first that is refused, for this reason. Nothing was made
+pub record HasRefused (v w : View Entry) (changes : List Change) (at place : ℕ) (why : Refusal) : Type 0 where
+  pub found : HasFound v w
+  pub refused : list_refusal (fold w.seen) changes ≡ Some (record { place = place; why = why })
+  pub no_want : is_want_of_memory why ≡ false
+  pub is_at : at ≡ length w.seen
+
+-- when each refusal of a group comes; of a want of memory, that nothing was made
+abbrev pub IsGroupRefused : View Entry → View Entry → List Change → GroupChangeRefusal → Type 0
+IsGroupRefused v w changes (group.Refused at place why) = HasRefused v w changes at place why
+IsGroupRefused v w changes group.OutOfMemory = HasOnlyRead v w
+
+-- when each refusal of a change comes: as for a group of this change alone
+abbrev pub IsChangeRefused : View Entry → View Entry → Change → ChangeRefusal → Type 0
+IsChangeRefused v w c (change.Refused at why) = HasRefused v w (c ∷ []) at 1 why
+IsChangeRefused v w c change.OutOfMemory = HasOnlyRead v w

@@ -1,0 +1,33 @@
+-- How a question is answered.
+use Rattle.std.specs.Prelude.{ℕ, ◌≡◌, List, Result, Ok, Err, length}
+use Rattle.action_lock.specs.declared.view.View.{View}
+use Rattle.write_history.specs.declared.entry.Entry.{Entry}
+use Rattle.write_history.specs.World.{World}
+use Rattle.write_history.specs.Fold.{fold}
+use Rattle.queries.specs.declared.query.Query.{Query}
+use Rattle.query_engine.specs.declared.answer.Answer.{Answer}
+use Rattle.query_engine.specs.declared.answer.AskRefusal.{AskRefusal}
+use Rattle.query_engine.specs.declared.answer.AskRefusal.TheVariants as refused
+use Rattle.query_engine.specs.Reply.{reply}
+use Rattle.query_engine.specs.Listed.{path_at}
+use Rattle.ide_home.specs.Made.{HasFound}
+use Rattle.ide_calls.specs.declared.reply.Reply.{Reply}
+use Rattle.ide_calls.specs.declared.reply.Reply.TheVariants.{Found, NoSuchFile, NotReady}
+use Rattle.ide_calls.specs.declared.replied.Replied.{Replied}
+
+-- the reply tells what the definition gives in this world, and the path of a file that isn't ready
+abbrev pub Tells : World → Result Answer AskRefusal → Reply → Type 0
+Tells world expected (Found answer) = expected ≡ Ok answer
+Tells world expected NoSuchFile = expected ≡ Err refused.NoSuchFile
+Tells world expected (NotReady file path) = (expected ≡ Err (refused.NotReady file)) × (path ≡ path_at world file)
+
+-- the reply is that of the definition in this world, and the moment its number of entries
+pub record IsRepliedIn (world : World) (query : Query) (replied : Replied) : Type 0 where
+  pub is_at : replied.at ≡ world.entries
+  pub tells : Tells world (reply world query) replied.reply
+
+-- the question was answered by all that is now seen, which a read of this call found. Nothing was made
+pub record HasReplied (v w : View Entry) (query : Query) (replied : Replied) : Type 0 where
+  pub found : HasFound v w
+  pub is_at : replied.at ≡ length w.seen
+  pub tells : Tells (fold w.seen) (reply (fold w.seen) query) replied.reply

@@ -1,0 +1,16 @@
+//! What a question is answered.
+use ide_text::Name;
+use query_engine::Answer;
+
+/// What a question is answered: what it found, or why it found nothing.
+#[derive(Drop)]
+pub enum Reply {
+    Found(Answer),
+    /// No live file has the path of an outline.
+    NoSuchFile,
+    /// Files are unready, and this one has the lowest id of them.
+    NotReady {
+        file: u32,
+        path: Name,
+    },
+}

@@ -1,0 +1,70 @@
+//! The sightings for which a soft question was cancelled.
+ghost use Rattle.std.specs.Prelude.{◌≡◌};
+ghost use Rattle.action_lock.specs.Counts.{HasRisenBy};
+
+use std::marker::Model;
+
+/// The sightings for which a soft question was cancelled. `soft_ask` alone makes one.
+#[derive(Clone, Copy, Debug, PartialEq, Eq, Drop)]
+pub struct Sighted {
+    seat: u32,
+    attempts: u32,
+    before: u64,
+    after: u64,
+}
+
+impl Model for Sighted {
+    ghost use Rattle.action_lock.specs.Counts.{HasRisenBy};
+    ghost use Rattle.ide_calls.specs.Sighting.{Sighting};
+
+    ghost Value = { Sighting };
+
+    ghost view = { λ s. record { seat = s.seat; attempts = s.attempts; before = s.before; after = s.after } };
+
+    ghost inverse = { λ s. record { seat = s.seat; attempts = s.attempts; before = s.before; after = s.after } };
+
+    ghost invariant = { λ s. HasRisenBy s.attempts s.before s.after };
+}
+
+impl Sighted {
+    pub(crate) fn new(seat: u32, attempts: u32, before: u64, after: u64) -> Sighted
+        requires { HasRisenBy attempts before after }
+        ensures { result ≡ record { seat = seat; attempts = attempts; before = before; after = after } }
+    {
+        Sighted {
+            seat,
+            attempts,
+            before,
+            after,
+        }
+    }
+
+    /// The number of the pass that asked.
+    pub fn seat(&self) -> u32
+        ensures { result ≡ self.now.seat }
+    {
+        self.seat
+    }
+
+    /// How many attempts were allowed.
+    pub fn attempts(&self) -> u32
+        ensures { result ≡ self.now.attempts }
+    {
+        self.attempts
+    }
+
+    /// How often the pass had found the pending mark before the call, up to 2^64 - 1.
+    pub fn before(&self) -> u64
+        ensures { result ≡ self.now.before }
+    {
+        self.before
+    }
+
+    /// How often it had found it at the end of the call: at least once more for each attempt.
+    pub fn after(&self) -> u64
+        ensures value { result ≡ self.now.after }
+        ensures risen { HasRisenBy self.now.attempts self.now.before self.now.after }
+    {
+        self.after
+    }
+}
