@@ -1,10 +1,9 @@
 -- A pass that goes on is the same pass, and has only taken hints.
-use Rattle.std.proofs.Common.{◌≡◌, ◌++◌, [], ◌∷◌, List, refl, ap, sym, ◌∙◌, subst, Some, None}
+use Rattle.std.proofs.Common.{◌≡◌, [], ◌∷◌, refl, ap, sym, ◌∙◌, subst, Some, None}
 use Rattle.std.specs.Prelude.{Option}
 use Rattle.list_laws.proofs.FrontLemmas.{front_self, front_trans}
 use Rattle.job_queue.specs.declared.hint.Hint.{Hint}
 use Rattle.job_queue.specs.declared.view.QueueView.{QueueView}
-use Rattle.job_queue.specs.Views.{taking}
 use Rattle.index_workers.specs.declared.pass.IdePass.{IdePass}
 use Rattle.index_workers.specs.Hints.{after_take, HasOnlyTaken}
 use Rattle.index_workers.specs.Passes.{IsSameIdePass}

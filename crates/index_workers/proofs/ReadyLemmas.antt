@@ -1,5 +1,5 @@
 -- A file that was taken in at a stamp is ready while it has that stamp.
-use Rattle.std.proofs.Common.{ℕ, ◌≡◌, ◌≢◌, ◌⊎◌, inl, inr, ◌+◌, ◌<◌, Bool, true, false, not, List, [], ◌∷◌, ◌++◌, refl, ap, sym, ◌∙◌, subst, arith, Some, None, append_assoc}
+use Rattle.std.proofs.Common.{ℕ, ◌≡◌, inl, inr, ◌<◌, Bool, true, false, not, List, [], ◌∷◌, ◌++◌, refl, ap, sym, ◌∙◌, subst, arith, Some, None}
 use Rattle.std.specs.Prelude.{Option, ◌&&◌, ◌==◌, is_none, is_some, option_map}
 use Rattle.dumb_mode.specs.Filter.{is_java}
 use Rattle.dumb_mode.specs.Unready.{is_indexed_at}
@@ -7,10 +7,10 @@ use Rattle.std.proofs.lemmas.Bool.{eq-eqb, eqb-true}
 use Rattle.write_history.specs.declared.change.Change.{Change}
 use Rattle.write_history.specs.declared.change.Change.TheVariants.{Intake}
 use Rattle.write_history.specs.declared.entry.Entry.{Entry}
-use Rattle.write_history.specs.World.{World, File, empty_world, file_of, is_unready}
+use Rattle.write_history.specs.World.{World, File, file_of, is_unready}
 use Rattle.write_history.specs.Effect.{Put, put_of, refusal_of, stamp_of, taken_in}
-use Rattle.write_history.specs.Fold.{effect_of, effects_of, after_list, list_refusal, fold, fold_from, IsLegal, IsLegalFrom}
-use Rattle.write_history.specs.Stamps.{IsAsStamped, files_made}
+use Rattle.write_history.specs.Fold.{effect_of, after_list, list_refusal, fold, IsLegal}
+use Rattle.write_history.specs.Stamps.{files_made}
 use Rattle.write_history.proofs.PutLemmas.{IsAccepted, makes, ends, edits, is_accepted, is_place, by_place, accepted_reasons}
 use Rattle.write_history.proofs.FoldLemmas.{along, list_accepted, fold-append, IsLegal-split}
 use Rattle.write_history.proofs.SoundLemmas.{stamp_below}
@@ -89,9 +89,11 @@ ready_with before behind e id stamp is legal =
     let parts = IsLegal-split before (e ∷ behind) legal in
     let accepted : list_refusal (fold before) (Intake id stamp ∷ []) ≡ None = ap (list_refusal (fold before)) (sym is) ∙ parts.1.0 in
     let here = ready_after before id stamp parts.0 (list_accepted (fold before) (Intake id stamp) [] accepted).0 in
-    let start : StaysReady id stamp (after_list (fold before) e.changes) = subst (λ (cs : List Change). StaysReady id stamp (after_list (fold before) cs)) (sym is) here in
+    let start : StaysReady id stamp (after_list (fold before) e.changes) =
+    subst (λ (cs : List Change). StaysReady id stamp (after_list (fold before) cs)) (sym is) here in
     subst (StaysReady id stamp) (sym (fold-append before (e ∷ behind)))
-    (along (StaysReady id stamp) (ready-effect_of id stamp) (λ world h. record { drawn = h.drawn; ready = h.ready }) behind (after_list (fold before) e.changes) parts.1.1 start)
+    (along (StaysReady id stamp) (ready-effect_of id stamp) (λ world h. record { drawn = h.drawn; ready = h.ready })
+    behind (after_list (fold before) e.changes) parts.1.1 start)
 
 ready_in : (history : List Entry) (e : Entry) (id stamp : ℕ) → StandsIn history e → e.changes ≡ Intake id stamp ∷ [] → IsLegal history
     → StaysReady id stamp (fold history)

@@ -1,13 +1,14 @@
 -- What one step more makes of a worker's run.
-use Rattle.std.proofs.Common.{ℕ, zero, suc, ◌≡◌, ◌≢◌, ◌⊎◌, inl, inr, ◌+◌, ◌<◌, ◌≤◌, List, [], ◌∷◌, ◌++◌, length, get_or, All, refl, ap, sym, ◌∙◌, subst, arith, ⊎_elim, Some, None, append_assoc, append-nil, length-append}
+use Rattle.std.proofs.Common.{ℕ, suc, ◌≡◌, ◌≢◌, ◌⊎◌, inl, inr, ◌+◌, ◌≤◌, List, [], ◌∷◌, ◌++◌, length, get_or, All, refl, ap}
+use Rattle.std.proofs.Common.{sym, ◌∙◌, subst, arith, ⊎_elim, Some, append_assoc, append-nil, length-append}
 use Rattle.std.specs.Prelude.{Option}
 use Rattle.std.proofs.lemmas.List.Elements.{All-append}
+use Rattle.std.proofs.lemmas.List.Quantifiers.{all_pairs_push}
 use Rattle.list_laws.specs.Fronts.{IsFront}
-use Rattle.list_laws.proofs.FrontLemmas.{All-cons, All-weaken, front_trans}
+use Rattle.list_laws.proofs.FrontLemmas.{All-cons, All-weaken}
 use Rattle.action_lock.specs.declared.view.View.{View}
 use Rattle.action_lock.specs.Advances.{Advances}
 use Rattle.action_lock.proofs.AdvanceLemmas.{advances_not, advances_on}
-use Rattle.write_history.specs.declared.change.Change.{Change}
 use Rattle.write_history.specs.declared.change.Change.TheVariants.{Intake}
 use Rattle.write_history.specs.declared.entry.Entry.{Entry}
 use Rattle.write_history.specs.Fold.{IsLegal}
@@ -19,8 +20,8 @@ use Rattle.ide_indexing.specs.declared.step.Step.TheVariants.{Idle, Gone, Stale,
 use Rattle.ide_indexing.specs.Step.{HasStepped, HasTried}
 use Rattle.index_workers.specs.declared.worked.End.{End}
 use Rattle.index_workers.specs.declared.worked.End.TheVariants as end
-use Rattle.index_workers.specs.declared.worked.Worked.{Worked}
-use Rattle.index_workers.specs.Work.{Done, Leads, taken_by, GoesOn, IsEndOf, EndsWith, EndsBy, IsAtEnd, IsIntakeBy, AreApart, StandsIn, HasGone, HasGoneOn, HasWorked, HasWorkedInPart, max_turns}
+use Rattle.index_workers.specs.Work.{Done, Leads, taken_by, GoesOn, IsEndOf, EndsWith, EndsBy, IsAtEnd, IsIntakeBy, AreApart}
+use Rattle.index_workers.specs.Work.{StandsIn, HasGone, HasGoneOn, HasWorked, max_turns}
 use Rattle.index_workers.proofs.ReadyLemmas.{not_unready}
 
 -- ---- lists
@@ -35,13 +36,6 @@ stands_on earlier later e front at = record {
 
 all_stand : (earlier later : List Entry) (es : List Entry) → IsFront earlier later → All (StandsIn earlier) es → All (StandsIn later) es
 all_stand earlier later es front all = All-weaken (StandsIn earlier) (StandsIn later) es (λ e at. stands_on earlier later e front at) all
-
-apart_more : (es : List Entry) (f : Entry) → AreApart es → All (λ (e : Entry). f.changes ≢ e.changes) es → AreApart (es ++ f ∷ [])
-apart_more [] f apart new = ((λ k d l. absurd (omega arith)), tt)
-apart_more (e ∷ es) f apart new =
-    let P : Entry → Type 0 = λ g. g.changes ≢ e.changes in
-    (All-append P es (f ∷ []) apart.0 (All-cons P f [] (new 0 e (omega arith)) (λ k d l. absurd (omega arith))),
-      apart_more es f apart.1 (λ k d l. new (suc k) d (omega arith)))
 
 leads_more : (v w : View Entry) (steps : List Done) (d : Done) → Leads v steps w → HasStepped d.hint w d.after d.answer → Leads v (steps ++ d ∷ []) d.after
 leads_more v w [] d same stepped = (subst (λ (x : View Entry). HasStepped d.hint x d.after d.answer) same stepped, refl)
@@ -77,6 +71,7 @@ same_seat a b o p q = cc
 
 one_made : (seat : ℕ) (v w : View Entry) (hint : Option ℕ) (place : ℕ) → v.number ≡ Some seat → HasTried hint v w (Taken place) → MadeOne seat v w (Taken place)
 one_made seat v w hint place number t =
+    let same : t.seat ≡ seat = same_seat t.seat seat v.number t.number number in
     let entry : Entry = entry_of t.seat 0 (Intake t.file t.stamp ∷ []) in
     let own : t.own ≡ entry ∷ [] = t.answer.1 in
     let seen : w.seen ≡ t.last ++ entry ∷ [] = t.made.seen ∙ ap (λ (l : List Entry). t.last ++ l) own in
@@ -86,13 +81,14 @@ one_made seat v w hint place number t =
       entry = entry;
       count = refl;
       mine = t.made.mine ∙ ap (λ (l : List Entry). v.mine ++ l) own;
-      intake = record { file = t.file; stamp = t.stamp; is = ap (λ (s : ℕ). entry_of s 0 (Intake t.file t.stamp ∷ [])) (same_seat t.seat seat v.number t.number number) };
+      intake = record { file = t.file; stamp = t.stamp; is = ap (λ (s : ℕ). entry_of s 0 (Intake t.file t.stamp ∷ [])) same };
       stands = record { before = t.last; behind = []; are = seen };
       new = λ e at same. not_unready t.first e t.file t.stamp legal (stands_on v.seen t.first e t.known at) (sym same) t.stamped t.unready;
       advances = t.made.advances;
     }
 
-pub made_by : (seat : ℕ) (v w : View Entry) (hint : Option ℕ) (answer : Step) → v.number ≡ Some seat → HasStepped hint v w answer → MadeNone v w answer ⊎ MadeOne seat v w answer
+pub made_by : (seat : ℕ) (v w : View Entry) (hint : Option ℕ) (answer : Step) → v.number ≡ Some seat → HasStepped hint v w answer
+    → MadeNone v w answer ⊎ MadeOne seat v w answer
 made_by seat v w hint (Idle len) number s = inl (none_made v w w.seen [] (Idle len) s.found refl refl)
 made_by seat v w hint (Gone id) number t = inl (none_made v w t.last t.own (Gone id) t.made t.answer.1 refl)
 made_by seat v w hint (Stale id made present) number t = inl (none_made v w t.last t.own (Stale id made present) t.made t.answer.2 refl)
@@ -134,10 +130,12 @@ gone_further seat v w u steps own hint answer gone stepped =
         number = gone.number;
         advances = advances_on v w u gone.advances made.advances;
         mine = made.mine ∙ ap (λ (l : List Entry). l ++ made.entry ∷ []) gone.mine ∙ append_assoc v.mine own (made.entry ∷ []);
-        intakes = All-append (IsIntakeBy seat) own (made.entry ∷ []) gone.intakes (All-cons (IsIntakeBy seat) made.entry [] made.intake (λ k e l. absurd (omega arith)));
+        intakes = All-append (IsIntakeBy seat) own (made.entry ∷ []) gone.intakes
+            (All-cons (IsIntakeBy seat) made.entry [] made.intake (λ k e l. absurd (omega arith)));
         stand = All-append (StandsIn u.seen) own (made.entry ∷ []) (all_stand w.seen u.seen own made.advances.seen gone.stand)
             (All-cons (StandsIn u.seen) made.entry [] made.stands (λ k e l. absurd (omega arith)));
-        apart = apart_more own made.entry gone.apart (λ k e l. made.new (get_or own k e) (gone.stand k e l));
+        apart = all_pairs_push (λ (e f : Entry). e.changes ≢ f.changes) own made.entry gone.apart
+            (λ k e l same. made.new (get_or own k e) (gone.stand k e l) (sym same));
       };
     })
     (made_by seat w u hint answer number stepped)
@@ -154,7 +152,7 @@ not_yet seat v number = record {
     mine = sym (append-nil v.mine);
     intakes = λ k e l. absurd (omega arith);
     stand = λ k e l. absurd (omega arith);
-    apart = tt;
+    apart = λ i j e less l. absurd (omega arith);
   };
   going = λ k d l. absurd (omega arith);
   turns_are = refl;

@@ -1,5 +1,5 @@
 -- What a worker does.
-use Rattle.std.specs.Prelude.{ℕ, ◌≡◌, ◌≢◌, ◌≤◌, List, [], ◌∷◌, ◌++◌, length, Option, Some, None, All, ⊤}
+use Rattle.std.specs.Prelude.{ℕ, ◌≡◌, ◌≢◌, ◌≤◌, List, [], ◌∷◌, ◌++◌, length, Option, Some, None, All, AllPairs, ⊤}
 use Rattle.action_lock.specs.declared.view.View.{View}
 use Rattle.action_lock.specs.Advances.{Advances}
 use Rattle.write_history.specs.declared.change.Change.TheVariants.{Intake}
@@ -80,8 +80,7 @@ pub record IsIntakeBy (seat : ℕ) (e : Entry) : Type 0 where
 
 -- no two of the entries have the same changes
 abbrev pub AreApart : List Entry → Type 0
-AreApart [] = ⊤
-AreApart (e ∷ es) = All (λ (f : Entry). f.changes ≢ e.changes) es × AreApart es
+AreApart es = AllPairs (λ e later. e.changes ≢ later.changes) es
 
 -- the entry stands in the history
 pub record StandsIn (history : List Entry) (e : Entry) : Type 0 where

@@ -27,7 +27,9 @@ pub fn index_step<R: Wait, G: Gate>(
     requires { IsIdePassOf lock.now queue.now pass.old }
     ensures pass { IsIdePassOf lock.now queue.now pass.new × IsSameIdePass pass.old pass.new }
     ensures advances { Advances (ide_view pass.old) (ide_view pass.new) }
-    ensures step { (hint : Option Hint) × (queue_view pass.new.queue ≡ after_take hint (queue_view pass.old.queue)) × IfOk result (HasStepped (file_of_hint hint) (ide_view pass.old) (ide_view pass.new)) }
+    ensures step { (hint : Option Hint)
+        × (queue_view pass.new.queue ≡ after_take hint (queue_view pass.old.queue))
+        × IfOk result (HasStepped (file_of_hint hint) (ide_view pass.old) (ide_view pass.new)) }
     ensures err { OnErr result ((ide_view pass.new).mine ≡ (ide_view pass.old).mine) }
 {
     let hint = queue.take(rt, &mut pass.queue);

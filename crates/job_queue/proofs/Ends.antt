@@ -1,5 +1,6 @@
 -- The rule at the beginning, and what it says at the end.
-use Rattle.std.proofs.Common.{◌≡◌, ◌≢◌, ℕ, zero, suc, ◌+◌, ◌<◌, List, [], ◌∷◌, ◌++◌, length, refl, ap, ◌∙◌, sym, subst, arith, Some, All, nat_lt, eqb, eq-eqb, ne_eqb, ltb-false, length-append}
+use Rattle.std.proofs.Common.{◌≡◌, ◌≢◌, ℕ, zero, suc, ◌+◌, ◌<◌, List, [], ◌∷◌, ◌++◌, length, refl, ap, ◌∙◌, sym, subst}
+use Rattle.std.proofs.Common.{arith, Some, All, nat_lt, eqb, eq-eqb, ne_eqb, ltb-false, length-append}
 use mathlib.Core.Option.{some, some-injective, some-ne-none}
 use lib.ListN.{get_elem?}
 use Rattle.std.proofs.lemmas.Bool.Decides.{nat_tests}
@@ -29,7 +30,8 @@ first_sound : IsSound no_hints [] 1 first_view
 first_sound = record {
   spent = λ none_there. absurd (cc);
   counts = λ _. refl;
-  hands_are = All-cons (IsHand no_hints []) (hand 0 [] []) [] record { put = refl; rises = tt; early = λ k d l. absurd (omega arith) } (λ k d l. absurd (omega arith));
+  hands_are = All-cons (IsHand no_hints []) (hand 0 [] []) []
+      record { put = refl; rises = λ i j d less l. absurd (omega arith); early = λ k d l. absurd (omega arith) } (λ k d l. absurd (omega arith));
 }
 
 only_first : (seat : ℕ) (v : QueueView) → get_elem? (first_view ∷ []) seat ≡ some v → IsSound no_hints [] 1 v

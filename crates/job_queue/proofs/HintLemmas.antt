@@ -1,12 +1,13 @@
 -- Hints in lists: whose they are, how often each is there, and their turns.
-use Rattle.std.proofs.Common.{◌≡◌, ◌≢◌, ℕ, suc, ◌+◌, ◌<◌, ◌≤◌, Bool, false, List, [], ◌∷◌, ◌++◌, length, refl, ap, ◌∙◌, sym, All, arith, eqb, eq-eqb, ne_eqb, ◌&&◌}
+use Rattle.std.proofs.Common.{◌≡◌, ◌≢◌, ℕ, suc, ◌+◌, ◌<◌, ◌≤◌, Bool, false, List, [], ◌∷◌, ◌++◌, length, refl, ap}
+use Rattle.std.proofs.Common.{◌∙◌, sym, All, arith, eqb, eq-eqb, ne_eqb, ◌&&◌}
 use mathlib.Core.Logic.{dite}
 use native.Mathlib.Decide.{ℕ_discrete}
-use Rattle.std.proofs.lemmas.List.Elements.{All-append}
+use Rattle.std.proofs.lemmas.List.Quantifiers.{all_pairs_push}
 use Rattle.job_queue.specs.declared.hint.Hint.{Hint}
 use Rattle.job_queue.specs.Hints.{bit, is_hint, times, hints_of, IsNumbered, Rises}
 use Rattle.list_laws.proofs.BoolLemmas.{bool_cases}
-use Rattle.list_laws.proofs.FrontLemmas.{All-cons, filter_more, filter_same}
+use Rattle.list_laws.proofs.FrontLemmas.{filter_more, filter_same}
 
 pub bit_few : (b : Bool) → bit b ≤ 1
 bit_few b = bool_cases b (λ c. bit c ≤ 1) (λ _. omega arith) (λ _. omega arith)
@@ -30,7 +31,8 @@ pub hints_past : (n : ℕ) (x : Hint) (xs : List Hint) → x.pusher ≢ n → hi
 hints_past n x xs ne = rw (ne_eqb x.pusher n ne) refl
 
 -- one more hint with the next turn
-pub numbered_more : (n turn : ℕ) (xs : List Hint) (x : Hint) → IsNumbered n turn xs → x.pusher ≡ n → x.turn ≡ turn + length xs → IsNumbered n turn (xs ++ x ∷ [])
+pub numbered_more : (n turn : ℕ) (xs : List Hint) (x : Hint) → IsNumbered n turn xs → x.pusher ≡ n → x.turn ≡ turn + length xs
+    → IsNumbered n turn (xs ++ x ∷ [])
 numbered_more n turn [] x all p t = (p, omega arith, tt)
 numbered_more n turn (y ∷ ys) x all p t = (all.0, all.1, numbered_more n (suc turn) ys x all.2 p (omega arith))
 
@@ -40,11 +42,8 @@ numbered_seam n turn [] ys x all = let t : x.turn ≡ turn = all.1 in omega arit
 numbered_seam n turn (z ∷ zs) ys x all = let r = numbered_seam n (suc turn) zs ys x all.2 in omega arith
 
 -- one more hint, of a turn behind all of its pusher
-pub rises_more : (xs : List Hint) (x : Hint) → Rises xs → All (λ y. x.pusher ≡ y.pusher → y.turn < x.turn) xs → Rises (xs ++ x ∷ [])
-rises_more [] x r before = ((λ k d l. absurd (omega arith)), tt)
-rises_more (y ∷ ys) x r before =
-    let P : Hint → Type 0 = λ z. z.pusher ≡ y.pusher → y.turn < z.turn in
-    (All-append P ys (x ∷ []) r.0 (All-cons P x [] (before 0 x (omega arith)) (λ k d l. absurd (omega arith))), rises_more ys x r.1 (λ k d l. before (suc k) d (omega arith)))
+pub rises_more : (xs : List Hint) (x : Hint) → Rises xs → All (λ y. y.pusher ≡ x.pusher → y.turn < x.turn) xs → Rises (xs ++ x ∷ [])
+rises_more xs x rises before = all_pairs_push (λ (y z : Hint). y.pusher ≡ z.pusher → y.turn < z.turn) xs x rises before
 
 and_false : (a c : Bool) → (a && (false && c)) ≡ false
 and_false a c = bool_cases a (λ b. (b && (false && c)) ≡ false) (λ _. refl) (λ _. refl)

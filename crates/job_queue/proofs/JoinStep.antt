@@ -23,14 +23,16 @@ weigh_joined : (f : Hand → ℕ) (v w : QueueView) → weigh f (joined v w) ≡
 weigh_joined f v w = ap (total f) (hands_joined v w) ∙ total-append f (hands v) (hands w)
 
 -- a total after two views have changed, where together they weigh the same
-both_same : (f : QueueView → ℕ) (views : List QueueView) (id other : ℕ) (v w both spent : QueueView) → get_elem? views id ≡ some v → get_elem? (set views id both) other ≡ some w
+both_same : (f : QueueView → ℕ) (views : List QueueView) (id other : ℕ) (v w both spent : QueueView) → get_elem? views id ≡ some v
+    → get_elem? (set views id both) other ≡ some w
     → f both + f spent ≡ f v + f w → total f (set (set views id both) other spent) ≡ total f views
 both_same f views id other v w both spent at there same =
     let a = total-set f views id v both at in let b = total-set f (set views id both) other w spent there in omega arith
 
 module _ (gone : ℕ → List Hint) (items : List Hint) (drawn : ℕ) where
   each_set : (views : List QueueView) (id : ℕ) (w : QueueView) → IsSound gone items drawn w
-      → ((j : ℕ) (v : QueueView) → get_elem? views j ≡ some v → IsSound gone items drawn v) → (j : ℕ) (v : QueueView) → get_elem? (set views id w) j ≡ some v → IsSound gone items drawn v
+      → ((j : ℕ) (v : QueueView) → get_elem? views j ≡ some v → IsSound gone items drawn v)
+      → (j : ℕ) (v : QueueView) → get_elem? (set views id w) j ≡ some v → IsSound gone items drawn v
   each_set views id w mine others j v e = ⊎_elim (λ (t : (j ≡ id) × (w ≡ v)). subst (IsSound gone items drawn) t.1 mine)
       (λ (t : (j ≢ id) × (get_elem? views j ≡ some v)). others j v t.1) (at_set views id j w v e)
 
@@ -44,10 +46,12 @@ module _ (gone : ℕ → List Hint) (items : List Hint) (drawn : ℕ) where
     hands_are = subst (All (IsHand gone items)) (sym (hands_joined v w)) (All-append (IsHand gone items) (hands v) (hands w) sound.hands_are sound'.hands_are);
   }
 
-pub joins : (id : ℕ) (v : QueueView) (other : ℕ) (w : QueueView) (n m : ℕ) → v.number ≡ Some n → w.number ≡ Some m → 0 < m → Merges IsKept id v other w (joined v w) spent_view
+pub joins : (id : ℕ) (v : QueueView) (other : ℕ) (w : QueueView) (n m : ℕ) → v.number ≡ Some n → w.number ≡ Some m → 0 < m
+    → Merges IsKept id v other w (joined v w) spent_view
 joins id v other w n m has has' follows items views r at apart there =
     let there' : get_elem? views other ≡ some w = sym (set_else views id other (joined v w) apart) ∙ there in
-    let kept = (λ (f : QueueView → ℕ) (same : f (joined v w) + f spent_view ≡ f v + f w). both_same f views id other v w (joined v w) spent_view at there same) in
+    let kept = (λ (f : QueueView → ℕ) (same : f (joined v w) + f spent_view ≡ f v + f w).
+    both_same f views id other v w (joined v w) spent_view at there same) in
     let hand_kept = (λ (f : Hand → ℕ). kept (weigh f) (let j = weigh_joined f v w in omega arith)) in
     record {
       drawn = r.drawn;

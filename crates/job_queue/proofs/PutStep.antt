@@ -18,7 +18,9 @@ use Rattle.list_laws.proofs.FrontLemmas.{All-cons}
 module _ (items : List Hint) (views : List QueueView) (r : IsKept items views) (id : ℕ) (v : QueueView) (at : get_elem? views id ≡ some v)
     (x : Hint) (has : v.number ≡ Some x.pusher) (next : x.turn ≡ length v.put + 1) where
   own_sent : r.gone x.pusher ++ hints_of x.pusher (items ++ x ∷ []) ≡ (r.gone x.pusher ++ hints_of x.pusher items) ++ x ∷ []
-  own_sent = ap (λ (l : List Hint). r.gone x.pusher ++ l) (hints_more x.pusher items x refl) ∙ sym (append_assoc (r.gone x.pusher) (hints_of x.pusher items) (x ∷ []))
+  own_sent =
+      ap (λ (l : List Hint). r.gone x.pusher ++ l) (hints_more x.pusher items x refl)
+      ∙ sym (append_assoc (r.gone x.pusher) (hints_of x.pusher items) (x ∷ []))
 
   other_sent : (n : ℕ) → x.pusher ≢ n → r.gone n ++ hints_of n (items ++ x ∷ []) ≡ r.gone n ++ hints_of n items
   other_sent n ne = ap (λ (l : List Hint). r.gone n ++ l) (hints_same n items x ne)

@@ -25,7 +25,8 @@ added f views id v left right at same =
 one_more : (n d : ℕ) → bit (nat_lt n d) + bit (eqb d n) ≡ bit (nat_lt n (d + 1))
 one_more n d = grind (arith, nat_tests)
 
-module _ (items : List Hint) (views : List QueueView) (r : IsKept items views) (id : ℕ) (v : QueueView) (at : get_elem? views id ≡ some v) (leads : v.number ≡ Some 0) where
+module _ (items : List Hint) (views : List QueueView) (r : IsKept items views) (id : ℕ) (v : QueueView) (at : get_elem? views id ≡ some v)
+    (leads : v.number ≡ Some 0) where
   is_drawn : v.drawn ≡ r.drawn
   is_drawn = (r.each id v at).counts leads
 
@@ -58,7 +59,7 @@ module _ (items : List Hint) (views : List QueueView) (r : IsKept items views) (
     hands_are = All-cons (IsHand r.gone items) (hand v.drawn [] []) []
         record {
           put = sym (r.unused v.drawn (let d = is_drawn in omega arith));
-          rises = tt;
+          rises = λ i j d less l. absurd (omega arith);
           early = λ k d l. absurd (omega arith);
         }
         (λ k d l. absurd (omega arith));
@@ -67,7 +68,8 @@ module _ (items : List Hint) (views : List QueueView) (r : IsKept items views) (
   split_counted : v.drawn < 65536 → IsCounted (r.drawn + 1) (set views id (splitting v) ++ split_off v ∷ [])
   split_counted room = record {
     one_leads = added leading views id v (splitting v) (split_off v) at refl
-        ∙ (let z : leading (split_off v) ≡ 0 = ap bit (ne_eqb v.drawn 0 (λ e. let d = is_drawn in let s = some_drawn in omega arith)) in let c = r.counted.one_leads in omega arith);
+        ∙ (let z : leading (split_off v) ≡ 0 = ap bit (ne_eqb v.drawn 0 (λ e. let d = is_drawn in let s = some_drawn in omega arith)) in
+        let c = r.counted.one_leads in omega arith);
     once = λ n. added (numbers n) views id v (splitting v) (split_off v) at refl
         ∙ (let before = r.counted.once n in let e = ap (λ (d : ℕ). bit (eqb d n)) is_drawn in let m = one_more n r.drawn in omega arith);
     in_all = added count views id v (splitting v) (split_off v) at refl ∙ (let before = r.counted.in_all in omega arith);

@@ -1,5 +1,6 @@
 -- Taking the oldest hint keeps the rule.
-use Rattle.std.proofs.Common.{◌≡◌, ◌≢◌, ℕ, suc, ◌+◌, ◌<◌, ◌≤◌, cond, List, [], ◌∷◌, ◌++◌, length, set, refl, ap, ◌∙◌, sym, subst, ⊎_elim, Some, All, arith, append_assoc, length-append, eqb, eq-eqb, ne_eqb}
+use Rattle.std.proofs.Common.{◌≡◌, ◌≢◌, ℕ, suc, ◌+◌, ◌<◌, ◌≤◌, cond, List, [], ◌∷◌, ◌++◌, length, set, refl, ap, ◌∙◌, sym}
+use Rattle.std.proofs.Common.{subst, ⊎_elim, Some, All, arith, append_assoc, length-append, eqb, eq-eqb, ne_eqb}
 use mathlib.Core.Option.{some}
 use lib.ListN.{get_elem?}
 use Rattle.std.proofs.lemmas.List.Elements.{All-append}
@@ -31,8 +32,11 @@ module _ (x : Hint) (items : List Hint) (views : List QueueView) (r : IsKept (x 
   -- what each number put stays
   sent : (n : ℕ) → gone_later n ++ hints_of n items ≡ r.gone n ++ hints_of n (x ∷ items)
   sent n = by_number n x.pusher (gone_later n ++ hints_of n items ≡ r.gone n ++ hints_of n (x ∷ items))
-      (λ e. ap (λ (l : List Hint). l ++ hints_of n items) (own_gone n e) ∙ append_assoc (r.gone n) (x ∷ []) (hints_of n items) ∙ ap (λ (l : List Hint). r.gone n ++ l) (sym (hints_first n x items (sym e))))
-      (λ ne. ap (λ (l : List Hint). l ++ hints_of n items) (other_gone n ne) ∙ ap (λ (l : List Hint). r.gone n ++ l) (sym (hints_past n x items (λ e. ne (sym e)))))
+      (λ e. ap (λ (l : List Hint). l ++ hints_of n items) (own_gone n e)
+      ∙ append_assoc (r.gone n) (x ∷ []) (hints_of n items)
+      ∙ ap (λ (l : List Hint). r.gone n ++ l) (sym (hints_first n x items (sym e))))
+      (λ ne. ap (λ (l : List Hint). l ++ hints_of n items) (other_gone n ne)
+      ∙ ap (λ (l : List Hint). r.gone n ++ l) (sym (hints_past n x items (λ e. ne (sym e)))))
 
   -- the turn of the hint
   turn_is : x.turn ≡ 1 + length (r.gone x.pusher)
@@ -63,7 +67,8 @@ module _ (x : Hint) (items : List Hint) (views : List QueueView) (r : IsKept (x 
       let Early : Hint → Type 0 = λ y. y.turn ≤ length (gone_later y.pusher) in
       record {
         put = is.put ∙ sym (sent h.number);
-        rises = rises_more h.took x is.rises (All-weaken (λ (y : Hint). y.turn ≤ length (r.gone y.pusher)) (λ (y : Hint). x.pusher ≡ y.pusher → y.turn < x.turn) h.took
+        rises = rises_more h.took x is.rises
+            (All-weaken (λ (y : Hint). y.turn ≤ length (r.gone y.pusher)) (λ (y : Hint). y.pusher ≡ x.pusher → y.turn < x.turn) h.took
             (λ y le e. let same = ap (λ (n : ℕ). length (r.gone n)) e in let t = turn_is in omega arith) is.early);
         early = All-append Early h.took (x ∷ []) (early_later h.took is.early)
             (All-cons Early x [] (let t = turn_is in let o = own_longer in omega arith) (λ k d l. absurd (omega arith)));
@@ -78,12 +83,14 @@ module _ (x : Hint) (items : List Hint) (views : List QueueView) (r : IsKept (x 
   module _ (id : ℕ) (v : QueueView) (at : get_elem? views id ≡ some v) (n : ℕ) (has : v.number ≡ Some n) where
     sound_later : IsSound gone_later items r.drawn (taking x v)
     sound_later =
-        let held : All (IsHand r.gone (x ∷ items)) (hand n v.put v.took ∷ v.ended) = subst (All (IsHand r.gone (x ∷ items))) (hands_are v n has) (r.each id v at).hands_are in
+        let held : All (IsHand r.gone (x ∷ items)) (hand n v.put v.took ∷ v.ended) =
+        subst (All (IsHand r.gone (x ∷ items))) (hands_are v n has) (r.each id v at).hands_are in
         record {
           spent = λ none_there. absurd (some_number v.number n has none_there);
           counts = (r.each id v at).counts;
           hands_are = subst (All (IsHand gone_later items)) (sym (hands_are (taking x v) n has))
-              (All-cons (IsHand gone_later items) (hand n v.put (v.took ++ x ∷ [])) v.ended (taking_hand (hand n v.put v.took) (held 0 (hand n v.put v.took) (omega arith)))
+              (All-cons (IsHand gone_later items) (hand n v.put (v.took ++ x ∷ [])) v.ended
+              (taking_hand (hand n v.put v.took) (held 0 (hand n v.put v.took) (omega arith)))
               (all_later v.ended (λ k d l. held (suc k) d (omega arith))));
         }
 

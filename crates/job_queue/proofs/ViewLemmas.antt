@@ -1,5 +1,6 @@
 -- What the views weigh, and whose numbers are whose.
-use Rattle.std.proofs.Common.{◌≡◌, ◌≢◌, ℕ, ◌+◌, ◌<◌, Bool, List, ◌∷◌, ◌++◌, get_or, set, refl, ap, ◌∙◌, sym, Option, Some, None, All, arith, nat_lt, ltb-true, eqb, eq-eqb}
+use Rattle.std.proofs.Common.{◌≡◌, ◌≢◌, ℕ, ◌+◌, ◌<◌, Bool, List, ◌∷◌, ◌++◌, get_or, set, refl, ap, ◌∙◌, sym, Option}
+use Rattle.std.proofs.Common.{Some, None, All, arith, nat_lt, ltb-true, eqb, eq-eqb}
 use mathlib.Core.Option.{some}
 use lib.ListN.{get_elem?}
 use Rattle.job_queue.specs.declared.view.Hand.{Hand}
@@ -48,9 +49,12 @@ apart n m none_bit e = let one : bit (eqb n m) ≡ 1 = ap bit (eq-eqb n m e) in 
 apart_all : (n : ℕ) (hs : List Hand) → total (λ (h : Hand). bit (eqb h.number n)) hs ≡ 0 → All (λ (h : Hand). h.number ≢ n) hs
 apart_all n hs none_there = let zeros = total-zero (λ (h : Hand). bit (eqb h.number n)) hs none_there in λ k d l. apart (get_or hs k d).number n (zeros k d l)
 
-module _ (drawn : ℕ) (views : List QueueView) (c : IsCounted drawn views) (id : ℕ) (v : QueueView) (at : get_elem? views id ≡ some v) (n : ℕ) (has : v.number ≡ Some n) where
+module _ (drawn : ℕ) (views : List QueueView) (c : IsCounted drawn views) (id : ℕ) (v : QueueView) (at : get_elem? views id ≡ some v)
+    (n : ℕ) (has : v.number ≡ Some n) where
   own_number : numbers n v ≡ 1 + total (λ (h : Hand). bit (eqb h.number n)) v.ended
-  own_number = own_weighs (λ (h : Hand). bit (eqb h.number n)) v n has ∙ ap (λ (b : Bool). bit b + total (λ (h : Hand). bit (eqb h.number n)) v.ended) (eq-eqb n n refl)
+  own_number =
+      own_weighs (λ (h : Hand). bit (eqb h.number n)) v n has
+      ∙ ap (λ (b : Bool). bit b + total (λ (h : Hand). bit (eqb h.number n)) v.ended) (eq-eqb n n refl)
 
   -- a number that a view has was given
   pub given : n < drawn
@@ -64,10 +68,12 @@ module _ (drawn : ℕ) (views : List QueueView) (c : IsCounted drawn views) (id 
   -- nor of another view
   pub others_apart : (j : ℕ) (u : QueueView) → j ≢ id → get_elem? views j ≡ some u → All (λ (h : Hand). h.number ≢ n) (hands u)
   others_apart j u other there = apart_all n (hands u)
-      (let a = total-two (numbers n) views id j v u other at there in let b = c.once n in let few = bit_few (nat_lt n drawn) in let o = own_number in omega arith)
+      (let a = total-two (numbers n) views id j v u other at there in
+      let b = c.once n in let few = bit_few (nat_lt n drawn) in let o = own_number in omega arith)
 
   -- a weight of numbers alone stays where the number and what was told stay
-  same_weight : (w : QueueView) → w.number ≡ v.number → w.ended ≡ v.ended → (f : Hand → ℕ) → f (hand n w.put w.took) ≡ f (hand n v.put v.took) → weigh f w ≡ weigh f v
+  same_weight : (w : QueueView) → w.number ≡ v.number → w.ended ≡ v.ended → (f : Hand → ℕ) → f (hand n w.put w.took) ≡ f (hand n v.put v.took)
+      → weigh f w ≡ weigh f v
   same_weight w number ended f own =
       own_weighs f w n (number ∙ has) ∙ ((λ k. own k + total f (ended k)) ∙ sym (own_weighs f v n has))
 

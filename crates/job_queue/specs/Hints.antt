@@ -1,5 +1,5 @@
 -- Hints, and lists of them.
-use Rattle.std.specs.Prelude.{◌≡◌, ℕ, suc, ◌<◌, ◌==◌, ◌&&◌, Bool, true, false, List, [], ◌∷◌, filter, All, ⊤}
+use Rattle.std.specs.Prelude.{◌≡◌, ℕ, suc, ◌<◌, ◌==◌, ◌&&◌, Bool, true, false, List, [], ◌∷◌, filter, AllPairs, ⊤}
 use Rattle.job_queue.specs.declared.hint.Hint.{Hint}
 use Rattle.list_laws.specs.Totals.{total}
 
@@ -27,5 +27,4 @@ IsNumbered n turn (x ∷ xs) = (x.pusher ≡ n) × (x.turn ≡ turn) × IsNumber
 
 -- the turns of each pusher rise
 abbrev pub Rises : List Hint → Type 0
-Rises [] = ⊤
-Rises (x ∷ xs) = All (λ y. y.pusher ≡ x.pusher → x.turn < y.turn) xs × Rises xs
+Rises xs = AllPairs (λ x y. x.pusher ≡ y.pusher → x.turn < y.turn) xs

@@ -88,9 +88,11 @@ impl JobQueue {
         requires pass { IsQueuePassOf self.now pass.old }
         requires room { length (queue_view pass.old).put < 1048576 }
         ensures pass { IsQueuePassOf self.now pass.new × IsSameQueuePass pass.old pass.new }
-        ensures ok { OnOk result ((queue_view pass.new ≡ putting (next_hint pass.old.number file (queue_view pass.old)) (queue_view pass.old)) × HadRoom (queue_view pass.old)) }
+        ensures ok { OnOk result (
+            (queue_view pass.new ≡ putting (next_hint pass.old.number file (queue_view pass.old)) (queue_view pass.old)) × HadRoom (queue_view pass.old)) }
         ensures full { IfErr result (λ refusal.
-            (refusal.hint ≡ next_hint pass.old.number file (queue_view pass.old)) × (queue_view pass.new ≡ queue_view pass.old) × Held 1024 (Stood (queue_view pass.old))) }
+            (refusal.hint ≡ next_hint pass.old.number file (queue_view pass.old))
+            × (queue_view pass.new ≡ queue_view pass.old) × Held 1024 (Stood (queue_view pass.old))) }
     {
         let hint = Hint {
             file,
@@ -110,7 +112,8 @@ impl JobQueue {
     pub fn take<R: Wait>(&self, rt: &R, pass: &mut QueuePass) -> Option<Hint>
         requires pass { IsQueuePassOf self.now pass.old }
         ensures pass { IsQueuePassOf self.now pass.new × IsSameQueuePass pass.old pass.new }
-        ensures some { IfSome result (λ hint. (queue_view pass.new ≡ taking hint (queue_view pass.old)) × ((rest : List Hint) × Stood (queue_view pass.old) (hint ∷ rest))) }
+        ensures some { IfSome result (λ hint.
+            (queue_view pass.new ≡ taking hint (queue_view pass.old)) × ((rest : List Hint) × Stood (queue_view pass.old) (hint ∷ rest))) }
         ensures none { IfNone result ((queue_view pass.new ≡ queue_view pass.old) × Held 0 (Stood (queue_view pass.old))) }
     {
         self.ring.pop_as::<Take, R>(rt, &mut pass.seat)

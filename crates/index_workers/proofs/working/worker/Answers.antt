@@ -1,4 +1,4 @@
-use Rattle.std.proofs.Common.{rules, ◌+◌, ℕ, ap, sym, subst}
+use Rattle.std.proofs.Common.{rules, ◌+◌, ℕ, sym, subst}
 use Rattle.index_workers.specs.Passes.{ide_view}
 use Rattle.index_workers.specs.Work.{HasGoneOn, HasWorked}
 use Rattle.index_workers.proofs.PassLemmas.{same_on, none_taken, only_taken}
@@ -36,6 +36,8 @@ loop-turn-preserved g c =
       rests = c.in_ok-step.ensures.pass.0;
       same = same_on _ _ _ c.loop-turn.invariant.same c.in_ok-step.ensures.pass.1;
       hints = only_taken _ _ _ _ c.loop-turn.invariant.hints step.1;
-      on = subst (λ (n : ℕ). HasGoneOn c.number-seat.result (c.loop-turn.turn + 1) (c.loop-turn.entries + n) (ide_view c.args.pass.now) (ide_view c.index_step.new.pass))
+      on = subst
+          (λ (n : ℕ). HasGoneOn c.number-seat.result (c.loop-turn.turn + 1) (c.loop-turn.entries + n)
+          (ide_view c.args.pass.now) (ide_view c.index_step.new.pass))
           (sym c.taken-entries.ensures) on;
     }

@@ -22,18 +22,21 @@ pub overflow_add-pass-2 : goal.overflow_add-pass-2
 overflow_add-pass-2 c =
     let pass = c.args.pass.now in
     let other = c.args.other in
-    let met = joined_met (queue_view pass) (queue_view other) _ _ _ _ pass.numbered other.numbered pass.meets other.meets _ c.absorb.ensures.rule _ c.learn_as.ensures.rule.1 in
+    let met = joined_met (queue_view pass) (queue_view other) _ _ _ _ pass.numbered other.numbered pass.meets other.meets _
+    c.absorb.ensures.rule _ c.learn_as.ensures.rule.1 in
     let few : pass.met + (other.met + 1) < 65536 = met.1 in omega arith
 
 pub invariant_of-pass-clause-meets : goal.invariant_of-pass-clause-meets
 invariant_of-pass-clause-meets c =
     let pass = c.args.pass.now in
     let other = c.args.other in
-    let met = joined_met (queue_view pass) (queue_view other) _ _ _ _ pass.numbered other.numbered pass.meets other.meets _ c.absorb.ensures.rule _ c.learn_as.ensures.rule.1 in
+    let met = joined_met (queue_view pass) (queue_view other) _ _ _ _ pass.numbered other.numbered pass.meets other.meets _
+    c.absorb.ensures.rule _ c.learn_as.ensures.rule.1 in
     ap (λ v. length v.ended) c.learn_as.ensures.queue.1 ∙ met.0
 
 pub invariant_of-pass-clause-few : goal.invariant_of-pass-clause-few
 invariant_of-pass-clause-few c =
     let pass = c.args.pass.now in
     let other = c.args.other in
-    (joined_met (queue_view pass) (queue_view other) _ _ _ _ pass.numbered other.numbered pass.meets other.meets _ c.absorb.ensures.rule _ c.learn_as.ensures.rule.1).1
+    (joined_met (queue_view pass) (queue_view other) _ _ _ _ pass.numbered other.numbered pass.meets other.meets _
+    c.absorb.ensures.rule _ c.learn_as.ensures.rule.1).1
