@@ -1,10 +1,11 @@
 -- How a change, or a group of changes, is answered.
-use Rattle.std.specs.Prelude.{ℕ, ◌≡◌, List, [], ◌∷◌, length, Some, None, false}
+use Rattle.std.specs.Prelude.{ℕ, ◌≡◌, List, [], ◌∷◌, length, Some, None, true, false}
 use Rattle.action_lock.specs.declared.view.View.{View}
 use Rattle.nonblocking_read.specs.Soft.{HasOnlyRead}
 use Rattle.write_history.specs.declared.change.Change.{Change}
 use Rattle.write_history.specs.declared.entry.Entry.{Entry}
 use Rattle.write_history.specs.declared.refusal.Refusal.{Refusal}
+use Rattle.write_history.specs.World.{file_of, is_unready}
 use Rattle.write_history.specs.Fold.{fold, list_refusal}
 use Rattle.ide_world.specs.Ready.{is_want_of_memory}
 use Rattle.ide_home.specs.Made.{HasMade, HasFound}
@@ -23,6 +24,10 @@ pub record HasAccepted (v w : View Entry) (line : ℕ) (changes : List Change) (
   pub accepted : list_refusal (fold before) changes ≡ None
   pub made : HasMade v w before (entry_of seat line changes ∷ [])
   pub is_at : at ≡ length w.seen
+
+-- the file with this id is unready after the history that is now seen
+abbrev pub IsUnready : View Entry → ℕ → Type 0
+IsUnready w id = is_unready (file_of (fold w.seen) id) ≡ true
 
 -- After the history that is now seen the change at this place of the list is the first that is refused, for this reason. Nothing was made
 pub record HasRefused (v w : View Entry) (changes : List Change) (at place : ℕ) (why : Refusal) : Type 0 where

@@ -1,11 +1,12 @@
 //! Changes go in: under an intent of their own they are made ready on what a read finds, and written behind it.
-ghost use Rattle.std.specs.Prelude.{◌≡◌, ◌∷◌, [], true, Some, IfOk, IfErr, OnErr};
+ghost use Rattle.std.specs.Prelude.{◌≡◌, ◌∷◌, [], true, Some, IfOk, IfErr, IfSome, OnErr};
 ghost use Rattle.std.specs.List.{list_all};
 ghost use Rattle.action_lock.specs.Advances.{Advances};
 ghost use Rattle.action_lock.specs.Passes.{view_of, IsSamePass, IsPassOf, Intends};
 ghost use Rattle.ide_world.specs.Ready.{is_edit};
-ghost use Rattle.ide_calls.specs.Change.{HasAccepted, IsChangeRefused, IsGroupRefused};
+ghost use Rattle.ide_calls.specs.Change.{HasAccepted, IsUnready, IsChangeRefused, IsGroupRefused};
 
+use crate::accepted::Accepted;
 use crate::change_refusal::ChangeRefusal;
 use crate::group_refusal::GroupChangeRefusal;
 use crate::planning::plan;
@@ -15,8 +16,7 @@ use std::alloc::Global;
 use std::sync::Wait;
 use write_history::{Change, Changes, Entry};
 
-/// Makes a change other than an intake, and answers with the number of entries of the history, of which its own is the
-/// last. It may wait for ever.
+/// Makes a change other than an intake, as an entry of its own. It may wait for ever.
 pub fn change<R: Wait>(
     rt: &R,
     alloc: Global,
@@ -24,17 +24,18 @@ pub fn change<R: Wait>(
     pass: &mut Pass<IdeHome>,
     line: u32,
     change: Change,
-) -> Result<u64, ChangeRefusal>
+) -> Result<Accepted, ChangeRefusal>
     requires pass { IsPassOf lock.now pass.old }
     requires edit { is_edit change ≡ true }
     ensures pass { IsPassOf lock.now pass.new × IsSamePass pass.old pass.new }
     ensures advances { Advances (view_of pass.old) (view_of pass.new) }
     ensures mine { OnErr result ((view_of pass.new).mine ≡ (view_of pass.old).mine) }
-    ensures accepted { IfOk result (HasAccepted (view_of pass.old) (view_of pass.new) line (change ∷ [])) }
+    ensures accepted { IfOk result (λ done. HasAccepted (view_of pass.old) (view_of pass.new) line (change ∷ []) done.at) }
+    ensures unready { IfOk result (λ done. IfSome done.unready (IsUnready (view_of pass.new))) }
     ensures refused { IfErr result (IsChangeRefused (view_of pass.old) (view_of pass.new) change) }
 {
     match change_group(rt, alloc, lock, pass, line, Changes::one(change)) {
-        Ok(at) => Ok(at),
+        Ok(accepted) => Ok(accepted),
         Err(GroupChangeRefusal::Refused { at, place: _, why }) => {
             Err(ChangeRefusal::Refused { at, why })
         }
@@ -51,13 +52,14 @@ pub fn change_group<R: Wait>(
     pass: &mut Pass<IdeHome>,
     line: u32,
     changes: Changes,
-) -> Result<u64, GroupChangeRefusal>
+) -> Result<Accepted, GroupChangeRefusal>
     requires pass { IsPassOf lock.now pass.old }
     requires edits { list_all is_edit changes ≡ true }
     ensures pass { IsPassOf lock.now pass.new × IsSamePass pass.old pass.new }
     ensures advances { Advances (view_of pass.old) (view_of pass.new) }
     ensures mine { OnErr result ((view_of pass.new).mine ≡ (view_of pass.old).mine) }
-    ensures accepted { IfOk result (HasAccepted (view_of pass.old) (view_of pass.new) line changes) }
+    ensures accepted { IfOk result (λ done. HasAccepted (view_of pass.old) (view_of pass.new) line changes done.at) }
+    ensures unready { IfOk result (λ done. IfSome done.unready (IsUnready (view_of pass.new))) }
     ensures refused { IfErr result (IsGroupRefused (view_of pass.old) (view_of pass.new) changes) }
 {
     let seat = pass.number();
@@ -79,19 +81,23 @@ fn put_in<R: Wait>(
     lock: &ActionLock<IdeHome>,
     pass: &mut Pass<IdeHome>,
     entry: Entry,
-) -> Result<u64, GroupChangeRefusal>
+) -> Result<Accepted, GroupChangeRefusal>
     requires intends { Intends lock.now pass.old }
     requires own { (view_of pass.old).number ≡ Some entry.seat }
     requires edits { list_all is_edit entry.changes ≡ true }
     ensures pass { Intends lock.now pass.new × IsSamePass pass.old pass.new }
     ensures advances { Advances (view_of pass.old) (view_of pass.new) }
     ensures mine { OnErr result ((view_of pass.new).mine ≡ (view_of pass.old).mine) }
-    ensures accepted { IfOk result (HasAccepted (view_of pass.old) (view_of pass.new) entry.line entry.changes) }
+    ensures accepted { IfOk result (λ done. HasAccepted (view_of pass.old) (view_of pass.new) entry.line entry.changes done.at) }
+    ensures unready { IfOk result (λ done. IfSome done.unready (IsUnready (view_of pass.new))) }
     ensures refused { IfErr result (IsGroupRefused (view_of pass.old) (view_of pass.new) entry.changes) }
 {
     let planned = plan(rt, alloc, lock, pass, &entry.changes)?;
     match write_entry(rt, lock, pass, planned.ready, entry) {
-        Ok(()) => Ok(planned.at + 1),
+        Ok(unready) => Ok(Accepted {
+            at: planned.at + 1,
+            unready,
+        }),
         Err(_) => Err(GroupChangeRefusal::OutOfMemory),
     }
 }

@@ -1,6 +1,7 @@
 //! Calls on a workspace that threads share under one lock: changes go in, alone or as a group, and questions are answered.
 #![tactic(auto)]
 
+mod accepted;
 mod answering;
 mod asking;
 mod change_refusal;
@@ -14,6 +15,7 @@ mod sighted;
 mod soft_asking;
 mod soft_refusal;
 
+pub use accepted::Accepted;
 pub use asking::ask;
 pub use change_refusal::ChangeRefusal;
 pub use changing::{change, change_group};
