@@ -6,6 +6,7 @@ use Rattle.job_queue.specs.declared.view.QueueView.{QueueView}
 use Rattle.job_queue.specs.Hints.{bit}
 use Rattle.list_laws.specs.Totals.{total}
 
+-- what the pass with this number put and took
 abbrev pub hand : ℕ → List Hint → List Hint → Hand
 hand n put took = record { number = n; put = put; took = took }
 
