@@ -62,8 +62,14 @@ impl SharedIde {
         ensures refused { IfErr result (IsGroupRefused (ide_view pass.old) (ide_view pass.new) changes) }
         ensures hints { HintsOf result (fold (ide_view pass.new).seen) (queue_view pass.old.queue) (queue_view pass.new.queue) }
     {
-        let accepted =
-            ide_calls::change_group(rt, alloc, &self.lock, &mut pass.lock, line, changes)?;
+        let accepted = ide_calls::change_group(
+            rt,
+            alloc,
+            &self.lock,
+            &mut pass.lock,
+            line,
+            changes,
+        )?;
         self.offer(rt, pass, accepted.unready);
         Ok(accepted.at)
     }

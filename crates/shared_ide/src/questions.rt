@@ -55,14 +55,6 @@ impl SharedIde {
         ensures cancelled { IfErr result (IsSoftlyRefused (ide_view pass.old) (ide_view pass.new) attempts) }
         ensures hints { pass.new.queue ≡ pass.old.queue }
     {
-        ide_calls::soft_ask(
-            rt,
-            alloc,
-            &self.lock,
-            &mut pass.lock,
-            attempts,
-            query,
-            gate,
-        )
+        ide_calls::soft_ask(rt, alloc, &self.lock, &mut pass.lock, attempts, query, gate)
     }
 }
