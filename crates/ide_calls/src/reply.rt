@@ -9,8 +9,5 @@ pub enum Reply {
     /// No live file has the path of an outline.
     NoSuchFile,
     /// Files are unready, and this one has the lowest id of them.
-    NotReady {
-        file: u32,
-        path: Name,
-    },
+    NotReady { file: u32, path: Name },
 }
