@@ -5,7 +5,7 @@ ghost use Rattle.action_lock.specs.Counts.{HasRisenBy};
 use std::marker::Model;
 
 /// The sightings for which a soft question was cancelled. `soft_ask` alone makes one.
-#[derive(Clone, Copy, Debug, PartialEq, Eq, Drop)]
+#[derive(Drop)]
 pub struct Sighted {
     seat: u32,
     attempts: u32,
@@ -20,8 +20,6 @@ impl Model for Sighted {
     ghost Value = { Sighting };
 
     ghost view = { λ s. record { seat = s.seat; attempts = s.attempts; before = s.before; after = s.after } };
-
-    ghost inverse = { λ s. record { seat = s.seat; attempts = s.attempts; before = s.before; after = s.after } };
 
     ghost invariant = { λ s. HasRisenBy s.attempts s.before s.after };
 }
