@@ -1,7 +1,8 @@
 -- A read that has ended, and what was found by it.
-use Rattle.std.proofs.Common.{◌≡◌, ℕ, List, [], ◌∷◌, ◌++◌, length, sym, ap, ◌∙◌, subst, Option, Result, IfOk}
+use Rattle.std.proofs.Common.{◌≡◌, ℕ, List, [], ◌∷◌, ◌++◌, length, Some, sym, ap, ◌∙◌, subst, Option, Result, IfOk}
 use Rattle.std.specs.declared.alloc.AllocError.{AllocError}
 use Rattle.std.proofs.lemmas.Result.{IfOk-weaker}
+use Rattle.list_laws.specs.Fronts.{IsFront}
 use Rattle.action_lock.specs.declared.view.Phase.TheVariants as phase
 use Rattle.action_lock.specs.declared.view.View.{View}
 use Rattle.action_lock.specs.Advances.{Advances}
@@ -10,6 +11,7 @@ use Rattle.action_lock.specs.Reads.{HasRead, HasWaited}
 use Rattle.write_history.specs.declared.entry.Entry.{Entry}
 use Rattle.write_history.specs.World.{World}
 use Rattle.write_history.specs.Fold.{fold, IsLegal}
+use Rattle.ide_world.specs.Task.{Task, task_with_id, IsOfWorld}
 use Rattle.ide_indexing.specs.declared.first_look.Look.{Look}
 use Rattle.ide_indexing.specs.Choice.{IsChoice}
 use Rattle.ide_indexing.specs.Reads.{HasReadOnce}
@@ -49,3 +51,14 @@ looked_by hint v w seen world look read same is counts = IfOk-weaker look (IsLoo
       whole = so.whole ∙ ap (λ (x : World). x.entries) of_history ∙ counts w.seen;
       choice = subst (λ (x : World). IsChoice x hint found.job) of_history so.choice;
     })
+
+-- the law that work taken after a part of a legal history is still of the world after all of it
+abbrev pub WorkStays : Type 0
+WorkStays = (earlier later : List Entry) (id : ℕ) (task : Task) → IsLegal (earlier ++ later) → task_with_id (fold earlier) id ≡ Some task
+    → IsOfWorld (fold (earlier ++ later)) task
+
+-- work that was taken before a read is of the world that is read
+pub work_stays : WorkStays → (earlier seen : List Entry) (id : ℕ) (task : Task) (world : World) → IsFront earlier seen → IsLegal seen → world ≡ fold seen
+    → task_with_id (fold earlier) id ≡ Some task → IsOfWorld world task
+work_stays law earlier seen id task world front legal is work =
+    subst (λ (x : World). IsOfWorld x task) (sym (is ∙ ap fold front.1)) (law earlier front.0 id task (subst IsLegal front.1 legal) work)
