@@ -1,3 +1,4 @@
 pub mod RuleLemmas
 pub mod FoundLemmas
 pub mod PlanLemmas
+pub mod AcceptedLemmas

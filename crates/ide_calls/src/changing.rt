@@ -14,6 +14,7 @@ use action_lock::{ActionLock, Pass};
 use ide_home::{IdeHome, write_entry};
 use std::alloc::Global;
 use std::sync::Wait;
+use write_history::laws::histories_go_on;
 use write_history::{Change, Changes, Entry};
 
 /// Makes a change other than an intake, as an entry of its own. It may wait for ever.
@@ -92,6 +93,7 @@ fn put_in<R: Wait>(
     ensures unready { IfOk result (λ done. IfSome done.unready (IsUnready (view_of pass.new))) }
     ensures refused { IfErr result (IsGroupRefused (view_of pass.old) (view_of pass.new) entry.changes) }
 {
+    histories_go_on();
     let planned = plan(rt, alloc, lock, pass, &entry.changes)?;
     match write_entry(rt, lock, pass, planned.ready, entry) {
         Ok(unready) => Ok(Accepted {

@@ -1,5 +1,5 @@
 -- What one step more makes of a worker's run.
-use Rattle.std.proofs.Common.{ℕ, suc, ◌≡◌, ◌≢◌, ◌⊎◌, inl, inr, ◌+◌, ◌≤◌, List, [], ◌∷◌, ◌++◌, length, get_or, All, refl, ap}
+use Rattle.std.proofs.Common.{ℕ, ◌≡◌, ◌≢◌, ◌⊎◌, inl, inr, ◌+◌, ◌≤◌, List, [], ◌∷◌, ◌++◌, length, get_or, All, refl, ap}
 use Rattle.std.proofs.Common.{sym, ◌∙◌, subst, arith, ⊎_elim, Some, append_assoc, append-nil, length-append}
 use Rattle.std.specs.Prelude.{Option}
 use Rattle.std.proofs.lemmas.List.Elements.{All-append}
@@ -20,7 +20,7 @@ use Rattle.ide_indexing.specs.declared.step.Step.TheVariants.{Idle, Gone, Stale,
 use Rattle.ide_indexing.specs.Step.{HasStepped, HasTried}
 use Rattle.index_workers.specs.declared.worked.End.{End}
 use Rattle.index_workers.specs.declared.worked.End.TheVariants as end
-use Rattle.index_workers.specs.Work.{Done, Leads, taken_by, GoesOn, IsEndOf, EndsWith, EndsBy, IsAtEnd, IsIntakeBy, AreApart}
+use Rattle.index_workers.specs.Work.{Done, Leads, taken_by, GoesOn, IsEndOf, EndsWith, EndsBy, IsAtEnd, IsIntakeBy}
 use Rattle.index_workers.specs.Work.{StandsIn, HasGone, HasGoneOn, HasWorked, max_turns}
 use Rattle.index_workers.proofs.ReadyLemmas.{not_unready}
 

@@ -13,8 +13,6 @@ use write_history::Change;
 #[derive(Clone, Copy)]
 pub enum Edit {
     Create(&'static str),
-    Write(&'static str),
-    Delete,
     Open,
     Insert(u32, &'static str),
     Commit,
@@ -45,7 +43,7 @@ fn put(alloc: Global, state: &mut State, edit: Edit) -> Result<bool, AllocError>
 }
 
 /// The change that an edit is.
-pub(crate) fn change_of(alloc: Global, edit: Edit) -> Result<Change, AllocError>
+fn change_of(alloc: Global, edit: Edit) -> Result<Change, AllocError>
     ensures { IfOk result (λ change. is_edit change ≡ true) }
 {
     let path = Name::of(alloc, "A.java")?;
@@ -54,11 +52,6 @@ pub(crate) fn change_of(alloc: Global, edit: Edit) -> Result<Change, AllocError>
             path,
             text: text_of(alloc, text)?,
         },
-        Edit::Write(text) => Change::Write {
-            path,
-            text: text_of(alloc, text)?,
-        },
-        Edit::Delete => Change::Delete { path },
         Edit::Open => Change::OpenDoc { path },
         Edit::Insert(at, text) => Change::Insert {
             path,

@@ -1,10 +1,8 @@
-//! Tests of the workspace: a state that is copied, and index data that come late.
+//! Tests of the workspace: a state that is copied.
 #![tactic(auto)]
 
 mod calls;
-mod jobs;
 #[cfg(test)]
 mod tests;
 
 pub use calls::{Edit, changed, rows};
-pub use jobs::late_refusal;
