@@ -6,8 +6,6 @@ mod changes;
 #[cfg(test)]
 mod faults;
 #[cfg(test)]
-mod limits;
-#[cfg(test)]
 mod parts;
 #[cfg(test)]
 mod questions;
