@@ -1,11 +1,17 @@
 -- Going through a script in order, with one history
 pub mod Loads
 pub mod Serial
+-- What the records say of a history that others write too
+pub mod Fits
 -- What is printed
 pub mod Transcript
 -- What these cite from below: scripts, answers, and the history
+pub use Rattle.list_laws.specs.Fronts
 pub use Rattle.script_lang.specs.Grammar
 pub use Rattle.query_engine.specs.Reply
 pub use Rattle.write_history.specs.World
 pub use Rattle.write_history.specs.Effect
 pub use Rattle.write_history.specs.Fold
+pub use Rattle.ide_home.specs.Settle
+pub use Rattle.ide_calls.specs.Sighting
+pub use Rattle.index_workers.specs.Work

@@ -1,15 +1,14 @@
 -- Going through a script in the order of its lines, with one history.
 use Rattle.std.specs.Prelude.{ℕ, ◌+◌, List, [], ◌∷◌, ◌++◌, length, Option, Some, None, Result, Ok, Err, if◌then◌else◌}
-use Rattle.std.specs.Option.{option_map_or}
 use Rattle.write_history.specs.declared.change.Change.{Change}
-use Rattle.write_history.specs.declared.change.Change.TheVariants.{Create, Intake}
+use Rattle.write_history.specs.declared.change.Change.TheVariants.{Create}
 use Rattle.write_history.specs.declared.entry.Entry.{Entry}
 use Rattle.write_history.specs.declared.refusal.Refusal.{Refusal}
 use Rattle.write_history.specs.declared.refusal.Refusal.TheVariants as why
 use Rattle.write_history.specs.Path.{is_path}
-use Rattle.write_history.specs.World.{World, file_of, unready_ids}
-use Rattle.write_history.specs.Effect.{stamp_of}
+use Rattle.write_history.specs.World.{World}
 use Rattle.write_history.specs.Fold.{fold, list_refusal, ListRefusal}
+use Rattle.ide_home.specs.Settle.{entry_of, settled}
 use Rattle.script_lang.specs.declared.command.Command.{Command}
 use Rattle.script_lang.specs.declared.command.Command.TheVariants as command
 use Rattle.script_lang.specs.declared.line.Line.{Line}
@@ -22,6 +21,7 @@ use Rattle.query_engine.specs.declared.answer.Answer.TheVariants as found
 use Rattle.query_engine.specs.declared.answer.AskRefusal.{AskRefusal}
 use Rattle.query_engine.specs.declared.answer.AskRefusal.TheVariants as refused
 use Rattle.query_engine.specs.Reply.{reply}
+use Rattle.query_engine.specs.Listed.{path_at}
 use Rattle.transcripts.specs.declared.loaded.Loaded.{Loaded}
 use Rattle.transcripts.specs.declared.loaded.Loaded.TheVariants as loaded
 use Rattle.transcripts.specs.declared.record.Answer.{Answer}
@@ -32,10 +32,6 @@ use Rattle.transcripts.specs.declared.record.Record.{Record}
 pub record Step : Type 0 where
   pub added : List Entry
   pub answer : Answer
-
--- the entry that a line of a section makes of changes
-abbrev pub entry_of : ℕ → ℕ → List Change → Entry
-entry_of seat line changes = record { seat = seat; line = line; changes = changes }
 
 -- an answer adds nothing
 abbrev pub told : Answer → Step
@@ -70,33 +66,17 @@ abbrev pub load_step : List Entry → ℕ → ℕ → List ℕ → Loaded → St
 load_step history seat line path load =
     if is_path path then create_of history seat line path load else told (Refused (length history) None why.BadPath)
 
--- an entry before what the others add
-abbrev pub with_entry : Entry → Step → Step
-with_entry entry step = record { added = entry ∷ step.added; answer = step.answer }
+-- what a settle is answered behind the entries that it added
+abbrev pub settle_answer : ℕ → Option Refusal → Answer
+settle_answer at None = Smart at
+settle_answer at (Some why) = Refused at None why
 
--- a settle goes on with the next file unless this one's intake is refused
-abbrev pub settle_unless : Option ListRefusal → List Entry → Entry → Step → Step
-settle_unless None history entry rest = with_entry entry rest
-settle_unless (Some refusal) history entry rest = told (Refused (length history) None refusal.why)
-
--- the intake of the file with an id at its stamp
-abbrev pub intake_of : World → ℕ → List Change
-intake_of world id = Intake id (stamp_of (file_of world id)) ∷ []
-
--- one intake for each of these files, in order
-abbrev pub intakes : List Entry → ℕ → ℕ → List ℕ → Step
-intakes history seat line [] = told (Smart (length history))
-intakes history seat line (id ∷ ids) =
-    settle_unless (list_refusal (fold history) (intake_of (fold history) id)) history (entry_of seat line (intake_of (fold history) id))
-    (intakes (history ++ entry_of seat line (intake_of (fold history) id) ∷ []) seat line ids)
-
--- a settle takes in every unready file, in order of ids
+-- a settle takes in every unready file, in order of ids, one entry each
 abbrev pub settle_step : List Entry → ℕ → ℕ → Step
-settle_step history seat line = intakes history seat line (unready_ids (fold history))
-
--- the path of the live file with an id
-abbrev pub path_of : World → ℕ → List ℕ
-path_of world id = option_map_or (λ file. file.path) (file_of world id) []
+settle_step history seat line = record {
+    added = (settled history seat line).added;
+    answer = settle_answer (length (history ++ (settled history seat line).added)) (settled history seat line).refused;
+  }
 
 -- the declarations that a question found: those of an outline are told as such
 abbrev pub rows_answer : Query → ℕ → List Row → Answer
@@ -116,7 +96,7 @@ found_answer query at (found.Counts files docs unready) = Status at files docs u
 -- why a question was refused, told at a prefix; the last two aren't among the answers of the definition
 abbrev pub refused_answer : World → ℕ → AskRefusal → Answer
 refused_answer world at refused.NoSuchFile = Refused at None why.NoSuchFile
-refused_answer world at (refused.NotReady file) = NotReady at (path_of world file)
+refused_answer world at (refused.NotReady file) = NotReady at (path_at world file)
 refused_answer world at refused.Cancelled = Refused at None why.OutOfMemory
 refused_answer world at refused.OutOfMemory = Refused at None why.OutOfMemory
 
@@ -148,23 +128,26 @@ abbrev pub after_step : Done → ℕ → ℕ → Step → Done
 after_step done seat line step =
     record { history = done.history ++ step.added; records = done.records ++ record { seat = seat; line = line; answer = step.answer } ∷ [] }
 
--- going on with the lines of a section that has no load
-abbrev pub section_from : ℕ → Done → List Line → Done
-section_from seat done [] = done
-section_from seat done (line ∷ lines) =
-    section_from seat (after_step done seat line.number (step_of loaded.Nothing done.history seat line.number line.command)) lines
+-- what was read for the first of some lines: nothing where there is no more
+abbrev pub first_load : List Loaded → Loaded
+first_load [] = loaded.Nothing
+first_load (load ∷ loads) = load
 
--- going on with the lines of the prelude, of each of which this was read
-abbrev pub prelude_from : Done → List Line → List Loaded → Done
-prelude_from done [] loads = done
-prelude_from done (line ∷ lines) [] = done
-prelude_from done (line ∷ lines) (load ∷ loads) =
-    prelude_from (after_step done 0 line.number (step_of load done.history 0 line.number line.command)) lines loads
+-- what was read for the others
+abbrev pub later_loads : List Loaded → List Loaded
+later_loads [] = []
+later_loads (load ∷ loads) = loads
+
+-- going on with the lines of a section, of each of which this was read
+abbrev pub done_from : ℕ → Done → List Line → List Loaded → Done
+done_from seat done [] loads = done
+done_from seat done (line ∷ lines) loads =
+    done_from seat (after_step done seat line.number (step_of (first_load loads) done.history seat line.number line.command)) lines (later_loads loads)
 
 -- going on with lanes one after another, the first of which has this seat
 abbrev pub lanes_from : ℕ → Done → List (List Line) → Done
 lanes_from seat done [] = done
-lanes_from seat done (lane ∷ lanes) = lanes_from (seat + 1) (section_from seat done lane) lanes
+lanes_from seat done (lane ∷ lanes) = lanes_from (seat + 1) (done_from seat done lane []) lanes
 
 -- a history, the records before the last section, and those of the last section
 pub record Ended : Type 0 where
@@ -178,12 +161,12 @@ end_of before last = record { history = last.history; records = before.records; 
 
 -- prelude and lanes, from the empty history
 abbrev pub before_last : List Loaded → Parts → Done
-before_last loads script = lanes_from 1 (prelude_from (record { history = []; records = [] }) script.prelude loads) script.lanes
+before_last loads script = lanes_from 1 (done_from 0 (record { history = []; records = [] }) script.prelude loads) script.lanes
 
 -- the last section, from a history on
 abbrev pub last_from : List Entry → List Line → Done
-last_from history lines = section_from 0 (record { history = history; records = [] }) lines
+last_from history lines = done_from 0 (record { history = history; records = [] }) lines []
 
--- a whole script, where this was read for each line of its prelude
+-- a whole script, where this was read for each line of its prelude, and nothing for others
 abbrev pub run_of : List Loaded → Parts → Ended
 run_of loads script = end_of (before_last loads script) (last_from (before_last loads script).history script.last)

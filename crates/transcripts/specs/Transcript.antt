@@ -9,9 +9,9 @@ use Rattle.stub_tree.specs.Stub.{code_of}
 use Rattle.query_engine.specs.declared.answer.Row.{Row}
 use Rattle.query_engine.specs.declared.answer.WordRow.{WordRow}
 use Rattle.transcripts.specs.declared.record.Answer.{Answer}
-use Rattle.transcripts.specs.declared.record.Answer.TheVariants.{Accepted, Refused, NotText, TooLong, Smart, NotReady, Rows, Outline, Words, Status}
+use Rattle.transcripts.specs.declared.record.Answer.TheVariants.{Accepted, Refused, NotText, TooLong, Smart, NotReady, Rows, Outline, Words, Status, Cancelled}
 use Rattle.transcripts.specs.declared.record.Record.{Record}
-use Rattle.transcripts.specs.Serial.{Ended, run_of}
+use Rattle.transcripts.specs.Serial.{Ended}
 
 -- a place where a word stands is named where its bit is set
 abbrev pub place_if : ℕ → ℕ → List ℕ → List (List ℕ)
@@ -95,6 +95,7 @@ prefix_text (Rows at rows) = codes "at " ++ decimal at ++ codes " "
 prefix_text (Outline at rows) = codes "at " ++ decimal at ++ codes " "
 prefix_text (Words at rows) = codes "at " ++ decimal at ++ codes " "
 prefix_text (Status at files docs unready) = codes "at " ++ decimal at ++ codes " "
+prefix_text (Cancelled sighted) = []
 
 -- an answer without its prefix and its rows
 abbrev pub head_text : Answer → List ℕ
@@ -108,6 +109,7 @@ head_text (Rows at rows) = codes "rows " ++ decimal (length rows)
 head_text (Outline at rows) = codes "rows " ++ decimal (length rows)
 head_text (Words at rows) = codes "rows " ++ decimal (length rows)
 head_text (Status at files docs unready) = codes "status files " ++ decimal files ++ codes " open " ++ decimal docs ++ codes " unready " ++ decimal unready
+head_text (Cancelled sighted) = codes "cancelled " ++ decimal sighted.attempts
 
 -- the rows of an answer
 abbrev pub rows_text : Answer → List ℕ
@@ -121,6 +123,7 @@ rows_text (Rows at rows) = flat_map found_line rows
 rows_text (Outline at rows) = flat_map outline_line rows
 rows_text (Words at rows) = flat_map word_line rows
 rows_text (Status at files docs unready) = []
+rows_text (Cancelled sighted) = []
 
 -- the record of a command: its line's number, its answer, then the rows
 abbrev pub record_text : Record → List ℕ

@@ -101,6 +101,7 @@ fn prefix(answer: &Answer) -> Option<u64>
     match answer {
         Answer::NotText { .. } => None,
         Answer::TooLong { .. } => None,
+        Answer::Cancelled { .. } => None,
         Answer::Accepted { at } => Some(*at),
         Answer::Refused { at, .. } => Some(*at),
         Answer::Smart { at } => Some(*at),
@@ -171,6 +172,7 @@ impl fmt::Display for Answer {
                 docs,
                 unready,
             } => write!(f, "status files {files} open {docs} unready {unready}"),
+            Answer::Cancelled { sighted } => write!(f, "cancelled {}", sighted.attempts()),
         }
     }
 }

@@ -1,7 +1,9 @@
 //! The records of a run: what each command was answered.
 ghost use Rattle.std.specs.Prelude.{◌≡◌, [], ◌∷◌, ◌++◌, OnOk, OnErr, length};
 
+use ide_calls::Sighted;
 use ide_text::Name;
+use index_workers::Worked;
 use query_engine::{RowList, WordRows};
 use std::alloc::{AllocError, Global};
 use std::marker::Model;
@@ -59,6 +61,10 @@ pub enum Answer {
         docs: u32,
         unready: u32,
     },
+    /// A soft question was given up: each of its attempts found that a write waits.
+    Cancelled {
+        sighted: Sighted,
+    },
 }
 
 /// The answer to the command on a line of the script.
@@ -113,10 +119,12 @@ impl Records {
     }
 }
 
-/// What a script leaves: the one history, the answers to the commands before the last section, and those to its own.
+/// What a script leaves: the one history, the answers to the commands before the last section, those to its own, and what
+/// each worker did, in order of their seats.
 #[derive(Drop)]
 pub struct Played {
     pub history: History,
     pub records: Records,
     pub last: Records,
+    pub workers: Vec<Worked>,
 }

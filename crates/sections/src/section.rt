@@ -1,0 +1,40 @@
+//! The lines of one section, done in order by one pass.
+ghost use Rattle.std.specs.Prelude.{◌≡◌, Some, OnOk, All};
+ghost use Rattle.action_lock.specs.Advances.{Advances};
+ghost use Rattle.script_lang.specs.Held.{IsOfLine};
+ghost use Rattle.index_workers.specs.Passes.{ide_view, IsSameIdePass};
+ghost use Rattle.shared_ide.specs.Passes.{IsIdePassOf};
+ghost use Rattle.sections.specs.Done.{HasAdded};
+
+use action_lock::Gate;
+use index_workers::IdePass;
+use script_lang::Line;
+use shared_ide::SharedIde;
+use std::alloc::{AllocError, Global};
+use std::sync::Wait;
+use transcripts::{Loaded, Records};
+
+/// Does the commands of a section in order, and adds a record for each. `loads` is what was read for its lines, nothing
+/// where there is no more. `seat` is the pass's number; that of a lane has the gate told `Start` before each command.
+/// `beside` says whether another section runs beside this one: only then may a soft question be given up. Where memory
+/// is wanting, what was made so far stays. It may wait for ever.
+pub fn do_section<R: Wait, G: Gate>(
+    rt: &R,
+    alloc: Global,
+    ide: &SharedIde,
+    pass: &mut IdePass,
+    seat: u32,
+    lines: &[Line],
+    loads: &[Loaded],
+    beside: bool,
+    records: &mut Records,
+    gate: &G,
+) -> Result<(), AllocError>
+    requires pass { IsIdePassOf ide.now pass.old }
+    requires seat { (ide_view pass.old).number ≡ Some seat }
+    requires lines { All (λ line. IsOfLine line.command) lines.now }
+    ensures pass { IsIdePassOf ide.now pass.new × IsSameIdePass pass.old pass.new }
+    ensures advances { Advances (ide_view pass.old) (ide_view pass.new) }
+    ensures done { OnOk result (HasAdded beside seat lines.now loads.now (ide_view pass.old) (ide_view pass.new) records.old records.new) }
+{
+}
