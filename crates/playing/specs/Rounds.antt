@@ -1,5 +1,5 @@
 -- What number 0 does and learns while it is alone, and in a round.
-use Rattle.std.specs.Prelude.{ℕ, ◌+◌, ◌<◌, ◌≤◌, ◌≡◌, ◌×◌, Bool, false, List, ◌++◌, length, All, take, drop}
+use Rattle.std.specs.Prelude.{ℕ, ◌+◌, ◌<◌, ◌≤◌, ◌≡◌, Bool, false, List, ◌++◌, length, All, take, drop}
 use Rattle.action_lock.specs.declared.view.View.{View}
 use Rattle.action_lock.specs.Passes.{IsLast}
 use Rattle.action_lock.specs.Steps.{KnowsItsLists}

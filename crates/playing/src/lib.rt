@@ -2,8 +2,10 @@
 #![tactic(auto)]
 
 mod answers;
+mod lane_gate;
 mod part;
-mod play;
 mod round;
+mod run;
 
-pub use play::{play, play_in_turn};
+pub use lane_gate::LaneGate;
+pub use run::{play, play_in_turn};
