@@ -121,18 +121,6 @@ impl Records {
         Ok(())
     }
 
-    /// Adds all of some other records, or changes nothing where there is no memory.
-    pub fn append(&mut self, others: Records) -> Result<(), AllocError>
-        ensures ok { OnOk result (self.new ≡ self.old ++ others) }
-        ensures err { OnErr result (self.new ≡ self.old) }
-    {
-        let Records {
-            mut records,
-        } = others;
-        self.records.append(&mut records)?;
-        Ok(())
-    }
-
     /// The records.
     pub fn as_slice(&self) -> &[Record]
         ensures { result.now ≡ self.now }
