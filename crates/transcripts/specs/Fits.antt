@@ -81,7 +81,7 @@ abbrev pub SectionFits : Bool → List Entry → ℕ → Mark → List Line → 
 SectionFits beside history seat low [] loads records own high = (records ≡ []) × (own ≡ []) × (high ≡ low)
 SectionFits beside history seat low (line ∷ lines) loads records own high =
     FitsFirst beside history seat low line (first_load loads)
-        (λ later made_later between. SectionFits beside history seat between lines (later_loads loads) later made_later high) records own
+    (λ later made_later between. SectionFits beside history seat between lines (later_loads loads) later made_later high) records own
 
 -- the entries with this seat
 abbrev pub made_by : ℕ → List Entry → List Entry
