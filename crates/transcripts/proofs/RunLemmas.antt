@@ -42,7 +42,8 @@ run_serial loads script ended none fits =
     let whole : ended.history ≡ fits.opening ++ fits.closing = fits.history ∙ ap (λ es. es ++ fits.closing) opened in
     let begins : fits.last_begins.seen ≡ length fits.opening = fits.last_behind ∙ ap length opened in
     let lanes : fits.lanes_records ≡ [] =
-    no_record (run_beside (length script.lanes) 0) (fits.opening ++ fits.middle) (mark_at (length fits.opening)) script.lanes fits.middle fits.lanes_records none fits.lanes in
+    no_record (run_beside (length script.lanes) 0) (fits.opening ++ fits.middle) (mark_at (length fits.opening)) script.lanes fits.middle
+    fits.lanes_records none fits.lanes in
     let told : ended.records ≡ fits.prelude_records = fits.records ∙ (ap (λ rs. fits.prelude_records ++ rs) lanes ∙ append-nil fits.prelude_records) in
     let first =
     section_serial fits.opening 0 script.prelude loads (mark_at 0) fits.prelude_end [] fits.prelude_records [] fits.opening refl refl fits.prelude in

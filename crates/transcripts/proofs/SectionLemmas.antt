@@ -63,7 +63,8 @@ section_serial history seat (line ∷ lines) loads low high earlier records star
     let same : done.start ≡ start =
     start_alone history start fits.made fits.made_later done.start fits.between.seen parts done.stands (omega arith) seen room in
     let step : step_of (first_load loads) start seat line.number line.command ≡ record { added = fits.made; answer = fits.answer } =
-    subst (λ (es : List Entry). step_of (first_load loads) es seat line.number line.command ≡ record { added = fits.made; answer = fits.answer }) same done.step in
+    subst (λ (es : List Entry). step_of (first_load loads) es seat line.number line.command ≡ record { added = fits.made; answer = fits.answer })
+    same done.step in
     let between : fits.between.seen ≡ length (start ++ fits.made) = seen ∙ ap (λ (es : List Entry). length (es ++ fits.made)) same in
     let rest = section_serial history seat lines (later_loads loads) fits.between high (earlier ++ reply ∷ []) fits.later (start ++ fits.made) fits.made_later
     (parts ∙ sym (append_assoc start fits.made fits.made_later)) between fits.rest in
