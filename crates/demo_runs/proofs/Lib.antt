@@ -1,0 +1,10 @@
+mod LawLemmas
+mod SeenLemmas
+mod AcceptLemmas
+mod PreludeLemmas
+mod SectionLemmas
+mod CountLemmas
+mod OfferLemmas
+mod MiddleLemmas
+mod LastLemmas
+mod AgreeLemmas

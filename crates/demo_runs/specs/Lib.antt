@@ -1,0 +1,4 @@
+-- Scripts whose lanes write different files
+pub mod Apart
+-- Internal: worlds that show the same
+pub mod Alike
