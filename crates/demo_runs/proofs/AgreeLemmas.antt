@@ -29,7 +29,7 @@ use Rattle.demo_runs.proofs.LawLemmas.{Laws, SettleLaws}
 use Rattle.demo_runs.proofs.SeenLemmas.{seen_all, ids_all, closed_all, live_all}
 use Rattle.demo_runs.proofs.AcceptLemmas.{write_accepted}
 use Rattle.demo_runs.proofs.PreludeLemmas.{HasBegun, HasMadeAll, prelude_makes}
-use Rattle.demo_runs.proofs.SectionLemmas.{write_entry, IsWriteBy, AreWrites, section_writes, section_whole, writes_edit, GoesIn, lane_goes_in}
+use Rattle.demo_runs.proofs.LaneLemmas.{write_entry, IsWriteBy, AreWrites, section_writes, section_whole, writes_edit, GoesIn, lane_goes_in}
 use Rattle.demo_runs.proofs.CountLemmas.{AreIn, no_more, by_places, apart_by_places, by_seats, seats_bound}
 use Rattle.demo_runs.proofs.OfferLemmas.{IsBeside, of_first, of_second, of_worker, beside_edits, Offers, offers_of, IsOfferedBy, AllOffered, all_offered}
 use Rattle.demo_runs.proofs.MiddleLemmas.{by_lanes, lanes_commute, AllCommute, seen_after_both}

@@ -2,7 +2,7 @@ mod LawLemmas
 mod SeenLemmas
 mod AcceptLemmas
 mod PreludeLemmas
-mod SectionLemmas
+mod LaneLemmas
 mod CountLemmas
 mod OfferLemmas
 mod MiddleLemmas

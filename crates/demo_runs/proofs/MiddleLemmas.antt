@@ -12,7 +12,7 @@ use Rattle.transcripts.specs.Fits.{made_by}
 use Rattle.demo_runs.specs.Apart.{Edit}
 use Rattle.demo_runs.specs.Alike.{Seen, with_content, written, seen_after, seen_after_list, seen_after_all}
 use Rattle.demo_runs.proofs.SeenLemmas.{other_paths}
-use Rattle.demo_runs.proofs.SectionLemmas.{write_entry, IsWriteBy}
+use Rattle.demo_runs.proofs.LaneLemmas.{write_entry, IsWriteBy}
 use Rattle.demo_runs.proofs.CountLemmas.{made_here, made_there}
 use Rattle.demo_runs.proofs.OfferLemmas.{IsBeside, of_first, of_second, of_worker}
 

@@ -18,7 +18,7 @@ use Rattle.transcripts.specs.Fits.{made_by}
 use Rattle.demo_runs.specs.Alike.{IsOneEdit}
 use Rattle.demo_runs.proofs.LawLemmas.{Laws}
 use Rattle.demo_runs.proofs.SeenLemmas.{first_fails, is_there, world_after, accepted_after, Target, target}
-use Rattle.demo_runs.proofs.SectionLemmas.{IsWriteBy, write_entry}
+use Rattle.demo_runs.proofs.LaneLemmas.{IsWriteBy, write_entry}
 use Rattle.demo_runs.proofs.CountLemmas.{IsIn, made_here, made_there}
 
 -- what stands behind the prelude and before the last section: a write of one of two lanes, or a worker's intake
