@@ -1,10 +1,12 @@
-mod LawLemmas
-mod SeenLemmas
-mod AcceptLemmas
-mod PreludeLemmas
-mod LaneLemmas
-mod CountLemmas
-mod OfferLemmas
-mod MiddleLemmas
-mod LastLemmas
-mod AgreeLemmas
+pub mod LawLemmas
+pub mod SeenLemmas
+pub mod AcceptLemmas
+pub mod PreludeLemmas
+pub mod LaneLemmas
+pub mod CountLemmas
+pub mod OfferLemmas
+pub mod MiddleLemmas
+pub mod LastLemmas
+pub mod AgreeLemmas
+pub mod PathLemmas
+pub mod ApartLemmas

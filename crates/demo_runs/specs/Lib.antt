@@ -8,7 +8,6 @@ pub mod Alike
 pub use Rattle.demo.specs.Script
 pub use Rattle.write_history.specs.World
 pub use Rattle.write_history.specs.Path
-pub use Rattle.script_lang.specs.Parts as parts
 pub use Rattle.transcripts.specs.Serial
 pub use Rattle.transcripts.specs.Fits
 pub use Rattle.transcripts.specs.Transcript

@@ -6,6 +6,7 @@ ghost use Rattle.transcripts.specs.Serial.{Ended, run_of};
 ghost use Rattle.transcripts.specs.Fits.{RunFits};
 ghost use Rattle.transcripts.specs.Transcript.{summary_of};
 ghost use Rattle.demo_runs.specs.Apart.{WritesApart};
+ghost use Rattle.demo_runs.specs.Parts.{demo_parts};
 
 use ide_home::laws::{a_settle_goes_by_the_lowest, intakes_are_refused_where_full};
 use transcripts::laws::a_section_alone_is_serial;
@@ -25,4 +26,13 @@ pub fn runs_with_lanes_apart_agree()
     a_settle_goes_by_the_lowest();
     intakes_are_refused_where_full();
     a_section_alone_is_serial();
+}
+
+/// Every run of a demo's script, with at most eight workers, has the summary of the run on one thread.
+pub fn demo_runs_agree()
+    ensures { (seed : ℕ) (files : ℕ) (edits : ℕ) (told : List Worked) (ended : Ended) → 0 < files → files ≤ 10000 → edits ≤ 50000
+        → length told ≤ 8 → RunFits [] (demo_parts seed files edits) told ended
+        → summary_of ended ≡ summary_of (run_of [] (demo_parts seed files edits)) }
+{
+    runs_with_lanes_apart_agree();
 }
