@@ -58,10 +58,10 @@ module _ (laws : Laws) (history : List Entry) (legal : IsLegal history) where
       let there : is_none (id_at world path) ≡ false = ap is_none found in
       let shut : file.0.document ≡ None = ap (λ (s : Seen). s.document) file.2 ∙ closed live.id live.file live.is in
       let document : document_at world path ≡ None
-          = ap (λ o. option_and_then (λ (f : File). f.document) (option_and_then (file_of world) o)) found
-          ∙ ap (option_and_then (λ (f : File). f.document)) file.1 ∙ shut in
+      = ap (λ o. option_and_then (λ (f : File). f.document) (option_and_then (file_of world) o)) found
+      ∙ ap (option_and_then (λ (f : File). f.document)) file.1 ∙ shut in
       let refusal : refusal_of world (Write path text) ≡ None
-          = three_fail (is_none (id_at world path)) (is_unsaved (document_at world path)) (nat_le max_entries world.entries) _ _ _ there (ap is_unsaved document) (not_full short) in
+      = three_fail (is_none (id_at world path)) (is_unsaved (document_at world path)) (nat_le max_entries world.entries) _ _ _ there (ap is_unsaved document) (not_full short) in
       ap (λ r. refusal_or r None) refusal
 
   -- a creation at a taken path is refused
@@ -70,7 +70,7 @@ module _ (laws : Laws) (history : List Entry) (legal : IsLegal history) where
   create_taken path text lawful taken =
       let world : World = fold history in
       let refusal : refusal_of world (Create path text) ≡ Some PathTaken
-          = four_taken (not (is_path path)) (is_some (id_at world path)) (nat_le max_files (length world.files)) (nat_le max_entries world.entries) _ _ _ _ (ap not lawful) taken in
+      = four_taken (not (is_path path)) (is_some (id_at world path)) (nat_le max_files (length world.files)) (nat_le max_entries world.entries) _ _ _ _ (ap not lawful) taken in
       ap (λ r. refusal_or r None) refusal
 
   pub create_free : (path text : List ℕ) → is_path path ≡ true → is_some (id_at (fold history) path) ≡ false → next_id (fold history) ≤ max_files
@@ -78,7 +78,7 @@ module _ (laws : Laws) (history : List Entry) (legal : IsLegal history) where
   create_free path text lawful free few short =
       let world : World = fold history in
       four_fail (not (is_path path)) (is_some (id_at world path)) (nat_le max_files (length world.files)) (nat_le max_entries world.entries) _ _ _ _
-          (ap not lawful) free (lt-leb max_files (length world.files) (omega arith)) (not_full short)
+      (ap not lawful) free (lt-leb max_files (length world.files) (omega arith)) (not_full short)
 
   -- and one at a free path is accepted where neither files nor history are full
   pub create_accepted : (path text : List ℕ) → is_path path ≡ true → is_some (id_at (fold history) path) ≡ false → next_id (fold history) ≤ max_files
@@ -111,7 +111,7 @@ module _ (laws : Laws) (history : List Entry) (legal : IsLegal history) where
       let change : Change = Create path text in
       let new : Option File = Some (new_file path text world.next_stamp) in
       let law : file_of (effect_of world change) id ≡ (if id == next_id world then new else file_of world id)
-          = laws.put world (put_of world change) id (laws.put_first world change accepted) (laws.put_last world change accepted) in
+      = laws.put world (put_of world change) id (laws.put_first world change accepted) (laws.put_last world change accepted) in
       ap (option_map seen) law ∙ inside (id == next_id world) (new_file path text world.next_stamp) (file_of world id)
     where
       inside : (b : Bool) (file : File) (o : Option File) → option_map seen (if b then Some file else o) ≡ (if b then Some (seen file) else option_map seen o)

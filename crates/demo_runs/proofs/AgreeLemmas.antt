@@ -130,7 +130,7 @@ is_opening : Laws → (creations first second : List Edit) (questions : List Que
     → (done_from 0 (record { history = []; records = [] }) (map create_line creations) []).history ≡ opening → IsOpening creations first second opening
 is_opening laws creations first second questions given opening is =
     let all : HasMadeAll creations [] opening (0 + length creations)
-        = subst (λ (h : List Entry). HasMadeAll creations [] h (0 + length creations)) is (prelude_makes laws creations [] [] 0 begun_empty (omega (arith, given.few_files)) given.lawful) in
+    = subst (λ (h : List Entry). HasMadeAll creations [] h (0 + length creations)) is (prelude_makes laws creations [] [] 0 begun_empty (omega (arith, given.few_files)) given.lawful) in
     record {
       legal = all.begun.legal;
       closed = all.begun.closed;
@@ -161,7 +161,7 @@ module _ (laws : Laws) (creations first second : List Edit) (opening : List Entr
       let behind : IsFront opening start = front_shorter opening start (opening ++ middle) (middle, refl) front late in
       let own : List Entry = behind.0 in
       let whole : opening ++ middle ≡ opening ++ (own ++ front.0)
-          = front.1 ∙ ap (λ (l : List Entry). l ++ front.0) behind.1 ∙ append_assoc opening own front.0 in
+      = front.1 ∙ ap (λ (l : List Entry). l ++ front.0) behind.1 ∙ append_assoc opening own front.0 in
       let split : middle ≡ own ++ front.0 = append_cancel_left opening middle (own ++ front.0) whole in
       let beside : AllByRecursion IsBeside own = all_front IsBeside own front.0 (subst (AllByRecursion IsBeside) split between.beside) in
       let legal_start : IsLegal start = laws.legal_front start front.0 (subst IsLegal front.1 between.legal) in
@@ -170,9 +170,9 @@ module _ (laws : Laws) (creations first second : List Edit) (opening : List Entr
       let alive = live_all laws own opening (beside_edits own beside) legal edit.path live in
       let short = front_length start (opening ++ middle) front in
       let room : length (opening ++ own) < max_entries
-          = omega (arith, short, ap length behind.1, length-append opening middle, between.few, begun.few) in
+      = omega (arith, short, ap length behind.1, length-append opening middle, between.few, begun.few) in
       subst (λ (h : List Entry). list_refusal (fold h) (Write edit.path edit.text ∷ []) ≡ None) (sym behind.1)
-          (write_accepted laws (opening ++ own) legal closed edit.path edit.text alive room)
+      (write_accepted laws (opening ++ own) legal closed edit.path edit.text alive room)
 
   -- what is shown behind it is what is shown behind the lanes alone, one after the other
   alike_between : (middle : List Entry) → IsBetween middle → made_by 1 middle ≡ map (write_entry 1) first → made_by 2 middle ≡ map (write_entry 2) second
@@ -180,15 +180,15 @@ module _ (laws : Laws) (creations first second : List Edit) (opening : List Entr
       → IsLegal (opening ++ lane_entries first second) → IsAlike (fold (opening ++ middle)) (fold (opening ++ lane_entries first second))
   alike_between middle between ones twos apart legal =
       let edits : AllByRecursion IsOneEdit (lane_entries first second)
-          = all_append IsOneEdit (map (write_entry 1) first) (map (write_entry 2) second) (writes_edit 1 first) (writes_edit 2 second) in
+      = all_append IsOneEdit (map (write_entry 1) first) (map (write_entry 2) second) (writes_edit 1 first) (writes_edit 2 second) in
       let commute : AllCommute (made_by 1 middle) (made_by 2 middle)
-          = subst (λ (l : List Entry). AllCommute l (made_by 2 middle)) (sym ones)
-          (subst (λ (l : List Entry). AllCommute (map (write_entry 1) first) l) (sym twos) (lanes_commute first second apart)) in
+      = subst (λ (l : List Entry). AllCommute l (made_by 2 middle)) (sym ones)
+      (subst (λ (l : List Entry). AllCommute (map (write_entry 1) first) l) (sym twos) (lanes_commute first second apart)) in
       let same : (file : Seen) → seen_after_all middle file ≡ seen_after_all (lane_entries first second) file
-          = λ file. by_lanes middle between.beside commute file
-          ∙ ap (λ (l : List Entry). seen_after_all l (seen_after_all (made_by 1 middle) file)) twos
-          ∙ ap (λ (l : List Entry). seen_after_all (map (write_entry 2) second) (seen_after_all l file)) ones
-          ∙ sym (seen_after_both (map (write_entry 1) first) (map (write_entry 2) second) file) in
+      = λ file. by_lanes middle between.beside commute file
+      ∙ ap (λ (l : List Entry). seen_after_all l (seen_after_all (made_by 1 middle) file)) twos
+      ∙ ap (λ (l : List Entry). seen_after_all (map (write_entry 2) second) (seen_after_all l file)) ones
+      ∙ sym (seen_after_both (map (write_entry 1) first) (map (write_entry 2) second) file) in
       record {
         ids = ids_all laws middle opening (beside_edits middle between.beside) between.legal ∙ sym (ids_all laws (lane_entries first second) opening edits legal);
         files = λ id. seen_all laws middle opening (beside_edits middle between.beside) between.legal id
@@ -245,7 +245,7 @@ module _ (laws : Laws) (creations first second : List Edit) (opening : List Entr
     few_all : length middle ≤ 600010
     few_all =
         let bound = seats_bound (2 + length told) 60001 middle seats
-            (by_seat (λ seat. length (made_by seat middle) ≤ 60001) (omega (arith, ones.1, few_edits)) (omega (arith, twos.1, few_edits)) few_worked) in
+        (by_seat (λ seat. length (made_by seat middle) ≤ 60001) (omega (arith, ones.1, few_edits)) (omega (arith, twos.1, few_edits)) few_worked) in
         omega (arith, bound, few_told)
 
     -- what stands behind the prelude of a run
@@ -271,10 +271,10 @@ module _ (laws : Laws) (settles : SettleLaws) (alone : AloneIsSerial) (creations
       let edits = writes_edit 1 first in
       let closed : IsClosed (fold (opening ++ ones)) = closed_all laws ones opening edits first_in.legal begun.closed in
       let live : AllByRecursion (λ (edit : Edit). IsLive (fold (opening ++ ones)) edit.path) second
-          = all_map (λ (edit : Edit). IsLive (fold opening) edit.path) (λ (edit : Edit). IsLive (fold (opening ++ ones)) edit.path)
-          (λ edit alive. live_all laws ones opening edits first_in.legal edit.path alive) second begun.live_second in
+      = all_map (λ (edit : Edit). IsLive (fold opening) edit.path) (λ (edit : Edit). IsLive (fold (opening ++ ones)) edit.path)
+      (λ edit alive. live_all laws ones opening edits first_in.legal edit.path alive) second begun.live_second in
       let room : length (opening ++ ones) + length second ≤ max_entries
-          = omega (arith, length-append opening ones, length-map_of (write_entry 1) first, begun.few, given.few_edits) in
+      = omega (arith, length-append opening ones, length-map_of (write_entry 1) first, begun.few, given.few_edits) in
       let second_in = lane_goes_in laws second 2 (opening ++ ones) one.records first_in.legal closed room live in
       let regroup : (opening ++ ones) ++ twos ≡ opening ++ (ones ++ twos) = append_assoc opening ones twos in
       record {
@@ -291,7 +291,7 @@ module _ (laws : Laws) (settles : SettleLaws) (alone : AloneIsSerial) (creations
       let opening : List Entry = fits.opening in
       let middle : List Entry = fits.middle in
       let opened : done_from 0 (record { history = []; records = [] }) (map create_line creations) [] ≡ record { history = opening; records = fits.prelude_records }
-          = alone 0 (mark_at 0) fits.prelude_end (map create_line creations) [] [] fits.prelude_records [] opening refl fits.prelude in
+      = alone 0 (mark_at 0) fits.prelude_end (map create_line creations) [] [] fits.prelude_records [] opening refl fits.prelude in
       let begun = is_opening laws creations first second questions given opening (ap (λ (d : Done). d.history) opened) in
       let split : IsLegal ((opening ++ middle) ++ fits.closing) = subst IsLegal fits.history fits.legal in
       let legal : IsLegal (opening ++ middle) = laws.legal_front (opening ++ middle) fits.closing split in
@@ -303,24 +303,24 @@ module _ (laws : Laws) (settles : SettleLaws) (alone : AloneIsSerial) (creations
       let behind = between laws creations first second opening begun given.few_edits middle told few_told legal seats ones twos fits.worked in
       let accepted = accepts laws creations first second opening begun given.few_edits middle behind in
       let ones_are : made_by 1 middle ≡ map (write_entry 1) first
-          = section_whole _ (opening ++ middle) 1 (length opening) (λ (edit : Edit). IsLive (fold opening) edit.path) accepted first begun.live_first
-          (mark_at (length opening)) lane_one.own_records (made_by 1 middle) lane_one.high (omega arith) lane_one.fits in
+      = section_whole _ (opening ++ middle) 1 (length opening) (λ (edit : Edit). IsLive (fold opening) edit.path) accepted first begun.live_first
+      (mark_at (length opening)) lane_one.own_records (made_by 1 middle) lane_one.high (omega arith) lane_one.fits in
       let twos_are : made_by 2 middle ≡ map (write_entry 2) second
-          = section_whole _ (opening ++ middle) 2 (length opening) (λ (edit : Edit). IsLive (fold opening) edit.path) accepted second begun.live_second
-          (mark_at (length opening)) lane_two.own_records (made_by 2 middle) lane_two.high (omega arith) lane_two.fits in
+      = section_whole _ (opening ++ middle) 2 (length opening) (λ (edit : Edit). IsLive (fold opening) edit.path) accepted second begun.live_second
+      (mark_at (length opening)) lane_two.own_records (made_by 2 middle) lane_two.high (omega arith) lane_two.fits in
       let alone_is = serial opening fits.prelude_records begun opened in
       let alike = alike_between laws creations first second opening begun given.few_edits middle behind ones_are twos_are given.apart alone_is.legal in
       let lines : List Line = settle_line settle ∷ map ask_line questions in
       let last : done_from 0 (record { history = opening ++ middle; records = [] }) lines [] ≡ record { history = (opening ++ middle) ++ fits.closing; records = ended.last }
-          = alone 0 fits.last_begins fits.last_end lines [] [] ended.last (opening ++ middle) fits.closing fits.last_behind
-          (subst (λ (h : List Entry). SectionFits false h 0 fits.last_begins lines [] ended.last fits.closing fits.last_end) fits.history fits.last) in
+      = alone 0 fits.last_begins fits.last_end lines [] [] ended.last (opening ++ middle) fits.closing fits.last_behind
+      (subst (λ (h : List Entry). SectionFits false h 0 fits.last_begins lines [] ended.last fits.closing fits.last_end) fits.history fits.last) in
       let middle_ids : next_id (fold (opening ++ middle)) ≡ next_id (fold opening) = ids_all laws middle opening (beside_edits middle behind.beside) legal in
       let long : length (opening ++ middle) + next_id (fold (opening ++ middle)) ≤ max_entries
-          = omega (arith, length-append opening middle, behind.few, begun.few, begun.ids, middle_ids) in
+      = omega (arith, length-append opening middle, behind.few, begun.few, begun.ids, middle_ids) in
       let lanes_long : length (lane_entries first second) ≤ 50000
-          = omega (arith, length-append (map (write_entry 1) first) (map (write_entry 2) second), length-map_of (write_entry 1) first, length-map_of (write_entry 2) second, given.few_edits) in
+      = omega (arith, length-append (map (write_entry 1) first) (map (write_entry 2) second), length-map_of (write_entry 1) first, length-map_of (write_entry 2) second, given.few_edits) in
       let short : length (opening ++ lane_entries first second) + next_id (fold (opening ++ lane_entries first second)) ≤ max_entries
-          = omega (arith, length-append opening (lane_entries first second), lanes_long, begun.few, begun.ids, middle_ids, alike.ids) in
+      = omega (arith, length-append opening (lane_entries first second), lanes_long, begun.few, begun.ids, middle_ids, alike.ids) in
       ap (λ (d : Done). flat_map summary_text d.records) (sym last)
       ∙ last_agrees laws settles (opening ++ middle) (opening ++ lane_entries first second) legal alone_is.legal alike long short settle questions given.of_all
       ∙ ap (λ (h : List Entry). flat_map summary_text (last_from h lines).records) (sym alone_is.is)
@@ -332,12 +332,12 @@ writes_apart_agree laws settles alone script apart =
     let parts : Parts = parts_from apart.creations apart.first apart.second apart.settle apart.questions in
     let is : parts ≡ script = λ i. record { prelude = sym apart.prelude i; lanes = sym apart.lanes i; last = sym apart.last i } in
     subst (λ (s : Parts). (told : List Worked) → length told ≤ 8 → (ended : Ended) → RunFits [] s told ended → summary_of ended ≡ summary_of (run_of [] s)) is
-        (agree laws settles alone apart.creations apart.first apart.second apart.settle apart.questions (record {
-          lawful = apart.lawful;
-          first_made = apart.first_made;
-          second_made = apart.second_made;
-          apart = apart.apart;
-          few_files = apart.few_files;
-          few_edits = apart.few_edits;
-          of_all = apart.of_all;
-        }))
+    (agree laws settles alone apart.creations apart.first apart.second apart.settle apart.questions (record {
+      lawful = apart.lawful;
+      first_made = apart.first_made;
+      second_made = apart.second_made;
+      apart = apart.apart;
+      few_files = apart.few_files;
+      few_edits = apart.few_edits;
+      of_all = apart.of_all;
+    }))

@@ -66,9 +66,10 @@ by_places P (x ∷ xs) all = (all 0 x (omega arith), by_places P xs (λ k d l. a
 
 pub apart_by_places : (entries : List Entry) → AreApart entries → HaveApart entries
 apart_by_places [] apart = tt
-apart_by_places (entry ∷ entries) apart =
-    (by_places (λ (later : Entry). entry.changes ≢ later.changes) entries (λ k d l. apart 0 (suc k) d (omega arith) (omega arith)),
-    apart_by_places entries (λ i j d l m. apart (suc i) (suc j) d (omega arith) (omega arith)))
+apart_by_places (entry ∷ entries) apart = (
+  by_places (λ (later : Entry). entry.changes ≢ later.changes) entries (λ k d l. apart 0 (suc k) d (omega arith) (omega arith)),
+  apart_by_places entries (λ i j d l m. apart (suc i) (suc j) d (omega arith) (omega arith)),
+)
 
 -- ---- entries by their seats
 

@@ -67,14 +67,14 @@ section_writes beside history seat (edit ∷ edits) low records own high fits =
 
 module _ (beside : Bool) (history : List Entry) (seat floor : ℕ) (IsIn : Edit → Type 0)
     (accepts : (start : List Entry) (edit : Edit) → IsFront start history → floor ≤ length start → IsIn edit
-        → list_refusal (fold start) (Write edit.path edit.text ∷ []) ≡ None) where
+    → list_refusal (fold start) (Write edit.path edit.text ∷ []) ≡ None) where
   made_whole : (edit : Edit) → IsIn edit → (low : Mark) (made : List Entry) (answer : Answer) (high : Mark) → floor ≤ low.seen
       → Fits beside history seat (write_line edit) Nothing low made answer high → (made ≡ write_entry seat edit ∷ []) × (floor ≤ high.seen)
   made_whole edit is_in low made answer high late (inl done) =
       let front : IsFront done.start history = front_trans done.start (done.start ++ made) history (made, refl) done.stands in
       let accepted = accepts done.start edit front (omega (arith, late, done.late)) is_in in
       let step : step_unless None (λ place. None) done.start (write_entry seat edit) ≡ record { added = made; answer = answer }
-          = sym (ap (λ (r : Option ListRefusal). step_unless r (λ place. None) done.start (write_entry seat edit)) accepted) ∙ done.step in
+      = sym (ap (λ (r : Option ListRefusal). step_unless r (λ place. None) done.start (write_entry seat edit)) accepted) ∙ done.step in
       (sym (ap (λ (s : Step). s.added) step), omega (arith, late, done.late, done.seen, length-append done.start made))
   made_whole edit is_in low made answer high late (inr given) =
       absurd (let soft : command.Change (Write edit.path edit.text) ≡ command.Soft given.1.attempts given.1.query = given.1.soft in cc)
@@ -107,14 +107,14 @@ lane_goes_in laws (edit ∷ edits) seat history records legal closed room live =
     let entry : Entry = write_entry seat edit in
     let between : List Entry = history ++ entry ∷ [] in
     let accepted : list_refusal (fold history) (Write edit.path edit.text ∷ []) ≡ None
-        = write_accepted laws history legal closed edit.path edit.text live.0 (omega (arith, room)) in
+    = write_accepted laws history legal closed edit.path edit.text live.0 (omega (arith, room)) in
     let step : Step = change_step history seat edit.number (Write edit.path edit.text) in
     let added : step.added ≡ entry ∷ [] = ap (λ (r : Option ListRefusal). (step_unless r (λ place. None) history entry).added) accepted in
     let told : List Record = records ++ record { seat = seat; line = edit.number; answer = step.answer } ∷ [] in
     let now : IsLegal between = laws.legal_on history entry legal accepted in
     let one : AllByRecursion IsOneEdit (entry ∷ []) = (record { change = Write edit.path edit.text; one = refl; edit = tt }, tt) in
     let rest = lane_goes_in laws edits seat between told now (closed_all laws (entry ∷ []) history one now closed)
-        (omega (arith, room, length-append history (entry ∷ []))) (still entry one now edits live.1) in
+    (omega (arith, room, length-append history (entry ∷ []))) (still entry one now edits live.1) in
     let regroup : between ++ map (write_entry seat) edits ≡ history ++ map (write_entry seat) (edit ∷ edits) = append_assoc history (entry ∷ []) (map (write_entry seat) edits) in
     record {
       is = ap (λ (a : List Entry). (done_from seat (record { history = history ++ a; records = told }) (map write_line edits) []).history) added ∙ rest.is ∙ regroup;

@@ -81,7 +81,7 @@ by_lanes (entry ∷ entries) are commute file = by_first entry entries (λ less.
         let ones = made_here 1 entry entries seat in
         let twos = made_there 2 entry entries (λ k. absurd (omega (arith, seat, k))) in
         let less : AllCommute (entry ∷ made_by 1 entries) (made_by 2 entries)
-            = subst (λ (l : List Entry). AllCommute (entry ∷ made_by 1 entries) l) twos (subst (λ (l : List Entry). AllCommute l (made_by 2 (entry ∷ entries))) ones commute) in
+        = subst (λ (l : List Entry). AllCommute (entry ∷ made_by 1 entries) l) twos (subst (λ (l : List Entry). AllCommute l (made_by 2 (entry ∷ entries))) ones commute) in
         rest less.1 (seen_after_list entry.changes file)
         ∙ sym (ap (λ (l : List Entry). seen_after_all l (seen_after_all (made_by 1 (entry ∷ entries)) file)) twos
         ∙ ap (λ (l : List Entry). seen_after_all (made_by 2 entries) (seen_after_all l file)) ones)
@@ -90,7 +90,7 @@ by_lanes (entry ∷ entries) are commute file = by_first entry entries (λ less.
         let ones = made_there 1 entry entries (λ k. absurd (omega (arith, seat, k))) in
         let twos = made_here 2 entry entries seat in
         let less : AllCommute (made_by 1 entries) (entry ∷ made_by 2 entries)
-            = subst (λ (l : List Entry). AllCommute (made_by 1 entries) l) twos (subst (λ (l : List Entry). AllCommute l (made_by 2 (entry ∷ entries))) ones commute) in
+        = subst (λ (l : List Entry). AllCommute (made_by 1 entries) l) twos (subst (λ (l : List Entry). AllCommute l (made_by 2 (entry ∷ entries))) ones commute) in
         rest (later_commute (made_by 1 entries) entry (made_by 2 entries) less) (seen_after_list entry.changes file)
         ∙ ap (seen_after_all (made_by 2 entries)) (behind_all (made_by 1 entries) entry (first_commutes (made_by 1 entries) entry (made_by 2 entries) less) file)
         ∙ sym (ap (λ (l : List Entry). seen_after_all l (seen_after_all (made_by 1 (entry ∷ entries)) file)) twos
@@ -100,7 +100,7 @@ by_lanes (entry ∷ entries) are commute file = by_first entry entries (λ less.
         let ones = made_there 1 entry entries (λ k. absurd (omega (arith, seat_is, k, late))) in
         let twos = made_there 2 entry entries (λ k. absurd (omega (arith, seat_is, k, late))) in
         let less : AllCommute (made_by 1 entries) (made_by 2 entries)
-            = subst (λ (l : List Entry). AllCommute (made_by 1 entries) l) twos (subst (λ (l : List Entry). AllCommute l (made_by 2 (entry ∷ entries))) ones commute) in
+        = subst (λ (l : List Entry). AllCommute (made_by 1 entries) l) twos (subst (λ (l : List Entry). AllCommute l (made_by 2 (entry ∷ entries))) ones commute) in
         let nothing : seen_after_list entry.changes file ≡ file = ap (λ (e : Entry). seen_after_list e.changes file) by.is in
         ap (seen_after_all entries) nothing
         ∙ rest less file

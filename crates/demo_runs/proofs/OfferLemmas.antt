@@ -78,22 +78,23 @@ module _ (laws : Laws) (history : List Entry) (legal : IsLegal history) (offers 
       let world : World = fold history in
       let change : Change = Write path text in
       let aim = target laws history legal path text accepted in
-      let new : File = rewritten text world.next_stamp aim.old in
-      ((Intake aim.id world.next_stamp ∷ []),
-      λ id file is.
-      let law : file_of (effect_of world change) id ≡ (if id == (put_of world change).id then (put_of world change).file else file_of world id)
-          = laws.put world (put_of world change) id (laws.put_first world change accepted) (laws.put_last world change accepted) in
-      let after : file_of (effect_of world change) id ≡ (if id == aim.id then Some new else file_of world id)
-          = law ∙ ap (λ (p : Put). if id == p.id then p.file else file_of world id) aim.put in
-      bool_cases (id == aim.id)
-          (λ b. file_of (effect_of world change) id ≡ (if b then Some new else file_of world id) → IsIn (Intake id file.stamp ∷ []) ((Intake aim.id world.next_stamp ∷ []) ∷ offers))
-          (λ t e.
-          let both : Some new ≡ Some file = sym e ∙ is in
-          let same : new ≡ file = cc in
-          let here : id ≡ aim.id = eqb-true id aim.id t in
-          inl (ap (λ (n : ℕ). Intake n file.stamp ∷ []) here ∙ ap (λ (f : File). Intake aim.id f.stamp ∷ []) (sym same)))
-          (λ f e. inr (are id file (sym e ∙ is)))
-          after)
+      let new : File = rewritten text world.next_stamp aim.old in (
+        (Intake aim.id world.next_stamp ∷ []),
+        λ id file is.
+            let law : file_of (effect_of world change) id ≡ (if id == (put_of world change).id then (put_of world change).file else file_of world id)
+            = laws.put world (put_of world change) id (laws.put_first world change accepted) (laws.put_last world change accepted) in
+            let after : file_of (effect_of world change) id ≡ (if id == aim.id then Some new else file_of world id)
+            = law ∙ ap (λ (p : Put). if id == p.id then p.file else file_of world id) aim.put in
+            bool_cases (id == aim.id)
+            (λ b. file_of (effect_of world change) id ≡ (if b then Some new else file_of world id) → IsIn (Intake id file.stamp ∷ []) ((Intake aim.id world.next_stamp ∷ []) ∷ offers))
+            (λ t e.
+            let both : Some new ≡ Some file = sym e ∙ is in
+            let same : new ≡ file = cc in
+            let here : id ≡ aim.id = eqb-true id aim.id t in
+            inl (ap (λ (n : ℕ). Intake n file.stamp ∷ []) here ∙ ap (λ (f : File). Intake aim.id f.stamp ∷ []) (sym same)))
+            (λ f e. inr (are id file (sym e ∙ is)))
+            after,
+      )
 
   offered_intake : (taken stamp : ℕ) → refusal_of (fold history) (Intake taken stamp) ≡ None
       → AreOffered (counted (effect_of (fold history) (Intake taken stamp))) offers
@@ -101,15 +102,15 @@ module _ (laws : Laws) (history : List Entry) (legal : IsLegal history) (offers 
       let world : World = fold history in
       let change : Change = Intake taken stamp in
       let after : file_of (effect_of world change) id ≡ (if id == taken then option_map (taken_in stamp) (file_of world taken) else file_of world id)
-          = laws.put world (put_of world change) id (laws.put_first world change accepted) (laws.put_last world change accepted) in
+      = laws.put world (put_of world change) id (laws.put_first world change accepted) (laws.put_last world change accepted) in
       bool_cases (id == taken)
-          (λ b. file_of (effect_of world change) id ≡ (if b then option_map (taken_in stamp) (file_of world taken) else file_of world id) → IsIn (Intake id file.stamp ∷ []) offers)
-          (λ t e.
-          let old = was (file_of world taken) (sym e ∙ is) in
-          let here : id ≡ taken = eqb-true id taken t in
-          subst (λ (n : ℕ). IsIn (Intake id n ∷ []) offers) old.2 (are id old.0 (ap (file_of world) here ∙ old.1)))
-          (λ f e. are id file (sym e ∙ is))
-          after
+      (λ b. file_of (effect_of world change) id ≡ (if b then option_map (taken_in stamp) (file_of world taken) else file_of world id) → IsIn (Intake id file.stamp ∷ []) offers)
+      (λ t e.
+      let old = was (file_of world taken) (sym e ∙ is) in
+      let here : id ≡ taken = eqb-true id taken t in
+      subst (λ (n : ℕ). IsIn (Intake id n ∷ []) offers) old.2 (are id old.0 (ap (file_of world) here ∙ old.1)))
+      (λ f e. are id file (sym e ∙ is))
+      after
     where
       was : (o : Option File) → option_map (taken_in stamp) o ≡ Some file → (old : File) × (o ≡ Some old) × (old.stamp ≡ file.stamp)
       was None e = absurd (cc)
@@ -149,7 +150,7 @@ pub record AllOffered (before : List (List Change)) (entries : List Entry) : Typ
 no_intake : (seat other : ℕ) (entry : Entry) → IsWriteBy seat entry → IsIntakeBy other entry → ⊥
 no_intake seat other entry write intake =
     let both : Write write.edit.path write.edit.text ∷ [] ≡ Intake intake.file intake.stamp ∷ []
-        = sym (ap (λ (e : Entry). e.changes) write.is) ∙ ap (λ (e : Entry). e.changes) intake.is in
+    = sym (ap (λ (e : Entry). e.changes) write.is) ∙ ap (λ (e : Entry). e.changes) intake.is in
     cc
 
 count_first : (entry : Entry) (entries : List Entry) → entry.seat ≡ 1 → count_of_lanes (entry ∷ entries) ≡ suc (count_of_lanes entries)

@@ -57,8 +57,8 @@ module _ (laws : Laws) (edit : Edit) (history : List Entry) (count : ℕ) (begun
       let accepted = create_free laws history begun.legal edit.path edit.text lawful free ids short in
       let listed = create_accepted laws history begun.legal edit.path edit.text lawful free ids short in
       let after : IsCreated laws history begun.legal edit.path (fold (history ++ create_entry edit ∷ []))
-          = subst (IsCreated laws history begun.legal edit.path) (sym (world_after laws history (create_entry edit) (Create edit.path edit.text) refl))
-          (created laws history begun.legal edit.path edit.text accepted) in
+      = subst (IsCreated laws history begun.legal edit.path) (sym (world_after laws history (create_entry edit) (Create edit.path edit.text) refl))
+      (created laws history begun.legal edit.path edit.text accepted) in
       record {
         begun = record {
           legal = laws.legal_on history (create_entry edit) begun.legal listed;
@@ -74,13 +74,13 @@ module _ (laws : Laws) (edit : Edit) (history : List Entry) (count : ℕ) (begun
   one = bool_cases (is_some (id_at (fold history) edit.path)) (λ b. HasMadeOne edit history (history ++ (change_step history 0 edit.number (Create edit.path edit.text)).added) (suc count))
       (λ taken.
       let added : (change_step history 0 edit.number (Create edit.path edit.text)).added ≡ []
-          = ap (λ (r : Option ListRefusal). (step_unless r (λ place. None) history (create_entry edit)).added) (create_taken laws history begun.legal edit.path edit.text lawful taken) in
+      = ap (λ (r : Option ListRefusal). (step_unless r (λ place. None) history (create_entry edit)).added) (create_taken laws history begun.legal edit.path edit.text lawful taken) in
       subst (λ (after : List Entry). HasMadeOne edit history after (suc count)) (sym (ap (λ (l : List Entry). history ++ l) added ∙ append-nil history)) (taken_one taken))
       (λ free.
       let ids : next_id (fold history) ≤ 65536 = omega (arith, begun.ids) in
       let short : length history < 1048576 = omega (arith, begun.few) in
       let added : (change_step history 0 edit.number (Create edit.path edit.text)).added ≡ create_entry edit ∷ []
-          = ap (λ (r : Option ListRefusal). (step_unless r (λ place. None) history (create_entry edit)).added) (create_accepted laws history begun.legal edit.path edit.text lawful free ids short) in
+      = ap (λ (r : Option ListRefusal). (step_unless r (λ place. None) history (create_entry edit)).added) (create_accepted laws history begun.legal edit.path edit.text lawful free ids short) in
       subst (λ (after : List Entry). HasMadeOne edit history after (suc count)) (sym (ap (λ (l : List Entry). history ++ l) added)) (made_one free))
 
 -- what the lines of creations leave, one after another

@@ -90,19 +90,19 @@ module _ (laws : Laws) (history : List Entry) (legal : IsLegal history) where
       let aim = target path text accepted in
       let now : Option File = Some (rewritten text world.next_stamp aim.old) in
       let law : file_of (effect_of world change) id ≡ (if id == (put_of world change).id then (put_of world change).file else file_of world id)
-          = laws.put world (put_of world change) id (laws.put_first world change accepted) (laws.put_last world change accepted) in
+      = laws.put world (put_of world change) id (laws.put_first world change accepted) (laws.put_last world change accepted) in
       let is : file_of (effect_of world change) id ≡ (if id == aim.id then now else file_of world id)
-          = law ∙ ap (λ (p : Put). if id == p.id then p.file else file_of world id) aim.put in
+      = law ∙ ap (λ (p : Put). if id == p.id then p.file else file_of world id) aim.put in
       bool_cases (id == aim.id)
-          (λ b. file_of (effect_of world change) id ≡ (if b then now else file_of world id) → seen_at (effect_of world change) id ≡ option_map (written path text) (seen_at world id))
-          (λ t whole.
-          let here : id ≡ aim.id = eqb-true id aim.id t in
-          let old : seen_at world id ≡ Some (seen aim.old) = ap (seen_at world) here ∙ ap (option_map seen) aim.found in
-          let yes_path : bytes_eq aim.old.path path ≡ true = equal_paths aim.old.path path aim.same in
-          ap (option_map seen) whole ∙ ap (λ b. Some (if b then with_content text (seen aim.old) else seen aim.old)) (sym yes_path) ∙ ap (option_map (written path text)) (sym old))
-          (λ f whole. ap (option_map seen) whole
-              ∙ shown_there path text aim id (λ e. absurd (let t : (id == aim.id) ≡ true = eq-eqb id aim.id e in cc)) (file_of world id) refl)
-          is
+      (λ b. file_of (effect_of world change) id ≡ (if b then now else file_of world id) → seen_at (effect_of world change) id ≡ option_map (written path text) (seen_at world id))
+      (λ t whole.
+      let here : id ≡ aim.id = eqb-true id aim.id t in
+      let old : seen_at world id ≡ Some (seen aim.old) = ap (seen_at world) here ∙ ap (option_map seen) aim.found in
+      let yes_path : bytes_eq aim.old.path path ≡ true = equal_paths aim.old.path path aim.same in
+      ap (option_map seen) whole ∙ ap (λ b. Some (if b then with_content text (seen aim.old) else seen aim.old)) (sym yes_path) ∙ ap (option_map (written path text)) (sym old))
+      (λ f whole. ap (option_map seen) whole
+      ∙ shown_there path text aim id (λ e. absurd (let t : (id == aim.id) ≡ true = eq-eqb id aim.id e in cc)) (file_of world id) refl)
+      is
 
   seen_intake : (file stamp : ℕ) → refusal_of (fold history) (Intake file stamp) ≡ None → (id : ℕ)
       → seen_at (effect_of (fold history) (Intake file stamp)) id ≡ seen_at (fold history) id
@@ -110,13 +110,13 @@ module _ (laws : Laws) (history : List Entry) (legal : IsLegal history) where
       let world : World = fold history in
       let change : Change = Intake file stamp in
       let is : file_of (effect_of world change) id ≡ (if id == file then option_map (taken_in stamp) (file_of world file) else file_of world id)
-          = laws.put world (put_of world change) id (laws.put_first world change accepted) (laws.put_last world change accepted) in
+      = laws.put world (put_of world change) id (laws.put_first world change accepted) (laws.put_last world change accepted) in
       bool_cases (id == file)
-          (λ b. file_of (effect_of world change) id ≡ (if b then option_map (taken_in stamp) (file_of world file) else file_of world id)
-              → seen_at (effect_of world change) id ≡ seen_at world id)
-          (λ t whole. ap (option_map seen) whole ∙ same_shown (file_of world file) ∙ ap (seen_at world) (sym (eqb-true id file t)))
-          (λ f whole. ap (option_map seen) whole)
-          is
+      (λ b. file_of (effect_of world change) id ≡ (if b then option_map (taken_in stamp) (file_of world file) else file_of world id)
+      → seen_at (effect_of world change) id ≡ seen_at world id)
+      (λ t whole. ap (option_map seen) whole ∙ same_shown (file_of world file) ∙ ap (seen_at world) (sym (eqb-true id file t)))
+      (λ f whole. ap (option_map seen) whole)
+      is
     where
       same_shown : (o : Option File) → option_map seen (option_map (taken_in stamp) o) ≡ option_map seen o
       same_shown None = refl

@@ -10,7 +10,10 @@ ghost use Rattle.demo_runs.specs.Parts.{demo_parts};
 
 use ide_home::laws::{a_settle_goes_by_the_lowest, intakes_are_refused_where_full};
 use transcripts::laws::a_section_alone_is_serial;
-use write_history::laws::{histories_go_on, ids_are_places, live_files_have_paths_of_their_own, puts_change_one_file, unready_files_have_an_order};
+use write_history::laws::{
+    histories_go_on, ids_are_places, live_files_have_paths_of_their_own, puts_change_one_file,
+    unready_files_have_an_order,
+};
 
 /// Every run of a script whose two lanes write different files, with at most eight workers, has the summary of the run on
 /// one thread.
