@@ -61,7 +61,8 @@ module _ (laws : Laws) (history : List Entry) (legal : IsLegal history) where
       = ap (λ o. option_and_then (λ (f : File). f.document) (option_and_then (file_of world) o)) found
       ∙ ap (option_and_then (λ (f : File). f.document)) file.1 ∙ shut in
       let refusal : refusal_of world (Write path text) ≡ None
-      = three_fail (is_none (id_at world path)) (is_unsaved (document_at world path)) (nat_le max_entries world.entries) _ _ _ there (ap is_unsaved document) (not_full short) in
+      = three_fail (is_none (id_at world path)) (is_unsaved (document_at world path)) (nat_le max_entries world.entries) _ _ _ there
+      (ap is_unsaved document) (not_full short) in
       ap (λ r. refusal_or r None) refusal
 
   -- a creation at a taken path is refused
@@ -70,7 +71,8 @@ module _ (laws : Laws) (history : List Entry) (legal : IsLegal history) where
   create_taken path text lawful taken =
       let world : World = fold history in
       let refusal : refusal_of world (Create path text) ≡ Some PathTaken
-      = four_taken (not (is_path path)) (is_some (id_at world path)) (nat_le max_files (length world.files)) (nat_le max_entries world.entries) _ _ _ _ (ap not lawful) taken in
+      = four_taken (not (is_path path)) (is_some (id_at world path)) (nat_le max_files (length world.files)) (nat_le max_entries world.entries) _ _ _ _
+      (ap not lawful) taken in
       ap (λ r. refusal_or r None) refusal
 
   pub create_free : (path text : List ℕ) → is_path path ≡ true → is_some (id_at (fold history) path) ≡ false → next_id (fold history) ≤ max_files
@@ -118,7 +120,8 @@ module _ (laws : Laws) (history : List Entry) (legal : IsLegal history) where
       inside true file o = refl
       inside false file o = refl
 
-  closed_new : (fresh : Seen) (next : ℕ) (after : World) → fresh.document ≡ None → ((id : ℕ) → seen_at after id ≡ (if id == next then Some fresh else seen_at (fold history) id))
+  closed_new : (fresh : Seen) (next : ℕ) (after : World) → fresh.document ≡ None
+      → ((id : ℕ) → seen_at after id ≡ (if id == next then Some fresh else seen_at (fold history) id))
       → IsClosed (fold history) → IsClosed after
   closed_new fresh next after shut shown closed id file is = bool_cases (id == next)
       (λ b. seen_at after id ≡ (if b then Some fresh else seen_at (fold history) id) → file.document ≡ None)
@@ -147,7 +150,8 @@ module _ (laws : Laws) (history : List Entry) (legal : IsLegal history) where
             record {
               id = old.id;
               file = old.file;
-              is = shown old.id ∙ ap (λ b. if b then Some fresh else seen_at world old.id) (ne_eqb old.id (next_id world) (λ e. absurd (omega (arith, below, e)))) ∙ old.is;
+              is = shown old.id ∙ ap (λ b. if b then Some fresh else seen_at world old.id)
+                  (ne_eqb old.id (next_id world) (λ e. absurd (omega (arith, below, e)))) ∙ old.is;
               same = old.same;
             };
       }

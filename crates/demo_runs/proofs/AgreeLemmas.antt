@@ -130,14 +130,17 @@ is_opening : Laws → (creations first second : List Edit) (questions : List Que
     → (done_from 0 (record { history = []; records = [] }) (map create_line creations) []).history ≡ opening → IsOpening creations first second opening
 is_opening laws creations first second questions given opening is =
     let all : HasMadeAll creations [] opening (0 + length creations)
-    = subst (λ (h : List Entry). HasMadeAll creations [] h (0 + length creations)) is (prelude_makes laws creations [] [] 0 begun_empty (omega (arith, given.few_files)) given.lawful) in
+    = subst (λ (h : List Entry). HasMadeAll creations [] h (0 + length creations)) is
+    (prelude_makes laws creations [] [] 0 begun_empty (omega (arith, given.few_files)) given.lawful) in
     record {
       legal = all.begun.legal;
       closed = all.begun.closed;
       few = omega (arith, all.begun.few, given.few_files);
       ids = omega (arith, all.begun.ids, given.few_files);
-      live_first = all_map (λ (edit : Edit). IsAmong creations edit.path) (λ (edit : Edit). IsLive (fold opening) edit.path) (λ edit among. all.among edit.path among) first given.first_made;
-      live_second = all_map (λ (edit : Edit). IsAmong creations edit.path) (λ (edit : Edit). IsLive (fold opening) edit.path) (λ edit among. all.among edit.path among) second given.second_made;
+      live_first = all_map (λ (edit : Edit). IsAmong creations edit.path) (λ (edit : Edit). IsLive (fold opening) edit.path)
+          (λ edit among. all.among edit.path among) first given.first_made;
+      live_second = all_map (λ (edit : Edit). IsAmong creations edit.path) (λ (edit : Edit). IsLive (fold opening) edit.path)
+          (λ edit among. all.among edit.path among) second given.second_made;
     }
 
 -- ---- what lanes and workers leave
@@ -217,7 +220,8 @@ module _ (laws : Laws) (creations first second : List Edit) (opening : List Entr
 
     beside_worker : (seat : ℕ) → 3 ≤ seat → seat ≤ 2 + length told → AllByRecursion IsBeside (made_by seat middle)
     beside_worker seat late to =
-        all_map (IsIntakeBy seat) IsBeside (λ entry by. of_worker seat late by) (made_by seat middle) (by_places (IsIntakeBy seat) (made_by seat middle) (worker seat late to).1.intakes)
+        all_map (IsIntakeBy seat) IsBeside (λ entry by. of_worker seat late by) (made_by seat middle)
+        (by_places (IsIntakeBy seat) (made_by seat middle) (worker seat late to).1.intakes)
 
     -- by the seat: a lane's or a worker's
     by_seat : (P : ℕ → Type 0) → P 1 → P 2 → ((seat : ℕ) → 3 ≤ seat → seat ≤ 2 + length told → P seat) → (seat : ℕ) → 1 ≤ seat → seat ≤ 2 + length told → P seat
@@ -227,7 +231,8 @@ module _ (laws : Laws) (creations first second : List Edit) (opening : List Entr
         (cases_order seat 2)
 
     beside_all : AllByRecursion IsBeside middle
-    beside_all = by_seats IsBeside (2 + length told) middle seats (by_seat (λ seat. AllByRecursion IsBeside (made_by seat middle)) beside_first beside_second beside_worker)
+    beside_all = by_seats IsBeside (2 + length told) middle seats
+        (by_seat (λ seat. AllByRecursion IsBeside (made_by seat middle)) beside_first beside_second beside_worker)
 
     offered : AllOffered (offers_of laws (fold opening)).list middle
     offered = all_offered laws middle opening (offers_of laws (fold opening)).list beside_all legal (offers_of laws (fold opening)).are
@@ -238,7 +243,8 @@ module _ (laws : Laws) (creations first second : List Edit) (opening : List Entr
     few_worked : (seat : ℕ) → 3 ≤ seat → seat ≤ 2 + length told → length (made_by seat middle) ≤ 60001
     few_worked seat late to =
         let fit = (worker seat late to).1 in
-        let are = intakes_in offered.list seat (made_by seat middle) (all_filter (IsOfferedBy offered.list) _ middle offered.are) (by_places (IsIntakeBy seat) (made_by seat middle) fit.intakes) in
+        let are = intakes_in offered.list seat (made_by seat middle) (all_filter (IsOfferedBy offered.list) _ middle offered.are)
+        (by_places (IsIntakeBy seat) (made_by seat middle) fit.intakes) in
         let less = no_more (made_by seat middle) offered.list are (apart_by_places (made_by seat middle) fit.apart) in
         omega (arith, less, few_offers)
 
@@ -311,7 +317,8 @@ module _ (laws : Laws) (settles : SettleLaws) (alone : AloneIsSerial) (creations
       let alone_is = serial opening fits.prelude_records begun opened in
       let alike = alike_between laws creations first second opening begun given.few_edits middle behind ones_are twos_are given.apart alone_is.legal in
       let lines : List Line = settle_line settle ∷ map ask_line questions in
-      let last : done_from 0 (record { history = opening ++ middle; records = [] }) lines [] ≡ record { history = (opening ++ middle) ++ fits.closing; records = ended.last }
+      let last : done_from 0 (record { history = opening ++ middle; records = [] }) lines []
+      ≡ record { history = (opening ++ middle) ++ fits.closing; records = ended.last }
       = alone 0 fits.last_begins fits.last_end lines [] [] ended.last (opening ++ middle) fits.closing fits.last_behind
       (subst (λ (h : List Entry). SectionFits false h 0 fits.last_begins lines [] ended.last fits.closing fits.last_end) fits.history fits.last) in
       let middle_ids : next_id (fold (opening ++ middle)) ≡ next_id (fold opening) = ids_all laws middle opening (beside_edits middle behind.beside) legal in

@@ -84,11 +84,13 @@ pub by_seats : (P : Entry → Type 0) (seats : ℕ) (entries : List Entry) → A
     → ((seat : ℕ) → 1 ≤ seat → seat ≤ seats → AllByRecursion P (made_by seat entries)) → AllByRecursion P entries
 by_seats P seats [] are each = tt
 by_seats P seats (entry ∷ entries) are each =
-    let own : AllByRecursion P (entry ∷ made_by entry.seat entries) = subst (AllByRecursion P) (made_here entry.seat entry entries refl) (each entry.seat are.0.from are.0.to) in
+    let own : AllByRecursion P (entry ∷ made_by entry.seat entries)
+    = subst (AllByRecursion P) (made_here entry.seat entry entries refl) (each entry.seat are.0.from are.0.to) in
     (own.0, by_seats P seats entries are.1 (λ seat from to. rest seat (each seat from to)))
   where
     rest : (seat : ℕ) → AllByRecursion P (made_by seat (entry ∷ entries)) → AllByRecursion P (made_by seat entries)
-    rest seat all = bool_cases (entry.seat == seat) (λ b. AllByRecursion P (cond b (entry ∷ made_by seat entries) (made_by seat entries)) → AllByRecursion P (made_by seat entries))
+    rest seat all = bool_cases (entry.seat == seat)
+        (λ b. AllByRecursion P (cond b (entry ∷ made_by seat entries) (made_by seat entries)) → AllByRecursion P (made_by seat entries))
         (λ t h. h.1) (λ f h. h) all
 
 -- the sum over so many seats, from 1
@@ -125,14 +127,17 @@ abbrev count_by_seat : List Entry → ℕ → ℕ
 count_by_seat entries seat = length (made_by seat entries)
 
 count_more : (entry : Entry) (entries : List Entry) (seat : ℕ) → count_by_seat entries seat ≤ count_by_seat (entry ∷ entries) seat
-count_more entry entries seat = bool_cases (entry.seat == seat) (λ b. length (made_by seat entries) ≤ length (cond b (entry ∷ made_by seat entries) (made_by seat entries)))
+count_more entry entries seat = bool_cases (entry.seat == seat)
+    (λ b. length (made_by seat entries) ≤ length (cond b (entry ∷ made_by seat entries) (made_by seat entries)))
     (λ t. omega arith) (λ f. omega arith)
 
-count_all : (seats : ℕ) (entries : List Entry) → AllByRecursion (λ (e : Entry). IsSeatOf seats e.seat) entries → length entries ≤ sum_of (count_by_seat entries) seats
+count_all : (seats : ℕ) (entries : List Entry) → AllByRecursion (λ (e : Entry). IsSeatOf seats e.seat) entries
+    → length entries ≤ sum_of (count_by_seat entries) seats
 count_all seats [] are = omega arith
 count_all seats (entry ∷ entries) are =
     let rest = count_all seats entries are.1 in
-    let here : suc (count_by_seat entries entry.seat) ≤ count_by_seat (entry ∷ entries) entry.seat = omega (arith, ap length (made_here entry.seat entry entries refl)) in
+    let here : suc (count_by_seat entries entry.seat) ≤ count_by_seat (entry ∷ entries) entry.seat
+    = omega (arith, ap length (made_here entry.seat entry entries refl)) in
     let more = sum_more (count_by_seat entries) (count_by_seat (entry ∷ entries)) seats entry.seat are.0.from are.0.to (count_more entry entries) here in
     omega (arith, rest, more)
 

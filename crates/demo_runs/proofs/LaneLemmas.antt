@@ -115,7 +115,8 @@ lane_goes_in laws (edit ∷ edits) seat history records legal closed room live =
     let one : AllByRecursion IsOneEdit (entry ∷ []) = (record { change = Write edit.path edit.text; one = refl; edit = tt }, tt) in
     let rest = lane_goes_in laws edits seat between told now (closed_all laws (entry ∷ []) history one now closed)
     (omega (arith, room, length-append history (entry ∷ []))) (still entry one now edits live.1) in
-    let regroup : between ++ map (write_entry seat) edits ≡ history ++ map (write_entry seat) (edit ∷ edits) = append_assoc history (entry ∷ []) (map (write_entry seat) edits) in
+    let regroup : between ++ map (write_entry seat) edits ≡ history ++ map (write_entry seat) (edit ∷ edits)
+    = append_assoc history (entry ∷ []) (map (write_entry seat) edits) in
     record {
       is = ap (λ (a : List Entry). (done_from seat (record { history = history ++ a; records = told }) (map write_line edits) []).history) added ∙ rest.is ∙ regroup;
       legal = subst IsLegal regroup rest.legal;

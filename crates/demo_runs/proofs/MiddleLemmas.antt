@@ -30,7 +30,8 @@ written_path path text file = bool_cases (bytes_eq file.path path) (λ b. (if b 
 -- writes of different paths may change places
 written_apart : (path text other given : List ℕ) → path ≢ other → (file : Seen)
     → written path text (written other given file) ≡ written other given (written path text file)
-written_apart path text other given apart file = bool_cases (bytes_eq file.path path) (λ b. bytes_eq file.path path ≡ b → written path text (written other given file) ≡ written other given (written path text file))
+written_apart path text other given apart file = bool_cases (bytes_eq file.path path)
+    (λ b. bytes_eq file.path path ≡ b → written path text (written other given file) ≡ written other given (written path text file))
     (λ t h.
     let same : file.path ≡ path = (bytes_decides file.path path).0 t in
     let no_other : bytes_eq file.path other ≡ false = other_paths file.path other (λ e. apart (sym same ∙ e)) in
@@ -45,7 +46,8 @@ written_apart path text other given apart file = bool_cases (bytes_eq file.path 
 
 -- two entries may change places
 abbrev pub Commute : Entry → Entry → Type 0
-Commute entry other = (file : Seen) → seen_after_list entry.changes (seen_after_list other.changes file) ≡ seen_after_list other.changes (seen_after_list entry.changes file)
+Commute entry other = (file : Seen)
+    → seen_after_list entry.changes (seen_after_list other.changes file) ≡ seen_after_list other.changes (seen_after_list entry.changes file)
 
 -- so may each of some with each of others
 abbrev pub AllCommute : List Entry → List Entry → Type 0
@@ -58,7 +60,8 @@ behind_all [] other commute file = refl
 behind_all (entry ∷ entries) other commute file =
     ap (seen_after_all entries) (commute.0 file) ∙ behind_all entries other commute.1 (seen_after_list entry.changes file)
 
-first_commutes : (entries : List Entry) (other : Entry) (others : List Entry) → AllCommute entries (other ∷ others) → AllByRecursion (λ (e : Entry). Commute e other) entries
+first_commutes : (entries : List Entry) (other : Entry) (others : List Entry) → AllCommute entries (other ∷ others)
+    → AllByRecursion (λ (e : Entry). Commute e other) entries
 first_commutes [] other others all = tt
 first_commutes (entry ∷ entries) other others all = (all.0.0, first_commutes entries other others all.1)
 
@@ -73,7 +76,8 @@ by_lanes [] are commute file = refl
 by_lanes (entry ∷ entries) are commute file = by_first entry entries (λ less. by_lanes entries are.1 less) are.0 commute file
   where
     by_first : (entry : Entry) (entries : List Entry)
-        → (AllCommute (made_by 1 entries) (made_by 2 entries) → (file : Seen) → seen_after_all entries file ≡ seen_after_all (made_by 2 entries) (seen_after_all (made_by 1 entries) file))
+        → (AllCommute (made_by 1 entries) (made_by 2 entries) → (file : Seen)
+        → seen_after_all entries file ≡ seen_after_all (made_by 2 entries) (seen_after_all (made_by 1 entries) file))
         → IsBeside entry → AllCommute (made_by 1 (entry ∷ entries)) (made_by 2 (entry ∷ entries)) → (file : Seen)
         → seen_after_all (entry ∷ entries) file ≡ seen_after_all (made_by 2 (entry ∷ entries)) (seen_after_all (made_by 1 (entry ∷ entries)) file)
     by_first entry entries rest (of_first by) commute file =
@@ -81,7 +85,8 @@ by_lanes (entry ∷ entries) are commute file = by_first entry entries (λ less.
         let ones = made_here 1 entry entries seat in
         let twos = made_there 2 entry entries (λ k. absurd (omega (arith, seat, k))) in
         let less : AllCommute (entry ∷ made_by 1 entries) (made_by 2 entries)
-        = subst (λ (l : List Entry). AllCommute (entry ∷ made_by 1 entries) l) twos (subst (λ (l : List Entry). AllCommute l (made_by 2 (entry ∷ entries))) ones commute) in
+        = subst (λ (l : List Entry). AllCommute (entry ∷ made_by 1 entries) l) twos
+        (subst (λ (l : List Entry). AllCommute l (made_by 2 (entry ∷ entries))) ones commute) in
         rest less.1 (seen_after_list entry.changes file)
         ∙ sym (ap (λ (l : List Entry). seen_after_all l (seen_after_all (made_by 1 (entry ∷ entries)) file)) twos
         ∙ ap (λ (l : List Entry). seen_after_all (made_by 2 entries) (seen_after_all l file)) ones)
@@ -113,7 +118,8 @@ pub lanes_commute : (first second : List Edit) → AllByRecursion (λ (edit : Ed
 lanes_commute [] second apart = tt
 lanes_commute (edit ∷ first) second apart = (one second apart.0, lanes_commute first second apart.1)
   where
-    one : (others : List Edit) → AllByRecursion (λ (other : Edit). edit.path ≢ other.path) others → AllByRecursion (λ (other : Entry). Commute (write_entry 1 edit) other) (map (write_entry 2) others)
+    one : (others : List Edit) → AllByRecursion (λ (other : Edit). edit.path ≢ other.path) others
+        → AllByRecursion (λ (other : Entry). Commute (write_entry 1 edit) other) (map (write_entry 2) others)
     one [] apart = tt
     one (other ∷ others) apart = (written_apart edit.path edit.text other.path other.text apart.0, one others apart.1)
 

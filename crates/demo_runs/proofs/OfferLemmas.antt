@@ -52,7 +52,8 @@ length-offers_below world (suc n) = ap suc (length-offers_below world n)
 
 offered_below : (world : World) (n id : ℕ) → id < n → IsIn (intake_of world id) (offers_below world n)
 offered_below world zero id less = absurd (omega arith)
-offered_below world (suc n) id less = ⊎_elim (λ (below : id < n). inr (offered_below world n id below)) (λ (above : n ≤ id). inl (ap (intake_of world) (omega arith))) (cases_lt id n)
+offered_below world (suc n) id less = ⊎_elim (λ (below : id < n). inr (offered_below world n id below))
+    (λ (above : n ≤ id). inl (ap (intake_of world) (omega arith))) (cases_lt id n)
 
 -- as many as ids were given
 pub record Offers (world : World) : Type 0 where
@@ -86,7 +87,8 @@ module _ (laws : Laws) (history : List Entry) (legal : IsLegal history) (offers 
             let after : file_of (effect_of world change) id ≡ (if id == aim.id then Some new else file_of world id)
             = law ∙ ap (λ (p : Put). if id == p.id then p.file else file_of world id) aim.put in
             bool_cases (id == aim.id)
-            (λ b. file_of (effect_of world change) id ≡ (if b then Some new else file_of world id) → IsIn (Intake id file.stamp ∷ []) ((Intake aim.id world.next_stamp ∷ []) ∷ offers))
+            (λ b. file_of (effect_of world change) id ≡ (if b then Some new else file_of world id)
+            → IsIn (Intake id file.stamp ∷ []) ((Intake aim.id world.next_stamp ∷ []) ∷ offers))
             (λ t e.
             let both : Some new ≡ Some file = sym e ∙ is in
             let same : new ≡ file = cc in
@@ -104,7 +106,8 @@ module _ (laws : Laws) (history : List Entry) (legal : IsLegal history) (offers 
       let after : file_of (effect_of world change) id ≡ (if id == taken then option_map (taken_in stamp) (file_of world taken) else file_of world id)
       = laws.put world (put_of world change) id (laws.put_first world change accepted) (laws.put_last world change accepted) in
       bool_cases (id == taken)
-      (λ b. file_of (effect_of world change) id ≡ (if b then option_map (taken_in stamp) (file_of world taken) else file_of world id) → IsIn (Intake id file.stamp ∷ []) offers)
+      (λ b. file_of (effect_of world change) id ≡ (if b then option_map (taken_in stamp) (file_of world taken) else file_of world id)
+      → IsIn (Intake id file.stamp ∷ []) offers)
       (λ t e.
       let old = was (file_of world taken) (sym e ∙ is) in
       let here : id ≡ taken = eqb-true id taken t in
@@ -121,7 +124,8 @@ module _ (laws : Laws) (history : List Entry) (legal : IsLegal history) (offers 
   intake_offered taken stamp accepted =
       let world : World = fold history in
       let there = is_there (file_of world taken) (first_fails (is_none (file_of world taken)) _ _ accepted) in
-      let same : (stamp == stamp_of (file_of world taken)) ≡ true = second_fails (is_none (file_of world taken)) (stamp == stamp_of (file_of world taken)) _ _ _ accepted in
+      let same : (stamp == stamp_of (file_of world taken)) ≡ true
+      = second_fails (is_none (file_of world taken)) (stamp == stamp_of (file_of world taken)) _ _ _ accepted in
       let stamp_is : stamp ≡ there.0.stamp = eqb-true stamp (stamp_of (file_of world taken)) same ∙ ap stamp_of there.1 in
       subst (λ (n : ℕ). IsIn (Intake taken n ∷ []) offers) (sym stamp_is) (are taken there.0 there.1)
     where
@@ -191,7 +195,8 @@ module _ (laws : Laws) (entry : Entry) (entries history : List Entry) (offers : 
       let accepted = accepted_after laws history entry change one now in
       let still = offered_intake laws history before offers are by.file by.stamp accepted in
       let found = rest offers (subst (λ (w : World). AreOffered w offers) (sym (world_after laws history entry change one)) still) in
-      let offered : IsIn entry.changes offers = subst (λ (changes : List Change). IsIn changes offers) (sym one) (intake_offered laws history before offers are by.file by.stamp accepted) in
+      let offered : IsIn entry.changes offers
+      = subst (λ (changes : List Change). IsIn changes offers) (sym one) (intake_offered laws history before offers are by.file by.stamp accepted) in
       record {
         list = found.list;
         count = omega (arith, found.count, count);

@@ -71,16 +71,20 @@ module _ (laws : Laws) (edit : Edit) (history : List Entry) (count : ℕ) (begun
       }
 
   one : HasMadeOne edit history (history ++ (change_step history 0 edit.number (Create edit.path edit.text)).added) (suc count)
-  one = bool_cases (is_some (id_at (fold history) edit.path)) (λ b. HasMadeOne edit history (history ++ (change_step history 0 edit.number (Create edit.path edit.text)).added) (suc count))
+  one = bool_cases (is_some (id_at (fold history) edit.path))
+      (λ b. HasMadeOne edit history (history ++ (change_step history 0 edit.number (Create edit.path edit.text)).added) (suc count))
       (λ taken.
       let added : (change_step history 0 edit.number (Create edit.path edit.text)).added ≡ []
-      = ap (λ (r : Option ListRefusal). (step_unless r (λ place. None) history (create_entry edit)).added) (create_taken laws history begun.legal edit.path edit.text lawful taken) in
-      subst (λ (after : List Entry). HasMadeOne edit history after (suc count)) (sym (ap (λ (l : List Entry). history ++ l) added ∙ append-nil history)) (taken_one taken))
+      = ap (λ (r : Option ListRefusal). (step_unless r (λ place. None) history (create_entry edit)).added)
+      (create_taken laws history begun.legal edit.path edit.text lawful taken) in
+      subst (λ (after : List Entry). HasMadeOne edit history after (suc count)) (sym (ap (λ (l : List Entry). history ++ l) added ∙ append-nil history))
+      (taken_one taken))
       (λ free.
       let ids : next_id (fold history) ≤ 65536 = omega (arith, begun.ids) in
       let short : length history < 1048576 = omega (arith, begun.few) in
       let added : (change_step history 0 edit.number (Create edit.path edit.text)).added ≡ create_entry edit ∷ []
-      = ap (λ (r : Option ListRefusal). (step_unless r (λ place. None) history (create_entry edit)).added) (create_accepted laws history begun.legal edit.path edit.text lawful free ids short) in
+      = ap (λ (r : Option ListRefusal). (step_unless r (λ place. None) history (create_entry edit)).added)
+      (create_accepted laws history begun.legal edit.path edit.text lawful free ids short) in
       subst (λ (after : List Entry). HasMadeOne edit history after (suc count)) (sym (ap (λ (l : List Entry). history ++ l) added)) (made_one free))
 
 -- what the lines of creations leave, one after another

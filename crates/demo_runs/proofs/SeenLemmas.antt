@@ -79,7 +79,8 @@ module _ (laws : Laws) (history : List Entry) (legal : IsLegal history) where
       → option_map seen o ≡ option_map (written path text) (option_map seen o)
   shown_there path text aim id other None e = refl
   shown_there path text aim id other (Some file) e =
-      let apart : bytes_eq file.path path ≡ false = other_paths file.path path (λ same. other (laws.apart history id aim.id file aim.old legal e aim.found (same ∙ sym aim.same))) in
+      let apart : bytes_eq file.path path ≡ false
+      = other_paths file.path path (λ same. other (laws.apart history id aim.id file aim.old legal e aim.found (same ∙ sym aim.same))) in
       ap (λ b. Some (if b then with_content text (seen file) else seen file)) (sym apart)
 
   seen_write : (path text : List ℕ) → refusal_of (fold history) (Write path text) ≡ None → (id : ℕ)
@@ -94,12 +95,14 @@ module _ (laws : Laws) (history : List Entry) (legal : IsLegal history) where
       let is : file_of (effect_of world change) id ≡ (if id == aim.id then now else file_of world id)
       = law ∙ ap (λ (p : Put). if id == p.id then p.file else file_of world id) aim.put in
       bool_cases (id == aim.id)
-      (λ b. file_of (effect_of world change) id ≡ (if b then now else file_of world id) → seen_at (effect_of world change) id ≡ option_map (written path text) (seen_at world id))
+      (λ b. file_of (effect_of world change) id ≡ (if b then now else file_of world id)
+      → seen_at (effect_of world change) id ≡ option_map (written path text) (seen_at world id))
       (λ t whole.
       let here : id ≡ aim.id = eqb-true id aim.id t in
       let old : seen_at world id ≡ Some (seen aim.old) = ap (seen_at world) here ∙ ap (option_map seen) aim.found in
       let yes_path : bytes_eq aim.old.path path ≡ true = equal_paths aim.old.path path aim.same in
-      ap (option_map seen) whole ∙ ap (λ b. Some (if b then with_content text (seen aim.old) else seen aim.old)) (sym yes_path) ∙ ap (option_map (written path text)) (sym old))
+      ap (option_map seen) whole ∙ ap (λ b. Some (if b then with_content text (seen aim.old) else seen aim.old)) (sym yes_path)
+      ∙ ap (option_map (written path text)) (sym old))
       (λ f whole. ap (option_map seen) whole
       ∙ shown_there path text aim id (λ e. absurd (let t : (id == aim.id) ≡ true = eq-eqb id aim.id e in cc)) (file_of world id) refl)
       is
