@@ -1,22 +1,21 @@
 -- Which writes and creations go in.
-use Rattle.std.proofs.Common.{ℕ, zero, suc, ◌≡◌, ◌≢◌, ◌+◌, ◌<◌, ◌≤◌, Bool, true, false, not, List, [], ◌∷◌, ◌++◌, length, refl, ap, sym, ◌∙◌, subst, arith, append-nil, Some, None, lt-ltb}
+use Rattle.std.proofs.Common.{ℕ, ◌≡◌, ◌+◌, ◌<◌, ◌≤◌, Bool, true, false, not, List, [], ◌∷◌, length, refl, ap, sym, ◌∙◌, arith, Some, None}
 use Rattle.std.specs.Prelude.{◌==◌, nat_le, if◌then◌else◌, Option, option_map, is_none, is_some}
 use Rattle.std.specs.Option.{option_and_then}
-use Rattle.std.proofs.lemmas.Bool.{eqb-true, eq-eqb, ne_eqb, lt-leb}
+use Rattle.std.proofs.lemmas.Bool.{eq-eqb, ne_eqb, lt-leb}
 use Rattle.list_laws.proofs.BoolLemmas.{bool_cases}
-use Rattle.document_buf.specs.Document.{Document}
 use Rattle.write_history.specs.declared.change.Change.{Change}
 use Rattle.write_history.specs.declared.change.Change.TheVariants.{Create, Write}
 use Rattle.write_history.specs.declared.entry.Entry.{Entry}
 use Rattle.write_history.specs.declared.refusal.Refusal.{Refusal}
 use Rattle.write_history.specs.declared.refusal.Refusal.TheVariants.{PathTaken}
 use Rattle.write_history.specs.Path.{is_path}
-use Rattle.write_history.specs.World.{World, File, file_of, file_at, document_at, next_id, id_at}
+use Rattle.write_history.specs.World.{World, File, file_of, document_at, next_id, id_at}
 use Rattle.write_history.specs.Effect.{refusal_of, put_of, new_file, max_files, max_entries, is_unsaved}
-use Rattle.write_history.specs.Fold.{effect_of, list_refusal, ListRefusal, refusal_or, counted, fold, IsLegal}
+use Rattle.write_history.specs.Fold.{effect_of, list_refusal, refusal_or, counted, fold, IsLegal}
 use Rattle.demo_runs.specs.Alike.{Seen, seen, seen_at, IsClosed, IsLive}
 use Rattle.demo_runs.proofs.LawLemmas.{Laws}
-use Rattle.demo_runs.proofs.SeenLemmas.{is_there, world_after}
+use Rattle.demo_runs.proofs.SeenLemmas.{is_there}
 
 -- what is shown is of a live file
 pub shown_file : (o : Option File) (shown : Seen) → option_map seen o ≡ Some shown → (file : File) × (o ≡ Some file) × (seen file ≡ shown)

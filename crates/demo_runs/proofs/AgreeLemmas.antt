@@ -1,6 +1,6 @@
 -- A script whose lanes write different files: every run has the summary of the run on one thread.
-use Rattle.std.proofs.Common.{ℕ, zero, suc, ◌≡◌, ◌≢◌, ◌⊎◌, inl, inr, ⊎_elim, ◌+◌, ◌*◌, ◌<◌, ◌≤◌, Bool, true, false, cond, List, [], ◌∷◌, ◌++◌, length, map, All, refl, ap, sym, ◌∙◌, subst, arith, append_assoc, length-append, Some, None}
-use Rattle.std.specs.Prelude.{Option, option_map, ◌==◌}
+use Rattle.std.proofs.Common.{ℕ, zero, suc, ◌≡◌, ◌≢◌, ◌⊎◌, inl, inr, ⊎_elim, ◌+◌, ◌<◌, ◌≤◌, Bool, true, false, cond, List, [], ◌∷◌, ◌++◌, length, map, refl, ap, sym, ◌∙◌, subst, arith, append_assoc, length-append, Some, None}
+use Rattle.std.specs.Prelude.{Option, option_map}
 use Rattle.std.specs.List.{AllByRecursion, filter, flat_map}
 use Rattle.std.proofs.lemmas.Bool.{cases_order}
 use Rattle.std.proofs.lemmas.List.{append_cancel_left}
@@ -11,7 +11,7 @@ use Rattle.write_history.specs.declared.entry.Entry.{Entry}
 use Rattle.write_history.specs.declared.change.Change.{Change}
 use Rattle.write_history.specs.declared.change.Change.TheVariants.{Write}
 use Rattle.write_history.specs.Path.{is_path}
-use Rattle.write_history.specs.World.{World, next_id}
+use Rattle.write_history.specs.World.{next_id}
 use Rattle.write_history.specs.Effect.{max_entries}
 use Rattle.write_history.specs.Fold.{list_refusal, fold, IsLegal}
 use Rattle.script_lang.specs.declared.line.Line.{Line}
@@ -21,7 +21,7 @@ use Rattle.index_workers.specs.Work.{IsIntakeBy}
 use Rattle.transcripts.specs.declared.loaded.Loaded.{Loaded}
 use Rattle.transcripts.specs.declared.record.Record.{Record}
 use Rattle.transcripts.specs.Serial.{Done, Ended, done_from, lanes_from, before_last, last_from, run_of}
-use Rattle.transcripts.specs.Fits.{Mark, mark_at, SectionFits, FitsLane, LanesFit, WorkerFits, WorkersFit, made_by, run_beside, IsSeatOf, RunFits}
+use Rattle.transcripts.specs.Fits.{Mark, mark_at, SectionFits, WorkerFits, WorkersFit, made_by, IsSeatOf, RunFits}
 use Rattle.transcripts.specs.Transcript.{summary_text, summary_of}
 use Rattle.demo_runs.specs.Apart.{Edit, Question, create_line, write_line, ask_line, settle_line, IsAmong, IsOfAll, WritesApart}
 use Rattle.demo_runs.specs.Alike.{Seen, seen_at, seen_after_all, IsAlike, IsClosed, IsLive, IsOneEdit}
@@ -29,9 +29,9 @@ use Rattle.demo_runs.proofs.LawLemmas.{Laws, SettleLaws}
 use Rattle.demo_runs.proofs.SeenLemmas.{seen_all, ids_all, closed_all, live_all}
 use Rattle.demo_runs.proofs.AcceptLemmas.{write_accepted}
 use Rattle.demo_runs.proofs.PreludeLemmas.{HasBegun, HasMadeAll, prelude_makes}
-use Rattle.demo_runs.proofs.LaneLemmas.{write_entry, IsWriteBy, AreWrites, section_writes, section_whole, writes_edit, GoesIn, lane_goes_in}
+use Rattle.demo_runs.proofs.LaneLemmas.{write_entry, IsWriteBy, AreWrites, section_writes, section_whole, writes_edit, lane_goes_in}
 use Rattle.demo_runs.proofs.CountLemmas.{AreIn, no_more, by_places, apart_by_places, by_seats, seats_bound}
-use Rattle.demo_runs.proofs.OfferLemmas.{IsBeside, of_first, of_second, of_worker, beside_edits, Offers, offers_of, IsOfferedBy, AllOffered, all_offered}
+use Rattle.demo_runs.proofs.OfferLemmas.{IsBeside, of_first, of_second, of_worker, beside_edits, offers_of, IsOfferedBy, AllOffered, all_offered}
 use Rattle.demo_runs.proofs.MiddleLemmas.{by_lanes, lanes_commute, AllCommute, seen_after_both}
 use Rattle.demo_runs.proofs.LastLemmas.{last_agrees}
 

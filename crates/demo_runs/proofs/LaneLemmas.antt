@@ -1,10 +1,9 @@
 -- What a lane of writes makes: at most one entry a line, and one for each where all go in.
-use Rattle.std.proofs.Common.{ℕ, zero, suc, ◌≡◌, ◌⊎◌, inl, inr, ◌+◌, ◌<◌, ◌≤◌, Bool, true, false, List, [], ◌∷◌, ◌++◌, length, map, refl, ap, sym, ◌∙◌, subst, arith, append-nil, append_assoc, length-append, Some, None}
+use Rattle.std.proofs.Common.{ℕ, suc, ◌≡◌, ◌⊎◌, inl, inr, ◌+◌, ◌≤◌, Bool, List, [], ◌∷◌, ◌++◌, length, map, refl, ap, sym, ◌∙◌, subst, arith, append-nil, append_assoc, length-append, Some, None}
 use Rattle.std.specs.Prelude.{Option}
 use Rattle.std.specs.List.{AllByRecursion}
 use Rattle.list_laws.specs.Fronts.{IsFront}
 use Rattle.list_laws.proofs.FrontLemmas.{front_trans}
-use Rattle.write_history.specs.declared.change.Change.{Change}
 use Rattle.write_history.specs.declared.change.Change.TheVariants.{Write}
 use Rattle.write_history.specs.declared.entry.Entry.{Entry}
 use Rattle.write_history.specs.Effect.{max_entries}
@@ -15,7 +14,7 @@ use Rattle.transcripts.specs.declared.loaded.Loaded.TheVariants.{Nothing}
 use Rattle.transcripts.specs.declared.record.Answer.{Answer}
 use Rattle.transcripts.specs.declared.record.Record.{Record}
 use Rattle.transcripts.specs.Serial.{Step, step_unless, change_step, done_from}
-use Rattle.transcripts.specs.Fits.{Mark, IsDone, IsGivenUp, Fits, FitsFirst, SectionFits}
+use Rattle.transcripts.specs.Fits.{Mark, Fits, SectionFits}
 use Rattle.demo_runs.specs.Apart.{Edit, write_line}
 use Rattle.demo_runs.specs.Alike.{IsClosed, IsLive, IsOneEdit}
 use Rattle.demo_runs.proofs.LawLemmas.{Laws}

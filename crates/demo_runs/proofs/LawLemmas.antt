@@ -1,9 +1,8 @@
 -- The laws of histories on which the lemmas rest, as their functions tell them.
-use Rattle.std.proofs.Common.{ℕ, ◌≡◌, ◌+◌, ◌<◌, ◌≤◌, Bool, true, false, List, [], ◌∷◌, ◌++◌, length, Some, None}
-use Rattle.std.specs.Prelude.{◌==◌, if◌then◌else◌, Option, option_map}
+use Rattle.std.proofs.Common.{ℕ, ◌≡◌, ◌+◌, ◌<◌, ◌≤◌, false, List, [], ◌∷◌, ◌++◌, length, Some, None}
+use Rattle.std.specs.Prelude.{◌==◌, if◌then◌else◌}
 use Rattle.write_history.specs.declared.change.Change.{Change}
 use Rattle.write_history.specs.declared.entry.Entry.{Entry}
-use Rattle.write_history.specs.declared.refusal.Refusal.{Refusal}
 use Rattle.write_history.specs.World.{World, File, file_of, next_id, id_at, is_unready, lowest_unready, unready_ids}
 use Rattle.write_history.specs.Effect.{Put, put_of, refusal_of, max_entries}
 use Rattle.write_history.specs.Fold.{after_put, effect_of, list_refusal, ListRefusal, fold, fold_from, IsLegal, IsLegalFrom}

@@ -6,6 +6,8 @@ pub mod LaneLemmas
 pub mod CountLemmas
 pub mod OfferLemmas
 pub mod MiddleLemmas
+pub mod SameLemmas
+pub mod SettleLemmas
 pub mod LastLemmas
 pub mod AgreeLemmas
 pub mod PathLemmas

@@ -1,18 +1,15 @@
 -- Writes of different files may go in in any order.
-use Rattle.std.proofs.Common.{ℕ, zero, suc, ◌≡◌, ◌≢◌, ◌+◌, ◌<◌, ◌≤◌, Bool, true, false, List, [], ◌∷◌, ◌++◌, length, map, refl, ap, sym, ◌∙◌, subst, arith}
+use Rattle.std.proofs.Common.{ℕ, ◌≡◌, ◌≢◌, Bool, true, false, List, [], ◌∷◌, ◌++◌, map, refl, ap, sym, ◌∙◌, subst, arith}
 use Rattle.std.specs.Prelude.{if◌then◌else◌, bytes_eq}
 use Rattle.std.specs.List.{AllByRecursion}
 use Rattle.std.specs.Cmp.Lexicographic.{bytes_decides}
 use Rattle.list_laws.proofs.BoolLemmas.{bool_cases}
-use Rattle.write_history.specs.declared.change.Change.{Change}
-use Rattle.write_history.specs.declared.change.Change.TheVariants.{Write, Intake}
 use Rattle.write_history.specs.declared.entry.Entry.{Entry}
-use Rattle.index_workers.specs.Work.{IsIntakeBy}
 use Rattle.transcripts.specs.Fits.{made_by}
 use Rattle.demo_runs.specs.Apart.{Edit}
-use Rattle.demo_runs.specs.Alike.{Seen, with_content, written, seen_after, seen_after_list, seen_after_all}
+use Rattle.demo_runs.specs.Alike.{Seen, with_content, written, seen_after_list, seen_after_all}
 use Rattle.demo_runs.proofs.SeenLemmas.{other_paths}
-use Rattle.demo_runs.proofs.LaneLemmas.{write_entry, IsWriteBy}
+use Rattle.demo_runs.proofs.LaneLemmas.{write_entry}
 use Rattle.demo_runs.proofs.CountLemmas.{made_here, made_there}
 use Rattle.demo_runs.proofs.OfferLemmas.{IsBeside, of_first, of_second, of_worker}
 

@@ -1,8 +1,7 @@
 -- The intakes of a history are among few: one for each file that stood before, and one for each write.
-use Rattle.std.proofs.Common.{ℕ, zero, suc, ◌≡◌, ◌≢◌, ◌⊎◌, inl, inr, ⊎_elim, ◌+◌, ◌<◌, ◌≤◌, Bool, true, false, cond, not, List, [], ◌∷◌, ◌++◌, length, refl, ap, sym, ◌∙◌, subst, arith, append_assoc, Some, None}
+use Rattle.std.proofs.Common.{ℕ, zero, suc, ◌≡◌, inl, inr, ⊎_elim, ◌+◌, ◌<◌, ◌≤◌, Bool, true, false, not, List, [], ◌∷◌, ◌++◌, length, refl, ap, sym, ◌∙◌, subst, arith, append_assoc, Some, None}
 use Rattle.std.specs.Prelude.{◌==◌, Option, option_map, is_none, if◌then◌else◌}
 use Rattle.std.specs.List.{AllByRecursion}
-use Rattle.std.specs.Option.{option_map_or}
 use Rattle.std.proofs.lemmas.Bool.{eqb-true, cases_lt}
 use Rattle.list_laws.proofs.BoolLemmas.{bool_cases}
 use Rattle.write_history.specs.declared.change.Change.{Change}
@@ -17,8 +16,8 @@ use Rattle.index_workers.specs.Work.{IsIntakeBy}
 use Rattle.transcripts.specs.Fits.{made_by}
 use Rattle.demo_runs.specs.Alike.{IsOneEdit}
 use Rattle.demo_runs.proofs.LawLemmas.{Laws}
-use Rattle.demo_runs.proofs.SeenLemmas.{first_fails, is_there, world_after, accepted_after, Target, target}
-use Rattle.demo_runs.proofs.LaneLemmas.{IsWriteBy, write_entry}
+use Rattle.demo_runs.proofs.SeenLemmas.{first_fails, is_there, world_after, accepted_after, target}
+use Rattle.demo_runs.proofs.LaneLemmas.{IsWriteBy}
 use Rattle.demo_runs.proofs.CountLemmas.{IsIn, made_here, made_there}
 
 -- what stands behind the prelude and before the last section: a write of one of two lanes, or a worker's intake

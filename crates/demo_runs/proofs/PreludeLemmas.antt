@@ -1,14 +1,13 @@
 -- What the prelude leaves: its paths are live, and no file is open.
-use Rattle.std.proofs.Common.{ℕ, zero, suc, ◌≡◌, ◌⊎◌, inl, inr, ◌+◌, ◌<◌, ◌≤◌, Bool, true, false, List, [], ◌∷◌, ◌++◌, length, map, refl, ap, sym, ◌∙◌, subst, arith, append-nil, length-append, Some, None}
+use Rattle.std.proofs.Common.{ℕ, suc, ◌≡◌, ◌⊎◌, inl, inr, ◌+◌, ◌<◌, ◌≤◌, true, false, List, [], ◌∷◌, ◌++◌, length, map, refl, ap, sym, ◌∙◌, subst, arith, append-nil, length-append, None}
 use Rattle.std.specs.Prelude.{Option, is_some}
 use Rattle.std.specs.List.{AllByRecursion}
 use Rattle.list_laws.proofs.BoolLemmas.{bool_cases}
-use Rattle.write_history.specs.declared.change.Change.{Change}
 use Rattle.write_history.specs.declared.change.Change.TheVariants.{Create}
 use Rattle.write_history.specs.declared.entry.Entry.{Entry}
 use Rattle.write_history.specs.Path.{is_path}
-use Rattle.write_history.specs.World.{World, next_id, id_at}
-use Rattle.write_history.specs.Fold.{list_refusal, ListRefusal, fold, IsLegal}
+use Rattle.write_history.specs.World.{next_id, id_at}
+use Rattle.write_history.specs.Fold.{ListRefusal, fold, IsLegal}
 use Rattle.ide_home.specs.Settle.{entry_of}
 use Rattle.transcripts.specs.declared.record.Record.{Record}
 use Rattle.transcripts.specs.Serial.{Step, step_unless, change_step, done_from}

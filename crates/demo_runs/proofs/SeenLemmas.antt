@@ -1,22 +1,19 @@
 -- What a history of writes and intakes makes of what each file shows.
-use Rattle.std.proofs.Common.{ℕ, zero, suc, ◌≡◌, ◌≢◌, ◌+◌, ◌<◌, ◌≤◌, Bool, true, false, not, List, [], ◌∷◌, ◌++◌, length, refl, ap, sym, ◌∙◌, subst, arith, append_assoc, append-nil, add-zero, Some, None}
-use Rattle.std.specs.Prelude.{◌==◌, if◌then◌else◌, Option, option_map, is_none, is_some, unwrap_or, bytes_eq}
-use Rattle.std.specs.Option.{option_map_or, option_and_then}
+use Rattle.std.proofs.Common.{ℕ, ◌≡◌, ◌≢◌, Bool, true, false, List, [], ◌∷◌, ◌++◌, refl, ap, sym, ◌∙◌, subst, append_assoc, append-nil, add-zero, Some, None}
+use Rattle.std.specs.Prelude.{◌==◌, if◌then◌else◌, Option, option_map, is_none, unwrap_or, bytes_eq}
+use Rattle.std.specs.Option.{option_and_then}
 use Rattle.std.specs.List.{AllByRecursion}
 use Rattle.std.specs.Cmp.Lexicographic.{bytes_decides}
-use Rattle.std.proofs.lemmas.Bool.{eqb-true, eq-eqb, ne_eqb}
-use Rattle.list_laws.specs.Fronts.{IsFront}
+use Rattle.std.proofs.lemmas.Bool.{eqb-true, eq-eqb}
 use Rattle.list_laws.proofs.BoolLemmas.{bool_cases}
-use Rattle.document_buf.specs.Document.{Document}
 use Rattle.write_history.specs.declared.change.Change.{Change}
 use Rattle.write_history.specs.declared.change.Change.TheVariants.{Create, Write, Delete, OpenDoc, Insert, Erase, Commit, Save, CloseDoc, Intake, Move}
 use Rattle.write_history.specs.declared.entry.Entry.{Entry}
 use Rattle.write_history.specs.declared.refusal.Refusal.{Refusal}
 use Rattle.write_history.specs.World.{World, File, file_of, next_id, id_at}
 use Rattle.write_history.specs.Effect.{Put, put_of, refusal_of, rewritten, taken_in}
-use Rattle.write_history.specs.Fold.{effect_of, effects_of, list_refusal, ListRefusal, refusal_or, counted, after_list, fold, fold_from, IsLegal}
-use Rattle.write_history.specs.Stamps.{files_made}
-use Rattle.demo_runs.specs.Alike.{Seen, seen, seen_at, IsAlike, IsClosed, IsLive, with_content, written, seen_after, seen_after_list, seen_after_all, IsEdit, IsOneEdit}
+use Rattle.write_history.specs.Fold.{effect_of, list_refusal, ListRefusal, refusal_or, counted, after_list, fold, IsLegal}
+use Rattle.demo_runs.specs.Alike.{Seen, seen, seen_at, IsClosed, IsLive, with_content, written, seen_after, seen_after_list, seen_after_all, IsEdit, IsOneEdit}
 use Rattle.demo_runs.proofs.LawLemmas.{Laws}
 
 -- ---- small steps on options and tests
