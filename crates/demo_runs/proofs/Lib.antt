@@ -1,3 +1,8 @@
+pub mod PlainLemmas
+pub mod SpellLemmas
+pub mod SpelledLines
+pub mod DemoScript
+pub mod RefusedLemmas
 pub mod LawLemmas
 pub mod SeenLemmas
 pub mod AcceptLemmas

@@ -1,15 +1,17 @@
 //! Laws of demos that callers rest on: functions that do nothing, whose contracts are the laws.
-ghost use Rattle.std.specs.Prelude.{ℕ, ◌≡◌, ◌<◌, ◌≤◌, ⊥, List};
+ghost use Rattle.std.specs.Prelude.{ℕ, ◌≡◌, ◌<◌, ◌≤◌, List};
 ghost use Rattle.demo.specs.Script.{demo_bytes};
 ghost use Rattle.script_lang.specs.Grammar.{IsScript, IsRefused};
 ghost use Rattle.script_lang.specs.Parts.{Parts};
 ghost use Rattle.script_lang.specs.declared.refusal.ScriptRefusal.TheVariants.{BadLine};
 ghost use Rattle.demo_runs.specs.Parts.{demo_parts};
 
-/// The bytes of a demo spell its script.
+/// The bytes of a demo spell its script, and no other one.
 pub fn a_demo_is_lawful()
-    ensures { (seed : ℕ) (files : ℕ) (edits : ℕ) → 0 < files → files ≤ 10000 → edits ≤ 50000
+    ensures script { (seed : ℕ) (files : ℕ) (edits : ℕ) → 0 < files → files ≤ 10000 → edits ≤ 50000
         → IsScript (demo_bytes seed files edits) (demo_parts seed files edits) }
+    ensures only { (seed : ℕ) (files : ℕ) (edits : ℕ) (script : Parts) → 0 < files → files ≤ 10000 → edits ≤ 50000
+        → IsScript (demo_bytes seed files edits) script → script ≡ demo_parts seed files edits }
 {}
 
 /// Bytes spell one script at most.
