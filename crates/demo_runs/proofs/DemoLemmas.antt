@@ -1,5 +1,5 @@
 -- The script of a demo has two lanes that write different files, all of which its prelude makes.
-use Rattle.std.proofs.Common.{ℕ, zero, suc, ◌≡◌, ◌≢◌, ◌⊎◌, inl, inr, ◌+◌, ◌*◌, ◌%◌, ◌<◌, ◌≤◌, Bool, true, false, cond, not, List, [], ◌∷◌, ◌++◌, length, map, filter, codes, refl, ap, sym, ◌∙◌, subst, arith, length-append}
+use Rattle.std.proofs.Common.{ℕ, zero, suc, ◌≡◌, ◌≢◌, inl, inr, ◌+◌, ◌*◌, ◌%◌, ◌<◌, ◌≤◌, Bool, true, false, cond, not, List, [], ◌∷◌, ◌++◌, length, map, filter, codes, refl, ap, sym, ◌∙◌, subst, arith, length-append}
 use Rattle.std.specs.Prelude.{◌==◌}
 use Rattle.std.specs.List.{AllByRecursion}
 use Rattle.std.proofs.lemmas.Bool.{eqb-true, eq-eqb}
@@ -15,8 +15,7 @@ use Rattle.demo.specs.Script.{edits_of}
 use Rattle.write_history.specs.Path.{is_path}
 use Rattle.queries.specs.declared.query.Query.TheVariants as query
 use Rattle.script_lang.specs.declared.line.Line.{Line}
-use Rattle.script_lang.specs.Parts.{Parts}
-use Rattle.demo_runs.specs.Apart.{Edit, Question, WritesApart, IsAmong, IsOfAll, create_line, write_line}
+use Rattle.demo_runs.specs.Apart.{Edit, WritesApart, IsAmong, create_line, write_line}
 use Rattle.demo_runs.specs.Parts.{demo_parts, lines_from, first_lane, second_lane, first_lane_begins, second_lane_begins, last_begins}
 use Rattle.demo_runs.proofs.PathLemmas.{path_tells, path_lawful}
 
