@@ -1,5 +1,5 @@
 -- Parts of a round: one more, what all have done, and what is kept of them.
-use Rattle.std.proofs.Common.{◌≡◌, ◌≢◌, ℕ, zero, suc, ◌+◌, ◌<◌, ◌≤◌, List, [], ◌∷◌, ◌++◌, length, get_or, All, Some, sym, refl, ap, ◌∙◌, subst, arith, append-nil, append_assoc, length-append}
+use Rattle.std.proofs.Common.{◌≡◌, ◌≢◌, ℕ, zero, suc, ◌+◌, ◌<◌, ◌≤◌, Bool, List, [], ◌∷◌, ◌++◌, length, get_or, All, Some, sym, refl, ap, ◌∙◌, subst, arith, append-nil, append_assoc, length-append}
 use Rattle.std.specs.List.{flat_map}
 use Rattle.std.proofs.lemmas.List.Concat.{flat_map-append}
 use Rattle.std.proofs.lemmas.List.Elements.{All-append}
@@ -22,7 +22,6 @@ use Rattle.playing.specs.declared.part.Outcome.{Outcome}
 use Rattle.playing.specs.declared.part.Part.{Part}
 use Rattle.playing.specs.declared.part.Task.{Task}
 use Rattle.playing.specs.declared.part.Task.TheVariants.{Lane, Worker}
-use Rattle.playing.specs.declared.round.Round.{Round}
 use Rattle.playing.specs.Parts.{AllFrom, IsTaskOf, IsTaskAt, CanRun, CanMeet, IsBegun, HasBegun, HasDoneTask, HasRun, HasMet, HasTaken, HaveTaken, IsWhole, kept_of, records_of, worked_of}
 use Rattle.playing.proofs.ViewLemmas.{HasMetAll}
 
@@ -35,13 +34,13 @@ all_from_push P place (y ∷ ys) x all last =
     (all.0, all_from_push P (suc place) ys x all.1 (subst (λ (n : ℕ). P n x) same last))
 
 -- before the first
-pub none_begun : (ide : SharedIde) (round : Round) (v : View Entry) → HasBegun ide round v v []
-none_begun ide round v = record { number = refl; drawn = omega arith; seen = refl; mine = refl; ended = refl; each = tt }
+pub none_begun : (ide : SharedIde) (lanes : ℕ) (v : View Entry) → HasBegun ide lanes v v []
+none_begun ide lanes v = record { number = refl; drawn = omega arith; seen = refl; mine = refl; ended = refl; each = tt }
 
 -- one more
-pub begun_more : (ide : SharedIde) (round : Round) (v x y : View Entry) (parts : List Part) (p : Part) → HasBegun ide round v x parts → y ≡ splitting x
-    → IsIdePassOf ide p.pass → ide_view p.pass ≡ split_off x → IsTaskAt round (length parts) p.task → HasBegun ide round v y (parts ++ p ∷ [])
-begun_more ide round v x y parts p begun gives rests is task =
+pub begun_more : (ide : SharedIde) (lanes : ℕ) (v x y : View Entry) (parts : List Part) (p : Part) → HasBegun ide lanes v x parts → y ≡ splitting x
+    → IsIdePassOf ide p.pass → ide_view p.pass ≡ split_off x → IsTaskAt lanes (length parts) p.task → HasBegun ide lanes v y (parts ++ p ∷ [])
+begun_more ide lanes v x y parts p begun gives rests is task =
     let number : y.number ≡ x.number = ap (λ (u : View Entry). u.number) gives in
     let drawn : y.drawn ≡ x.drawn + 1 = ap (λ (u : View Entry). u.drawn) gives in
     let seen : y.seen ≡ x.seen = ap (λ (u : View Entry). u.seen) gives in
@@ -49,7 +48,7 @@ begun_more ide round v x y parts p begun gives rests is task =
     let ended : y.ended ≡ x.ended = ap (λ (u : View Entry). u.ended) gives in
     let view : split_off x ≡ fresh (Some (v.drawn + length parts)) 0 v.seen =
         ap (λ (n : ℕ). fresh (Some n) 0 x.seen) begun.drawn ∙ ap (λ (l : List Entry). fresh (Some (v.drawn + length parts)) 0 l) begun.seen in
-    let here : IsBegun ide round v (length parts) p = record { rests = rests; view = is ∙ view; task = task } in
+    let here : IsBegun ide lanes v (length parts) p = record { rests = rests; view = is ∙ view; task = task } in
     let place : length parts ≡ 0 + length parts = omega arith in
     record {
       number = number ∙ begun.number;
@@ -57,51 +56,50 @@ begun_more ide round v x y parts p begun gives rests is task =
       seen = seen ∙ begun.seen;
       mine = mine ∙ begun.mine;
       ended = ended ∙ begun.ended;
-      each = all_from_push (IsBegun ide round v) 0 parts p begun.each (subst (λ (n : ℕ). IsBegun ide round v n p) place here);
+      each = all_from_push (IsBegun ide lanes v) 0 parts p begun.each (subst (λ (n : ℕ). IsBegun ide lanes v n p) place here);
     }
 
 -- ---- all are run
 
-can_run_one : (lanes : List (List Line)) (round : Round) (place : ℕ) (task : Task) → IsTaskAt round place task → round.first + round.lanes ≤ length lanes → IsTaskOf lanes task
-can_run_one lanes round place (Lane index) is inside = omega (arith, is.0, is.1)
-can_run_one lanes round place Worker is inside = tt
+can_run_one : (lanes : List (List Line)) (place : ℕ) (task : Task) → IsTaskAt (length lanes) place task → IsTaskOf lanes task
+can_run_one lanes place (Lane index) is = omega (arith, is.0, is.1)
+can_run_one lanes place Worker is = tt
 
 -- parts that were begun may be run
-pub can_run : (ide : SharedIde) (script : Parts) (round : Round) (v : View Entry) (place : ℕ) (parts : List Part) → round.first + round.lanes ≤ length script.lanes
-    → AllFrom (IsBegun ide round v) place parts → All (CanRun ide script) parts
-can_run ide script round v place [] inside begun = λ k d less. absurd (omega arith)
-can_run ide script round v place (p ∷ ps) inside begun = All-cons (CanRun ide script) p ps
-    (record { rests = begun.0.rests; task = can_run_one script.lanes round place p.task begun.0.task inside })
-    (can_run ide script round v (suc place) ps inside begun.1)
+pub can_run : (ide : SharedIde) (script : Parts) (v : View Entry) (place : ℕ) (parts : List Part) → AllFrom (IsBegun ide (length script.lanes) v) place parts → All (CanRun ide script) parts
+can_run ide script v place [] begun = λ k d less. absurd (omega arith)
+can_run ide script v place (p ∷ ps) begun = All-cons (CanRun ide script) p ps
+    (record { rests = begun.0.rests; task = can_run_one script.lanes place p.task begun.0.task })
+    (can_run ide script v (suc place) ps begun.1)
 
 -- the part at this place has run
-pub record IsRun (ide : SharedIde) (lanes : List (List Line)) (round : Round) (v : View Entry) (place : ℕ) (p : Part) : Type 0 where
+pub record IsRun (ide : SharedIde) (lanes : List (List Line)) (beside : Bool) (v : View Entry) (place : ℕ) (p : Part) : Type 0 where
   pub rests : IsIdePassOf ide p.pass
   pub task : Task
-  pub is_task : IsTaskAt round place task
+  pub is_task : IsTaskAt (length lanes) place task
   pub advances : Advances (fresh (Some (v.drawn + place)) 0 v.seen) (ide_view p.pass)
-  pub done : HasDoneTask lanes round.beside task (fresh (Some (v.drawn + place)) 0 v.seen) (ide_view p.pass) p.outcome
+  pub done : HasDoneTask lanes beside task (fresh (Some (v.drawn + place)) 0 v.seen) (ide_view p.pass) p.outcome
 
-run_one : (ide : SharedIde) (script : Parts) (round : Round) (v : View Entry) (place : ℕ) (p q : Part) → IsBegun ide round v place p
-    → HasRun ide script round.beside p q → IsRun ide script.lanes round v place q
-run_one ide script round v place p q begun run = record {
+run_one : (ide : SharedIde) (script : Parts) (beside : Bool) (v : View Entry) (place : ℕ) (p q : Part) → IsBegun ide (length script.lanes) v place p
+    → HasRun ide script beside p q → IsRun ide script.lanes beside v place q
+run_one ide script beside v place p q begun run = record {
   rests = run.rests;
   task = p.task;
   is_task = begun.task;
   advances = subst (λ (u : View Entry). Advances u (ide_view q.pass)) begun.view run.advances;
-  done = subst (λ (u : View Entry). HasDoneTask script.lanes round.beside p.task u (ide_view q.pass) q.outcome) begun.view run.done;
+  done = subst (λ (u : View Entry). HasDoneTask script.lanes beside p.task u (ide_view q.pass) q.outcome) begun.view run.done;
 }
 
 -- all have run
-pub all_run : (ide : SharedIde) (script : Parts) (round : Round) (v : View Entry) (place : ℕ) (ps qs : List Part) → length qs ≡ length ps
-    → AllFrom (IsBegun ide round v) place ps → ((k : ℕ) (d : Part) → k < length ps → HasRun ide script round.beside (get_or ps k d) (get_or qs k d))
-    → AllFrom (IsRun ide script.lanes round v) place qs
-all_run ide script round v place [] [] same begun run = tt
-all_run ide script round v place [] (q ∷ qs) same begun run = absurd (omega arith)
-all_run ide script round v place (p ∷ ps) [] same begun run = absurd (omega arith)
-all_run ide script round v place (p ∷ ps) (q ∷ qs) same begun run =
-    (run_one ide script round v place p q begun.0 (run 0 p (omega arith)),
-    all_run ide script round v (suc place) ps qs (omega arith) begun.1 (λ k d less. run (suc k) d (omega arith)))
+pub all_run : (ide : SharedIde) (script : Parts) (beside : Bool) (v : View Entry) (place : ℕ) (ps qs : List Part) → length qs ≡ length ps
+    → AllFrom (IsBegun ide (length script.lanes) v) place ps → ((k : ℕ) (d : Part) → k < length ps → HasRun ide script beside (get_or ps k d) (get_or qs k d))
+    → AllFrom (IsRun ide script.lanes beside v) place qs
+all_run ide script beside v place [] [] same begun run = tt
+all_run ide script beside v place [] (q ∷ qs) same begun run = absurd (omega arith)
+all_run ide script beside v place (p ∷ ps) [] same begun run = absurd (omega arith)
+all_run ide script beside v place (p ∷ ps) (q ∷ qs) same begun run =
+    (run_one ide script beside v place p q begun.0 (run 0 p (omega arith)),
+    all_run ide script beside v (suc place) ps qs (omega arith) begun.1 (λ k d less. run (suc k) d (omega arith)))
 
 -- ---- all are met
 
@@ -109,12 +107,12 @@ other_number : (n m : ℕ) → 1 ≤ n → Some (n + m) ≢ Some 0
 other_number n m some same = let is : n + m ≡ 0 = cc in omega arith
 
 -- parts that have run may be met
-pub can_meet : (ide : SharedIde) (lanes : List (List Line)) (round : Round) (v : View Entry) (place : ℕ) (parts : List Part) → 1 ≤ v.drawn
-    → AllFrom (IsRun ide lanes round v) place parts → All (CanMeet ide) parts
-can_meet ide lanes round v place [] some run = λ k d less. absurd (omega arith)
-can_meet ide lanes round v place (p ∷ ps) some run = All-cons (CanMeet ide) p ps
+pub can_meet : (ide : SharedIde) (lanes : List (List Line)) (beside : Bool) (v : View Entry) (place : ℕ) (parts : List Part) → 1 ≤ v.drawn
+    → AllFrom (IsRun ide lanes beside v) place parts → All (CanMeet ide) parts
+can_meet ide lanes beside v place [] some run = λ k d less. absurd (omega arith)
+can_meet ide lanes beside v place (p ∷ ps) some run = All-cons (CanMeet ide) p ps
     (record { rests = run.0.rests; follows = λ same. other_number v.drawn place some (sym run.0.advances.number ∙ same) })
-    (can_meet ide lanes round v (suc place) ps some run.1)
+    (can_meet ide lanes beside v (suc place) ps some run.1)
 
 -- before the first
 pub none_met : (v : View Entry) → HasMet [] v v
@@ -171,12 +169,12 @@ kept_one v seat number ended = ap (λ n. end_of n v ++ v.ended) number ∙ ap (�
 end_at : (v : View Entry) (place : ℕ) (p : Part) → Ended Entry
 end_at v place p = record { number = v.drawn + place; entries = (ide_view p.pass).mine; sights = (ide_view p.pass).sights }
 
-module _ (ide : SharedIde) (lanes : List (List Line)) (round : Round) (v : View Entry) where
+module _ (ide : SharedIde) (lanes : List (List Line)) (beside : Bool) (v : View Entry) where
   kept : Part → List (Ended Entry)
   kept p = kept_of (ide_view p.pass)
 
   -- what is kept of the first, and of the others
-  kept_split : (place : ℕ) (p : Part) (ps : List Part) → IsRun ide lanes round v place p
+  kept_split : (place : ℕ) (p : Part) (ps : List Part) → IsRun ide lanes beside v place p
       → flat_map (λ (q : Part). kept_of (ide_view q.pass)) (p ∷ ps) ≡ end_at v place p ∷ flat_map (λ (q : Part). kept_of (ide_view q.pass)) ps
   unfolding end_at
   kept_split place p ps run =
@@ -184,13 +182,13 @@ module _ (ide : SharedIde) (lanes : List (List Line)) (round : Round) (v : View 
       (kept_one (ide_view p.pass) (v.drawn + place) run.advances.number run.advances.ended)
 
   -- one for each
-  pub kept_length : (place : ℕ) (parts : List Part) → AllFrom (IsRun ide lanes round v) place parts
+  pub kept_length : (place : ℕ) (parts : List Part) → AllFrom (IsRun ide lanes beside v) place parts
       → length (flat_map (λ (q : Part). kept_of (ide_view q.pass)) parts) ≡ length parts
   kept_length place [] run = refl
   kept_length place (p ∷ ps) run = ap length (kept_split place p ps run.0) ∙ ap suc (kept_length (suc place) ps run.1)
 
   -- their numbers are in order
-  pub kept_range : (low high place : ℕ) (parts : List Part) → AllFrom (IsRun ide lanes round v) place parts → low ≤ v.drawn + place
+  pub kept_range : (low high place : ℕ) (parts : List Part) → AllFrom (IsRun ide lanes beside v) place parts → low ≤ v.drawn + place
       → v.drawn + place + length parts ≤ high → All (λ (e : Ended Entry). (low ≤ e.number) × (e.number < high)) (flat_map (λ (q : Part). kept_of (ide_view q.pass)) parts)
   unfolding end_at
   kept_range low high place [] run from to = λ k d less. absurd (omega arith)
@@ -201,7 +199,7 @@ module _ (ide : SharedIde) (lanes : List (List Line)) (round : Round) (v : View 
       (kept_range low high (suc place) ps run.1 (omega arith) (omega arith)))
 
   -- number 0 has met all that were split off it since it had this view
-  pub met_all : (x w : View Entry) (parts : List Part) → HasBegun ide round v x parts → AllFrom (IsRun ide lanes round v) 0 parts → HasMet parts x w
+  pub met_all : (x w : View Entry) (parts : List Part) → HasBegun ide (length lanes) v x parts → AllFrom (IsRun ide lanes beside v) 0 parts → HasMet parts x w
       → HasMetAll (λ (e : Entry). e.seat) v w (flat_map (λ (q : Part). kept_of (ide_view q.pass)) parts)
   met_all x w parts begun run met =
       let all : List (Ended Entry) = flat_map (λ (q : Part). kept_of (ide_view q.pass)) parts in
@@ -216,7 +214,7 @@ module _ (ide : SharedIde) (lanes : List (List Line)) (round : Round) (v : View 
       }
 
   -- what holds of each that is kept holds of each part's own list
-  pub kept_each : (P : Ended Entry → Type 0) (place : ℕ) (p : Part) (ps : List Part) → IsRun ide lanes round v place p
+  pub kept_each : (P : Ended Entry → Type 0) (place : ℕ) (p : Part) (ps : List Part) → IsRun ide lanes beside v place p
       → All P (flat_map (λ (q : Part). kept_of (ide_view q.pass)) (p ∷ ps))
       → P (record { number = v.drawn + place; entries = (ide_view p.pass).mine; sights = (ide_view p.pass).sights })
       × All P (flat_map (λ (q : Part). kept_of (ide_view q.pass)) ps)

@@ -23,7 +23,6 @@ use Rattle.playing.specs.declared.part.Outcome.TheVariants.{Nothing, Answered, I
 use Rattle.playing.specs.declared.part.Part.{Part}
 use Rattle.playing.specs.declared.part.Task.{Task}
 use Rattle.playing.specs.declared.part.Task.TheVariants.{Lane, Worker}
-use Rattle.playing.specs.declared.round.Round.{Round}
 
 -- the index of a lane's part is that of one of these lanes
 abbrev pub IsTaskOf : List (List Line) → Task → Type 0
@@ -66,16 +65,16 @@ pub record HasRun (ide : SharedIde) (script : Parts) (beside : Bool) (p q : Part
   pub advances : Advances (ide_view p.pass) (ide_view q.pass)
   pub done : HasDoneTask script.lanes beside p.task (ide_view p.pass) (ide_view q.pass) q.outcome
 
--- what the part at this place of a round is for: lanes come first
-abbrev pub IsTaskAt : Round → ℕ → Task → Type 0
-IsTaskAt round place (Lane index) = (index ≡ round.first + place) × (place < round.lanes)
-IsTaskAt round place Worker = round.lanes ≤ place
+-- what the part at this place is for, where there are so many lanes: these come first
+abbrev pub IsTaskAt : (lanes place : ℕ) → Task → Type 0
+IsTaskAt lanes place (Lane index) = (index ≡ place) × (place < lanes)
+IsTaskAt lanes place Worker = lanes ≤ place
 
 -- the part at this place of a round that begins with this view has a number of its own, and has seen as much
-pub record IsBegun (ide : SharedIde) (round : Round) (v : View Entry) (place : ℕ) (p : Part) : Type 0 where
+pub record IsBegun (ide : SharedIde) (lanes : ℕ) (v : View Entry) (place : ℕ) (p : Part) : Type 0 where
   pub rests : IsIdePassOf ide p.pass
   pub view : ide_view p.pass ≡ fresh (Some (v.drawn + place)) 0 v.seen
-  pub task : IsTaskAt round place p.task
+  pub task : IsTaskAt lanes place p.task
 
 -- something holds of each element and its place, counted from this one on
 abbrev pub AllFrom : {A : Type 0} → (ℕ → A → Type 0) → ℕ → List A → Type 0
@@ -83,13 +82,13 @@ AllFrom P place [] = Unit {0}
 AllFrom P place (x ∷ xs) = P place x × AllFrom P (suc place) xs
 
 -- so many parts of a round were begun, and number 0 has given as many numbers
-pub record HasBegun (ide : SharedIde) (round : Round) (v w : View Entry) (parts : List Part) : Type 0 where
+pub record HasBegun (ide : SharedIde) (lanes : ℕ) (v w : View Entry) (parts : List Part) : Type 0 where
   pub number : w.number ≡ v.number
   pub drawn : w.drawn ≡ v.drawn + length parts
   pub seen : w.seen ≡ v.seen
   pub mine : w.mine ≡ v.mine
   pub ended : w.ended ≡ v.ended
-  pub each : AllFrom (IsBegun ide round v) 0 parts
+  pub each : AllFrom (IsBegun ide lanes v) 0 parts
 
 -- the pass of the part is one of this workspace, and not number 0
 pub record CanMeet (ide : SharedIde) (p : Part) : Type 0 where

@@ -1,15 +1,12 @@
 -- What a whole script leaves.
-use Rattle.std.specs.Prelude.{ℕ, ◌≤◌, ◌≡◌, List, [], length}
-use Rattle.action_lock.specs.declared.view.View.{View}
+use Rattle.std.specs.Prelude.{ℕ, ◌≤◌, ◌≡◌, List, length}
 use Rattle.write_history.specs.declared.entry.Entry.{Entry}
 use Rattle.write_history.specs.Effect.{max_entries}
 use Rattle.write_history.specs.Fold.{IsLegal}
-use Rattle.script_lang.specs.declared.line.Line.{Line}
 use Rattle.script_lang.specs.Parts.{Parts}
 use Rattle.transcripts.specs.declared.loaded.Loaded.{Loaded}
 use Rattle.transcripts.specs.declared.record.Record.{Record}
 use Rattle.transcripts.specs.Fits.{RunFits}
-use Rattle.transcripts.specs.Serial.{lanes_from, run_of}
 use Rattle.playing.specs.declared.answers.Answers.{Answers}
 
 -- the answers fit a history that is legal and no longer than may be, and tell of so many workers
@@ -17,11 +14,3 @@ pub record HasRunAll (loads : List Loaded) (script : Parts) (workers : ℕ) (his
   pub fits : IsLegal history → length history ≤ max_entries
       → RunFits loads script answers.workers.items (record { history = history; records = answers.records; last = last })
   pub count : length answers.workers.items ≡ workers
-
--- history and answers are those of going through the script on one thread
-pub record HasRunInTurn (loads : List Loaded) (script : Parts) (history : List Entry) (answers : Answers) (last : List Record) : Type 0 where
-  pub serial : record { history = history; records = answers.records; last = last } ≡ run_of loads script
-
--- history and records behind the lanes are those of going through the lanes on one thread
-pub record HasRunLanes (lanes : List (List Line)) (v w : View Entry) (old new : Answers) : Type 0 where
-  pub serial : lanes_from 1 (record { history = v.seen; records = old.records }) lanes ≡ record { history = w.seen; records = new.records }

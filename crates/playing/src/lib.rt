@@ -1,4 +1,4 @@
-//! A whole script, played over one shared workspace: its lanes and workers each on a thread of its own, or one after the other.
+//! A whole script, played over one shared workspace: its lanes and workers each on a thread of its own.
 #![tactic(auto)]
 
 mod answers;
@@ -8,4 +8,4 @@ mod round;
 mod run;
 
 pub use lane_gate::LaneGate;
-pub use run::{play, play_in_turn};
+pub use run::play;

@@ -1,9 +1,10 @@
-//! A round: some lanes of a script and some workers, each on a thread of its own, between two calls of number 0.
+//! A round: all lanes of a script and some workers, each on a thread of its own, between prelude and last section.
 ghost use Rattle.std.specs.Prelude.{◌≡◌, ℕ, ◌+◌, ◌<◌, ◌≤◌, Some, IfOk, OnOk, OnErr, All, length, slice_index_or};
+ghost use Rattle.transcripts.specs.Fits.{run_beside};
 ghost use Rattle.index_workers.specs.Passes.{ide_view, IsSameIdePass};
 ghost use Rattle.shared_ide.specs.Passes.{IsIdePassOf};
 ghost use Rattle.playing.specs.Parts.{CanRun, HasRun, IsTaskAt, HasBegun, CanMeet, HasMet, HaveTaken};
-ghost use Rattle.playing.specs.Rounds.{IsAlone, HasPlayed, lanes_of};
+ghost use Rattle.playing.specs.Rounds.{IsAlone, HasPlayed};
 
 use crate::answers::Answers;
 use crate::part::{Outcome, Part, Task, run_part};
@@ -15,55 +16,60 @@ use std::alloc::{AllocError, Global};
 use std::sync::Wait;
 use std::thread::{Threads, for_each_mut};
 
-/// Which lanes go beside one another, and how many workers beside them.
+/// How many lanes and workers go beside one another.
 #[derive(Clone, Copy, Debug, PartialEq, Eq)]
 pub(crate) struct Round {
-    /// The index of the first lane.
-    pub(crate) first: usize,
     pub(crate) lanes: usize,
     pub(crate) workers: usize,
-    /// Whether a soft question may be given up.
-    pub(crate) beside: bool,
 }
 
 impl Round {
+    /// Whether a lane has another lane or a worker beside it: only then may a soft question be given up.
+    fn beside(self) -> bool
+        requires { self.lanes + self.workers < 65536 }
+        ensures { result ≡ run_beside self.lanes self.workers }
+    {
+        1 < self.lanes + self.workers
+    }
+
     /// What the part at this place is for: lanes come first.
     fn task(self, place: usize) -> Task
-        requires { self.first + self.lanes < 65536 }
-        ensures { IsTaskAt self place result }
+        ensures { IsTaskAt self.lanes place result }
     {
         if place < self.lanes {
-            Task::Lane {
-                index: self.first + place,
-            }
+            Task::Lane { index: place }
         } else {
             Task::Worker
         }
     }
 }
 
-/// Plays a round. Its records and what its workers did are put behind the answers. Where memory is wanting, what was made
-/// so far stays. It may wait for ever.
+/// Plays all lanes of a script and so many workers. Their records and what the workers did are put behind the answers. Where
+/// memory is wanting, what was made so far stays. It may wait for ever.
 pub(crate) fn play_round<R: Threads + Wait + Sync, G: Gate + Sync>(
     rt: &R,
     alloc: Global,
     ide: &SharedIde,
     pass: &mut IdePass,
     script: &Script,
-    round: Round,
+    workers: u32,
     answers: &mut Answers,
     gate: &G,
 ) -> Result<(), AllocError>
     requires pass { IsIdePassOf ide.now pass.old }
     requires alone { IsAlone (ide_view pass.old) }
-    requires few { (ide_view pass.old).drawn + round.lanes + round.workers ≤ 65536 }
-    requires lanes { round.first + round.lanes ≤ length script.now.lanes }
+    requires one { (ide_view pass.old).drawn ≡ 1 }
+    requires few { workers ≤ 8 }
     ensures pass { IsIdePassOf ide.now pass.new × IsSameIdePass pass.old pass.new }
     ensures alone { IsAlone (ide_view pass.new) }
-    ensures played { OnOk result (HasPlayed round.beside (lanes_of round script.now.lanes) round.workers (ide_view pass.old) (ide_view pass.new) answers.old answers.new) }
+    ensures played { OnOk result (HasPlayed script.now.lanes workers (ide_view pass.old) (ide_view pass.new) answers.old answers.new) }
 {
+    let round = Round {
+        lanes: script.lanes(),
+        workers: workers as usize,
+    };
     let mut parts = begin_parts(alloc, ide, pass, round)?;
-    run_parts(rt, alloc, ide, script, round.beside, &mut parts, gate);
+    run_parts(rt, alloc, ide, script, round.beside(), &mut parts, gate);
     let met = meet_parts(ide, pass, parts, answers);
     ide.is_last(pass);
     met
@@ -79,9 +85,8 @@ fn begin_parts(
     requires pass { IsIdePassOf ide.now pass.old }
     requires leads { (ide_view pass.old).number ≡ Some 0 }
     requires few { (ide_view pass.old).drawn + round.lanes + round.workers ≤ 65536 }
-    requires lanes { round.first + round.lanes < 65536 }
     ensures pass { IsIdePassOf ide.now pass.new × IsSameIdePass pass.old pass.new }
-    ensures parts { IfOk result (λ parts. HasBegun ide.now round (ide_view pass.old) (ide_view pass.new) parts.items × (length parts.items ≡ round.lanes + round.workers)) }
+    ensures parts { IfOk result (λ parts. HasBegun ide.now round.lanes (ide_view pass.old) (ide_view pass.new) parts.items × (length parts.items ≡ round.lanes + round.workers)) }
     ensures none { OnErr result (ide_view pass.new ≡ ide_view pass.old) }
 {
     let count = round.lanes + round.workers;

@@ -1,17 +1,15 @@
 //! A whole script, played over one shared workspace.
 ghost use Rattle.std.specs.Prelude.{◌≡◌, ◌≤◌, [], All, IfOk, OnOk, length};
 ghost use Rattle.action_lock.specs.Views.{first_view};
-ghost use Rattle.write_history.specs.Fold.{IsLegal};
 ghost use Rattle.script_lang.specs.Held.{IsOfLine};
-ghost use Rattle.transcripts.specs.Serial.{run_of};
 ghost use Rattle.transcripts.specs.Fits.{RunFits};
 ghost use Rattle.index_workers.specs.Passes.{ide_view, IsSameIdePass};
 ghost use Rattle.shared_ide.specs.Passes.{IsIdePassOf};
 ghost use Rattle.playing.specs.Rounds.{IsAlone, HasDoneAlone};
-ghost use Rattle.playing.specs.Runs.{HasRunAll, HasRunInTurn, HasRunLanes};
+ghost use Rattle.playing.specs.Runs.{HasRunAll};
 
 use crate::answers::Answers;
-use crate::round::{Round, play_round};
+use crate::round::play_round;
 use action_lock::Gate;
 use index_workers::IdePass;
 use script_lang::{Line, Script};
@@ -20,7 +18,6 @@ use shared_ide::SharedIde;
 use std::alloc::{AllocError, Global};
 use std::sync::Wait;
 use std::thread::Threads;
-use transcripts::laws::a_section_alone_is_serial;
 use transcripts::{Loaded, Played, Records};
 
 /// The seat of the prelude and of the last section.
@@ -67,43 +64,6 @@ pub fn play<R: Threads + Wait + Sync, G: Gate + Sync>(
     })
 }
 
-/// Plays a script with no worker, its lanes one after the other.
-pub fn play_in_turn<R: Threads + Wait + Sync, G: Gate + Sync>(
-    rt: &R,
-    alloc: Global,
-    script: &Script,
-    loads: &[Loaded],
-    gate: &G,
-) -> Result<Played, AllocError>
-    ensures serial { IfOk result (λ played. record { history = played.history.entries; records = played.records; last = played.last }
-        ≡ run_of loads.now script.now) }
-    ensures legal { IfOk result (λ played. IsLegal played.history.entries) }
-{
-    let (ide, mut pass) = SharedIde::new(alloc)?;
-    let mut answers = Answers::new(alloc);
-    let mut last = Records::new(alloc);
-    let done = play_each(
-        rt,
-        alloc,
-        &ide,
-        &mut pass,
-        script,
-        loads,
-        &mut answers,
-        &mut last,
-        gate,
-    );
-    let history = ide.close(pass).into_history();
-    done?;
-    let Answers { records, workers } = answers;
-    Ok(Played {
-        history,
-        records,
-        last,
-        workers,
-    })
-}
-
 /// Plays a script on the first pass of a workspace, which is alone again in every case. Where memory is wanting, what was
 /// made so far stays. It may wait for ever.
 fn play_all<R: Threads + Wait + Sync, G: Gate + Sync>(
@@ -128,72 +88,8 @@ fn play_all<R: Threads + Wait + Sync, G: Gate + Sync>(
 {
     let prelude = script.prelude();
     do_alone(rt, alloc, ide, pass, prelude, loads, &mut answers.records, gate)?;
-    let lanes = script.lanes();
-    let workers = workers as usize;
-    let round = Round {
-        first: 0,
-        lanes,
-        workers,
-        beside: 1 < lanes + workers,
-    };
-    play_round(rt, alloc, ide, pass, script, round, answers, gate)?;
+    play_round(rt, alloc, ide, pass, script, workers, answers, gate)?;
     do_alone(rt, alloc, ide, pass, script.last(), &[], last, gate)
-}
-
-/// Plays a script on the first pass of a workspace, which is alone again in every case, its lanes one after the other. Where
-/// memory is wanting, what was made so far stays. It may wait for ever.
-fn play_each<R: Threads + Wait + Sync, G: Gate + Sync>(
-    rt: &R,
-    alloc: Global,
-    ide: &SharedIde,
-    pass: &mut IdePass,
-    script: &Script,
-    loads: &[Loaded],
-    answers: &mut Answers,
-    last: &mut Records,
-    gate: &G,
-) -> Result<(), AllocError>
-    requires pass { IsIdePassOf ide.now pass.old }
-    requires first { ide_view pass.old ≡ first_view }
-    requires no_answers { (answers.old.records ≡ []) × (last.old ≡ []) }
-    ensures pass { IsIdePassOf ide.now pass.new × IsSameIdePass pass.old pass.new }
-    ensures alone { IsAlone (ide_view pass.new) }
-    ensures run { OnOk result (HasRunInTurn loads.now script.now (ide_view pass.new).seen answers.new last.new) }
-{
-    let prelude = script.prelude();
-    do_alone(rt, alloc, ide, pass, prelude, loads, &mut answers.records, gate)?;
-    play_lanes(rt, alloc, ide, pass, script, answers, gate)?;
-    do_alone(rt, alloc, ide, pass, script.last(), &[], last, gate)
-}
-
-/// Plays the lanes of a script one after the other. It may wait for ever.
-fn play_lanes<R: Threads + Wait + Sync, G: Gate + Sync>(
-    rt: &R,
-    alloc: Global,
-    ide: &SharedIde,
-    pass: &mut IdePass,
-    script: &Script,
-    answers: &mut Answers,
-    gate: &G,
-) -> Result<(), AllocError>
-    requires pass { IsIdePassOf ide.now pass.old }
-    requires alone { IsAlone (ide_view pass.old) }
-    requires one { (ide_view pass.old).drawn ≡ 1 }
-    ensures pass { IsIdePassOf ide.now pass.new × IsSameIdePass pass.old pass.new }
-    ensures alone { IsAlone (ide_view pass.new) }
-    ensures run { OnOk result (HasRunLanes script.now.lanes (ide_view pass.old) (ide_view pass.new) answers.old answers.new) }
-{
-    a_section_alone_is_serial();
-    for first in 0..script.lanes() {
-        let round = Round {
-            first,
-            lanes: 1,
-            workers: 0,
-            beside: false,
-        };
-        play_round(rt, alloc, ide, pass, script, round, answers, gate)?;
-    }
-    Ok(())
 }
 
 /// Does the lines of the prelude or of the last section, while no other pass is out. It may wait for ever.
