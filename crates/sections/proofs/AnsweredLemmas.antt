@@ -1,5 +1,5 @@
 -- From what a call leaves of a pass's view to how the command of a line is answered.
-use Rattle.std.proofs.Common.{ℕ, ◌≡◌, ◌+◌, inl, inr, Bool, true, false, List, [], ◌∷◌, ◌++◌, length, refl, ap, sym, ◌∙◌, subst, arith, length-append, append-nil, Some, None, Option, Result, Ok, Err, IfOk, ⊎_elim}
+use Rattle.std.proofs.Common.{ℕ, ◌≡◌, ◌+◌, inl, inr, Bool, true, false, List, [], ◌∷◌, ◌++◌, length, refl, ap, sym, ◌∙◌, subst, arith, length-append, append-nil, Some, None, Option, Result, Ok, Err, IfOk}
 use Rattle.list_laws.proofs.FrontLemmas.{front_self}
 use Rattle.action_lock.specs.declared.view.View.{View}
 use Rattle.write_history.specs.declared.change.Change.{Change}
@@ -29,7 +29,7 @@ use Rattle.transcripts.specs.declared.loaded.Loaded.TheVariants as loaded
 use Rattle.transcripts.specs.declared.record.Answer.{Answer}
 use Rattle.transcripts.specs.declared.record.Answer.TheVariants.{Accepted, Refused, NotReady}
 use Rattle.transcripts.specs.Serial.{Step, told, step_unless, changes_step, change_step, create_of, load_step, settle_answer, settle_step, answer_of, query_step, step_of}
-use Rattle.sections.specs.Answered.{IsAnswered, IsCancelled, IsSoftlyAnswered, IsLineAnswered, reply_answer}
+use Rattle.sections.specs.Answered.{IsAnswered, IsSoftlyAnswered, IsLineAnswered, reply_answer}
 
 -- a view has one number
 pub same_seat : (a b : ℕ) (number : Option ℕ) → number ≡ Some a → number ≡ Some b → a ≡ b
@@ -169,20 +169,29 @@ replies v w query replied h = record {
 
 -- ---- lines
 
+done_as : (line : Line) (load : Loaded) (v w : View Entry) (command : Command) (answer : Answer) → line.command ≡ command
+    → IsAnswered (λ start seat. step_of load start seat line.number command) v w answer
+    → IsAnswered (λ start seat. step_of load start seat line.number line.command) v w answer
+done_as line load v w command answer is h =
+    as_step (λ start seat. step_of load start seat line.number command) (λ start seat. step_of load start seat line.number line.command) v w answer
+    (λ start seat. ap (step_of load start seat line.number) (sym is)) h
+
 -- the command of a line was done
-pub line_done : (beside : Bool) (line : Line) (load : Loaded) (v w : View Entry) (command : Command) {E : Type 0} (result : Result Answer E) → line.command ≡ command
-    → IfOk result (IsAnswered (λ start seat. step_of load start seat line.number command) v w) → IfOk result (IsLineAnswered beside line load v w)
-line_done beside line load v w command (Ok answer) is h =
-    inl (as_step (λ start seat. step_of load start seat line.number command) (λ start seat. step_of load start seat line.number line.command) v w answer
-        (λ start seat. ap (step_of load start seat line.number) (sym is)) h)
+pub line_done : (beside : Bool) (line : Line) (load : Loaded) (v w : View Entry) (command : Command) {E : Type 0} (result : Result Answer E)
+    → line.command ≡ command → IfOk result (IsAnswered (λ start seat. step_of load start seat line.number command) v w)
+    → IfOk result (IsLineAnswered beside line load v w)
+line_done beside line load v w command (Ok answer) is h = inl (done_as line load v w command answer is h)
 line_done beside line load v w command (Err e) is h = tt
 
+softly_as : (beside : Bool) (line : Line) (load : Loaded) (v w : View Entry) (attempts : ℕ) (query : Query) (answer : Answer) → beside ≡ true
+    → line.command ≡ Soft attempts query → IsSoftlyAnswered attempts query v w answer → IsLineAnswered beside line load v w answer
+softly_as beside line load v w attempts query answer runs is (inl done) = inl (done_as line load v w (Soft attempts query) answer is done)
+softly_as beside line load v w attempts query answer runs is (inr cancelled) =
+    inr (runs, record { attempts = attempts; query = query; soft = is; cancelled = cancelled })
+
 -- the soft question of a line was answered, or given up
-pub line_softly : (beside : Bool) (line : Line) (load : Loaded) (v w : View Entry) (attempts : ℕ) (query : Query) {E : Type 0} (result : Result Answer E) → beside ≡ true
-    → line.command ≡ Soft attempts query → IfOk result (IsSoftlyAnswered attempts query v w) → IfOk result (IsLineAnswered beside line load v w)
-line_softly beside line load v w attempts query (Ok answer) beside_is is h =
-    ⊎_elim
-    (λ (a : IsAnswered (λ start seat. query_step start query) v w answer). line_done beside line load v w (Soft attempts query) (Ok answer) is a)
-    (λ (c : IsCancelled attempts v w answer). inr (beside_is, record { attempts = attempts; query = query; soft = is; cancelled = c }))
-    h
-line_softly beside line load v w attempts query (Err e) beside_is is h = tt
+pub line_softly : (beside : Bool) (line : Line) (load : Loaded) (v w : View Entry) (attempts : ℕ) (query : Query) {E : Type 0} (result : Result Answer E)
+    → beside ≡ true → line.command ≡ Soft attempts query → IfOk result (IsSoftlyAnswered attempts query v w)
+    → IfOk result (IsLineAnswered beside line load v w)
+line_softly beside line load v w attempts query (Ok answer) runs is h = softly_as beside line load v w attempts query answer runs is h
+line_softly beside line load v w attempts query (Err e) runs is h = tt

@@ -1,11 +1,14 @@
 //! Changes, groups and loads of lines.
-ghost use Rattle.std.specs.Prelude.{◌≡◌, true, IfOk};
+ghost use Rattle.std.specs.Prelude.{◌≡◌, true, false, IfOk, None, length};
 ghost use Rattle.std.specs.List.{list_all};
 ghost use Rattle.action_lock.specs.Advances.{Advances};
+ghost use Rattle.write_history.specs.declared.refusal.Refusal.TheVariants.{BadPath};
+ghost use Rattle.write_history.specs.Path.{is_path};
 ghost use Rattle.ide_world.specs.Ready.{is_edit};
 ghost use Rattle.index_workers.specs.Passes.{ide_view, IsSameIdePass};
 ghost use Rattle.shared_ide.specs.Passes.{IsIdePassOf};
-ghost use Rattle.transcripts.specs.Serial.{change_step, group_step, load_step};
+ghost use Rattle.transcripts.specs.declared.record.Answer.TheVariants.{Refused};
+ghost use Rattle.transcripts.specs.Serial.{told, change_step, group_step, load_step};
 ghost use Rattle.sections.specs.Answered.{IsAnswered};
 
 use ide_calls::{ChangeRefusal, GroupChangeRefusal};
@@ -112,11 +115,6 @@ fn refuse_path<R: Wait>(
     line: u32,
     path: &Name,
 ) -> Result<Answer, AllocError>
-    ghost use Rattle.std.specs.Prelude.{false, length, None};
-    ghost use Rattle.write_history.specs.declared.refusal.Refusal.TheVariants.{BadPath};
-    ghost use Rattle.write_history.specs.Path.{is_path};
-    ghost use Rattle.transcripts.specs.declared.record.Answer.TheVariants.{Refused};
-    ghost use Rattle.transcripts.specs.Serial.{told};
     requires pass { IsIdePassOf ide.now pass.old }
     requires unlawful { is_path path.now ≡ false }
     ensures pass { IsIdePassOf ide.now pass.new × IsSameIdePass pass.old pass.new }
