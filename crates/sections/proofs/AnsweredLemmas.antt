@@ -1,5 +1,5 @@
 -- From what a call leaves of a pass's view to how the command of a line is answered.
-use Rattle.std.proofs.Common.{ℕ, ◌≡◌, ◌+◌, inl, inr, Bool, true, false, List, [], ◌∷◌, ◌++◌, length, refl, ap, sym, ◌∙◌, subst, arith, length-append, append-nil, Some, None, Option, Result, Ok, Err, IfOk}
+use Rattle.std.proofs.Common.{ℕ, ◌≡◌, ◌+◌, inl, inr, Bool, true, false, List, [], ◌∷◌, ◌++◌, length, refl, ap, sym, ◌∙◌, subst, length-append, append-nil, Some, None, Option, Result, Ok, Err, IfOk}
 use Rattle.list_laws.proofs.FrontLemmas.{front_self}
 use Rattle.action_lock.specs.declared.view.View.{View}
 use Rattle.write_history.specs.declared.change.Change.{Change}
@@ -120,6 +120,22 @@ load_step-unlawful history seat line path load unlawful = rw unlawful refl
 pub move_step-unlawful : (history : List Entry) (seat line : ℕ) (path to : List ℕ) → is_path to ≡ false
     → change_step history seat line (Move path to) ≡ told (Refused (length history) None BadPath)
 move_step-unlawful history seat line path to unlawful = rw unlawful refl
+
+-- a load of a lawful path for which nothing is called
+pub load_not_called : (v : View Entry) (line : ℕ) (path : List ℕ) (load same : Loaded) (answer : Answer) → is_path path ≡ true → load ≡ same
+    → ((start : List Entry) (seat : ℕ) → create_of start seat line path same ≡ told answer)
+    → IsAnswered (λ start seat. load_step start seat line path load) v v answer
+load_not_called v line path load same answer lawful is step =
+    not_called (λ start seat. load_step start seat line path load) v answer
+    (λ start seat. load_step-lawful start seat line path load lawful ∙ ap (create_of start seat line path) is ∙ step start seat)
+
+-- a load of a text at a lawful path makes a file of it
+pub text_step : (start : List Entry) (seat line : ℕ) (path like text same : List ℕ) (load : Loaded) → is_path path ≡ true → load ≡ loaded.Text text → like ≡ path
+    → same ≡ text → change_step start seat line (Create like same) ≡ load_step start seat line path load
+text_step start seat line path like text same load lawful is paths texts =
+    ap (λ (p : List ℕ). change_step start seat line (Create p same)) paths
+    ∙ ap (λ (t : List ℕ). change_step start seat line (Create path t)) texts
+    ∙ sym (load_step-lawful start seat line path load lawful ∙ ap (create_of start seat line path) is)
 
 -- ---- settles
 

@@ -1,5 +1,6 @@
 -- One turn of a section's loop.
-use Rattle.std.proofs.Common.{ℕ, ◌≡◌, ◌≤◌, inl, inr, Bool, true, List, [], ◌∷◌, ◌++◌, length, refl, ap, sym, ◌∙◌, subst, le_refl, le_trans, append_assoc, append-nil, Some, ⊎_elim}
+use Rattle.std.proofs.Common.{ℕ, ◌≡◌, ◌+◌, ◌<◌, ◌≤◌, inl, inr, Bool, true, List, [], ◌∷◌, ◌++◌, length, refl, ap, sym, ◌∙◌, subst, le_refl, le_trans, append_assoc, append-nil, Some, ⊎_elim, drop, get_or}
+use Rattle.std.proofs.lemmas.List.{drop_more, drop_all}
 use Rattle.list_laws.specs.Fronts.{IsFront}
 use Rattle.list_laws.proofs.FrontLemmas.{front_length, front_trans}
 use Rattle.action_lock.specs.declared.view.View.{View}
@@ -13,8 +14,12 @@ use Rattle.transcripts.specs.declared.record.Record.{Record}
 use Rattle.transcripts.specs.Serial.{step_of, first_load, later_loads}
 use Rattle.transcripts.specs.Fits.{Mark, Fits, SectionFits}
 use Rattle.sections.specs.Answered.{IsAnswered, IsGivenUpBy, IsLineAnswered, HasAnsweredLine}
-use Rattle.sections.specs.Done.{mark_of, HasDone, HasAdded}
+use Rattle.sections.specs.Done.{mark_of, HasAdded}
 use Rattle.sections.proofs.AnsweredLemmas.{same_seat}
+
+-- the rest of a list from a place on begins with what stands there
+drop_at : (lines : List Line) (i : ℕ) (line : Line) → i < length lines → line ≡ get_or lines i line → drop i lines ≡ line ∷ drop (i + 1) lines
+drop_at lines i line within is = drop_more lines i line within ∙ ap (λ (l : Line). l ∷ drop (i + 1) lines) (sym is)
 
 -- ---- one line
 
@@ -57,27 +62,30 @@ moved_given_up beside seat line load v w low answer number advances seen sights 
       mine = g.cancelled.mine ∙ sym (append-nil v.mine);
       seen = le_trans seen (front_length v.seen w.seen advances.seen);
       sights = le_refl w.sights;
-      fits = λ history front. inr (beside_is, record {
-        attempts = g.attempts;
-        query = g.query;
-        soft = g.soft;
-        sighted = sighted;
-        told = g.cancelled.told;
-        nothing = refl;
-        seat_is = same_seat sighted.seat seat v.number s.seat number;
-        allowed = s.allowed;
-        before = subst (λ (n : ℕ). low.sights ≤ n) (sym s.before) sights;
-        risen = subst (λ (n : ℕ). HasRisenBy g.attempts n sighted.after) (sym s.before) (subst (HasRisenBy g.attempts v.sights) (sym s.after) s.risen);
-        seen = refl;
-        sights = sym s.after;
-      });
+      fits = λ history front. inr (
+        beside_is,
+        record {
+          attempts = g.attempts;
+          query = g.query;
+          soft = g.soft;
+          sighted = sighted;
+          told = g.cancelled.told;
+          nothing = refl;
+          seat_is = same_seat sighted.seat seat v.number s.seat number;
+          allowed = s.allowed;
+          before = subst (λ (n : ℕ). low.sights ≤ n) (sym s.before) sights;
+          risen = subst (λ (n : ℕ). HasRisenBy g.attempts n sighted.after) (sym s.before) (subst (HasRisenBy g.attempts v.sights) (sym s.after) s.risen);
+          seen = refl;
+          sights = sym s.after;
+        },
+      );
     }
 
 moved : (beside : Bool) (seat : ℕ) (line : Line) (load : Loaded) (v w : View Entry) (low : Mark) (answer : Answer) → v.number ≡ Some seat → Advances v w
     → low.seen ≤ length v.seen → low.sights ≤ v.sights → IsLineAnswered beside line load v w answer → HasMoved beside seat line load v w low answer
 moved beside seat line load v w low answer number advances seen sights h = ⊎_elim
     (λ (a : IsAnswered (λ start seat. step_of load start seat line.number line.command) v w answer).
-        moved_done beside seat line load v w low answer number advances seen sights a)
+    moved_done beside seat line load v w low answer number advances seen sights a)
     (λ (g : (beside ≡ true) × IsGivenUpBy line.command v w answer). moved_given_up beside seat line load v w low answer number advances seen sights g.0 g.1)
     h
 
@@ -147,6 +155,28 @@ section_goes_on beside seat lines loads v w u old new newer line lines_left load
           (sym (append_assoc h.own m.own own_later)) all);
     }
 
+after_line : (beside : Bool) (seat : ℕ) (lines : List Line) (loads : List Loaded) (v w u : View Entry) (old new newer : List Record)
+    (line : Line) (lines_left : List Line) (load : Loaded) (loads_left later : List Loaded) → w.number ≡ Some seat → Advances w u
+    → load ≡ first_load loads_left → later ≡ later_loads loads_left
+    → IsUnderWay beside seat lines loads v w old new (line ∷ lines_left) loads_left
+    → HasAnsweredLine beside seat line load w u new newer
+    → IsUnderWay beside seat lines loads v u old newer lines_left later
+after_line beside seat lines loads v w u old new newer line lines_left load loads_left later number advances first others h a =
+    subst (IsUnderWay beside seat lines loads v u old newer lines_left) (sym others)
+    (section_goes_on beside seat lines loads v w u old new newer line lines_left loads_left number advances h
+    (subst (λ (l : Loaded). HasAnsweredLine beside seat line l w u new newer) first a))
+
+-- after the line at a place
+pub section_turn : (beside : Bool) (seat : ℕ) (lines : List Line) (loads : List Loaded) (v w u : View Entry) (old new newer : List Record)
+    (i : ℕ) (line : Line) (load : Loaded) (loads_left later : List Loaded) → v.number ≡ Some seat → i < length lines → line ≡ get_or lines i line
+    → load ≡ first_load loads_left → later ≡ later_loads loads_left → Advances v w → Advances w u
+    → IsUnderWay beside seat lines loads v w old new (drop i lines) loads_left
+    → HasAnsweredLine beside seat line load w u new newer
+    → IsUnderWay beside seat lines loads v u old newer (drop (i + 1) lines) later
+section_turn beside seat lines loads v w u old new newer i line load loads_left later number within is first others before advances h a =
+    after_line beside seat lines loads v w u old new newer line (drop (i + 1) lines) load loads_left later (before.number ∙ number) advances first others
+    (subst (λ (left : List Line). IsUnderWay beside seat lines loads v w old new left loads_left) (drop_at lines i line within is) h) a
+
 -- after the last line
 pub section_ends : (beside : Bool) (seat : ℕ) (lines : List Line) (loads : List Loaded) (v w : View Entry) (old new : List Record) (loads_left : List Loaded)
     → IsUnderWay beside seat lines loads v w old new [] loads_left → HasAdded beside seat lines loads v w old new
@@ -164,3 +194,10 @@ section_ends beside seat lines loads v w old new loads_left h = record {
     seen = h.seen;
   };
 }
+
+-- after all lines
+pub section_over : (beside : Bool) (seat : ℕ) (lines : List Line) (loads : List Loaded) (v w : View Entry) (old new : List Record) (i : ℕ) (loads_left : List Loaded)
+    → length lines ≤ i → IsUnderWay beside seat lines loads v w old new (drop i lines) loads_left → HasAdded beside seat lines loads v w old new
+section_over beside seat lines loads v w old new i loads_left past h =
+    section_ends beside seat lines loads v w old new loads_left
+    (subst (λ (left : List Line). IsUnderWay beside seat lines loads v w old new left loads_left) (drop_all i lines past) h)

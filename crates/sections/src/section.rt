@@ -44,7 +44,9 @@ pub fn do_section<R: Wait, G: Gate>(
     let mut left = loads;
     for line in lines {
         let load = first_load(left, &nothing);
-        do_line(rt, alloc, ide, pass, seat, line, load, beside, records, gate)?;
+        do_line(
+            rt, alloc, ide, pass, seat, line, load, beside, records, gate,
+        )?;
         left = later_loads(left);
     }
     Ok(())
