@@ -47,7 +47,7 @@ begun_more ide lanes v x y parts p begun gives rests is task =
     let mine : y.mine ≡ x.mine = ap (λ (u : View Entry). u.mine) gives in
     let ended : y.ended ≡ x.ended = ap (λ (u : View Entry). u.ended) gives in
     let view : split_off x ≡ fresh (Some (v.drawn + length parts)) 0 v.seen =
-        ap (λ (n : ℕ). fresh (Some n) 0 x.seen) begun.drawn ∙ ap (λ (l : List Entry). fresh (Some (v.drawn + length parts)) 0 l) begun.seen in
+    ap (λ (n : ℕ). fresh (Some n) 0 x.seen) begun.drawn ∙ ap (λ (l : List Entry). fresh (Some (v.drawn + length parts)) 0 l) begun.seen in
     let here : IsBegun ide lanes v (length parts) p = record { rests = rests; view = is ∙ view; task = task } in
     let place : length parts ≡ 0 + length parts = omega arith in
     record {
@@ -97,9 +97,10 @@ pub all_run : (ide : SharedIde) (script : Parts) (beside : Bool) (v : View Entry
 all_run ide script beside v place [] [] same begun run = tt
 all_run ide script beside v place [] (q ∷ qs) same begun run = absurd (omega arith)
 all_run ide script beside v place (p ∷ ps) [] same begun run = absurd (omega arith)
-all_run ide script beside v place (p ∷ ps) (q ∷ qs) same begun run =
-    (run_one ide script beside v place p q begun.0 (run 0 p (omega arith)),
-    all_run ide script beside v (suc place) ps qs (omega arith) begun.1 (λ k d less. run (suc k) d (omega arith)))
+all_run ide script beside v place (p ∷ ps) (q ∷ qs) same begun run = (
+  run_one ide script beside v place p q begun.0 (run 0 p (omega arith)),
+  all_run ide script beside v (suc place) ps qs (omega arith) begun.1 (λ k d less. run (suc k) d (omega arith)),
+)
 
 -- ---- all are met
 
@@ -199,14 +200,14 @@ module _ (ide : SharedIde) (lanes : List (List Line)) (beside : Bool) (v : View 
       (kept_range low high (suc place) ps run.1 (omega arith) (omega arith)))
 
   -- number 0 has met all that were split off it since it had this view
-  pub met_all : (x w : View Entry) (parts : List Part) → HasBegun ide (length lanes) v x parts → AllFrom (IsRun ide lanes beside v) 0 parts → HasMet parts x w
+  pub met_all : (x w : View Entry) (fresh_parts parts : List Part) → HasBegun ide (length lanes) v x fresh_parts → length parts ≡ length fresh_parts → AllFrom (IsRun ide lanes beside v) 0 parts → HasMet parts x w
       → HasMetAll (λ (e : Entry). e.seat) v w (flat_map (λ (q : Part). kept_of (ide_view q.pass)) parts)
-  met_all x w parts begun run met =
+  met_all x w fresh_parts parts begun same run met =
       let all : List (Ended Entry) = flat_map (λ (q : Part). kept_of (ide_view q.pass)) parts in
       let many : length all ≡ length parts = kept_length 0 parts run in
       record {
         number = met.number ∙ begun.number;
-        drawn = omega (arith, met.drawn, begun.drawn, many);
+        drawn = omega (arith, met.drawn, begun.drawn, many, same);
         mine = met.mine ∙ begun.mine;
         ended = met.ended ∙ ap (λ (es : List (Ended Entry)). es ++ all) begun.ended;
         seen = subst (λ (l : List Entry). IsFront l w.seen) begun.seen met.seen;

@@ -58,9 +58,9 @@ lane_done beside seen history middle seat index w lanes lane records told is min
           (subst (λ (n : ℕ). SectionFits beside history n (mark_at (length seen)) told.lane [] records done.own done.high) seat_is fits));
       no_worker = refl;
     }
-    where
-      same_some : {A : Type 0} (a b : A) → Some a ≡ Some b → a ≡ b
-      same_some a b e = cc
+  where
+    same_some : {A : Type 0} (a b : A) → Some a ≡ Some b → a ≡ b
+    same_some a b e = cc
 
 lane_fits : (beside : Bool) (seen history middle : List Entry) (place seat : ℕ) (w : View Entry) (lanes : List (List Line)) (lane : List Line) (task : Task) (o : Outcome)
     → place < length lanes → slice_get lanes place ≡ Some lane → IsTaskAt (length lanes) place task
@@ -112,9 +112,9 @@ worker_done seen history middle seat w worked done mine front =
         ends = end_fits history seen w worked.turns worked.end done.steps done.turns done.ends done.at_end done.gone.advances.seen front bounded;
       };
     }
-    where
-      same_some : {A : Type 0} (a b : A) → Some a ≡ Some b → a ≡ b
-      same_some a b e = cc
+  where
+    same_some : {A : Type 0} (a b : A) → Some a ≡ Some b → a ≡ b
+    same_some a b e = cc
 
 worker_tells : (beside : Bool) (seen history middle : List Entry) (place seat : ℕ) (w : View Entry) (lanes : List (List Line)) (task : Task) (o : Outcome)
     → length lanes ≤ place → IsTaskAt (length lanes) place task → HasDoneTask lanes beside task (fresh (Some seat) 0 seen) w o → IsWhole o
@@ -139,9 +139,10 @@ module _ (ide : SharedIde) (lanes : List (List Line)) (beside : Bool) (v : View 
       → All (λ (q : Part). IsFront (ide_view q.pass).seen history) parts → All (λ (q : Part). IsWhole q.outcome) parts → AllFrom IsKept place parts
   all_kept place [] run mine learned whole = tt
   all_kept place (p ∷ ps) run mine learned whole =
-      let own = kept_each ide lanes beside v (λ (e : Ended Entry). e.entries ≡ made_by e.number middle) place p ps run.0 mine in
-      (record { run = run.0; mine = own.0; learned = learned 0 p (omega arith); whole = whole 0 p (omega arith) },
-      all_kept (suc place) ps run.1 own.1 (λ k d less. learned (suc k) d (omega arith)) (λ k d less. whole (suc k) d (omega arith)))
+      let own = kept_each ide lanes beside v (λ (e : Ended Entry). e.entries ≡ made_by e.number middle) place p ps run.0 mine in (
+        record { run = run.0; mine = own.0; learned = learned 0 p (omega arith); whole = whole 0 p (omega arith) },
+        all_kept (suc place) ps run.1 own.1 (λ k d less. learned (suc k) d (omega arith)) (λ k d less. whole (suc k) d (omega arith)),
+      )
 
   -- workers tell no record, and one of each is told
   record WorkersTell (seat : ℕ) (parts : List Part) : Type 0 where
@@ -191,7 +192,7 @@ module _ (ide : SharedIde) (lanes : List (List Line)) (beside : Bool) (v : View 
       let others = parts_tell count (suc place) (suc seat) ps (omega arith) (omega arith) (omega arith) kept.1 in
       let next : place + 1 ≡ suc place = omega arith in
       let front : drop (place) lanes ≡ lane ∷ drop (suc place) lanes =
-          drop_more lanes (place) [] within ∙ ap (λ (n : ℕ). lane ∷ drop n lanes) next in
+      drop_more lanes (place) [] within ∙ ap (λ (n : ℕ). lane ∷ drop n lanes) next in
       let later : List Worked = flat_map (λ (q : Part). worked_of q.outcome) ps in
       let later_records : List Record = flat_map (λ (q : Part). records_of q.outcome) ps in
       let told : worked_of p.outcome ++ later ≡ later = ap (λ (l : List Worked). l ++ later) one.no_worker in
@@ -214,28 +215,28 @@ module _ (ide : SharedIde) (lanes : List (List Line)) (beside : Bool) (v : View 
 -- ---- the round
 
 -- number 0 is alone again after the round
-pub round_ends : (ide : SharedIde) (lanes : List (List Line)) (beside : Bool) (v x w : View Entry) (parts : List Part) → IsAlone v → HasBegun ide (length lanes) v x parts
-    → AllFrom (IsRun ide lanes beside v) 0 parts → HasMet parts x w → KnowsItsLists (λ (e : Entry). e.seat) w → IsAlone w
-round_ends ide lanes beside v x w parts alone begun run met knows = record {
-  last = alone_again (λ (e : Entry). e.seat) v w (flat_map (λ (q : Part). kept_of (ide_view q.pass)) parts) alone.last (met_all ide lanes beside v x w parts begun run met);
+pub round_ends : (ide : SharedIde) (lanes : List (List Line)) (beside : Bool) (v x w : View Entry) (fresh_parts parts : List Part) → IsAlone v
+    → HasBegun ide (length lanes) v x fresh_parts → length parts ≡ length fresh_parts → AllFrom (IsRun ide lanes beside v) 0 parts → HasMet parts x w → KnowsItsLists (λ (e : Entry). e.seat) w → IsAlone w
+round_ends ide lanes beside v x w fresh_parts parts alone begun same run met knows = record {
+  last = alone_again (λ (e : Entry). e.seat) v w (flat_map (λ (q : Part). kept_of (ide_view q.pass)) parts) alone.last (met_all ide lanes beside v x w fresh_parts parts begun same run met);
   knows = knows;
 }
 
 -- what the round left
-pub played : (ide : SharedIde) (lanes : List (List Line)) (workers : ℕ) (v x w : View Entry) (parts : List Part) (old new : Answers) → IsAlone v
-    → HasBegun ide (length lanes) v x parts → length parts ≡ length lanes + workers → AllFrom (IsRun ide lanes (run_beside (length lanes) workers) v) 0 parts
+pub played : (ide : SharedIde) (lanes : List (List Line)) (workers : ℕ) (v x w : View Entry) (fresh_parts parts : List Part) (old new : Answers) → IsAlone v
+    → HasBegun ide (length lanes) v x fresh_parts → length parts ≡ length fresh_parts → length fresh_parts ≡ length lanes + workers → AllFrom (IsRun ide lanes (run_beside (length lanes) workers) v) 0 parts
     → HasMet parts x w → KnowsItsLists (λ (e : Entry). e.seat) w → HaveTaken parts old new → HasPlayed lanes workers v w old new
-played ide lanes workers v x w parts old new alone begun many run met knows taken =
+played ide lanes workers v x w fresh_parts parts old new alone begun same many run met knows taken =
     let beside : Bool = run_beside (length lanes) workers in
     let all : List (Ended Entry) = flat_map (λ (q : Part). kept_of (ide_view q.pass)) parts in
     let kept_many : length all ≡ length parts = kept_length ide lanes beside v 0 parts run in
-    let met_them = met_all ide lanes beside v x w parts begun run met in
+    let met_them = met_all ide lanes beside v x w fresh_parts parts begun same run met in
     let middle : List Entry = met_them.seen.0 in
     let own = kept_since (λ (e : Entry). e.seat) v w all alone.last alone.knows met_them knows in
     let seats = seats_since (λ (e : Entry). e.seat) v w all alone.last alone.knows met_them knows in
     let kept = all_kept ide lanes beside v w.seen middle 0 parts run own met.learned taken.whole in
-    let tell = parts_tell ide lanes beside v w.seen middle (length lanes) 0 v.drawn parts (omega arith) (omega arith) (omega (arith, many)) kept in
-    let sum : length all ≡ length lanes + workers = omega (arith, kept_many, many) in
+    let tell = parts_tell ide lanes beside v w.seen middle (length lanes) 0 v.drawn parts (omega arith) (omega arith) (omega (arith, same, many)) kept in
+    let sum : length all ≡ length lanes + workers = omega (arith, kept_many, same, many) in
     record {
       middle = middle;
       records = flat_map (λ (q : Part). records_of q.outcome) parts;
@@ -245,7 +246,7 @@ played ide lanes workers v x w parts old new alone begun many run met knows take
           (λ e range. record { from = range.0; to = let r = range.1 in omega (arith, sum) }) seats;
       records_are = taken.records;
       workers_are = taken.workers;
-      count = let c = tell.count_is in omega (arith, many);
+      count = let c = tell.count_is in omega (arith, same, many);
       lanes_fit = tell.lanes_fit;
       workers_fit = tell.workers_fit;
     }

@@ -86,12 +86,12 @@ module _ {E : Type 0} (number_of : E → ℕ) where
       let before : v.mine ≡ entries_of number_of 0 v.seen = knows.mine 0 last.leads in
       let after : w.mine ≡ entries_of number_of 0 w.seen = knows'.mine 0 leads in
       let made : entries_of number_of 0 more ≡ own = append_cancel_left v.mine (entries_of number_of 0 more) own
-          (ap (λ (l : List E). l ++ entries_of number_of 0 more) before ∙ sym (entries_split 0 w.seen v.seen more seen) ∙ sym after ∙ mine) in
+      (ap (λ (l : List E). l ++ entries_of number_of 0 more) before ∙ sym (entries_split 0 w.seen v.seen more seen) ∙ sym after ∙ mine) in
       let earlier : All (λ (e : Ended E). e.entries ≡ entries_of number_of e.number v.seen) w.ended =
-          subst (λ (es : List (Ended E)). All (λ (e : Ended E). e.entries ≡ entries_of number_of e.number v.seen) es) (sym on.ended) knows.ended in
+      subst (λ (es : List (Ended E)). All (λ (e : Ended E). e.entries ≡ entries_of number_of e.number v.seen) es) (sym on.ended) knows.ended in
       let others : All (λ (e : Ended E). (entries_of number_of e.number more ≡ []) ⊎ (e.number ≡ 0)) w.ended = λ k d less.
-          let n : ℕ = (get_or w.ended k d).number in
-          inl (nothing_added (entries_of number_of n v.seen) (entries_of number_of n more) (sym (earlier k d less) ∙ knows'.ended k d less ∙ entries_split n w.seen v.seen more seen)) in
+      let n : ℕ = (get_or w.ended k d).number in
+      inl (nothing_added (entries_of number_of n v.seen) (entries_of number_of n more) (sym (earlier k d less) ∙ knows'.ended k d less ∙ entries_split n w.seen v.seen more seen)) in
       let whole : w.drawn ≡ length w.ended + 1 = on.drawn ∙ last.all_met ∙ ap (λ (es : List (Ended E)). length es + 1) (sym on.ended) in
       let zeros = all_of_kind (λ n. n ≡ 0) w v.seen more leads (knows'.no_others leads whole) seen (inr refl) others in
       let all : entries_of number_of 0 more ≡ more = filter_all (λ e. eqb (number_of e) 0) more (λ k d less. eq-eqb (number_of (get_or more k d)) 0 (zeros k d less)) in
@@ -148,10 +148,10 @@ module _ {E : Type 0} (number_of : E → ℕ) where
       let again = alone_again v w kept last met in
       let more : List E = met.seen.0 in
       let none : (n : ℕ) → entries_of number_of n w.seen ≡ entries_of number_of n v.seen → entries_of number_of n more ≡ [] =
-          λ n same. nothing_added (entries_of number_of n v.seen) (entries_of number_of n more) (sym same ∙ entries_split n w.seen v.seen more met.seen.1) in
+      λ n same. nothing_added (entries_of number_of n v.seen) (entries_of number_of n more) (sym same ∙ entries_split n w.seen v.seen more met.seen.1) in
       let own = none 0 (sym (knows'.mine 0 again.leads) ∙ met.mine ∙ knows.mine 0 last.leads) in
       let earlier : All (λ (e : Ended E). (entries_of number_of e.number more ≡ []) ⊎ S e.number) v.ended = λ k d less.
-          inl (none (get_or v.ended k d).number (sym (kept_earlier v w kept met knows' k d less) ∙ knows.ended k d less)) in
+      inl (none (get_or v.ended k d).number (sym (kept_earlier v w kept met knows' k d less) ∙ knows.ended k d less)) in
       let later : All (λ (e : Ended E). (entries_of number_of e.number more ≡ []) ⊎ S e.number) kept = λ k d less. inr (met.range k d less) in
       let all = All-append (λ (e : Ended E). (entries_of number_of e.number more ≡ []) ⊎ S e.number) v.ended kept earlier later in
       all_of_kind S w v.seen more again.leads (knows'.no_others again.leads again.all_met) met.seen.1 (inl own)

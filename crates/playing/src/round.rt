@@ -199,7 +199,7 @@ fn meet_parts(
             outcome,
         } = left.remove(0);
         ide.meet(other, pass);
-        whole = answers.take(outcome).is_ok() && whole;
+        whole &= answers.take(outcome).is_ok();
     }
     left.destroy_empty();
     if whole { Ok(()) } else { Err(AllocError) }
