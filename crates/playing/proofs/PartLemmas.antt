@@ -1,14 +1,13 @@
 -- Parts of a round: one more, what all have done, and what is kept of them.
-use Rattle.std.proofs.Common.{◌≡◌, ◌≢◌, ℕ, zero, suc, ◌+◌, ◌<◌, ◌≤◌, Bool, List, [], ◌∷◌, ◌++◌, length, get_or, All, Some, sym, refl, ap, ◌∙◌, subst, arith, append-nil, append_assoc, length-append}
+use Rattle.std.proofs.Common.{◌≡◌, ◌≢◌, ℕ, suc, ◌+◌, ◌<◌, ◌≤◌, Bool, List, [], ◌∷◌, ◌++◌, length, get_or, All, Some, sym, refl, ap, ◌∙◌, subst, arith, append-nil, append_assoc, length-append}
 use Rattle.std.specs.List.{flat_map}
 use Rattle.std.proofs.lemmas.List.Concat.{flat_map-append}
 use Rattle.std.proofs.lemmas.List.Elements.{All-append}
-use Rattle.list_laws.specs.Fronts.{IsFront, longer}
+use Rattle.list_laws.specs.Fronts.{IsFront}
 use Rattle.list_laws.proofs.FrontLemmas.{All-cons, All-weaken, front_self, front_trans}
 use Rattle.action_lock.specs.declared.view.Ended.{Ended}
 use Rattle.action_lock.specs.declared.view.View.{View}
 use Rattle.action_lock.specs.Advances.{Advances}
-use Rattle.action_lock.specs.Passes.{IsLast}
 use Rattle.action_lock.specs.Steps.{end_of, splitting, split_off, joined, told}
 use Rattle.action_lock.specs.Views.{fresh}
 use Rattle.write_history.specs.declared.entry.Entry.{Entry}
@@ -18,7 +17,6 @@ use Rattle.index_workers.specs.Passes.{ide_view}
 use Rattle.shared_ide.specs.declared.shared.SharedIde.{SharedIde}
 use Rattle.shared_ide.specs.Passes.{IsIdePassOf}
 use Rattle.playing.specs.declared.answers.Answers.{Answers}
-use Rattle.playing.specs.declared.part.Outcome.{Outcome}
 use Rattle.playing.specs.declared.part.Part.{Part}
 use Rattle.playing.specs.declared.part.Task.{Task}
 use Rattle.playing.specs.declared.part.Task.TheVariants.{Lane, Worker}

@@ -1,14 +1,12 @@
 -- From what each part of a round did to how its answers fit the history.
-use Rattle.std.proofs.Common.{◌≡◌, ℕ, zero, suc, ◌+◌, ◌<◌, ◌≤◌, Bool, List, [], ◌∷◌, ◌++◌, length, get_or, drop, All, Some, slice_get, sym, refl, ap, ◌∙◌, subst, arith, length-take, length-drop, length-append}
-use Rattle.std.specs.List.{flat_map, AllPairs}
+use Rattle.std.proofs.Common.{◌≡◌, ℕ, zero, suc, ◌+◌, ◌<◌, ◌≤◌, Bool, List, [], ◌∷◌, ◌++◌, length, get_or, drop, All, Some, slice_get, sym, refl, ap, ◌∙◌, subst, arith}
+use Rattle.std.specs.List.{flat_map}
 use Rattle.std.proofs.lemmas.List.{drop_more, drop_all}
-use Rattle.std.proofs.lemmas.List.Elements.{All-head, All-tail}
 use Rattle.std.proofs.lemmas.Option.{slice_get-get_or}
 use Rattle.list_laws.specs.Fronts.{IsFront}
-use Rattle.list_laws.proofs.FrontLemmas.{All-weaken, front_length, front_trans, front_whole}
+use Rattle.list_laws.proofs.FrontLemmas.{All-weaken, front_length}
 use Rattle.action_lock.specs.declared.view.Ended.{Ended}
 use Rattle.action_lock.specs.declared.view.View.{View}
-use Rattle.action_lock.specs.Passes.{IsLast}
 use Rattle.action_lock.specs.Steps.{KnowsItsLists}
 use Rattle.action_lock.specs.Views.{fresh}
 use Rattle.write_history.specs.declared.entry.Entry.{Entry}
@@ -21,7 +19,7 @@ use Rattle.index_workers.specs.Passes.{ide_view}
 use Rattle.index_workers.specs.Work.{Done, EndsBy, IsAtEnd, IsIntakeBy, AreApart, HasWorked}
 use Rattle.shared_ide.specs.declared.shared.SharedIde.{SharedIde}
 use Rattle.transcripts.specs.declared.record.Record.{Record}
-use Rattle.transcripts.specs.Fits.{Mark, mark_at, made_by, SectionFits, FitsLane, LanesFit, EndFits, IsReadyAt, WorkerFits, WorkersFit, run_beside}
+use Rattle.transcripts.specs.Fits.{Mark, mark_at, made_by, SectionFits, LanesFit, EndFits, WorkerFits, WorkersFit, run_beside}
 use Rattle.sections.specs.Done.{HasDone}
 use Rattle.playing.specs.declared.answers.Answers.{Answers}
 use Rattle.playing.specs.declared.part.Outcome.{Outcome}
@@ -29,9 +27,9 @@ use Rattle.playing.specs.declared.part.Outcome.TheVariants.{Nothing, Answered, I
 use Rattle.playing.specs.declared.part.Part.{Part}
 use Rattle.playing.specs.declared.part.Task.{Task}
 use Rattle.playing.specs.declared.part.Task.TheVariants.{Lane, Worker}
-use Rattle.playing.specs.Parts.{AllFrom, IsTaskAt, HasBegun, HasDoneLane, HasDoneTask, HasMet, HaveTaken, IsWhole, MayHaveWorked, kept_of, records_of, worked_of}
+use Rattle.playing.specs.Parts.{AllFrom, IsTaskAt, HasBegun, HasDoneLane, HasDoneTask, HasMet, HaveTaken, IsWhole, kept_of, records_of, worked_of}
 use Rattle.playing.specs.Rounds.{IsAlone, IsSeatFrom, HasPlayed}
-use Rattle.playing.proofs.ViewLemmas.{HasMetAll, alone_again, kept_since, seats_since}
+use Rattle.playing.proofs.ViewLemmas.{alone_again, kept_since, seats_since}
 use Rattle.playing.proofs.PartLemmas.{IsRun, kept_each, kept_length, met_all}
 
 -- ---- one lane

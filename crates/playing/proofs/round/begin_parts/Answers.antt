@@ -19,7 +19,7 @@ loop-place-preserved c =
     let items : c.push.new.self.items ≡ parts ++ part ∷ [] = pushed c.push.result (parts ++ part ∷ []) parts c.push.new.self.items (c.push.ensures.succeeds (omega arith)) c.push.ensures.items in
     let task : IsTaskAt c.args.round.lanes (length parts) c.task-task.result = subst (λ (n : ℕ). IsTaskAt c.args.round.lanes n c.task-task.result) (sym many) c.task-task.ensures in
     let more = begun_more c.args.ide.now c.args.round.lanes (ide_view c.args.pass.now) (ide_view c.loop-place.pass) (ide_view c.split.new.pass) parts part
-        before.begun split.ok.2 split.ok.0 split.ok.3 task in
+    before.begun split.ok.2 split.ok.0 split.ok.3 task in
     record {
       rests = split.pass.0;
       same = same_on _ _ _ before.same split.pass.1;

@@ -14,7 +14,7 @@ meet-requires-clause-other c =
     let ok = left.ok in
     let first = first_removed left.items c.remove-other.new.self.items c.remove-other.result (omega arith) c.remove-other.ensures.value c.remove-other.ensures.items in
     let may : CanMeet c.args.ide.now c.remove-other.result =
-        holds_of_first (CanMeet c.args.ide.now) c.args.parts.items c.loop-left.invariant.met left.items c.remove-other.new.self.items c.remove-other.result c.requires.parts c.loop-left.invariant.are first in
+    holds_of_first (CanMeet c.args.ide.now) c.args.parts.items c.loop-left.invariant.met left.items c.remove-other.new.self.items c.remove-other.result c.requires.parts c.loop-left.invariant.are first in
     may.rests
 
 pub meet-requires-clause-follows : goal.meet-requires-clause-follows
@@ -23,7 +23,7 @@ meet-requires-clause-follows c =
     let ok = left.ok in
     let first = first_removed left.items c.remove-other.new.self.items c.remove-other.result (omega arith) c.remove-other.ensures.value c.remove-other.ensures.items in
     let may : CanMeet c.args.ide.now c.remove-other.result =
-        holds_of_first (CanMeet c.args.ide.now) c.args.parts.items c.loop-left.invariant.met left.items c.remove-other.new.self.items c.remove-other.result c.requires.parts c.loop-left.invariant.are first in
+    holds_of_first (CanMeet c.args.ide.now) c.args.parts.items c.loop-left.invariant.met left.items c.remove-other.new.self.items c.remove-other.result c.requires.parts c.loop-left.invariant.are first in
     may.follows
 
 pub loop-left-preserved : goal.loop-left-preserved
