@@ -6,6 +6,8 @@ mod changes;
 #[cfg(test)]
 mod faults;
 #[cfg(test)]
+mod lanes;
+#[cfg(test)]
 mod parts;
 #[cfg(test)]
 mod questions;
