@@ -1,5 +1,5 @@
 -- What doing the lines of a section leaves of a pass's view.
-use Rattle.std.specs.Prelude.{ℕ, ◌≡◌, ◌≤◌, ◌×◌, Bool, List, ◌++◌, length}
+use Rattle.std.specs.Prelude.{ℕ, ◌≡◌, ◌≤◌, Bool, List, ◌++◌, length}
 use Rattle.list_laws.specs.Fronts.{IsFront}
 use Rattle.action_lock.specs.declared.view.View.{View}
 use Rattle.write_history.specs.declared.entry.Entry.{Entry}

@@ -1,5 +1,5 @@
 -- What the records of a run say of a history that others write too: each command was done behind a prefix of it.
-use Rattle.std.specs.Prelude.{ℕ, suc, ◌≡◌, ◌+◌, ◌<◌, ◌≤◌, ◌×◌, ◌⊎◌, nat_lt, Bool, true, false, List, [], ◌∷◌, ◌++◌, length, All, Some, None}
+use Rattle.std.specs.Prelude.{ℕ, suc, ◌≡◌, ◌+◌, ◌<◌, ◌≤◌, ◌⊎◌, nat_lt, Bool, true, false, List, [], ◌∷◌, ◌++◌, length, All, Some, None}
 use Rattle.list_laws.specs.Fronts.{IsFront}
 use Rattle.action_lock.specs.Counts.{HasRisenBy}
 use Rattle.action_lock.specs.Rule.{entries_of}
@@ -155,7 +155,7 @@ pub record RunFits (loads : List Loaded) (script : Parts) (workers : List Worked
   pub prelude : SectionFits false opening 0 (mark_at 0) script.prelude loads prelude_records opening prelude_end
   pub lanes : LanesFit (run_beside (length script.lanes) (length workers)) (opening ++ middle) (mark_at (length opening)) 1 script.lanes middle lanes_records
   pub seats : All (λ (e : Entry). IsSeatOf (length script.lanes + length workers) e.seat) middle
-  pub workers : WorkersFit (opening ++ middle) (length opening) (1 + length script.lanes) middle workers
+  pub worked : WorkersFit (opening ++ middle) (length opening) (1 + length script.lanes) middle workers
   pub last_begins : Mark
   pub last_behind : last_begins.seen ≡ length (opening ++ middle)
   pub last_end : Mark

@@ -111,6 +111,16 @@ impl Records {
         Ok(())
     }
 
+    /// Adds all records of another list, or changes nothing where there is no memory.
+    pub fn append(&mut self, other: Records) -> Result<(), AllocError>
+        ensures ok { OnOk result (self.new ≡ self.old ++ other) }
+        ensures err { OnErr result (self.new ≡ self.old) }
+    {
+        let Records { mut records } = other;
+        self.records.append(&mut records)?;
+        Ok(())
+    }
+
     /// The records.
     pub fn as_slice(&self) -> &[Record]
         ensures { result.now ≡ self.now }
