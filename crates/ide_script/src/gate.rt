@@ -11,16 +11,16 @@ const NAP: u64 = 1;
 #[derive(Drop)]
 pub struct LaneGate<'a, R: Wait> {
     rt: &'a R,
-    lanes: u64,
+    lanes: u32,
     ended: AtomicU64,
 }
 
 impl<'a, R: Wait> LaneGate<'a, R> {
     /// The gate of a run with so many lanes, whose seats are 1, 2, ..
-    pub fn new(rt: &'a R, lanes: usize) -> LaneGate<'a, R> {
+    pub fn new(rt: &'a R, lanes: u32) -> LaneGate<'a, R> {
         LaneGate {
             rt,
-            lanes: lanes as u64,
+            lanes,
             ended: AtomicU64::new(0),
         }
     }
@@ -28,7 +28,7 @@ impl<'a, R: Wait> LaneGate<'a, R> {
     /// Whether a worker is to look for work again. It sleeps first where it is.
     fn is_to_go_on(&self) -> bool {
         let ended = self.ended.load(Ordering::SeqCst);
-        if ended >= self.lanes {
+        if ended >= self.lanes as u64 {
             return false;
         }
         self.ended.park_timeout(self.rt, ended as u32, Duration::from_millis(NAP));
@@ -46,7 +46,7 @@ impl<'a, R: Wait> Gate for LaneGate<'a, R> {
     fn at(&self, point: Point) -> bool {
         match point {
             Point::Idle { .. } => return self.is_to_go_on(),
-            Point::Ended { seat } if seat as u64 <= self.lanes => self.count_ended(),
+            Point::Ended { seat } if seat <= self.lanes => self.count_ended(),
             _ => {}
         }
         true

@@ -80,7 +80,7 @@ fn run_play<R: Threads + Wait + Sync, S: Source, T: Tree, K: Sink>(
         Ok(script) => script,
         Err(status) => return status,
     };
-    let gate = LaneGate::new(rt, script.lanes());
+    let gate = LaneGate::new(rt, script.lanes() as u32);
     match play(rt, alloc, &script, workers, tree, &gate) {
         Ok(played) => write_transcript(alloc, &played, out),
         Err(PlayRefusal::TreeFault) => Status::TreeFault,
@@ -159,7 +159,7 @@ fn play_demo<R: Threads + Wait + Sync>(
     };
     match parse(alloc, &bytes) {
         Ok(script) => {
-            let gate = LaneGate::new(rt, script.lanes());
+            let gate = LaneGate::new(rt, script.lanes() as u32);
             match play_in_turn(rt, alloc, &script, &[], &gate) {
                 Ok(played) => Ok(played),
                 Err(_) => Err(Status::OutOfMemory),

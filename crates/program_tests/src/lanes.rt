@@ -1,8 +1,8 @@
 //! Scripts with lanes and workers: each run's transcript is one of those that the rules allow.
 use crate::running::run;
 use crate::table::IDE;
+use crate::told::{Section, entries_of, told};
 use ide_io::{BytesSink, BytesSource};
-use std::alloc::Global;
 use std::test::Fail;
 
 /// A script and all transcripts that it may have.
@@ -231,6 +231,21 @@ static ANSWERS: &str = r#"2 accepted
 14 status files 1 open 0 unready 0
 "#;
 
+static SECTIONS: [Section; 3] = [
+    Section {
+        seat: 1,
+        last_line: 5,
+    },
+    Section {
+        seat: 2,
+        last_line: 10,
+    },
+    Section {
+        seat: 0,
+        last_line: 14,
+    },
+];
+
 /// With any number of workers, each lane reads back what it wrote, and each accepted write is the entry that it names.
 #[test]
 fn lanes_read_back(rt: HostRuntime) -> Result<(), Fail> {
@@ -240,7 +255,7 @@ fn lanes_read_back(rt: HostRuntime) -> Result<(), Fail> {
         let words = ["ide", "play", "--workers", workers];
         assert_eq!(rt; run(&rt, &words, &mut source, &mut sink)?.as_str(), "0 ");
         let written = str::from_utf8(sink.bytes())?;
-        let told = told(rt.alloc(), written)?;
+        let told = told(rt.alloc(), written, &SECTIONS)?;
         assert_eq!(rt; told.answers.as_str(), ANSWERS, "{written}");
         assert!(rt; told.is_in_order, "{written}");
     }
@@ -258,9 +273,8 @@ fn workers_index_what_was_loaded(rt: HostRuntime) -> Result<(), Fail> {
         let words = ["ide", "play", "--workers", "3"];
         assert_eq!(rt; run(&rt, &words, &mut source, &mut sink)?.as_str(), "0 ");
         let written = str::from_utf8(sink.bytes())?;
-        let end = format!(in alloc; "\n2 not-text 0\n3 at 2 accepted\n")?;
-        assert!(rt; written.contains(end.as_str()), "{written}");
-        let entries = entries(written);
+        assert!(rt; written.contains("\n2 not-text 0\n3 at 2 accepted\n"), "{written}");
+        let entries = entries_of(written);
         let last = format!(in alloc; "\n7 at {entries} smart\n8 at {entries} rows 1\n  A.java:1:7 class A\n9 at {entries} rows 1\n  C.java:1:7 class C\n")?;
         assert!(rt; written.contains(last.as_str()), "{written}");
         let status = format!(in alloc; "\n10 at {entries} status files 2 open 0 unready 0\n")?;

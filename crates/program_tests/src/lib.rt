@@ -17,3 +17,4 @@ mod running;
 mod scripts;
 #[cfg(test)]
 mod table;
+mod told;
