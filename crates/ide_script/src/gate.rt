@@ -31,7 +31,8 @@ impl<'a, R: Wait> LaneGate<'a, R> {
         if ended >= self.lanes as u64 {
             return false;
         }
-        self.ended.park_timeout(self.rt, ended as u32, Duration::from_millis(NAP));
+        self.ended
+            .park_timeout(self.rt, ended as u32, Duration::from_millis(NAP));
         true
     }
 

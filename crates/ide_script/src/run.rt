@@ -47,12 +47,14 @@ pub fn run_ide<R: Threads + Wait + Sync, S: Source, T: Tree, K: Sink>(
 {
     match request_of(alloc, words) {
         Ok(Request::Play { workers }) => run_play(rt, alloc, workers, script, tree, out),
-        Ok(Request::Demo {
-            seed,
-            files,
-            edits,
-            workers: _,
-        }) => run_demo(rt, alloc, seed, files, edits, out),
+        Ok(
+            Request::Demo {
+                seed,
+                files,
+                edits,
+                workers: _,
+            },
+        ) => run_demo(rt, alloc, seed, files, edits, out),
         Err(WordsRefusal::Usage) => Status::Usage,
         Err(WordsRefusal::OutOfMemory) => Status::OutOfMemory,
     }

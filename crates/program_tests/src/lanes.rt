@@ -1,7 +1,7 @@
 //! Scripts with lanes and workers: each run's transcript is one of those that the rules allow.
 use crate::running::run;
 use crate::table::IDE;
-use crate::told::{Section, entries_of, told};
+use crate::told::{Section, entries_of, records_of};
 use ide_io::{BytesSink, BytesSource};
 use std::test::Fail;
 
@@ -255,7 +255,7 @@ fn lanes_read_back(rt: HostRuntime) -> Result<(), Fail> {
         let words = ["ide", "play", "--workers", workers];
         assert_eq!(rt; run(&rt, &words, &mut source, &mut sink)?.as_str(), "0 ");
         let written = str::from_utf8(sink.bytes())?;
-        let told = told(rt.alloc(), written, &SECTIONS)?;
+        let told = records_of(rt.alloc(), written, &SECTIONS)?;
         assert_eq!(rt; told.answers.as_str(), ANSWERS, "{written}");
         assert!(rt; told.is_in_order, "{written}");
     }
@@ -267,15 +267,21 @@ fn lanes_read_back(rt: HostRuntime) -> Result<(), Fail> {
 fn workers_index_what_was_loaded(rt: HostRuntime) -> Result<(), Fail> {
     let alloc = rt.alloc();
     for _time in 0..TIMES {
-        let script = "load A.java\nload B.java\ncreate C.java \"class C {}\"\nlane\nstatus\nfinally\nsettle\nclass A\nclass C\nstatus\n";
+        let script =
+            "load A.java\nload B.java\ncreate C.java \"class C {}\"\nlane\nstatus\nfinally\nsettle\nclass A\nclass C\nstatus\n";
         let mut source = BytesSource::new(script.as_bytes());
         let mut sink = BytesSink::with_room(alloc, 4_000)?;
         let words = ["ide", "play", "--workers", "3"];
         assert_eq!(rt; run(&rt, &words, &mut source, &mut sink)?.as_str(), "0 ");
         let written = str::from_utf8(sink.bytes())?;
-        assert!(rt; written.contains("\n2 not-text 0\n3 at 2 accepted\n"), "{written}");
+        assert!(rt;
+            written.contains("\n2 not-text 0\n3 at 2 accepted\n"),
+            "{written}"
+        );
         let entries = entries_of(written);
-        let last = format!(in alloc; "\n7 at {entries} smart\n8 at {entries} rows 1\n  A.java:1:7 class A\n9 at {entries} rows 1\n  C.java:1:7 class C\n")?;
+        let last = format!(in alloc;
+            "\n7 at {entries} smart\n8 at {entries} rows 1\n  A.java:1:7 class A\n9 at {entries} rows 1\n  C.java:1:7 class C\n"
+        )?;
         assert!(rt; written.contains(last.as_str()), "{written}");
         let status = format!(in alloc; "\n10 at {entries} status files 2 open 0 unready 0\n")?;
         assert!(rt; written.ends_with(status.as_str()), "{written}");

@@ -17,7 +17,7 @@ pub struct Told {
 }
 
 /// Reads the records of a transcript.
-pub fn told(alloc: Global, written: &str, sections: &[Section]) -> Result<Told, AllocError> {
+pub fn records_of(alloc: Global, written: &str, sections: &[Section]) -> Result<Told, AllocError> {
     let mut answers = String::new(alloc);
     let mut is_in_order = true;
     let mut before = (0, 0);
