@@ -1,1 +1,4 @@
 pub mod PrintLemmas
+pub mod SectionLemmas
+pub mod RunLemmas
+pub mod SettleLemmas

@@ -1,5 +1,5 @@
 -- What the records of a run say of a history that others write too: each command was done behind a prefix of it.
-use Rattle.std.specs.Prelude.{ℕ, suc, ◌≡◌, ◌+◌, ◌<◌, ◌≤◌, ◌⊎◌, nat_lt, Bool, true, false, List, [], ◌∷◌, ◌++◌, length, All, Some, None}
+use Rattle.std.specs.Prelude.{ℕ, suc, ◌≡◌, ◌+◌, ◌≤◌, ◌⊎◌, nat_lt, Bool, true, false, List, [], ◌∷◌, ◌++◌, length, All, None}
 use Rattle.list_laws.specs.Fronts.{IsFront}
 use Rattle.action_lock.specs.Counts.{HasRisenBy}
 use Rattle.action_lock.specs.Rule.{entries_of}
@@ -7,7 +7,6 @@ use Rattle.write_history.specs.declared.entry.Entry.{Entry}
 use Rattle.write_history.specs.World.{lowest_unready}
 use Rattle.write_history.specs.Effect.{max_entries}
 use Rattle.write_history.specs.Fold.{fold, IsLegal}
-use Rattle.script_lang.specs.declared.command.Command.{Command}
 use Rattle.script_lang.specs.declared.command.Command.TheVariants.{Soft}
 use Rattle.script_lang.specs.declared.line.Line.{Line}
 use Rattle.script_lang.specs.Parts.{Parts}
@@ -81,7 +80,7 @@ abbrev pub SectionFits : Bool → List Entry → ℕ → Mark → List Line → 
 SectionFits beside history seat low [] loads records own high = (records ≡ []) × (own ≡ []) × (high ≡ low)
 SectionFits beside history seat low (line ∷ lines) loads records own high =
     FitsFirst beside history seat low line (first_load loads)
-        (λ later made_later between. SectionFits beside history seat between lines (later_loads loads) later made_later high) records own
+    (λ later made_later between. SectionFits beside history seat between lines (later_loads loads) later made_later high) records own
 
 -- the entries with this seat
 abbrev pub made_by : ℕ → List Entry → List Entry

@@ -74,9 +74,9 @@ settle_answer at (Some why) = Refused at None why
 -- a settle takes in every unready file, in order of ids, one entry each
 abbrev pub settle_step : List Entry → ℕ → ℕ → Step
 settle_step history seat line = record {
-    added = (settled history seat line).added;
-    answer = settle_answer (length (history ++ (settled history seat line).added)) (settled history seat line).refused;
-  }
+  added = (settled history seat line).added;
+  answer = settle_answer (length (history ++ (settled history seat line).added)) (settled history seat line).refused;
+}
 
 -- the declarations that a question found: those of an outline are told as such
 abbrev pub rows_answer : Query → ℕ → List Row → Answer

@@ -1,0 +1,5 @@
+use Rattle.transcripts.proofs.RunLemmas.{run_serial}
+use Rattle.transcripts.proofs.laws.a_run_alone_is_serial.Goals as goal
+
+pub returns : goal.returns
+returns c = run_serial
