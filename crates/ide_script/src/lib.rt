@@ -2,7 +2,6 @@
 #![tactic(auto)]
 
 mod entry;
-mod gate;
 mod loads;
 mod over_tree;
 mod refusal;
@@ -11,7 +10,6 @@ mod status;
 mod system;
 
 pub use entry::{finish, run_main};
-pub use gate::LaneGate;
 pub use over_tree::play;
 pub use refusal::PlayRefusal;
 pub use run::run_ide;

@@ -6,11 +6,11 @@ ghost use Rattle.command_line.specs.Request.{request_of, IsInRange, max_workers}
 ghost use Rattle.transcripts.specs.Transcript.{transcript_of, summary_of};
 ghost use Rattle.ide_script.specs.Run.{RunEnds, PlayEnds, DemoEnds, GivesScript, TellsEndOnce, ReadStops, WriteEnds, IsDemoSummary, DemoStops, AsksNothing};
 
-use crate::{LaneGate, PlayRefusal, Status, play};
+use crate::{PlayRefusal, Status, play};
 use command_line::{Request, WordsRefusal, request_of};
 use demo::demo_script;
 use ide_io::{ReadAllError, Sink, Source, Tree, read_all, write_all};
-use playing::play_in_turn;
+use playing::{LaneGate, play_in_turn};
 use script_lang::{MAX_BYTES, Script, ScriptRefusal, parse};
 use std::alloc::Global;
 use std::sync::Wait;

@@ -1,8 +1,9 @@
 //! A script that is parsed, played and printed call by call.
 
 use crate::running::two_files;
-use ide_script::{LaneGate, play};
+use ide_script::play;
 use index_workers::End;
+use playing::LaneGate;
 use script_lang::parse;
 use std::test::Fail;
 use transcripts::{summary, transcript};
