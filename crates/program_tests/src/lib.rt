@@ -5,8 +5,11 @@
 mod changes;
 #[cfg(test)]
 mod faults;
+mod gates;
 #[cfg(test)]
 mod lanes;
+#[cfg(test)]
+mod meetings;
 #[cfg(test)]
 mod parts;
 #[cfg(test)]
