@@ -24,7 +24,7 @@ nine_workers : (name : Text) → request_of (name ∷ codes "play" ∷ codes "--
 unfolding clap_on_literals number_of digits
 nine_workers name = refl
 
-demo_with_a_worker : (name : Text) → request_of (name ∷ codes "demo" ∷ codes "--workers" ∷ codes "1" ∷ []) ≡ None
+demo_with_a_worker : (name : Text) → request_of (name ∷ codes "demo" ∷ codes "--workers" ∷ codes "1" ∷ []) ≡ Some (Demo 1 8 32 1)
 unfolding clap_on_literals number_of digits
 demo_with_a_worker name = refl
 

@@ -14,7 +14,7 @@ use Rattle.command_line.specs.declared.request.Request.TheVariants.{Play, Demo}
 use Rattle.command_line.specs.declared.request.WordsRefusal.TheVariants.{Usage}
 use Rattle.command_line.specs.Grammar.{command}
 use Rattle.command_line.specs.Number.{if_between, number_between, number_of}
-use Rattle.command_line.specs.Request.{IsInRange, demo_by, number_in, play_by, request_by, request_of, max_seed, max_files, max_edits, max_workers, max_demo_workers}
+use Rattle.command_line.specs.Request.{IsInRange, demo_by, number_in, play_by, request_by, request_of, max_seed, max_files, max_edits, max_workers}
 
 -- ---- what is read lies within its bounds
 
@@ -53,11 +53,11 @@ demo_by-in_range options r e =
     let seed = chain _ (number_in options (codes "seed") 0 max_seed) r e in
     let files = chain _ (number_in options (codes "files") 1 max_files) r seed.2 in
     let edits = chain _ (number_in options (codes "edits") 0 max_edits) r files.2 in
-    let workers = mapped (λ (n : ℕ). Demo seed.0 files.0 edits.0 n) (number_in options (codes "workers") 0 max_demo_workers) r edits.2 in
+    let workers = mapped (λ (n : ℕ). Demo seed.0 files.0 edits.0 n) (number_in options (codes "workers") 0 max_workers) r edits.2 in
     let s = number_in-bounds options (codes "seed") 0 max_seed seed.0 seed.1 in
     let f = number_in-bounds options (codes "files") 1 max_files files.0 files.1 in
     let m = number_in-bounds options (codes "edits") 0 max_edits edits.0 edits.1 in
-    let w = number_in-bounds options (codes "workers") 0 max_demo_workers workers.0 workers.1 in
+    let w = number_in-bounds options (codes "workers") 0 max_workers workers.0 workers.1 in
     subst IsInRange workers.2 (s.1, f.0, f.1, m.1, w.1)
 
 request_by-in_range : (o : Option (Text × List Row)) (r : Request) → request_by o ≡ Some r → IsInRange r

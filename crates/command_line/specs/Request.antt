@@ -20,13 +20,9 @@ max_files = 10000
 abbrev pub max_edits : ℕ
 max_edits = 50000
 
--- the highest number of workers beside a script
+-- the highest number of workers
 abbrev pub max_workers : ℕ
 max_workers = 8
-
--- the highest number of workers beside a demo
-abbrev pub max_demo_workers : ℕ
-max_demo_workers = 0
 
 -- the number that an option has, where its value spells one within bounds
 abbrev pub number_in : List Row → Text → ℕ → ℕ → Option ℕ
@@ -43,7 +39,7 @@ demo_by options =
     option_and_then (λ files.
     option_and_then (λ edits.
     option_map (λ workers. Demo seed files edits workers)
-    (number_in options (codes "workers") 0 max_demo_workers))
+    (number_in options (codes "workers") 0 max_workers))
     (number_in options (codes "edits") 0 max_edits))
     (number_in options (codes "files") 1 max_files))
     (number_in options (codes "seed") 0 max_seed)
@@ -64,4 +60,4 @@ is_command words = is_some (request_of words)
 -- the numbers of a request lie within their bounds
 abbrev pub IsInRange : Request → Type 0
 IsInRange (Play workers) = workers ≤ max_workers
-IsInRange (Demo seed files edits workers) = (seed ≤ max_seed) × (1 ≤ files) × (files ≤ max_files) × (edits ≤ max_edits) × (workers ≤ max_demo_workers)
+IsInRange (Demo seed files edits workers) = (seed ≤ max_seed) × (1 ≤ files) × (files ≤ max_files) × (edits ≤ max_edits) × (workers ≤ max_workers)

@@ -15,10 +15,8 @@ const MAX_SEED: u32 = 2_147_483_647;
 const MAX_FILES: u32 = 10_000;
 /// The highest number of edits.
 const MAX_EDITS: u32 = 50_000;
-/// The highest number of workers beside a script.
+/// The highest number of workers.
 const MAX_WORKERS: u32 = 8;
-/// The highest number of workers beside a demo: until it is known that its summary stays the same, there are none.
-const MAX_DEMO_WORKERS: u32 = 0;
 
 /// What the program is asked to do.
 #[derive(Clone, Copy, Debug, PartialEq, Eq)]
@@ -107,7 +105,7 @@ fn demo_by(options: &ArgMatches<'_>) -> Option<Request>
     let seed = number_in(options, "seed", 0, MAX_SEED)?;
     let files = number_in(options, "files", 1, MAX_FILES)?;
     let edits = number_in(options, "edits", 0, MAX_EDITS)?;
-    let workers = number_in(options, "workers", 0, MAX_DEMO_WORKERS)?;
+    let workers = number_in(options, "workers", 0, MAX_WORKERS)?;
     Some(Request::Demo {
         seed,
         files,

@@ -9,8 +9,9 @@ ghost use Rattle.ide_script.specs.Run.{RunEnds, PlayEnds, DemoEnds, GivesScript,
 use crate::{PlayRefusal, Status, play};
 use command_line::{Request, WordsRefusal, request_of};
 use demo::demo_script;
+use demo_runs::laws::{a_demo_is_lawful, demo_runs_agree};
 use ide_io::{ReadAllError, Sink, Source, Tree, read_all, write_all};
-use playing::{LaneGate, play_in_turn};
+use playing::LaneGate;
 use script_lang::{MAX_BYTES, Script, ScriptRefusal, parse};
 use std::alloc::Global;
 use std::sync::Wait;
@@ -52,9 +53,9 @@ pub fn run_ide<R: Threads + Wait + Sync, S: Source, T: Tree, K: Sink>(
                 seed,
                 files,
                 edits,
-                workers: _,
+                workers,
             },
-        ) => run_demo(rt, alloc, seed, files, edits, out),
+        ) => run_demo(rt, alloc, seed, files, edits, workers, out),
         Err(WordsRefusal::Usage) => Status::Usage,
         Err(WordsRefusal::OutOfMemory) => Status::OutOfMemory,
     }
@@ -123,46 +124,50 @@ fn write_transcript<K: Sink>(alloc: Global, played: &Played, out: &mut K) -> Sta
     }
 }
 
-/// Plays the script of a demo and writes its summary. It may wait for ever.
+/// Plays the script of a demo with so many workers, and writes its summary. It may wait for ever.
 fn run_demo<R: Threads + Wait + Sync, K: Sink>(
     rt: &R,
     alloc: Global,
     seed: u32,
     files: u32,
     edits: u32,
+    workers: u32,
     out: &mut K,
 ) -> Status
-    requires { IsInRange (Request.Demo seed files edits 0) }
+    requires { IsInRange (Request.Demo seed files edits workers) }
     ensures ends { DemoEnds K.taken K.faults seed files edits out.old out.new result }
     ensures silent { result ≢ Status.Done → result ≢ Status.SinkFault → out.new ≡ out.old }
     ensures quiet { result ≢ Status.SinkFault → K.faults out.new ≡ K.faults out.old }
 {
-    match play_demo(rt, alloc, seed, files, edits) {
+    match play_demo(rt, alloc, seed, files, edits, workers) {
         Ok(played) => write_summary(alloc, &played, out),
         Err(status) => status,
     }
 }
 
-/// Plays the script of a demo. It may wait for ever.
+/// Plays the script of a demo with so many workers. It may wait for ever.
 fn play_demo<R: Threads + Wait + Sync>(
     rt: &R,
     alloc: Global,
     seed: u32,
     files: u32,
     edits: u32,
+    workers: u32,
 ) -> Result<Played, Status>
-    requires { IsInRange (Request.Demo seed files edits 0) }
+    requires { IsInRange (Request.Demo seed files edits workers) }
     ensures ok { IfOk result (λ played. IsDemoSummary seed files edits
         (summary_of (record { history = played.history.entries; records = played.records; last = played.last }))) }
     ensures err { IfErr result (λ status. DemoStops seed files edits status) }
 {
+    a_demo_is_lawful();
+    demo_runs_agree();
     let Ok(bytes) = demo_script(alloc, seed, files, edits) else {
         return Err(Status::OutOfMemory);
     };
     match parse(alloc, &bytes) {
         Ok(script) => {
             let gate = LaneGate::new(rt, script.lanes() as u32);
-            match play_in_turn(rt, alloc, &script, &[], &gate) {
+            match playing::play(rt, alloc, &script, &[], workers, &gate) {
                 Ok(played) => Ok(played),
                 Err(_) => Err(Status::OutOfMemory),
             }

@@ -9,7 +9,7 @@ struct Case {
     gives: Result<Request, WordsRefusal>,
 }
 
-static CASES: [Case; 42] = [
+static CASES: [Case; 43] = [
     // The subcommands, and their defaults.
     Case {
         words: &[],
@@ -71,6 +71,15 @@ static CASES: [Case; 42] = [
             workers: 0,
         }),
     },
+    Case {
+        words: &["demo", "--workers", "8"],
+        gives: Ok(Request::Demo {
+            seed: 1,
+            files: 8,
+            edits: 32,
+            workers: 8,
+        }),
+    },
     // Past a bound.
     Case {
         words: &["demo", "--seed", "2147483648"],
@@ -97,7 +106,7 @@ static CASES: [Case; 42] = [
         gives: Err(WordsRefusal::Usage),
     },
     Case {
-        words: &["demo", "--workers", "1"],
+        words: &["demo", "--workers", "9"],
         gives: Err(WordsRefusal::Usage),
     },
     // Numbers out of form.
