@@ -42,12 +42,13 @@ run_serial loads script ended none fits =
     let whole : ended.history ≡ fits.opening ++ fits.closing = fits.history ∙ ap (λ es. es ++ fits.closing) opened in
     let begins : fits.last_begins.seen ≡ length fits.opening = fits.last_behind ∙ ap length opened in
     let lanes : fits.lanes_records ≡ [] =
-        no_record (run_beside (length script.lanes) 0) (fits.opening ++ fits.middle) (mark_at (length fits.opening)) script.lanes fits.middle fits.lanes_records none fits.lanes in
+    no_record (run_beside (length script.lanes) 0) (fits.opening ++ fits.middle) (mark_at (length fits.opening)) script.lanes fits.middle
+    fits.lanes_records none fits.lanes in
     let told : ended.records ≡ fits.prelude_records = fits.records ∙ (ap (λ rs. fits.prelude_records ++ rs) lanes ∙ append-nil fits.prelude_records) in
     let first =
-        section_serial fits.opening 0 script.prelude loads (mark_at 0) fits.prelude_end [] fits.prelude_records [] fits.opening refl refl fits.prelude in
+    section_serial fits.opening 0 script.prelude loads (mark_at 0) fits.prelude_end [] fits.prelude_records [] fits.opening refl refl fits.prelude in
     let last =
-        section_serial ended.history 0 script.last [] fits.last_begins fits.last_end [] ended.last fits.opening fits.closing whole begins fits.last in
+    section_serial ended.history 0 script.last [] fits.last_begins fits.last_end [] ended.last fits.opening fits.closing whole begins fits.last in
     (λ i. record { history = ended.history; records = told i; last = ended.last })
     ∙ (sym (serial_ends loads script.prelude script.last fits.opening ended.history fits.prelude_records ended.last first last)
     ∙ λ i. run_of loads (record { prelude = script.prelude; lanes = sym none i; last = script.last }))

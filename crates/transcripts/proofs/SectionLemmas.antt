@@ -40,7 +40,7 @@ start_alone : (history start made later : List Entry) (prefix : List Entry) (see
 start_alone history start made later prefix seen whole stands late is room =
     let all : length history ≡ length (start ++ (made ++ later)) = ap length whole in
     let same : length prefix ≡ length start =
-        omega (arith, all, length-append start (made ++ later), length-append made later, length-append prefix made, room, late, is) in
+    omega (arith, all, length-append start (made ++ later), length-append made later, length-append prefix made, room, late, is) in
     let front : IsFront prefix history = (made ++ stands.0, stands.1 ∙ append_assoc prefix made stands.0) in
     front_whole prefix start (front_shorter prefix start history front (made ++ later, whole) (omega arith)) (omega arith)
 
@@ -61,13 +61,14 @@ section_serial history seat (line ∷ lines) loads low high earlier records star
     let stands = front_length (done.start ++ fits.made) history done.stands in
     let room = section_room history seat lines (later_loads loads) fits.between high fits.later fits.made_later (omega arith) fits.rest in
     let same : done.start ≡ start =
-        start_alone history start fits.made fits.made_later done.start fits.between.seen parts done.stands (omega arith) seen room in
+    start_alone history start fits.made fits.made_later done.start fits.between.seen parts done.stands (omega arith) seen room in
     let step : step_of (first_load loads) start seat line.number line.command ≡ record { added = fits.made; answer = fits.answer } =
-        subst (λ (es : List Entry). step_of (first_load loads) es seat line.number line.command ≡ record { added = fits.made; answer = fits.answer }) same done.step in
+    subst (λ (es : List Entry). step_of (first_load loads) es seat line.number line.command ≡ record { added = fits.made; answer = fits.answer })
+    same done.step in
     let between : fits.between.seen ≡ length (start ++ fits.made) = seen ∙ ap (λ (es : List Entry). length (es ++ fits.made)) same in
     let rest = section_serial history seat lines (later_loads loads) fits.between high (earlier ++ reply ∷ []) fits.later (start ++ fits.made) fits.made_later
-        (parts ∙ sym (append_assoc start fits.made fits.made_later)) between fits.rest in
+    (parts ∙ sym (append_assoc start fits.made fits.made_later)) between fits.rest in
     let told : (earlier ++ reply ∷ []) ++ fits.later ≡ earlier ++ records =
-        append_assoc earlier (reply ∷ []) fits.later ∙ ap (λ rs. earlier ++ rs) (sym fits.records_are) in
+    append_assoc earlier (reply ∷ []) fits.later ∙ ap (λ rs. earlier ++ rs) (sym fits.records_are) in
     ap (λ s. done_from seat (after_step (record { history = start; records = earlier }) seat line.number s) lines (later_loads loads)) step
     ∙ (rest ∙ λ i. record { history = history; records = told i })

@@ -46,21 +46,21 @@ some_some why other h = cc
 -- nothing was unready
 leaves_over : (history : List Entry) → lowest_unready (fold history) ≡ None → Leaves history all_settled
 leaves_over history lowest = record {
-    smart = λ _. ap (λ es. lowest_unready (fold es)) (append-nil history) ∙ lowest;
-    unready = λ why h. absurd (none_some why h);
-    full = λ why h. absurd (none_some why h);
-    reason = λ why h. absurd (none_some why h);
-  }
+  smart = λ _. ap (λ es. lowest_unready (fold es)) (append-nil history) ∙ lowest;
+  unready = λ why h. absurd (none_some why h);
+  full = λ why h. absurd (none_some why h);
+  reason = λ why h. absurd (none_some why h);
+}
 
 -- the intake of the first unready file was refused, since the history is full
 leaves_refused : (history : List Entry) (id : ℕ) (why : Refusal) → lowest_unready (fold history) ≡ Some id → why ≡ HistoryFull → max_entries ≤ length history
     → Leaves history (refused_for why)
 leaves_refused history id why lowest is full = record {
-    smart = λ h. absurd (some_none why h);
-    unready = λ other h. subst IsSome (sym (ap (λ es. lowest_unready (fold es)) (append-nil history) ∙ lowest)) refl;
-    full = λ other h. subst (λ (n : ℕ). max_entries ≤ n) (sym (ap length (append-nil history))) full;
-    reason = λ other h. sym (some_some why other h) ∙ is;
-  }
+  smart = λ h. absurd (some_none why h);
+  unready = λ other h. subst IsSome (sym (ap (λ es. lowest_unready (fold es)) (append-nil history) ∙ lowest)) refl;
+  full = λ other h. subst (λ (n : ℕ). max_entries ≤ n) (sym (ap length (append-nil history))) full;
+  reason = λ other h. sym (some_some why other h) ∙ is;
+}
 
 -- an entry went in, and then others
 leaves_more : (history : List Entry) (entry : Entry) (rest : Settled) → Leaves (history ++ entry ∷ []) rest → Leaves history (with_entry entry rest)

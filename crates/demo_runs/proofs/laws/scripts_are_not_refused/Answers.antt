@@ -1,0 +1,5 @@
+use Rattle.demo_runs.proofs.RefusedLemmas.{never_refused}
+use Rattle.demo_runs.proofs.laws.scripts_are_not_refused.Goals as goal
+
+pub returns : goal.returns
+returns c = never_refused
