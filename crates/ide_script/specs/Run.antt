@@ -98,7 +98,7 @@ abbrev pub DemoEnds : {K : Type 0} → (K → Option (List ℕ)) → (K → ℕ)
 DemoEnds taken misses seed files edits sink sink' Done = WritesSummary seed files edits (taken sink) (taken sink')
 DemoEnds taken misses seed files edits sink sink' SinkFault = HasFault (misses sink) (misses sink') × WritesSummaryPrefix seed files edits (taken sink) (taken sink')
 DemoEnds taken misses seed files edits sink sink' OutOfMemory = Unit {0}
-DemoEnds taken misses seed files edits sink sink' (BadScript line) = IsRefused (demo_bytes seed files edits) (BadLine line)
+DemoEnds taken misses seed files edits sink sink' (BadScript line) = ⊥
 DemoEnds taken misses seed files edits sink sink' Usage = ⊥
 DemoEnds taken misses seed files edits sink sink' SourceFault = ⊥
 DemoEnds taken misses seed files edits sink sink' TreeFault = ⊥
@@ -137,17 +137,6 @@ ReadStops left ends faults old new Done = ⊥
 ReadStops left ends faults old new Usage = ⊥
 ReadStops left ends faults old new TreeFault = ⊥
 ReadStops left ends faults old new SinkFault = ⊥
-
--- why a demo wasn't played
-abbrev pub DemoStops : ℕ → ℕ → ℕ → Status → Type 0
-DemoStops seed files edits (BadScript line) = IsRefused (demo_bytes seed files edits) (BadLine line)
-DemoStops seed files edits OutOfMemory = Unit {0}
-DemoStops seed files edits ScriptTooLong = ⊥
-DemoStops seed files edits SourceFault = ⊥
-DemoStops seed files edits Done = ⊥
-DemoStops seed files edits Usage = ⊥
-DemoStops seed files edits TreeFault = ⊥
-DemoStops seed files edits SinkFault = ⊥
 
 -- how the writing of some bytes ended
 abbrev pub WriteEnds : {K : Type 0} → (K → Option (List ℕ)) → (K → ℕ) → K → K → List ℕ → Status → Type 0

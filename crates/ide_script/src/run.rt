@@ -1,19 +1,22 @@
 //! The whole program, over any source, tree and sink.
 ghost use Rattle.std.specs.Prelude.{◌≡◌, ◌≢◌, ◌<◌, ◌≤◌, List, Err, length, map, string_bytes, IfOk, IfErr};
 ghost use Rattle.ide_io.specs.Known.{TakesAtMost};
+ghost use Rattle.demo.specs.Script.{demo_bytes};
+ghost use Rattle.script_lang.specs.Grammar.{IsScript};
 ghost use Rattle.script_lang.specs.Lines.{max_bytes};
-ghost use Rattle.command_line.specs.Request.{request_of, IsInRange, max_workers};
+ghost use Rattle.command_line.specs.Request.{request_of, IsInRange, max_workers, max_files, max_edits};
 ghost use Rattle.transcripts.specs.Transcript.{transcript_of, summary_of};
-ghost use Rattle.ide_script.specs.Run.{RunEnds, PlayEnds, DemoEnds, GivesScript, TellsEndOnce, ReadStops, WriteEnds, IsDemoSummary, DemoStops, AsksNothing};
+ghost use Rattle.ide_script.specs.Run.{RunEnds, PlayEnds, DemoEnds, GivesScript, TellsEndOnce, ReadStops, WriteEnds, IsDemoSummary, AsksNothing};
 
 use crate::{PlayRefusal, Status, play};
 use command_line::{Request, WordsRefusal, request_of};
 use demo::demo_script;
-use demo_runs::laws::{a_demo_is_lawful, demo_runs_agree};
+use demo_runs::agree::demo_runs_agree;
+use demo_runs::laws::{a_demo_is_lawful, no_demo_is_refused};
 use ide_io::{ReadAllError, Sink, Source, Tree, read_all, write_all};
 use playing::LaneGate;
 use script_lang::{MAX_BYTES, Script, ScriptRefusal, parse};
-use std::alloc::Global;
+use std::alloc::{AllocError, Global};
 use std::sync::Wait;
 use std::thread::Threads;
 use transcripts::{Played, summary, transcript};
@@ -141,7 +144,7 @@ fn run_demo<R: Threads + Wait + Sync, K: Sink>(
 {
     match play_demo(rt, alloc, seed, files, edits, workers) {
         Ok(played) => write_summary(alloc, &played, out),
-        Err(status) => status,
+        Err(_) => Status::OutOfMemory,
     }
 }
 
@@ -153,27 +156,31 @@ fn play_demo<R: Threads + Wait + Sync>(
     files: u32,
     edits: u32,
     workers: u32,
-) -> Result<Played, Status>
+) -> Result<Played, AllocError>
     requires { IsInRange (Request.Demo seed files edits workers) }
-    ensures ok { IfOk result (λ played. IsDemoSummary seed files edits
+    ensures { IfOk result (λ played. IsDemoSummary seed files edits
         (summary_of (record { history = played.history.entries; records = played.records; last = played.last }))) }
-    ensures err { IfErr result (λ status. DemoStops seed files edits status) }
 {
     a_demo_is_lawful();
     demo_runs_agree();
-    let Ok(bytes) = demo_script(alloc, seed, files, edits) else {
-        return Err(Status::OutOfMemory);
-    };
+    let script = script_of_demo(alloc, seed, files, edits)?;
+    let gate = LaneGate::new(rt, script.lanes() as u32);
+    playing::play(rt, alloc, &script, &[], workers, &gate)
+}
+
+/// The script of a demo.
+fn script_of_demo(alloc: Global, seed: u32, files: u32, edits: u32) -> Result<Script, AllocError>
+    requires some_file { 0 < files }
+    requires few_files { files ≤ max_files }
+    requires few_edits { edits ≤ max_edits }
+    ensures { IfOk result (λ script. IsScript (demo_bytes seed files edits) script) }
+{
+    no_demo_is_refused();
+    let bytes = demo_script(alloc, seed, files, edits)?;
     match parse(alloc, &bytes) {
-        Ok(script) => {
-            let gate = LaneGate::new(rt, script.lanes() as u32);
-            match playing::play(rt, alloc, &script, &[], workers, &gate) {
-                Ok(played) => Ok(played),
-                Err(_) => Err(Status::OutOfMemory),
-            }
-        }
-        Err(ScriptRefusal::BadLine { number }) => Err(Status::BadScript { line: number }),
-        Err(ScriptRefusal::OutOfMemory) => Err(Status::OutOfMemory),
+        Ok(script) => Ok(script),
+        Err(ScriptRefusal::BadLine { .. }) => unreachable!(),
+        Err(ScriptRefusal::OutOfMemory) => Err(AllocError),
     }
 }
 
