@@ -52,9 +52,9 @@ pub fn run_ide<R: Threads + Wait + Sync, S: Source, T: Tree, K: Sink>(
                 seed,
                 files,
                 edits,
-                ..
+                workers: _,
             },
-        ) => { run_demo(rt, alloc, seed, files, edits, out) }
+        ) => run_demo(rt, alloc, seed, files, edits, out),
         Err(WordsRefusal::Usage) => Status::Usage,
         Err(WordsRefusal::OutOfMemory) => Status::OutOfMemory,
     }
