@@ -288,3 +288,22 @@ fn workers_index_what_was_loaded(rt: HostRuntime) -> Result<(), Fail> {
     }
     Ok(())
 }
+
+/// A demo has one summary, with any number of workers.
+#[test]
+fn demos_agree(rt: HostRuntime) -> Result<(), Fail> {
+    let mut alone = BytesSink::with_room(rt.alloc(), 4_000)?;
+    let words = ["ide", "demo", "--edits", "200"];
+    let mut source = BytesSource::new(b"");
+    assert_eq!(rt; run(&rt, &words, &mut source, &mut alone)?.as_str(), "0 ");
+    for workers in ["0", "1", "2", "5", "8"] {
+        let words = ["ide", "demo", "--edits", "200", "--workers", workers];
+        let mut sink = BytesSink::with_room(rt.alloc(), 4_000)?;
+        assert_eq!(rt; run(&rt, &words, &mut source, &mut sink)?.as_str(), "0 ");
+        assert_eq!(rt;
+            str::from_utf8(sink.bytes())?,
+            str::from_utf8(alone.bytes())?
+        );
+    }
+    Ok(())
+}
