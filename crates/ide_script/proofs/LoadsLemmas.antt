@@ -1,5 +1,5 @@
 -- What was read for the lines of a prelude.
-use Rattle.std.proofs.Common.{ℕ, ◌≡◌, ◌≤◌, List, [], ◌++◌, length, drop, refl, sym, subst, append-nil, Option}
+use Rattle.std.proofs.Common.{ℕ, ◌≤◌, List, [], ◌++◌, length, drop, refl, sym, subst, append-nil, Option}
 use Rattle.std.proofs.lemmas.List.{drop_all}
 use Rattle.ide_io.specs.Files.{Files}
 use Rattle.script_lang.specs.declared.line.Line.{Line}
