@@ -1,5 +1,5 @@
 //! Playing a script over a tree, from which its loads are read.
-ghost use Rattle.std.specs.Prelude.{◌≡◌, ◌≢◌, ◌≤◌, IfOk, Err, [], length};
+ghost use Rattle.std.specs.Prelude.{◌≡◌, ◌≢◌, ◌≤◌, IfOk, Err};
 ghost use Rattle.command_line.specs.Request.{max_workers};
 ghost use Rattle.ide_io.specs.Fault.{HasFault};
 ghost use Rattle.ide_script.specs.Play.{Plays, AskNoFile};
