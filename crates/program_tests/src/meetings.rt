@@ -1,5 +1,6 @@
 //! Lanes and workers run beside each other: gates hold each until the other has come to a point.
-ghost use Rattle.std.specs.Prelude.{◌≤◌};
+ghost use Rattle.std.specs.Prelude.{◌≤◌, length};
+ghost use Rattle.script_lang.specs.Lines.{max_bytes};
 
 use crate::gates::{BothRead, StaleJob, WorkerFirst};
 use crate::running::two_files;
@@ -14,14 +15,15 @@ use transcripts::{Played, transcript};
 /// Plays a script with so many workers, at this gate.
 fn played<R: Threads + Wait + Sync + AllocGlobal, G: Gate + Sync>(
     rt: &R,
-    script: &str,
+    script: &[u8],
     workers: u32,
     gate: &G,
 ) -> Result<Played, Fail>
-    requires { workers ≤ 8 }
+    requires script { length script.now ≤ max_bytes }
+    requires workers { workers ≤ 8 }
 {
     let alloc = rt.alloc();
-    let script = parse(alloc, script.as_bytes())?;
+    let script = parse(alloc, script)?;
     let mut tree = two_files(alloc)?;
     Ok(play(rt, alloc, &script, workers, &mut tree, gate)?)
 }
@@ -30,7 +32,7 @@ fn played<R: Threads + Wait + Sync + AllocGlobal, G: Gate + Sync>(
 #[test]
 fn lanes_meet(rt: HostRuntime) -> Result<(), Fail> {
     let gate = BothRead::new();
-    let script = "create A.java \"class A {}\"\nlane\nstatus\nlane\nstatus\n";
+    let script = b"create A.java \"class A {}\"\nlane\nstatus\nlane\nstatus\n";
     let played = played(&rt, script, 0, &gate)?;
     assert_eq!(rt; gate.met.count(), 2);
     assert_eq!(rt; played.records.as_slice().len(), 3);
@@ -41,7 +43,7 @@ fn lanes_meet(rt: HostRuntime) -> Result<(), Fail> {
 #[test]
 fn worker_works(rt: HostRuntime) -> Result<(), Fail> {
     let gate = WorkerFirst::new();
-    let script = "create A.java \"class A {}\"\nlane\nstatus\n";
+    let script = b"create A.java \"class A {}\"\nlane\nstatus\n";
     let played = played(&rt, script, 1, &gate)?;
     assert_eq!(rt; gate.met.count(), 1);
     assert_eq!(rt; played.workers.len(), 1);
@@ -53,7 +55,7 @@ fn worker_works(rt: HostRuntime) -> Result<(), Fail> {
 fn stale_job(rt: HostRuntime) -> Result<(), Fail> {
     let gate = StaleJob::new();
     let script =
-        "create A.java \"class A {}\"\nlane\nwrite A.java \"class B {}\"\nfinally\nclass B\n";
+        b"create A.java \"class A {}\"\nlane\nwrite A.java \"class B {}\"\nfinally\nclass B\n";
     let played = played(&rt, script, 1, &gate)?;
     assert_eq!(rt; gate.met.count(), 3);
     for worked in played.workers.as_slice() {
