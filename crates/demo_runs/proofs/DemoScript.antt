@@ -56,10 +56,12 @@ spells_finally section number bytes rest ends spelled =
 
 -- a command of it that is written out
 spells_asked : (number after : ℕ) (line bytes : List ℕ) (command : ScriptCommand) (here : List Line) → after ≡ number + 1
-    → list_all (is_plain 32) line ≡ true → IsCommandLine line command → IsTrue (may_stand Finally command) → Spells Finally after bytes (coming here [] [])
+    → list_all (is_plain 32) line ≡ true → IsCommandLine line command → IsTrue (may_stand Finally command)
+    → Spells Finally after bytes (coming here [] [])
     → Spells Finally number (line ++ line_feed ∷ bytes) (coming (record { number = number; command = command } ∷ here) [] [])
 spells_asked number after line bytes command here n e is stands spelled =
-    spells_command Finally number after line bytes (line ++ line_feed ∷ bytes) command (coming here [] []) n refl (written line e) is stands spelled
+    let whole = line ++ line_feed ∷ bytes in
+    spells_command Finally number after line bytes whole command (coming here [] []) n refl (written line e) is stands spelled
 
 spells_last : (number : ℕ) → Spells Finally number (codes "settle\nstatus\nsupers G0\nsupers G1\n") (coming (last_from number) [] [])
 spells_last number =
@@ -67,8 +69,8 @@ spells_last number =
     let none = spells_nothing Finally (number + 3 + 1) in
     let fourth = spells_asked (number + 3) (number + 3 + 1) (codes "supers G1") [] (script.Ask (query.Supers (codes "G1"))) []
     refl refl (refl, second_is_word) refl none in
-    let third = spells_asked (number + 2) (number + 3) (codes "supers G0") (codes "supers G1\n") (script.Ask (query.Supers (codes "G0")))
-    (drop 3 lines) (omega arith) refl (refl, first_is_word) refl fourth in
+    let third = spells_asked (number + 2) (number + 3) (codes "supers G0") (codes "supers G1\n")
+    (script.Ask (query.Supers (codes "G0"))) (drop 3 lines) (omega arith) refl (refl, first_is_word) refl fourth in
     let second = spells_asked (number + 1) (number + 2) (codes "status") (codes "supers G0\nsupers G1\n") (script.Ask query.Status)
     (drop 2 lines) (omega arith) refl refl refl third in
     spells_asked number (number + 1) (codes "settle") (codes "status\nsupers G0\nsupers G1\n") script.Settle (drop 1 lines) refl refl refl refl second

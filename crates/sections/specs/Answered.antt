@@ -1,0 +1,64 @@
+-- How the command of one line is answered.
+use Rattle.std.specs.Prelude.{ℕ, ◌≡◌, ◌⊎◌, Bool, true, List, [], ◌∷◌, ◌++◌, Some, None}
+use Rattle.list_laws.specs.Fronts.{IsFront}
+use Rattle.action_lock.specs.declared.view.View.{View}
+use Rattle.write_history.specs.declared.entry.Entry.{Entry}
+use Rattle.write_history.specs.declared.refusal.Refusal.TheVariants as why
+use Rattle.queries.specs.declared.query.Query.{Query}
+use Rattle.ide_calls.specs.declared.reply.Reply.{Reply}
+use Rattle.ide_calls.specs.declared.reply.Reply.TheVariants as reply
+use Rattle.ide_calls.specs.Sighting.{Sighting}
+use Rattle.ide_calls.specs.SoftRefusal.{HasSighted}
+use Rattle.script_lang.specs.declared.command.Command.{Command}
+use Rattle.script_lang.specs.declared.command.Command.TheVariants.{Soft}
+use Rattle.script_lang.specs.declared.line.Line.{Line}
+use Rattle.transcripts.specs.declared.loaded.Loaded.{Loaded}
+use Rattle.transcripts.specs.declared.record.Answer.{Answer}
+use Rattle.transcripts.specs.declared.record.Answer.TheVariants.{Refused, NotReady, Cancelled}
+use Rattle.transcripts.specs.declared.record.Record.{Record}
+use Rattle.transcripts.specs.Serial.{Step, step_of, query_step, found_answer}
+
+-- what a reply is told as
+abbrev pub reply_answer : Query → ℕ → Reply → Answer
+reply_answer query at (reply.Found found) = found_answer query at found
+reply_answer query at reply.NoSuchFile = Refused at None why.NoSuchFile
+reply_answer query at (reply.NotReady file path) = NotReady at path
+
+-- The command was done behind `start`, which begins with all that the pass had seen: the step there, by the pass's number, says what it made,
+-- and what it is answered
+pub record IsAnswered (step : List Entry → ℕ → Step) (v w : View Entry) (answer : Answer) : Type 0 where
+  pub start : List Entry
+  pub own : List Entry
+  pub known : IsFront v.seen start
+  pub seen : w.seen ≡ start ++ own
+  pub mine : w.mine ≡ v.mine ++ own
+  pub made : (seat : ℕ) → v.number ≡ Some seat → step start seat ≡ record { added = own; answer = answer }
+
+-- a soft question was given up after so many attempts, and nothing was made
+pub record IsCancelled (attempts : ℕ) (v w : View Entry) (answer : Answer) : Type 0 where
+  pub sighted : Sighting
+  pub told : answer ≡ Cancelled sighted
+  pub sights : HasSighted v w attempts sighted
+  pub mine : w.mine ≡ v.mine
+
+-- a soft question was answered, or given up
+abbrev pub IsSoftlyAnswered : ℕ → Query → View Entry → View Entry → Answer → Type 0
+IsSoftlyAnswered attempts query v w answer = IsAnswered (λ start seat. query_step start query) v w answer ⊎ IsCancelled attempts v w answer
+
+-- the soft question of a command was given up
+pub record IsGivenUpBy (command : Command) (v w : View Entry) (answer : Answer) : Type 0 where
+  pub attempts : ℕ
+  pub query : Query
+  pub soft : command ≡ Soft attempts query
+  pub cancelled : IsCancelled attempts v w answer
+
+-- the command of a line was done, or, only where another section runs beside, given up
+abbrev pub IsLineAnswered : Bool → Line → Loaded → View Entry → View Entry → Answer → Type 0
+IsLineAnswered beside line load v w answer =
+    IsAnswered (λ start seat. step_of load start seat line.number line.command) v w answer ⊎ ((beside ≡ true) × IsGivenUpBy line.command v w answer)
+
+-- the command of a line was answered, and its record added to others
+pub record HasAnsweredLine (beside : Bool) (seat : ℕ) (line : Line) (load : Loaded) (v w : View Entry) (old new : List Record) : Type 0 where
+  pub answer : Answer
+  pub added : new ≡ old ++ record { seat = seat; line = line.number; answer = answer } ∷ []
+  pub answered : IsLineAnswered beside line load v w answer
