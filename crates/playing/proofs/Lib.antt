@@ -1,0 +1,4 @@
+pub mod ViewLemmas
+pub mod PartLemmas
+pub mod RoundLemmas
+pub mod RunLemmas

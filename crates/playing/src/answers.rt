@@ -1,0 +1,41 @@
+//! What parts have done, put together in order of their seats.
+ghost use Rattle.std.specs.Prelude.{◌≡◌, [], OnOk};
+ghost use Rattle.playing.specs.Parts.{HasTaken};
+
+use crate::part::Outcome;
+use index_workers::Worked;
+use std::alloc::{AllocError, Global};
+use transcripts::Records;
+
+/// Records, and what workers did.
+#[derive(Drop)]
+pub(crate) struct Answers {
+    pub(crate) records: Records,
+    pub(crate) workers: Vec<Worked>,
+}
+
+impl Answers {
+    /// No record and no worker.
+    pub(crate) fn new(alloc: Global) -> Answers
+        ensures { (result.records ≡ []) × (result.workers.items ≡ []) }
+    {
+        Answers {
+            records: Records::new(alloc),
+            workers: Vec::new(alloc),
+        }
+    }
+
+    /// Puts what one part has done behind the rest. An outcome that tells nothing is taken for want of memory.
+    pub(crate) fn take(&mut self, outcome: Outcome) -> Result<(), AllocError>
+        ensures { OnOk result (HasTaken outcome self.old self.new) }
+    {
+        match outcome {
+            Outcome::Nothing => Err(AllocError),
+            Outcome::Answered { records } => self.records.append(records),
+            Outcome::Indexed { worked } => {
+                self.workers.push(worked)?;
+                Ok(())
+            }
+        }
+    }
+}

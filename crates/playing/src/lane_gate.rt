@@ -1,0 +1,59 @@
+//! The gate of a run: workers go on until every lane has ended.
+use action_lock::{Gate, Point};
+use std::sync::Wait;
+use std::sync::atomic::{AtomicU64, Ordering};
+use std::time::Duration;
+
+/// The longest that a worker with nothing to do sleeps before it looks again, in milliseconds.
+const NAP: u64 = 1;
+
+/// Counts the lanes that have ended. A worker that finds nothing to do sleeps until a lane ends, or for a short while, and
+/// then goes on; once all lanes have ended it is told to end.
+pub struct LaneGate<'r, R> {
+    rt: &'r R,
+    lanes: u64,
+    ended: AtomicU64,
+}
+
+impl<'r, R: Wait> LaneGate<'r, R> {
+    /// The gate of a run with so many lanes, whose seats are the numbers from 1 on.
+    pub fn new(rt: &'r R, lanes: u32) -> LaneGate<'r, R> {
+        LaneGate {
+            rt,
+            lanes: lanes as u64,
+            ended: AtomicU64::new(0),
+        }
+    }
+
+    /// Takes note of a seat that has ended: that of a lane counts.
+    fn end(&self, seat: u32) {
+        if seat as u64 <= self.lanes {
+            self.ended.fetch_add(1, Ordering::SeqCst);
+            self.ended.wake_all();
+        }
+    }
+
+    /// Whether a lane is still on the way. If so, it has slept for a while.
+    fn wait(&self) -> bool {
+        let ended = self.ended.load(Ordering::SeqCst);
+        if self.lanes <= ended {
+            return false;
+        }
+        let nap = Duration::from_millis(NAP);
+        self.ended.park_timeout(self.rt, ended as u32, nap);
+        true
+    }
+}
+
+impl<R: Wait> Gate for LaneGate<'_, R> {
+    fn at(&self, point: Point) -> bool {
+        match point {
+            Point::Ended { seat } => {
+                self.end(seat);
+                true
+            }
+            Point::Idle { seat: _ } => self.wait(),
+            _ => true,
+        }
+    }
+}

@@ -1,0 +1,127 @@
+//! A part of a round: a pass, and what is done with it on a thread of its own.
+ghost use Rattle.std.specs.Prelude.{◌≡◌, Some};
+ghost use Rattle.action_lock.specs.Advances.{Advances};
+ghost use Rattle.script_lang.specs.Held.{AreOfSection};
+ghost use Rattle.index_workers.specs.Passes.{ide_view, IsSameIdePass};
+ghost use Rattle.shared_ide.specs.Passes.{IsIdePassOf};
+ghost use Rattle.playing.specs.Parts.{CanRun, HasRun, MayHaveDone, MayHaveWorked};
+
+use action_lock::{Gate, Point};
+use index_workers::{IdePass, Worked};
+use script_lang::{Line, Script};
+use sections::do_section;
+use shared_ide::SharedIde;
+use std::alloc::{AllocError, Global};
+use std::sync::Wait;
+use transcripts::Records;
+
+/// What the pass of a part is for.
+#[derive(Clone, Copy, Debug, PartialEq, Eq)]
+pub(crate) enum Task {
+    /// The lane of the script with this index.
+    Lane { index: usize },
+    Worker,
+}
+
+/// What was done with the pass of a part.
+#[derive(Drop)]
+pub(crate) enum Outcome {
+    /// Nothing that can be told: it has yet to run, or memory was wanting.
+    Nothing,
+    /// The records of a lane.
+    Answered { records: Records },
+    /// What a worker did.
+    Indexed { worked: Worked },
+}
+
+/// A pass, what it is for, and what was done with it.
+pub(crate) struct Part {
+    pub(crate) pass: IdePass,
+    pub(crate) task: Task,
+    pub(crate) outcome: Outcome,
+}
+
+/// Does what a part is for, and tells the gate that it has ended. It may wait for ever.
+pub(crate) fn run_part<R: Wait, G: Gate>(
+    rt: &R,
+    alloc: Global,
+    ide: &SharedIde,
+    script: &Script,
+    beside: bool,
+    part: &mut Part,
+    gate: &G,
+)
+    requires { CanRun ide.now script.now part.old }
+    ensures { HasRun ide.now script.now beside part.old part.new }
+{
+    let seat = part.pass.number();
+    part.outcome = match part.task {
+        Task::Lane { index } => do_lane(
+            rt,
+            alloc,
+            ide,
+            &mut part.pass,
+            seat,
+            script.lane(index),
+            beside,
+            gate,
+        ),
+        Task::Worker => do_worker(rt, alloc, ide, &mut part.pass, gate),
+    };
+    gate.at(Point::Ended { seat });
+}
+
+/// Does the lines of a lane. It may wait for ever.
+fn do_lane<R: Wait, G: Gate>(
+    rt: &R,
+    alloc: Global,
+    ide: &SharedIde,
+    pass: &mut IdePass,
+    seat: u32,
+    lane: &[Line],
+    beside: bool,
+    gate: &G,
+) -> Outcome
+    requires pass { IsIdePassOf ide.now pass.old }
+    requires seat { (ide_view pass.old).number ≡ Some seat }
+    requires lines { AreOfSection lane.now }
+    ensures pass { IsIdePassOf ide.now pass.new × IsSameIdePass pass.old pass.new }
+    ensures advances { Advances (ide_view pass.old) (ide_view pass.new) }
+    ensures done { MayHaveDone beside seat lane.now (ide_view pass.old) (ide_view pass.new) result }
+{
+    let mut records = Records::new(alloc);
+    match do_section(
+        rt,
+        alloc,
+        ide,
+        pass,
+        seat,
+        lane,
+        &[],
+        beside,
+        &mut records,
+        gate,
+    ) {
+        Ok(()) => Outcome::Answered { records },
+        Err(AllocError) => Outcome::Nothing,
+    }
+}
+
+/// Indexes until nothing is left to do. It may wait for ever.
+fn do_worker<R: Wait, G: Gate>(
+    rt: &R,
+    alloc: Global,
+    ide: &SharedIde,
+    pass: &mut IdePass,
+    gate: &G,
+) -> Outcome
+    requires { IsIdePassOf ide.now pass.old }
+    ensures pass { IsIdePassOf ide.now pass.new × IsSameIdePass pass.old pass.new }
+    ensures advances { Advances (ide_view pass.old) (ide_view pass.new) }
+    ensures worked { MayHaveWorked (ide_view pass.old) (ide_view pass.new) result }
+{
+    match ide.worker(rt, alloc, pass, gate) {
+        Ok(worked) => Outcome::Indexed { worked },
+        Err(AllocError) => Outcome::Nothing,
+    }
+}
