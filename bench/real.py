@@ -76,16 +76,22 @@ def make(folder, scratch):
     return sorted(scratch.iterdir())
 
 
-def run(program, script, folder=None):
-    """Seconds and megabytes that the program takes on a script, in a folder."""
+def used(command, script, folder=None):
+    """Seconds, processor seconds and megabytes that a command takes on a script, in a folder."""
     with open(script, "rb") as source:
         start = time.perf_counter()
-        child = subprocess.Popen([program], stdin=source, stdout=subprocess.DEVNULL, stderr=subprocess.PIPE, cwd=folder)
+        child = subprocess.Popen(command, stdin=source, stdout=subprocess.DEVNULL, stderr=subprocess.PIPE, cwd=folder)
         _, status, usage = os.wait4(child.pid, 0)
         took = time.perf_counter() - start
     if status != 0:
-        sys.exit(f"{program} ended with {status}: {child.stderr.read().decode()}")
-    return took, usage.ru_maxrss / 1000
+        sys.exit(f"{command} ended with {status}: {child.stderr.read().decode()}")
+    return took, usage.ru_utime + usage.ru_stime, usage.ru_maxrss / 1000
+
+
+def run(program, script, folder=None):
+    """Seconds and megabytes that the program takes on a script, in a folder."""
+    took, _, memory = used([program], script, folder)
+    return took, memory
 
 
 def compare(script, programs):

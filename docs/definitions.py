@@ -16,6 +16,22 @@ HEAD = """# Definitions
 
 Each public definition that contracts cite, with the sentence that stands above it in its file. Made by
 `docs/definitions.py` from the files themselves. A file's first line says what it is about.
+
+## The headline, sentence by sentence
+
+Of every run of `ide play` that ends with status 0, in `run_ide`'s clause `ends` (`IsTranscript`, which is `RunFits` of what
+is printed):
+
+| what the headline says | where it stands |
+|---|---|
+| the one printed history | `transcript_of` prints `ended.history`; `RunFits.legal`: no entry is refused where it stands |
+| each accepted write stands in it once | `RunFits`: it is `opening`, `middle` and `closing`; a section's entries are its own list in `SectionFits`, piece by piece, and nothing else with its seat (`LanesFit`: `made_by`; `seats`; `workers`) |
+| each printed reply is the one that indexing from scratch gives | `IsDone.step`: the answer is that of `step_of`, which for a question is `reply` of the world that the prefix makes, and `reply` lists the shown texts anew |
+| after a prefix of that history | `IsDone.stands`: `start`, and what the command made behind it, begin the history |
+| a prefix that holds all that its lane had seen | `IsDone.late` and the marks of `SectionFits`; a lane begins at the mark behind the prelude, the last section behind all others |
+| a settle leaves nothing unready | the law `a_settle_readies_all` on `settled` |
+| `cancelled` only where the lane's pass saw pending writes | `IsGivenUp`: its sights rose by at least as many as it was allowed attempts; `Fits`: only where another section runs beside |
+| what workers made | `WorkerFits`: intakes without a line, no two of the same file and stamp, as many as it tells; `EndFits` |
 """
 
 

@@ -7,22 +7,34 @@ use Rattle.std.specs.Fmt.{digits}
 use Rattle.command_line.specs.Number.{number_of}
 use Rattle.command_line.specs.Request.{request_of}
 
--- the name alone is `play`
-name_alone : (name : Text) → request_of (name ∷ []) ≡ Some Play
+-- the name alone is `play` with no worker
+name_alone : (name : Text) → request_of (name ∷ []) ≡ Some (Play 0)
 unfolding clap_on_literals number_of digits
 name_alone name = refl
 
-play_said : (name : Text) → request_of (name ∷ codes "play" ∷ []) ≡ Some Play
+play_said : (name : Text) → request_of (name ∷ codes "play" ∷ []) ≡ Some (Play 0)
 unfolding clap_on_literals number_of digits
 play_said name = refl
 
+workers_said : (name : Text) → request_of (name ∷ codes "play" ∷ codes "--workers" ∷ codes "8" ∷ []) ≡ Some (Play 8)
+unfolding clap_on_literals number_of digits
+workers_said name = refl
+
+nine_workers : (name : Text) → request_of (name ∷ codes "play" ∷ codes "--workers" ∷ codes "9" ∷ []) ≡ None
+unfolding clap_on_literals number_of digits
+nine_workers name = refl
+
+demo_with_a_worker : (name : Text) → request_of (name ∷ codes "demo" ∷ codes "--workers" ∷ codes "1" ∷ []) ≡ Some (Demo 1 8 32 1)
+unfolding clap_on_literals number_of digits
+demo_with_a_worker name = refl
+
 -- what isn't given has its default
-demo_defaults : (name : Text) → request_of (name ∷ codes "demo" ∷ []) ≡ Some (Demo 1 8 32)
+demo_defaults : (name : Text) → request_of (name ∷ codes "demo" ∷ []) ≡ Some (Demo 1 8 32 0)
 unfolding clap_on_literals number_of digits
 demo_defaults name = refl
 
 -- a value stands in the next word or behind `=`
-demo_given : (name : Text) → request_of (name ∷ codes "demo" ∷ codes "--seed" ∷ codes "7" ∷ codes "--files=2" ∷ []) ≡ Some (Demo 7 2 32)
+demo_given : (name : Text) → request_of (name ∷ codes "demo" ∷ codes "--seed" ∷ codes "7" ∷ codes "--files=2" ∷ []) ≡ Some (Demo 7 2 32 0)
 unfolding clap_on_literals number_of digits
 demo_given name = refl
 

@@ -1,9 +1,8 @@
 -- What is read from clap's answers is what the definitions read.
-use Rattle.std.proofs.Common.{◌≡◌, ◌∙◌, ℕ, ◌≤◌, true, false, Bool, leb, List, [], Option, Some, None, cond, refl, sym, subst}
+use Rattle.std.proofs.Common.{◌≡◌, ◌∙◌, ℕ, ◌≤◌, true, false, Bool, leb, List, [], Option, Some, None, cond, refl, sym, subst, arith}
 use Rattle.std.specs.Option.{option_map, ok_or}
 use Rattle.std.specs.Prelude.{option_and_then, codes, IfOk}
 use Rattle.std.specs.Str.{bytes_eq}
-use Rattle.std.specs.Borrow.{Bor}
 use Rattle.std.proofs.lemmas.Bool.{leb-true}
 use Rattle.std.proofs.lemmas.Option.{none-some, same_Some}
 use Rattle.clap.specs.Walk.{Row, Text, first_of}
@@ -33,9 +32,9 @@ chain : {A B : Type 0} (f : A → Option B) (o : Option A) (b : B) → option_an
 chain f None b e = absurd (none-some b e)
 chain f (Some a) b e = (a, refl, e)
 
-mapped : {A B : Type 0} (f : A → B) (o : Option A) (b : B) → option_map f o ≡ Some b → (a : A) × (f a ≡ b)
+mapped : {A B : Type 0} (f : A → B) (o : Option A) (b : B) → option_map f o ≡ Some b → (a : A) × (o ≡ Some a) × (f a ≡ b)
 mapped f None b e = absurd (none-some b e)
-mapped f (Some a) b e = (a, same_Some (f a) b e)
+mapped f (Some a) b e = (a, refl, same_Some (f a) b e)
 
 number_in-bounds : (options : List Row) (name : Text) (least most n : ℕ) → number_in options name least most ≡ Some n → (least ≤ n) × (n ≤ most)
 number_in-bounds options name least most n e =
@@ -45,22 +44,23 @@ number_in-bounds options name least most n e =
 
 play_by-in_range : (options : List Row) (r : Request) → play_by options ≡ Some r → IsInRange r
 play_by-in_range options r e =
-    let workers = mapped (λ (n : ℕ). Play) (number_in options (codes "workers") 0 max_workers) r e in
-    subst IsInRange workers.1 tt
+    let workers = mapped (λ (n : ℕ). Play n) (number_in options (codes "workers") 0 max_workers) r e in
+    subst IsInRange workers.2 (number_in-bounds options (codes "workers") 0 max_workers workers.0 workers.1).1
 
 demo_by-in_range : (options : List Row) (r : Request) → demo_by options ≡ Some r → IsInRange r
 demo_by-in_range options r e =
     let seed = chain _ (number_in options (codes "seed") 0 max_seed) r e in
     let files = chain _ (number_in options (codes "files") 1 max_files) r seed.2 in
     let edits = chain _ (number_in options (codes "edits") 0 max_edits) r files.2 in
-    let workers = mapped (λ (n : ℕ). Demo seed.0 files.0 edits.0) (number_in options (codes "workers") 0 max_workers) r edits.2 in
+    let workers = mapped (λ (n : ℕ). Demo seed.0 files.0 edits.0 n) (number_in options (codes "workers") 0 max_workers) r edits.2 in
     let s = number_in-bounds options (codes "seed") 0 max_seed seed.0 seed.1 in
     let f = number_in-bounds options (codes "files") 1 max_files files.0 files.1 in
     let m = number_in-bounds options (codes "edits") 0 max_edits edits.0 edits.1 in
-    subst IsInRange workers.1 (s.1, f.0, f.1, m.1)
+    let w = number_in-bounds options (codes "workers") 0 max_workers workers.0 workers.1 in
+    subst IsInRange workers.2 (s.1, f.0, f.1, m.1, w.1)
 
 request_by-in_range : (o : Option (Text × List Row)) (r : Request) → request_by o ≡ Some r → IsInRange r
-request_by-in_range None r e = subst IsInRange (same_Some Play r e) tt
+request_by-in_range None r e = subst IsInRange (same_Some (Play 0) r e) (omega arith)
 request_by-in_range (Some p) r e = by_name (bytes_eq p.0 (codes "play")) e
   where
     by_name : (b : Bool) → cond b (play_by p.1) (demo_by p.1) ≡ Some r → IsInRange r

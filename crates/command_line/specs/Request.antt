@@ -22,7 +22,7 @@ max_edits = 50000
 
 -- the highest number of workers
 abbrev pub max_workers : ℕ
-max_workers = 0
+max_workers = 8
 
 -- the number that an option has, where its value spells one within bounds
 abbrev pub number_in : List Row → Text → ℕ → ℕ → Option ℕ
@@ -30,7 +30,7 @@ number_in options name least most = option_and_then (number_between least most) 
 
 -- what `play` with these options asks for
 abbrev pub play_by : List Row → Option Request
-play_by options = option_map (λ workers. Play) (number_in options (codes "workers") 0 max_workers)
+play_by options = option_map (λ workers. Play workers) (number_in options (codes "workers") 0 max_workers)
 
 -- what `demo` with these options asks for
 abbrev pub demo_by : List Row → Option Request
@@ -38,15 +38,15 @@ demo_by options =
     option_and_then (λ seed.
     option_and_then (λ files.
     option_and_then (λ edits.
-    option_map (λ workers. Demo seed files edits)
+    option_map (λ workers. Demo seed files edits workers)
     (number_in options (codes "workers") 0 max_workers))
     (number_in options (codes "edits") 0 max_edits))
     (number_in options (codes "files") 1 max_files))
     (number_in options (codes "seed") 0 max_seed)
 
--- what a subcommand with its options asks for; without one it is `play`
+-- what a subcommand with its options asks for; without one it is `play` with no worker
 abbrev pub request_by : Option (Text × List Row) → Option Request
-request_by None = Some Play
+request_by None = Some (Play 0)
 request_by (Some (name, options)) = if bytes_eq name (codes "play") then play_by options else demo_by options
 
 -- what the words ask for, where clap takes them and no help is asked for: then it has no fault to tell of them
@@ -59,5 +59,5 @@ is_command words = is_some (request_of words)
 
 -- the numbers of a request lie within their bounds
 abbrev pub IsInRange : Request → Type 0
-IsInRange Play = Unit {0}
-IsInRange (Demo seed files edits) = (seed ≤ max_seed) × (1 ≤ files) × (files ≤ max_files) × (edits ≤ max_edits)
+IsInRange (Play workers) = workers ≤ max_workers
+IsInRange (Demo seed files edits workers) = (seed ≤ max_seed) × (1 ≤ files) × (files ≤ max_files) × (edits ≤ max_edits) × (workers ≤ max_workers)

@@ -15,16 +15,23 @@ const MAX_SEED: u32 = 2_147_483_647;
 const MAX_FILES: u32 = 10_000;
 /// The highest number of edits.
 const MAX_EDITS: u32 = 50_000;
-/// The highest number of workers: until lanes run on threads there are none.
-const MAX_WORKERS: u32 = 0;
+/// The highest number of workers.
+const MAX_WORKERS: u32 = 8;
 
 /// What the program is asked to do.
 #[derive(Clone, Copy, Debug, PartialEq, Eq)]
 pub enum Request {
-    /// A script is read from standard input and played.
-    Play,
-    /// A script is made from a seed and played.
-    Demo { seed: u32, files: u32, edits: u32 },
+    /// A script is read from standard input and played, with so many workers beside its lanes.
+    Play {
+        workers: u32,
+    },
+    /// A script is made from a seed and played, with so many workers beside its lanes.
+    Demo {
+        seed: u32,
+        files: u32,
+        edits: u32,
+        workers: u32,
+    },
 }
 
 /// Why no request is read from the words.
@@ -72,7 +79,7 @@ fn request_by(matches: &ArgMatches<'_>) -> Option<Request>
     ensures { result ≡ request_by (subcommand_rows_of matches.now) }
 {
     match matches.subcommand() {
-        None => Some(Request::Play),
+        None => Some(Request::Play { workers: 0 }),
         Some((name, options)) => {
             if name == "play" {
                 play_by(options)
@@ -87,8 +94,8 @@ fn request_by(matches: &ArgMatches<'_>) -> Option<Request>
 fn play_by(options: &ArgMatches<'_>) -> Option<Request>
     ensures { result ≡ play_by (rows_of (found_of options.now)) }
 {
-    number_in(options, "workers", 0, MAX_WORKERS)?;
-    Some(Request::Play)
+    let workers = number_in(options, "workers", 0, MAX_WORKERS)?;
+    Some(Request::Play { workers })
 }
 
 /// What `demo` with these options asks for.
@@ -98,8 +105,13 @@ fn demo_by(options: &ArgMatches<'_>) -> Option<Request>
     let seed = number_in(options, "seed", 0, MAX_SEED)?;
     let files = number_in(options, "files", 1, MAX_FILES)?;
     let edits = number_in(options, "edits", 0, MAX_EDITS)?;
-    number_in(options, "workers", 0, MAX_WORKERS)?;
-    Some(Request::Demo { seed, files, edits })
+    let workers = number_in(options, "workers", 0, MAX_WORKERS)?;
+    Some(Request::Demo {
+        seed,
+        files,
+        edits,
+        workers,
+    })
 }
 
 /// The number that an option has, where it lies within these bounds.

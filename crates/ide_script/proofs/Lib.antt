@@ -1,3 +1,2 @@
 pub mod EntryLemmas
-pub mod SettleLemmas
-pub mod RunLemmas
+pub mod LoadsLemmas

@@ -2,15 +2,13 @@
 pub mod Play
 pub mod Status
 pub mod Run
--- How a run keeps its place
-pub mod Progress
-pub mod Settle
 -- What these cite from below: words, scripts, transcripts, the history, and the outside
 pub use Rattle.command_line.specs.Request
 pub use Rattle.demo.specs.Script
 pub use Rattle.script_lang.specs.Grammar
 pub use Rattle.transcripts.specs.Loads
 pub use Rattle.transcripts.specs.Serial
+pub use Rattle.transcripts.specs.Fits
 pub use Rattle.transcripts.specs.Transcript
 pub use Rattle.write_history.specs.World
 pub use Rattle.write_history.specs.Effect

@@ -1,21 +1,16 @@
--- Playing a script.
-use Rattle.std.specs.Prelude.{ℕ, ◌≡◌, Bool, false, List, map, All, Option}
+-- Playing a script over a tree.
+use Rattle.std.specs.Prelude.{ℕ, ◌≡◌, Bool, false, List, [], length, All, Option}
 use Rattle.ide_io.specs.Files.{Files}
-use Rattle.write_history.specs.declared.entry.Entry.{Entry}
 use Rattle.write_history.specs.Path.{is_path}
+use Rattle.index_workers.specs.declared.worked.Worked.{Worked}
 use Rattle.script_lang.specs.declared.command.Command.{Command}
 use Rattle.script_lang.specs.declared.command.Command.TheVariants as command
 use Rattle.script_lang.specs.declared.line.Line.{Line}
 use Rattle.script_lang.specs.Parts.{Parts}
 use Rattle.transcripts.specs.declared.loaded.Loaded.{Loaded}
-use Rattle.transcripts.specs.declared.loaded.Loaded.TheVariants.{Nothing}
-use Rattle.transcripts.specs.declared.record.Record.{Record}
 use Rattle.transcripts.specs.Loads.{AreLoadsOf}
-use Rattle.transcripts.specs.Serial.{Done, Ended, run_of}
-
--- a history with the records so far
-abbrev pub done_of : List Entry → List Record → Done
-done_of history records = record { history = history; records = records }
+use Rattle.transcripts.specs.Serial.{Ended, run_of}
+use Rattle.transcripts.specs.Fits.{RunFits}
 
 -- whether a command asks for a file of the tree: it is a load of a lawful path
 abbrev pub asks_file : Command → Bool
@@ -30,13 +25,11 @@ asks_file (command.Soft attempts query) = false
 abbrev pub AskNoFile : List Line → Type 0
 AskNoFile lines = All (λ line. asks_file line.command ≡ false) lines
 
--- what a script leads to, going through it in order with what was read for its loads: where the tree tells its files,
--- these are their bytes
-pub record Plays (files : Option Files) (script : Parts) (ended : Ended) : Type 0 where
+-- What a script leads to with so many workers, which tell this, and with what was read for its loads: where the tree tells its files, these
+-- are their bytes. Each record fits the one history; where there is no lane and no worker, it is what going through the script in order leads to
+pub record Plays (files : Option Files) (script : Parts) (workers : ℕ) (told : List Worked) (ended : Ended) : Type 0 where
   pub loads : List Loaded
   pub read : AreLoadsOf files script.prelude loads
-  pub is : ended ≡ run_of loads script
-
--- the loads of lines among which is none
-abbrev pub no_loads : {L : Type 0} → List L → List Loaded
-no_loads lines = map (λ line. Nothing) lines
+  pub count : length told ≡ workers
+  pub fits : RunFits loads script told ended
+  pub alone : script.lanes ≡ [] → workers ≡ 0 → ended ≡ run_of loads script

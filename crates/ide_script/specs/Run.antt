@@ -12,12 +12,13 @@ use Rattle.script_lang.specs.Lines.{max_bytes}
 use Rattle.script_lang.specs.Parts.{Parts}
 use Rattle.script_lang.specs.Grammar.{IsScript, IsRefused}
 use Rattle.script_lang.specs.declared.refusal.ScriptRefusal.TheVariants.{BadLine}
+use Rattle.index_workers.specs.declared.worked.Worked.{Worked}
 use Rattle.transcripts.specs.Serial.{Ended, run_of}
 use Rattle.transcripts.specs.Transcript.{transcript_of, summary_of}
 use Rattle.ide_script.specs.declared.status.Status.{Status}
 use Rattle.ide_script.specs.declared.status.Status.TheVariants.{Done, Usage, BadScript, SourceFault, TreeFault, SinkFault, OutOfMemory, ScriptTooLong}
 use Rattle.ide_script.specs.Status.{number_of, fault_line}
-use Rattle.ide_script.specs.Play.{Plays, no_loads}
+use Rattle.ide_script.specs.Play.{Plays}
 
 -- the words of a command line: the program's name where the system gives none
 abbrev pub given_words : List (List ℕ) → List (List ℕ)
@@ -36,61 +37,68 @@ pub record GivesBadLine {S : Type 0} (left : S → Option (List ℕ)) (ends : S 
   pub read : ReadsToEnd left ends old new bytes
   pub is : IsRefused bytes (BadLine line)
 
--- the source gave a script, and going through it in order led to this
-pub record PlaysSource {S : Type 0} (left : S → Option (List ℕ)) (ends : S → ℕ) (old new : S) (files : Option Files) (ended : Ended) : Type 0 where
+-- these bytes print the history and the records that a run of the script with so many workers leads to
+pub record IsTranscript (files : Option Files) (script : Parts) (workers : ℕ) (bytes : List ℕ) : Type 0 where
+  pub told : List Worked
+  pub ended : Ended
+  pub played : Plays files script workers told ended
+  pub printed : bytes ≡ transcript_of ended
+
+-- the source gave a script, and these bytes are a transcript of it
+pub record TellsScript {S : Type 0} (left : S → Option (List ℕ)) (ends : S → ℕ) (old new : S) (files : Option Files) (workers : ℕ) (bytes : List ℕ) : Type 0 where
   pub script : Parts
   pub read : GivesScript left ends old new script
-  pub played : Plays files script ended
+  pub is : IsTranscript files script workers bytes
 
--- the sink took exactly the transcript of a source's script, after what it held
-pub record WritesTranscript {S : Type 0} (left : S → Option (List ℕ)) (ends : S → ℕ) (old new : S) (files : Option Files) (before after : Option (List ℕ)) : Type 0 where
-  pub ended : Ended
-  pub played : PlaysSource left ends old new files ended
-  pub taken : after ≡ append_known before (transcript_of ended)
+-- the sink took exactly a transcript of a source's script, after what it held
+pub record WritesTranscript {S : Type 0} (left : S → Option (List ℕ)) (ends : S → ℕ) (old new : S) (files : Option Files) (workers : ℕ) (before after : Option (List ℕ)) : Type 0 where
+  pub bytes : List ℕ
+  pub tells : TellsScript left ends old new files workers bytes
+  pub taken : after ≡ append_known before bytes
 
--- the sink took a prefix of the transcript of a source's script
-pub record WritesPrefix {S : Type 0} (left : S → Option (List ℕ)) (ends : S → ℕ) (old new : S) (files : Option Files) (before after : Option (List ℕ)) : Type 0 where
-  pub ended : Ended
-  pub played : PlaysSource left ends old new files ended
-  pub taken : TakesPrefix before after (transcript_of ended)
+-- the sink took a prefix of a transcript of a source's script
+pub record WritesPrefix {S : Type 0} (left : S → Option (List ℕ)) (ends : S → ℕ) (old new : S) (files : Option Files) (workers : ℕ) (before after : Option (List ℕ)) : Type 0 where
+  pub bytes : List ℕ
+  pub tells : TellsScript left ends old new files workers bytes
+  pub taken : TakesPrefix before after bytes
 
--- where the script of a demo leads
-pub record PlaysDemo (seed files edits : ℕ) (ended : Ended) : Type 0 where
+-- these bytes are the summary of a demo's script, gone through in order
+pub record IsDemoSummary (seed files edits : ℕ) (bytes : List ℕ) : Type 0 where
   pub script : Parts
   pub spelled : IsScript (demo_bytes seed files edits) script
-  pub is : ended ≡ run_of (no_loads script.prelude) script
+  pub printed : bytes ≡ summary_of (run_of [] script)
 
 -- the sink took exactly the summary of a demo, after what it held
 pub record WritesSummary (seed files edits : ℕ) (before after : Option (List ℕ)) : Type 0 where
-  pub ended : Ended
-  pub played : PlaysDemo seed files edits ended
-  pub taken : after ≡ append_known before (summary_of ended)
+  pub bytes : List ℕ
+  pub is : IsDemoSummary seed files edits bytes
+  pub taken : after ≡ append_known before bytes
 
 -- the sink took a prefix of the summary of a demo
 pub record WritesSummaryPrefix (seed files edits : ℕ) (before after : Option (List ℕ)) : Type 0 where
-  pub ended : Ended
-  pub played : PlaysDemo seed files edits ended
-  pub taken : TakesPrefix before after (summary_of ended)
+  pub bytes : List ℕ
+  pub is : IsDemoSummary seed files edits bytes
+  pub taken : TakesPrefix before after bytes
 
--- when each answer to a `play` comes, and what was read and written then
+-- when each answer to a `play` with so many workers comes, and what was read and written then
 abbrev pub PlayEnds : {S T K : Type 0} → (S → Option (List ℕ)) → (S → ℕ) → (S → ℕ) → (T → Option Files) → (T → ℕ) → (K → Option (List ℕ)) → (K → ℕ)
-    → S → S → T → T → K → K → Status → Type 0
-PlayEnds left ends faults files losses taken misses source source' tree tree' sink sink' Done = WritesTranscript left ends source source' (files tree) (taken sink) (taken sink')
-PlayEnds left ends faults files losses taken misses source source' tree tree' sink sink' (BadScript line) = GivesBadLine left ends source source' line
-PlayEnds left ends faults files losses taken misses source source' tree tree' sink sink' ScriptTooLong = TakesCount (max_bytes + 1) (left source) (left source')
-PlayEnds left ends faults files losses taken misses source source' tree tree' sink sink' SourceFault = HasFault (faults source) (faults source')
-PlayEnds left ends faults files losses taken misses source source' tree tree' sink sink' TreeFault = HasFault (losses tree) (losses tree')
-PlayEnds left ends faults files losses taken misses source source' tree tree' sink sink' SinkFault =
-    HasFault (misses sink) (misses sink') × WritesPrefix left ends source source' (files tree) (taken sink) (taken sink')
-PlayEnds left ends faults files losses taken misses source source' tree tree' sink sink' OutOfMemory = Unit {0}
-PlayEnds left ends faults files losses taken misses source source' tree tree' sink sink' Usage = ⊥
+    → ℕ → S → S → T → T → K → K → Status → Type 0
+PlayEnds left ends faults files losses taken misses workers source source' tree tree' sink sink' Done = WritesTranscript left ends source source' (files tree) workers (taken sink) (taken sink')
+PlayEnds left ends faults files losses taken misses workers source source' tree tree' sink sink' (BadScript line) = GivesBadLine left ends source source' line
+PlayEnds left ends faults files losses taken misses workers source source' tree tree' sink sink' ScriptTooLong = TakesCount (max_bytes + 1) (left source) (left source')
+PlayEnds left ends faults files losses taken misses workers source source' tree tree' sink sink' SourceFault = HasFault (faults source) (faults source')
+PlayEnds left ends faults files losses taken misses workers source source' tree tree' sink sink' TreeFault = HasFault (losses tree) (losses tree')
+PlayEnds left ends faults files losses taken misses workers source source' tree tree' sink sink' SinkFault =
+    HasFault (misses sink) (misses sink') × WritesPrefix left ends source source' (files tree) workers (taken sink) (taken sink')
+PlayEnds left ends faults files losses taken misses workers source source' tree tree' sink sink' OutOfMemory = Unit {0}
+PlayEnds left ends faults files losses taken misses workers source source' tree tree' sink sink' Usage = ⊥
 
 -- when each answer to a `demo` comes, and what was written then
 abbrev pub DemoEnds : {K : Type 0} → (K → Option (List ℕ)) → (K → ℕ) → ℕ → ℕ → ℕ → K → K → Status → Type 0
 DemoEnds taken misses seed files edits sink sink' Done = WritesSummary seed files edits (taken sink) (taken sink')
 DemoEnds taken misses seed files edits sink sink' SinkFault = HasFault (misses sink) (misses sink') × WritesSummaryPrefix seed files edits (taken sink) (taken sink')
 DemoEnds taken misses seed files edits sink sink' OutOfMemory = Unit {0}
-DemoEnds taken misses seed files edits sink sink' (BadScript line) = IsRefused (demo_bytes seed files edits) (BadLine line)
+DemoEnds taken misses seed files edits sink sink' (BadScript line) = ⊥
 DemoEnds taken misses seed files edits sink sink' Usage = ⊥
 DemoEnds taken misses seed files edits sink sink' SourceFault = ⊥
 DemoEnds taken misses seed files edits sink sink' TreeFault = ⊥
@@ -104,16 +112,16 @@ WordsEnd status = (status ≡ Usage) ⊎ (status ≡ OutOfMemory)
 abbrev pub RunEnds : {S T K : Type 0} → (S → Option (List ℕ)) → (S → ℕ) → (S → ℕ) → (T → Option Files) → (T → ℕ) → (K → Option (List ℕ)) → (K → ℕ)
     → Option Request → S → S → T → T → K → K → Status → Type 0
 RunEnds left ends faults files losses taken misses None source source' tree tree' sink sink' status = WordsEnd status
-RunEnds left ends faults files losses taken misses (Some Play) source source' tree tree' sink sink' status =
-    PlayEnds left ends faults files losses taken misses source source' tree tree' sink sink' status
-RunEnds left ends faults files losses taken misses (Some (Demo seed count edits)) source source' tree tree' sink sink' status =
+RunEnds left ends faults files losses taken misses (Some (Play workers)) source source' tree tree' sink sink' status =
+    PlayEnds left ends faults files losses taken misses workers source source' tree tree' sink sink' status
+RunEnds left ends faults files losses taken misses (Some (Demo seed count edits workers)) source source' tree tree' sink sink' status =
     DemoEnds taken misses seed count edits sink sink' status
 
 -- words that ask for no script: faulty ones, and those of a demo
 abbrev pub AsksNothing : Option Request → Type 0
 AsksNothing None = Unit {0}
-AsksNothing (Some Play) = ⊥
-AsksNothing (Some (Demo seed files edits)) = Unit {0}
+AsksNothing (Some (Play workers)) = ⊥
+AsksNothing (Some (Demo seed files edits workers)) = Unit {0}
 
 -- the end was told once, or not at all
 abbrev pub TellsEndOnce : ℕ → ℕ → Type 0
@@ -129,17 +137,6 @@ ReadStops left ends faults old new Done = ⊥
 ReadStops left ends faults old new Usage = ⊥
 ReadStops left ends faults old new TreeFault = ⊥
 ReadStops left ends faults old new SinkFault = ⊥
-
--- why a demo wasn't played
-abbrev pub DemoStops : ℕ → ℕ → ℕ → Status → Type 0
-DemoStops seed files edits (BadScript line) = IsRefused (demo_bytes seed files edits) (BadLine line)
-DemoStops seed files edits OutOfMemory = Unit {0}
-DemoStops seed files edits ScriptTooLong = ⊥
-DemoStops seed files edits SourceFault = ⊥
-DemoStops seed files edits Done = ⊥
-DemoStops seed files edits Usage = ⊥
-DemoStops seed files edits TreeFault = ⊥
-DemoStops seed files edits SinkFault = ⊥
 
 -- how the writing of some bytes ended
 abbrev pub WriteEnds : {K : Type 0} → (K → Option (List ℕ)) → (K → ℕ) → K → K → List ℕ → Status → Type 0

@@ -15,8 +15,8 @@ use std::sync::Wait;
 use std::thread::Threads;
 
 /// Runs the program on the words that the system gave, writes the line of the status to `error`, and gives the number with
-/// which the process ends.
-pub fn run_main<R: Threads + Wait, S: Source, T: Tree, K: Sink, E: Sink>(
+/// which the process ends. It may wait for ever.
+pub fn run_main<R: Threads + Wait + Sync, S: Source, T: Tree, K: Sink, E: Sink>(
     rt: &R,
     alloc: Global,
     words: Vec<String>,

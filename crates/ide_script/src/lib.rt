@@ -3,15 +3,14 @@
 
 mod entry;
 mod loads;
-mod playing;
+mod over_tree;
 mod refusal;
 mod run;
-mod session;
 mod status;
 mod system;
 
 pub use entry::{finish, run_main};
-pub use playing::{play, play_without_loads};
+pub use over_tree::play;
 pub use refusal::PlayRefusal;
 pub use run::run_ide;
 pub use status::Status;

@@ -1,25 +1,30 @@
 //! The whole program, over any source, tree and sink.
-ghost use Rattle.std.specs.Prelude.{◌≡◌, ◌≢◌, ◌↔◌, ◌<◌, ℕ, List, Err, length, map, string_bytes, IfOk, IfErr};
+ghost use Rattle.std.specs.Prelude.{◌≡◌, ◌≢◌, ◌<◌, ◌≤◌, List, Err, length, map, string_bytes, IfOk, IfErr};
 ghost use Rattle.ide_io.specs.Known.{TakesAtMost};
+ghost use Rattle.demo.specs.Script.{demo_bytes};
+ghost use Rattle.script_lang.specs.Grammar.{IsScript};
 ghost use Rattle.script_lang.specs.Lines.{max_bytes};
-ghost use Rattle.command_line.specs.Request.{request_of, IsInRange};
+ghost use Rattle.command_line.specs.Request.{request_of, IsInRange, max_workers, max_files, max_edits};
 ghost use Rattle.transcripts.specs.Transcript.{transcript_of, summary_of};
-ghost use Rattle.ide_script.specs.Run.{RunEnds, PlayEnds, DemoEnds, GivesScript, TellsEndOnce, ReadStops, WriteEnds, PlaysDemo, DemoStops, AsksNothing};
+ghost use Rattle.ide_script.specs.Run.{RunEnds, PlayEnds, DemoEnds, GivesScript, TellsEndOnce, ReadStops, WriteEnds, IsDemoSummary, AsksNothing};
 
-use crate::{PlayRefusal, Status, play, play_without_loads};
+use crate::{PlayRefusal, Status, play};
 use command_line::{Request, WordsRefusal, request_of};
 use demo::demo_script;
+use demo_runs::agree::demo_runs_agree;
+use demo_runs::laws::{a_demo_is_lawful, no_demo_is_refused};
 use ide_io::{ReadAllError, Sink, Source, Tree, read_all, write_all};
+use playing::LaneGate;
 use script_lang::{MAX_BYTES, Script, ScriptRefusal, parse};
-use std::alloc::Global;
+use std::alloc::{AllocError, Global};
 use std::sync::Wait;
 use std::thread::Threads;
 use transcripts::{Played, summary, transcript};
 
 /// Runs the program. The words begin with its name. `play` takes its script from the source and what its loads ask for
 /// from the tree, and writes the transcript; `demo` writes the summary of a script of its own. Nothing is written before
-/// the run is known to end with `Done`, `SinkFault` or `OutOfMemory`.
-pub fn run_ide<R: Threads + Wait, S: Source, T: Tree, K: Sink>(
+/// the run is known to end with `Done`, `SinkFault` or `OutOfMemory`. It may wait for ever.
+pub fn run_ide<R: Threads + Wait + Sync, S: Source, T: Tree, K: Sink>(
     rt: &R,
     alloc: Global,
     words: &[String],
@@ -45,21 +50,31 @@ pub fn run_ide<R: Threads + Wait, S: Source, T: Tree, K: Sink>(
     ensures sink_quiet { result ≢ Status.SinkFault → K.faults out.new ≡ K.faults out.old }
 {
     match request_of(alloc, words) {
-        Ok(Request::Play) => run_play(alloc, script, tree, out),
-        Ok(Request::Demo { seed, files, edits }) => run_demo(alloc, seed, files, edits, out),
+        Ok(Request::Play { workers }) => run_play(rt, alloc, workers, script, tree, out),
+        Ok(
+            Request::Demo {
+                seed,
+                files,
+                edits,
+                workers,
+            },
+        ) => run_demo(rt, alloc, seed, files, edits, workers, out),
         Err(WordsRefusal::Usage) => Status::Usage,
         Err(WordsRefusal::OutOfMemory) => Status::OutOfMemory,
     }
 }
 
-/// Plays the source's script and writes its transcript.
-fn run_play<S: Source, T: Tree, K: Sink>(
+/// Plays the source's script with so many workers, and writes its transcript. It may wait for ever.
+fn run_play<R: Threads + Wait + Sync, S: Source, T: Tree, K: Sink>(
+    rt: &R,
     alloc: Global,
+    workers: u32,
     source: &mut S,
     tree: &mut T,
     out: &mut K,
 ) -> Status
-    ensures ends { PlayEnds S.left S.ends S.faults T.files T.faults K.taken K.faults source.old source.new tree.old tree.new out.old out.new result }
+    requires { workers ≤ max_workers }
+    ensures ends { PlayEnds S.left S.ends S.faults T.files T.faults K.taken K.faults workers source.old source.new tree.old tree.new out.old out.new result }
     ensures within { result ≢ Status.ScriptTooLong → TakesAtMost max_bytes (S.left source.old) (S.left source.new) }
     ensures end_once { TellsEndOnce (S.ends source.old) (S.ends source.new) }
     ensures silent { result ≢ Status.Done → result ≢ Status.SinkFault → out.new ≡ out.old }
@@ -71,7 +86,8 @@ fn run_play<S: Source, T: Tree, K: Sink>(
         Ok(script) => script,
         Err(status) => return status,
     };
-    match play(alloc, &script, tree) {
+    let gate = LaneGate::new(rt, script.lanes() as u32);
+    match play(rt, alloc, &script, workers, tree, &gate) {
         Ok(played) => write_transcript(alloc, &played, out),
         Err(PlayRefusal::TreeFault) => Status::TreeFault,
         Err(PlayRefusal::OutOfMemory) => Status::OutOfMemory,
@@ -111,35 +127,60 @@ fn write_transcript<K: Sink>(alloc: Global, played: &Played, out: &mut K) -> Sta
     }
 }
 
-/// Plays the script of a demo and writes its summary.
-fn run_demo<K: Sink>(alloc: Global, seed: u32, files: u32, edits: u32, out: &mut K) -> Status
-    requires { IsInRange (Request.Demo seed files edits) }
+/// Plays the script of a demo with so many workers, and writes its summary. It may wait for ever.
+fn run_demo<R: Threads + Wait + Sync, K: Sink>(
+    rt: &R,
+    alloc: Global,
+    seed: u32,
+    files: u32,
+    edits: u32,
+    workers: u32,
+    out: &mut K,
+) -> Status
+    requires { IsInRange (Request.Demo seed files edits workers) }
     ensures ends { DemoEnds K.taken K.faults seed files edits out.old out.new result }
     ensures silent { result ≢ Status.Done → result ≢ Status.SinkFault → out.new ≡ out.old }
     ensures quiet { result ≢ Status.SinkFault → K.faults out.new ≡ K.faults out.old }
 {
-    match play_demo(alloc, seed, files, edits) {
+    match play_demo(rt, alloc, seed, files, edits, workers) {
         Ok(played) => write_summary(alloc, &played, out),
-        Err(status) => status,
+        Err(_) => Status::OutOfMemory,
     }
 }
 
-/// Plays the script of a demo.
-fn play_demo(alloc: Global, seed: u32, files: u32, edits: u32) -> Result<Played, Status>
-    requires { IsInRange (Request.Demo seed files edits) }
-    ensures ok { IfOk result (λ played. PlaysDemo seed files edits (record { history = played.history.entries; records = played.records; last = played.last })) }
-    ensures err { IfErr result (λ status. DemoStops seed files edits status) }
+/// Plays the script of a demo with so many workers. It may wait for ever.
+fn play_demo<R: Threads + Wait + Sync>(
+    rt: &R,
+    alloc: Global,
+    seed: u32,
+    files: u32,
+    edits: u32,
+    workers: u32,
+) -> Result<Played, AllocError>
+    requires { IsInRange (Request.Demo seed files edits workers) }
+    ensures { IfOk result (λ played. IsDemoSummary seed files edits
+        (summary_of (record { history = played.history.entries; records = played.records; last = played.last }))) }
 {
-    let Ok(bytes) = demo_script(alloc, seed, files, edits) else {
-        return Err(Status::OutOfMemory);
-    };
+    a_demo_is_lawful();
+    demo_runs_agree();
+    let script = script_of_demo(alloc, seed, files, edits)?;
+    let gate = LaneGate::new(rt, script.lanes() as u32);
+    playing::play(rt, alloc, &script, &[], workers, &gate)
+}
+
+/// The script of a demo.
+fn script_of_demo(alloc: Global, seed: u32, files: u32, edits: u32) -> Result<Script, AllocError>
+    requires some_file { 0 < files }
+    requires few_files { files ≤ max_files }
+    requires few_edits { edits ≤ max_edits }
+    ensures { IfOk result (λ script. IsScript (demo_bytes seed files edits) script) }
+{
+    no_demo_is_refused();
+    let bytes = demo_script(alloc, seed, files, edits)?;
     match parse(alloc, &bytes) {
-        Ok(script) => match play_without_loads(alloc, &script) {
-            Ok(played) => Ok(played),
-            Err(_) => Err(Status::OutOfMemory),
-        },
-        Err(ScriptRefusal::BadLine { number }) => Err(Status::BadScript { line: number }),
-        Err(ScriptRefusal::OutOfMemory) => Err(Status::OutOfMemory),
+        Ok(script) => Ok(script),
+        Err(ScriptRefusal::BadLine { .. }) => unreachable!(),
+        Err(ScriptRefusal::OutOfMemory) => Err(AllocError),
     }
 }
 

@@ -2,3 +2,4 @@ pub mod ViewLemmas
 pub mod PartLemmas
 pub mod RoundLemmas
 pub mod RunLemmas
+pub mod SliceLemmas

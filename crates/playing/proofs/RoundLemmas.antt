@@ -1,14 +1,12 @@
 -- From what each part of a round did to how its answers fit the history.
-use Rattle.std.proofs.Common.{◌≡◌, ℕ, zero, suc, ◌+◌, ◌<◌, ◌≤◌, Bool, List, [], ◌∷◌, ◌++◌, length, get_or, drop, All, Some, slice_get, sym, refl, ap, ◌∙◌, subst, arith, length-take, length-drop, length-append}
-use Rattle.std.specs.List.{flat_map, AllPairs}
+use Rattle.std.proofs.Common.{◌≡◌, ℕ, zero, suc, ◌+◌, ◌<◌, ◌≤◌, Bool, List, [], ◌∷◌, ◌++◌, length, get_or, drop, All, Some, slice_get, sym, refl, ap, ◌∙◌, subst, arith}
+use Rattle.std.specs.List.{flat_map}
 use Rattle.std.proofs.lemmas.List.{drop_more, drop_all}
-use Rattle.std.proofs.lemmas.List.Elements.{All-head, All-tail}
 use Rattle.std.proofs.lemmas.Option.{slice_get-get_or}
 use Rattle.list_laws.specs.Fronts.{IsFront}
-use Rattle.list_laws.proofs.FrontLemmas.{All-weaken, front_length, front_trans, front_whole}
+use Rattle.list_laws.proofs.FrontLemmas.{All-weaken, front_length}
 use Rattle.action_lock.specs.declared.view.Ended.{Ended}
 use Rattle.action_lock.specs.declared.view.View.{View}
-use Rattle.action_lock.specs.Passes.{IsLast}
 use Rattle.action_lock.specs.Steps.{KnowsItsLists}
 use Rattle.action_lock.specs.Views.{fresh}
 use Rattle.write_history.specs.declared.entry.Entry.{Entry}
@@ -21,7 +19,7 @@ use Rattle.index_workers.specs.Passes.{ide_view}
 use Rattle.index_workers.specs.Work.{Done, EndsBy, IsAtEnd, IsIntakeBy, AreApart, HasWorked}
 use Rattle.shared_ide.specs.declared.shared.SharedIde.{SharedIde}
 use Rattle.transcripts.specs.declared.record.Record.{Record}
-use Rattle.transcripts.specs.Fits.{Mark, mark_at, made_by, SectionFits, FitsLane, LanesFit, EndFits, IsReadyAt, WorkerFits, WorkersFit, run_beside}
+use Rattle.transcripts.specs.Fits.{Mark, mark_at, made_by, SectionFits, LanesFit, EndFits, WorkerFits, WorkersFit, run_beside}
 use Rattle.sections.specs.Done.{HasDone}
 use Rattle.playing.specs.declared.answers.Answers.{Answers}
 use Rattle.playing.specs.declared.part.Outcome.{Outcome}
@@ -29,9 +27,9 @@ use Rattle.playing.specs.declared.part.Outcome.TheVariants.{Nothing, Answered, I
 use Rattle.playing.specs.declared.part.Part.{Part}
 use Rattle.playing.specs.declared.part.Task.{Task}
 use Rattle.playing.specs.declared.part.Task.TheVariants.{Lane, Worker}
-use Rattle.playing.specs.Parts.{AllFrom, IsTaskAt, HasBegun, HasDoneLane, HasDoneTask, HasMet, HaveTaken, IsWhole, MayHaveWorked, kept_of, records_of, worked_of}
+use Rattle.playing.specs.Parts.{AllFrom, IsTaskAt, HasBegun, HasDoneLane, HasDoneTask, HasMet, HaveTaken, IsWhole, kept_of, records_of, worked_of}
 use Rattle.playing.specs.Rounds.{IsAlone, IsSeatFrom, HasPlayed}
-use Rattle.playing.proofs.ViewLemmas.{HasMetAll, alone_again, kept_since, seats_since}
+use Rattle.playing.proofs.ViewLemmas.{alone_again, kept_since, seats_since}
 use Rattle.playing.proofs.PartLemmas.{IsRun, kept_each, kept_length, met_all}
 
 -- ---- one lane
@@ -42,7 +40,8 @@ record LaneFits (beside : Bool) (seen history middle : List Entry) (seat : ℕ) 
   fits : SectionFits beside history seat (mark_at (length seen)) lane [] (records_of o) (made_by seat middle) high
   no_worker : worked_of o ≡ []
 
-lane_done : (beside : Bool) (seen history middle : List Entry) (seat index : ℕ) (w : View Entry) (lanes : List (List Line)) (lane : List Line) (records : List Record)
+lane_done : (beside : Bool) (seen history middle : List Entry) (seat index : ℕ) (w : View Entry) (lanes : List (List Line)) (lane : List Line)
+    (records : List Record)
     → HasDoneLane lanes beside index (fresh (Some seat) 0 seen) w (Answered records) → slice_get lanes index ≡ Some lane → w.mine ≡ made_by seat middle
     → IsFront w.seen history → LaneFits beside seen history middle seat lane (Answered records)
 lane_done beside seen history middle seat index w lanes lane records told is mine front =
@@ -58,11 +57,12 @@ lane_done beside seen history middle seat index w lanes lane records told is min
           (subst (λ (n : ℕ). SectionFits beside history n (mark_at (length seen)) told.lane [] records done.own done.high) seat_is fits));
       no_worker = refl;
     }
-    where
-      same_some : {A : Type 0} (a b : A) → Some a ≡ Some b → a ≡ b
-      same_some a b e = cc
+  where
+    same_some : {A : Type 0} (a b : A) → Some a ≡ Some b → a ≡ b
+    same_some a b e = cc
 
-lane_fits : (beside : Bool) (seen history middle : List Entry) (place seat : ℕ) (w : View Entry) (lanes : List (List Line)) (lane : List Line) (task : Task) (o : Outcome)
+lane_fits : (beside : Bool) (seen history middle : List Entry) (place seat : ℕ) (w : View Entry) (lanes : List (List Line)) (lane : List Line)
+    (task : Task) (o : Outcome)
     → place < length lanes → slice_get lanes place ≡ Some lane → IsTaskAt (length lanes) place task
     → HasDoneTask lanes beside task (fresh (Some seat) 0 seen) w o → IsWhole o → w.mine ≡ made_by seat middle
     → IsFront w.seen history → LaneFits beside seen history middle seat lane o
@@ -112,9 +112,9 @@ worker_done seen history middle seat w worked done mine front =
         ends = end_fits history seen w worked.turns worked.end done.steps done.turns done.ends done.at_end done.gone.advances.seen front bounded;
       };
     }
-    where
-      same_some : {A : Type 0} (a b : A) → Some a ≡ Some b → a ≡ b
-      same_some a b e = cc
+  where
+    same_some : {A : Type 0} (a b : A) → Some a ≡ Some b → a ≡ b
+    same_some a b e = cc
 
 worker_tells : (beside : Bool) (seen history middle : List Entry) (place seat : ℕ) (w : View Entry) (lanes : List (List Line)) (task : Task) (o : Outcome)
     → length lanes ≤ place → IsTaskAt (length lanes) place task → HasDoneTask lanes beside task (fresh (Some seat) 0 seen) w o → IsWhole o
@@ -122,7 +122,8 @@ worker_tells : (beside : Bool) (seen history middle : List Entry) (place seat : 
 worker_tells beside seen history middle place seat w lanes (Lane index) o past task done whole mine front = absurd (omega (arith, task.1))
 worker_tells beside seen history middle place seat w lanes Worker Nothing past task done whole mine front = absurd whole
 worker_tells beside seen history middle place seat w lanes Worker (Answered records) past task done whole mine front = absurd done
-worker_tells beside seen history middle place seat w lanes Worker (Indexed worked) past task done whole mine front = worker_done seen history middle seat w worked done mine front
+worker_tells beside seen history middle place seat w lanes Worker (Indexed worked) past task done whole mine front = worker_done seen history middle
+    seat w worked done mine front
 
 -- ---- all parts
 
@@ -139,9 +140,10 @@ module _ (ide : SharedIde) (lanes : List (List Line)) (beside : Bool) (v : View 
       → All (λ (q : Part). IsFront (ide_view q.pass).seen history) parts → All (λ (q : Part). IsWhole q.outcome) parts → AllFrom IsKept place parts
   all_kept place [] run mine learned whole = tt
   all_kept place (p ∷ ps) run mine learned whole =
-      let own = kept_each ide lanes beside v (λ (e : Ended Entry). e.entries ≡ made_by e.number middle) place p ps run.0 mine in
-      (record { run = run.0; mine = own.0; learned = learned 0 p (omega arith); whole = whole 0 p (omega arith) },
-      all_kept (suc place) ps run.1 own.1 (λ k d less. learned (suc k) d (omega arith)) (λ k d less. whole (suc k) d (omega arith)))
+      let own = kept_each ide lanes beside v (λ (e : Ended Entry). e.entries ≡ made_by e.number middle) place p ps run.0 mine in (
+        record { run = run.0; mine = own.0; learned = learned 0 p (omega arith); whole = whole 0 p (omega arith) },
+        all_kept (suc place) ps run.1 own.1 (λ k d less. learned (suc k) d (omega arith)) (λ k d less. whole (suc k) d (omega arith)),
+      )
 
   -- workers tell no record, and one of each is told
   record WorkersTell (seat : ℕ) (parts : List Part) : Type 0 where
@@ -153,7 +155,8 @@ module _ (ide : SharedIde) (lanes : List (List Line)) (beside : Bool) (v : View 
   workers_tell place seat [] is past kept = record { no_records = refl; count = refl; fits = λ bounded. tt }
   workers_tell place seat (p ∷ ps) is past kept =
       let k = kept.0 in
-      let one = worker_tells beside v.seen history middle place (v.drawn + place) (ide_view p.pass) lanes k.run.task p.outcome past k.run.is_task k.run.done k.whole k.mine k.learned in
+      let one = worker_tells beside v.seen history middle place (v.drawn + place) (ide_view p.pass) lanes k.run.task p.outcome past k.run.is_task
+      k.run.done k.whole k.mine k.learned in
       let others = workers_tell (suc place) (suc seat) ps (omega arith) (omega arith) kept.1 in
       let later : List Worked = flat_map (λ (q : Part). worked_of q.outcome) ps in
       let told : worked_of p.outcome ++ later ≡ one.worked ∷ later = ap (λ (l : List Worked). l ++ later) one.tells in
@@ -176,10 +179,12 @@ module _ (ide : SharedIde) (lanes : List (List Line)) (beside : Bool) (v : View 
       let told = workers_tell place seat parts is (omega arith) kept in
       let same : seat + 0 ≡ seat = omega arith in
       record {
-        lanes_fit = subst (λ (ls : List (List Line)). LanesFit beside history (mark_at (length v.seen)) seat ls middle (flat_map (λ (q : Part). records_of q.outcome) parts))
+        lanes_fit = subst (λ (ls : List (List Line)). LanesFit beside history (mark_at (length v.seen)) seat ls middle
+            (flat_map (λ (q : Part). records_of q.outcome) parts))
             (sym (drop_all place lanes (omega arith))) told.no_records;
         count_is = omega (arith, told.count);
-        workers_fit = λ bounded. subst (λ (n : ℕ). WorkersFit history (length v.seen) n middle (flat_map (λ (q : Part). worked_of q.outcome) parts)) (sym same) (told.fits bounded);
+        workers_fit = λ bounded. subst (λ (n : ℕ). WorkersFit history (length v.seen) n middle (flat_map (λ (q : Part). worked_of q.outcome) parts))
+            (sym same) (told.fits bounded);
       }
   parts_tell (suc count) place seat [] is all some kept = absurd (omega arith)
   parts_tell (suc count) place seat (p ∷ ps) is all some kept =
@@ -187,23 +192,26 @@ module _ (ide : SharedIde) (lanes : List (List Line)) (beside : Bool) (v : View 
       let within : place < length lanes = omega arith in
       let lane : List Line = get_or lanes (place) [] in
       let found : slice_get lanes (place) ≡ Some lane = slice_get-get_or lanes (place) [] within in
-      let one = lane_fits beside v.seen history middle place (v.drawn + place) (ide_view p.pass) lanes lane k.run.task p.outcome (omega arith) found k.run.is_task k.run.done k.whole k.mine k.learned in
+      let one = lane_fits beside v.seen history middle place (v.drawn + place) (ide_view p.pass) lanes lane k.run.task p.outcome (omega arith) found
+      k.run.is_task k.run.done k.whole k.mine k.learned in
       let others = parts_tell count (suc place) (suc seat) ps (omega arith) (omega arith) (omega arith) kept.1 in
       let next : place + 1 ≡ suc place = omega arith in
       let front : drop (place) lanes ≡ lane ∷ drop (suc place) lanes =
-          drop_more lanes (place) [] within ∙ ap (λ (n : ℕ). lane ∷ drop n lanes) next in
+      drop_more lanes (place) [] within ∙ ap (λ (n : ℕ). lane ∷ drop n lanes) next in
       let later : List Worked = flat_map (λ (q : Part). worked_of q.outcome) ps in
       let later_records : List Record = flat_map (λ (q : Part). records_of q.outcome) ps in
       let told : worked_of p.outcome ++ later ≡ later = ap (λ (l : List Worked). l ++ later) one.no_worker in
       let behind : suc seat + count ≡ seat + suc count = omega arith in
       record {
-        lanes_fit = subst (λ (ls : List (List Line)). LanesFit beside history (mark_at (length v.seen)) seat ls middle (records_of p.outcome ++ later_records)) (sym front)
+        lanes_fit = subst (λ (ls : List (List Line)). LanesFit beside history (mark_at (length v.seen)) seat ls middle
+            (records_of p.outcome ++ later_records)) (sym front)
             (record {
               own_records = records_of p.outcome;
               others = later_records;
               high = one.high;
               records_are = refl;
-              fits = subst (λ (n : ℕ). SectionFits beside history n (mark_at (length v.seen)) lane [] (records_of p.outcome) (made_by n middle) one.high) (sym is) one.fits;
+              fits = subst (λ (n : ℕ). SectionFits beside history n (mark_at (length v.seen)) lane [] (records_of p.outcome) (made_by n middle)
+                  one.high) (sym is) one.fits;
               rest = others.lanes_fit;
             });
         count_is = let c = ap length told in let d = others.count_is in omega arith;
@@ -214,38 +222,42 @@ module _ (ide : SharedIde) (lanes : List (List Line)) (beside : Bool) (v : View 
 -- ---- the round
 
 -- number 0 is alone again after the round
-pub round_ends : (ide : SharedIde) (lanes : List (List Line)) (beside : Bool) (v x w : View Entry) (parts : List Part) → IsAlone v → HasBegun ide (length lanes) v x parts
-    → AllFrom (IsRun ide lanes beside v) 0 parts → HasMet parts x w → KnowsItsLists (λ (e : Entry). e.seat) w → IsAlone w
-round_ends ide lanes beside v x w parts alone begun run met knows = record {
-  last = alone_again (λ (e : Entry). e.seat) v w (flat_map (λ (q : Part). kept_of (ide_view q.pass)) parts) alone.last (met_all ide lanes beside v x w parts begun run met);
+pub round_ends : (ide : SharedIde) (lanes : List (List Line)) (beside : Bool) (v x w : View Entry) (fresh_parts parts : List Part) → IsAlone v
+    → HasBegun ide (length lanes) v x fresh_parts → length parts ≡ length fresh_parts → AllFrom (IsRun ide lanes beside v) 0 parts → HasMet parts x w
+    → KnowsItsLists (λ (e : Entry). e.seat) w → IsAlone w
+round_ends ide lanes beside v x w fresh_parts parts alone begun same run met knows = record {
+  last = alone_again (λ (e : Entry). e.seat) v w (flat_map (λ (q : Part). kept_of (ide_view q.pass)) parts) alone.last
+      (met_all ide lanes beside v x w fresh_parts parts begun same run met);
   knows = knows;
 }
 
 -- what the round left
-pub played : (ide : SharedIde) (lanes : List (List Line)) (workers : ℕ) (v x w : View Entry) (parts : List Part) (old new : Answers) → IsAlone v
-    → HasBegun ide (length lanes) v x parts → length parts ≡ length lanes + workers → AllFrom (IsRun ide lanes (run_beside (length lanes) workers) v) 0 parts
+pub played : (ide : SharedIde) (lanes : List (List Line)) (workers : ℕ) (v x w : View Entry) (fresh_parts parts : List Part) (old new : Answers) → IsAlone v
+    → HasBegun ide (length lanes) v x fresh_parts → length parts ≡ length fresh_parts → length fresh_parts ≡ length lanes + workers
+    → AllFrom (IsRun ide lanes (run_beside (length lanes) workers) v) 0 parts
     → HasMet parts x w → KnowsItsLists (λ (e : Entry). e.seat) w → HaveTaken parts old new → HasPlayed lanes workers v w old new
-played ide lanes workers v x w parts old new alone begun many run met knows taken =
+played ide lanes workers v x w fresh_parts parts old new alone begun same many run met knows taken =
     let beside : Bool = run_beside (length lanes) workers in
     let all : List (Ended Entry) = flat_map (λ (q : Part). kept_of (ide_view q.pass)) parts in
     let kept_many : length all ≡ length parts = kept_length ide lanes beside v 0 parts run in
-    let met_them = met_all ide lanes beside v x w parts begun run met in
+    let met_them = met_all ide lanes beside v x w fresh_parts parts begun same run met in
     let middle : List Entry = met_them.seen.0 in
     let own = kept_since (λ (e : Entry). e.seat) v w all alone.last alone.knows met_them knows in
     let seats = seats_since (λ (e : Entry). e.seat) v w all alone.last alone.knows met_them knows in
     let kept = all_kept ide lanes beside v w.seen middle 0 parts run own met.learned taken.whole in
-    let tell = parts_tell ide lanes beside v w.seen middle (length lanes) 0 v.drawn parts (omega arith) (omega arith) (omega (arith, many)) kept in
-    let sum : length all ≡ length lanes + workers = omega (arith, kept_many, many) in
+    let tell = parts_tell ide lanes beside v w.seen middle (length lanes) 0 v.drawn parts (omega arith) (omega arith) (omega (arith, same, many)) kept in
+    let sum : length all ≡ length lanes + workers = omega (arith, kept_many, same, many) in
     record {
       middle = middle;
       records = flat_map (λ (q : Part). records_of q.outcome) parts;
       worked = flat_map (λ (q : Part). worked_of q.outcome) parts;
       seen = met_them.seen.1;
-      seats = All-weaken (λ (e : Entry). (v.drawn ≤ e.seat) × (e.seat < v.drawn + length all)) (λ (e : Entry). IsSeatFrom v.drawn (length lanes + workers) e.seat) middle
+      seats = All-weaken (λ (e : Entry). (v.drawn ≤ e.seat) × (e.seat < v.drawn + length all))
+          (λ (e : Entry). IsSeatFrom v.drawn (length lanes + workers) e.seat) middle
           (λ e range. record { from = range.0; to = let r = range.1 in omega (arith, sum) }) seats;
       records_are = taken.records;
       workers_are = taken.workers;
-      count = let c = tell.count_is in omega (arith, many);
+      count = let c = tell.count_is in omega (arith, same, many);
       lanes_fit = tell.lanes_fit;
       workers_fit = tell.workers_fit;
     }

@@ -1,12 +1,12 @@
 -- Whose entries a view has seen since another: those of the numbers that it has, and of no other.
-use Rattle.std.proofs.Common.{◌≡◌, ℕ, zero, suc, ◌+◌, ◌<◌, ◌≤◌, Bool, true, false, cond, eqb, ◌⊎◌, List, [], ◌∷◌, ◌++◌, length, get_or, filter, All, Some, sym, refl, ap, ◌∙◌, subst, inl, inr, ⊎_elim, arith, append-nil, length-append}
+use Rattle.std.proofs.Common.{◌≡◌, ℕ, zero, suc, ◌+◌, ◌<◌, ◌≤◌, Bool, true, cond, eqb, ◌⊎◌, List, [], ◌∷◌, ◌++◌, length, get_or, filter, All, Some, sym, refl, ap, ◌∙◌, subst, inl, inr, ⊎_elim, arith, append-nil, length-append}
 use Rattle.std.proofs.lemmas.Bool.{eqb-true, eq-eqb, ne_eqb}
 use Rattle.std.proofs.lemmas.List.{append_cancel_left, get_or-append-add, get_or_append_left}
-use Rattle.std.proofs.lemmas.List.Elements.{All-head, All-tail, All-append, filter-append}
+use Rattle.std.proofs.lemmas.List.Elements.{All-append, filter-append}
 use Rattle.list_laws.specs.Totals.{total}
 use Rattle.list_laws.specs.Fronts.{IsFront}
 use Rattle.list_laws.proofs.BoolLemmas.{bool_cases}
-use Rattle.list_laws.proofs.FrontLemmas.{All-cons, All-weaken, filter_none}
+use Rattle.list_laws.proofs.FrontLemmas.{filter_none}
 use Rattle.action_lock.specs.declared.view.Ended.{Ended}
 use Rattle.action_lock.specs.declared.view.View.{View}
 use Rattle.action_lock.specs.Advances.{Advances}
@@ -64,16 +64,19 @@ module _ {E : Type 0} (number_of : E → ℕ) where
       → w.seen ≡ before ++ more → (entries_of number_of 0 more ≡ []) ⊎ S 0
       → All (λ (e : Ended E). (entries_of number_of e.number more ≡ []) ⊎ S e.number) w.ended → All (λ e. S (number_of e)) more
   all_of_kind S w before more leads once seen own kept = λ k d less.
-      let here : get_or w.seen (length before + k) d ≡ get_or more k d = ap (λ (l : List E). get_or l (length before + k) d) seen ∙ get_or-append-add before more k d in
+      let here : get_or w.seen (length before + k) d ≡ get_or more k d = ap (λ (l : List E). get_or l (length before + k) d) seen
+      ∙ get_or-append-add before more k d in
       let inside : length before + k < length w.seen = omega (arith, ap length seen, length-append before more) in
       let is : times (number_of (get_or more k d)) w ≡ 1 = subst (λ (e : E). times (number_of e) w ≡ 1) here (once (length before + k) d inside) in
       ⊎_elim
-      (λ none. absurd (filter_has (λ e. eqb (number_of e) (number_of (get_or more k d))) more k d less (eq-eqb (number_of (get_or more k d)) (number_of (get_or more k d)) refl) none))
+      (λ none. absurd (filter_has (λ e. eqb (number_of e) (number_of (get_or more k d))) more k d less
+      (eq-eqb (number_of (get_or more k d)) (number_of (get_or more k d)) refl) none))
       (λ s. s)
       (has_number (λ n. (entries_of number_of n more ≡ []) ⊎ S n) (number_of (get_or more k d)) w leads own kept is)
 
   -- the entries of a number in what was seen first and in what was seen later
-  entries_split : (n : ℕ) (seen before more : List E) → seen ≡ before ++ more → entries_of number_of n seen ≡ entries_of number_of n before ++ entries_of number_of n more
+  entries_split : (n : ℕ) (seen before more : List E) → seen ≡ before ++ more
+      → entries_of number_of n seen ≡ entries_of number_of n before ++ entries_of number_of n more
   entries_split n seen before more e = ap (entries_of number_of n) e ∙ filter-append (λ x. eqb (number_of x) n) before more
 
   -- number 0, alone before and after, has seen nothing but what it made itself
@@ -86,15 +89,17 @@ module _ {E : Type 0} (number_of : E → ℕ) where
       let before : v.mine ≡ entries_of number_of 0 v.seen = knows.mine 0 last.leads in
       let after : w.mine ≡ entries_of number_of 0 w.seen = knows'.mine 0 leads in
       let made : entries_of number_of 0 more ≡ own = append_cancel_left v.mine (entries_of number_of 0 more) own
-          (ap (λ (l : List E). l ++ entries_of number_of 0 more) before ∙ sym (entries_split 0 w.seen v.seen more seen) ∙ sym after ∙ mine) in
+      (ap (λ (l : List E). l ++ entries_of number_of 0 more) before ∙ sym (entries_split 0 w.seen v.seen more seen) ∙ sym after ∙ mine) in
       let earlier : All (λ (e : Ended E). e.entries ≡ entries_of number_of e.number v.seen) w.ended =
-          subst (λ (es : List (Ended E)). All (λ (e : Ended E). e.entries ≡ entries_of number_of e.number v.seen) es) (sym on.ended) knows.ended in
+      subst (λ (es : List (Ended E)). All (λ (e : Ended E). e.entries ≡ entries_of number_of e.number v.seen) es) (sym on.ended) knows.ended in
       let others : All (λ (e : Ended E). (entries_of number_of e.number more ≡ []) ⊎ (e.number ≡ 0)) w.ended = λ k d less.
-          let n : ℕ = (get_or w.ended k d).number in
-          inl (nothing_added (entries_of number_of n v.seen) (entries_of number_of n more) (sym (earlier k d less) ∙ knows'.ended k d less ∙ entries_split n w.seen v.seen more seen)) in
+      let n : ℕ = (get_or w.ended k d).number in
+      inl (nothing_added (entries_of number_of n v.seen) (entries_of number_of n more)
+      (sym (earlier k d less) ∙ knows'.ended k d less ∙ entries_split n w.seen v.seen more seen)) in
       let whole : w.drawn ≡ length w.ended + 1 = on.drawn ∙ last.all_met ∙ ap (λ (es : List (Ended E)). length es + 1) (sym on.ended) in
       let zeros = all_of_kind (λ n. n ≡ 0) w v.seen more leads (knows'.no_others leads whole) seen (inr refl) others in
-      let all : entries_of number_of 0 more ≡ more = filter_all (λ e. eqb (number_of e) 0) more (λ k d less. eq-eqb (number_of (get_or more k d)) 0 (zeros k d less)) in
+      let all : entries_of number_of 0 more ≡ more = filter_all (λ e. eqb (number_of e) 0) more
+      (λ k d less. eq-eqb (number_of (get_or more k d)) 0 (zeros k d less)) in
       seen ∙ ap (λ (l : List E). v.seen ++ l) (sym all ∙ made)
 
   -- a number that the earlier entries can't have
@@ -119,13 +124,15 @@ module _ {E : Type 0} (number_of : E → ℕ) where
     all_met = omega (arith, met.drawn, last.all_met, ap length met.ended, length-append v.ended kept);
   }
 
-  kept_later : (v w : View E) (kept : List (Ended E)) → HasMetAll v w kept → KnowsItsLists number_of w → All (λ (e : Ended E). e.entries ≡ entries_of number_of e.number w.seen) kept
+  kept_later : (v w : View E) (kept : List (Ended E)) → HasMetAll v w kept → KnowsItsLists number_of w
+      → All (λ (e : Ended E). e.entries ≡ entries_of number_of e.number w.seen) kept
   kept_later v w kept met knows = λ k d less.
       let all = subst (λ (es : List (Ended E)). All (λ (e : Ended E). e.entries ≡ entries_of number_of e.number w.seen) es) met.ended knows.ended in
       let here : get_or (v.ended ++ kept) (length v.ended + k) d ≡ get_or kept k d = get_or-append-add v.ended kept k d in
       subst (λ (e : Ended E). e.entries ≡ entries_of number_of e.number w.seen) here (all (length v.ended + k) d (omega (arith, length-append v.ended kept)))
 
-  kept_earlier : (v w : View E) (kept : List (Ended E)) → HasMetAll v w kept → KnowsItsLists number_of w → All (λ (e : Ended E). e.entries ≡ entries_of number_of e.number w.seen) v.ended
+  kept_earlier : (v w : View E) (kept : List (Ended E)) → HasMetAll v w kept → KnowsItsLists number_of w
+      → All (λ (e : Ended E). e.entries ≡ entries_of number_of e.number w.seen) v.ended
   kept_earlier v w kept met knows = λ k d less.
       let all = subst (λ (es : List (Ended E)). All (λ (e : Ended E). e.entries ≡ entries_of number_of e.number w.seen) es) met.ended knows.ended in
       let here : get_or (v.ended ++ kept) k d ≡ get_or v.ended k d = get_or_append_left v.ended kept d k less in
@@ -148,10 +155,10 @@ module _ {E : Type 0} (number_of : E → ℕ) where
       let again = alone_again v w kept last met in
       let more : List E = met.seen.0 in
       let none : (n : ℕ) → entries_of number_of n w.seen ≡ entries_of number_of n v.seen → entries_of number_of n more ≡ [] =
-          λ n same. nothing_added (entries_of number_of n v.seen) (entries_of number_of n more) (sym same ∙ entries_split n w.seen v.seen more met.seen.1) in
+      λ n same. nothing_added (entries_of number_of n v.seen) (entries_of number_of n more) (sym same ∙ entries_split n w.seen v.seen more met.seen.1) in
       let own = none 0 (sym (knows'.mine 0 again.leads) ∙ met.mine ∙ knows.mine 0 last.leads) in
       let earlier : All (λ (e : Ended E). (entries_of number_of e.number more ≡ []) ⊎ S e.number) v.ended = λ k d less.
-          inl (none (get_or v.ended k d).number (sym (kept_earlier v w kept met knows' k d less) ∙ knows.ended k d less)) in
+      inl (none (get_or v.ended k d).number (sym (kept_earlier v w kept met knows' k d less) ∙ knows.ended k d less)) in
       let later : All (λ (e : Ended E). (entries_of number_of e.number more ≡ []) ⊎ S e.number) kept = λ k d less. inr (met.range k d less) in
       let all = All-append (λ (e : Ended E). (entries_of number_of e.number more ≡ []) ⊎ S e.number) v.ended kept earlier later in
       all_of_kind S w v.seen more again.leads (knows'.no_others again.leads again.all_met) met.seen.1 (inl own)

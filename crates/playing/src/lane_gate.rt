@@ -11,7 +11,7 @@ const NAP: u64 = 1;
 /// then goes on; once all lanes have ended it is told to end.
 pub struct LaneGate<'r, R> {
     rt: &'r R,
-    lanes: u64,
+    lanes: u32,
     ended: AtomicU64,
 }
 
@@ -20,14 +20,14 @@ impl<'r, R: Wait> LaneGate<'r, R> {
     pub fn new(rt: &'r R, lanes: u32) -> LaneGate<'r, R> {
         LaneGate {
             rt,
-            lanes: lanes as u64,
+            lanes,
             ended: AtomicU64::new(0),
         }
     }
 
     /// Takes note of a seat that has ended: that of a lane counts.
     fn end(&self, seat: u32) {
-        if seat as u64 <= self.lanes {
+        if seat <= self.lanes {
             self.ended.fetch_add(1, Ordering::SeqCst);
             self.ended.wake_all();
         }
@@ -36,7 +36,7 @@ impl<'r, R: Wait> LaneGate<'r, R> {
     /// Whether a lane is still on the way. If so, it has slept for a while.
     fn wait(&self) -> bool {
         let ended = self.ended.load(Ordering::SeqCst);
-        if self.lanes <= ended {
+        if self.lanes as u64 <= ended {
             return false;
         }
         let nap = Duration::from_millis(NAP);

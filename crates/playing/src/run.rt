@@ -87,7 +87,16 @@ fn play_all<R: Threads + Wait + Sync, G: Gate + Sync>(
     ensures run { OnOk result (HasRunAll loads.now script.now workers (ide_view pass.new).seen answers.new last.new) }
 {
     let prelude = script.prelude();
-    do_alone(rt, alloc, ide, pass, prelude, loads, &mut answers.records, gate)?;
+    do_alone(
+        rt,
+        alloc,
+        ide,
+        pass,
+        prelude,
+        loads,
+        &mut answers.records,
+        gate,
+    )?;
     play_round(rt, alloc, ide, pass, script, workers, answers, gate)?;
     do_alone(rt, alloc, ide, pass, script.last(), &[], last, gate)
 }
@@ -111,7 +120,9 @@ fn do_alone<R: Wait, G: Gate>(
     ensures drawn { (ide_view pass.new).drawn ≡ (ide_view pass.old).drawn }
     ensures done { OnOk result (HasDoneAlone lines.now loads.now (ide_view pass.old) (ide_view pass.new) records.old records.new) }
 {
-    let done = do_section(rt, alloc, ide, pass, LEADER, lines, loads, false, records, gate);
+    let done = do_section(
+        rt, alloc, ide, pass, LEADER, lines, loads, false, records, gate,
+    );
     ide.is_last(pass);
     done
 }

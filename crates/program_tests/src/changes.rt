@@ -1,10 +1,10 @@
-//! Scripts of documents, moves, groups, lanes and loads, each with its whole transcript.
+//! Scripts of documents, moves, groups and loads, each with its whole transcript.
 use crate::running::run;
 use crate::table::{Case, IDE};
 use ide_io::{BytesSink, BytesSource};
 use std::test::Fail;
 
-static CASES: [Case; 17] = [
+static CASES: [Case; 15] = [
     // An edit is unseen until it is committed; the overlay becomes the base at the close.
     Case {
         words: IDE,
@@ -42,26 +42,6 @@ status
 10 at 6 rows 1
   A.java:1:7 class BA
 11 at 6 status files 1 open 0 unready 0
-"#,
-    },
-    // Lanes go one after the other, with the seats 1, 2.
-    Case {
-        words: IDE,
-        script: r#"lane
-create A.java "class A {}"
-status
-lane
-create B.java "class B {}"
-status
-"#,
-        status: "0 ",
-        written: r#"history 2
-1 1 2 create A.java 10
-2 2 5 create B.java 10
-2 at 1 accepted
-3 at 1 status files 1 open 0 unready 1
-5 at 2 accepted
-6 at 2 status files 2 open 0 unready 2
 "#,
     },
     // An insert at the end of the text, and past it.
@@ -466,34 +446,6 @@ class C
 11 at 3 accepted
 14 at 3 status files 0 open 0 unready 0
 15 at 3 rows 0
-"#,
-    },
-    // The last section comes after the lanes, with the seat 0.
-    Case {
-        words: IDE,
-        script: r#"create A.java ""
-lane
-write A.java "class A {}"
-lane
-settle
-finally
-class A
-write A.java "x"
-status
-"#,
-        status: "0 ",
-        written: r#"history 4
-1 0 1 create A.java 0
-2 1 3 write A.java 10
-3 2 5 intake 1 2
-4 0 8 write A.java 1
-1 at 1 accepted
-3 at 2 accepted
-5 at 3 smart
-7 at 3 rows 1
-  A.java:1:7 class A
-8 at 4 accepted
-9 at 4 status files 1 open 0 unready 1
 "#,
     },
     Case {

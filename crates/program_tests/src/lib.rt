@@ -5,6 +5,11 @@
 mod changes;
 #[cfg(test)]
 mod faults;
+mod gates;
+#[cfg(test)]
+mod lanes;
+#[cfg(test)]
+mod meetings;
 #[cfg(test)]
 mod parts;
 #[cfg(test)]
@@ -15,3 +20,4 @@ mod running;
 mod scripts;
 #[cfg(test)]
 mod table;
+mod told;

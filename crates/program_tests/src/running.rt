@@ -10,7 +10,7 @@ use std::thread::Threads;
 
 /// Runs the program with these words over the two files, and gives the number with which it ends and what it writes to
 /// standard error.
-pub fn run<R: Threads + Wait + AllocGlobal, S: Source, K: Sink>(
+pub fn run<R: Threads + Wait + Sync + AllocGlobal, S: Source, K: Sink>(
     rt: &R,
     words: &[&str],
     script: &mut S,
@@ -21,7 +21,7 @@ pub fn run<R: Threads + Wait + AllocGlobal, S: Source, K: Sink>(
 }
 
 /// The same over any tree.
-pub fn run_over<R: Threads + Wait + AllocGlobal, S: Source, T: Tree, K: Sink>(
+pub fn run_over<R: Threads + Wait + Sync + AllocGlobal, S: Source, T: Tree, K: Sink>(
     rt: &R,
     words: &[&str],
     script: &mut S,

@@ -374,8 +374,8 @@ load A.java
     Case {
         words: &["ide", "play", "--workers", "1"],
         script: "",
-        status: "1 ide: usage\n",
-        written: "",
+        status: "0 ",
+        written: "history 0\n",
     },
     // A demo reads neither the script nor a file.
     Case {
@@ -389,7 +389,7 @@ load A.java
             "--edits",
             "1",
             "--workers",
-            "0",
+            "3",
         ],
         script: "nonsense\n",
         status: "0 ",

@@ -1,5 +1,6 @@
 -- From what a call leaves of a pass's view to how the command of a line is answered.
-use Rattle.std.proofs.Common.{ℕ, ◌≡◌, ◌+◌, inl, inr, Bool, true, false, List, [], ◌∷◌, ◌++◌, length, refl, ap, sym, ◌∙◌, subst, length-append, append-nil, Some, None, Option, Result, Ok, Err, IfOk}
+use Rattle.std.proofs.Common.{ℕ, ◌≡◌, ◌+◌, inl, inr, Bool, true, false, List, [], ◌∷◌, ◌++◌, length}
+use Rattle.std.proofs.Common.{refl, ap, sym, ◌∙◌, subst, length-append, append-nil, Some, None, Option, Result, Ok, Err, IfOk}
 use Rattle.list_laws.proofs.FrontLemmas.{front_self}
 use Rattle.action_lock.specs.declared.view.View.{View}
 use Rattle.write_history.specs.declared.change.Change.{Change}
@@ -28,7 +29,8 @@ use Rattle.transcripts.specs.declared.loaded.Loaded.{Loaded}
 use Rattle.transcripts.specs.declared.loaded.Loaded.TheVariants as loaded
 use Rattle.transcripts.specs.declared.record.Answer.{Answer}
 use Rattle.transcripts.specs.declared.record.Answer.TheVariants.{Accepted, Refused, NotReady}
-use Rattle.transcripts.specs.Serial.{Step, told, step_unless, changes_step, change_step, create_of, load_step, settle_answer, settle_step, answer_of, query_step, step_of}
+use Rattle.transcripts.specs.Serial.{Step, told, step_unless, changes_step, change_step, create_of, load_step, step_of}
+use Rattle.transcripts.specs.Serial.{settle_answer, settle_step, answer_of, query_step}
 use Rattle.sections.specs.Answered.{IsAnswered, IsSoftlyAnswered, IsLineAnswered, reply_answer}
 
 -- a view has one number
@@ -37,14 +39,16 @@ same_seat a b number p q = cc
 
 -- ---- changes
 
-accepted_step : (refusal : Option ListRefusal) (told_place : ℕ → Option ℕ) (history : List Entry) (entry same : Entry) (at : ℕ) → refusal ≡ None → entry ≡ same
-    → at ≡ length history + 1 → step_unless refusal told_place history entry ≡ record { added = same ∷ []; answer = Accepted at }
+accepted_step : (refusal : Option ListRefusal) (told_place : ℕ → Option ℕ) (history : List Entry) (entry same : Entry) (at : ℕ)
+    → refusal ≡ None → entry ≡ same → at ≡ length history + 1
+    → step_unless refusal told_place history entry ≡ record { added = same ∷ []; answer = Accepted at }
 accepted_step None told_place history entry same at none is long =
     ap (λ (e : Entry). step_unless None told_place history e) is ∙ ap (λ (n : ℕ). record { added = same ∷ []; answer = Accepted n }) (sym long)
 accepted_step (Some refusal) told_place history entry same at none is long = absurd (cc)
 
 -- changes that went in
-pub accepted : (v w : View Entry) (line : ℕ) (changes : List Change) (at : ℕ) (told_place : ℕ → Option ℕ) → HasAccepted v w line changes at
+pub accepted : (v w : View Entry) (line : ℕ) (changes : List Change) (at : ℕ) (told_place : ℕ → Option ℕ)
+    → HasAccepted v w line changes at
     → IsAnswered (λ start seat. changes_step told_place start seat line changes) v w (Accepted at)
 accepted v w line changes at told_place h =
     let own : List Entry = entry_of h.seat line changes ∷ [] in
@@ -55,12 +59,14 @@ accepted v w line changes at told_place h =
       known = h.made.known;
       seen = h.made.seen;
       mine = h.made.mine;
-      made = λ seat number. accepted_step (list_refusal (fold h.before) changes) told_place h.before (entry_of seat line changes) (entry_of h.seat line changes) at
+      made = λ seat number. accepted_step (list_refusal (fold h.before) changes) told_place h.before
+          (entry_of seat line changes) (entry_of h.seat line changes) at
           h.accepted (ap (λ (s : ℕ). entry_of s line changes) (same_seat seat h.seat v.number number h.own)) long;
     }
 
 -- changes of which one was refused
-pub refused : (v w : View Entry) (line : ℕ) (changes : List Change) (at place : ℕ) (why : Refusal) (told_place : ℕ → Option ℕ) → HasRefused v w changes at place why
+pub refused : (v w : View Entry) (line : ℕ) (changes : List Change) (at place : ℕ) (why : Refusal) (told_place : ℕ → Option ℕ)
+    → HasRefused v w changes at place why
     → IsAnswered (λ start seat. changes_step told_place start seat line changes) v w (Refused at (told_place place) why)
 refused v w line changes at place why told_place h = record {
   start = w.seen;
@@ -75,7 +81,8 @@ refused v w line changes at place why told_place h = record {
 -- ---- other steps for the same answer
 
 -- a step that does the same
-pub as_step : (s t : List Entry → ℕ → Step) (v w : View Entry) (answer : Answer) → ((start : List Entry) (seat : ℕ) → s start seat ≡ t start seat)
+pub as_step : (s t : List Entry → ℕ → Step) (v w : View Entry) (answer : Answer)
+    → ((start : List Entry) (seat : ℕ) → s start seat ≡ t start seat)
     → IsAnswered s v w answer → IsAnswered t v w answer
 as_step s t v w answer same h = record {
   start = h.start;
@@ -87,14 +94,15 @@ as_step s t v w answer same h = record {
 }
 
 -- a step that does the same, where there is an answer
-pub as_steps : (s t : List Entry → ℕ → Step) (v w : View Entry) {E : Type 0} (result : Result Answer E) → ((start : List Entry) (seat : ℕ) → s start seat ≡ t start seat)
+pub as_steps : (s t : List Entry → ℕ → Step) (v w : View Entry) {E : Type 0} (result : Result Answer E)
+    → ((start : List Entry) (seat : ℕ) → s start seat ≡ t start seat)
     → IfOk result (IsAnswered s v w) → IfOk result (IsAnswered t v w)
 as_steps s t v w (Ok answer) same h = as_step s t v w answer same h
 as_steps s t v w (Err e) same h = tt
 
 -- nothing was called
-pub not_called : (step : List Entry → ℕ → Step) (v : View Entry) (answer : Answer) → ((start : List Entry) (seat : ℕ) → step start seat ≡ told answer)
-    → IsAnswered step v v answer
+pub not_called : (step : List Entry → ℕ → Step) (v : View Entry) (answer : Answer)
+    → ((start : List Entry) (seat : ℕ) → step start seat ≡ told answer) → IsAnswered step v v answer
 not_called step v answer is = record {
   start = v.seen;
   own = [];
@@ -122,7 +130,8 @@ pub move_step-unlawful : (history : List Entry) (seat line : ℕ) (path to : Lis
 move_step-unlawful history seat line path to unlawful = rw unlawful refl
 
 -- a load of a lawful path for which nothing is called
-pub load_not_called : (v : View Entry) (line : ℕ) (path : List ℕ) (load same : Loaded) (answer : Answer) → is_path path ≡ true → load ≡ same
+pub load_not_called : (v : View Entry) (line : ℕ) (path : List ℕ) (load same : Loaded) (answer : Answer)
+    → is_path path ≡ true → load ≡ same
     → ((start : List Entry) (seat : ℕ) → create_of start seat line path same ≡ told answer)
     → IsAnswered (λ start seat. load_step start seat line path load) v v answer
 load_not_called v line path load same answer lawful is step =
@@ -130,8 +139,9 @@ load_not_called v line path load same answer lawful is step =
     (λ start seat. load_step-lawful start seat line path load lawful ∙ ap (create_of start seat line path) is ∙ step start seat)
 
 -- a load of a text at a lawful path makes a file of it
-pub text_step : (start : List Entry) (seat line : ℕ) (path like text same : List ℕ) (load : Loaded) → is_path path ≡ true → load ≡ loaded.Text text → like ≡ path
-    → same ≡ text → change_step start seat line (Create like same) ≡ load_step start seat line path load
+pub text_step : (start : List Entry) (seat line : ℕ) (path like text same : List ℕ) (load : Loaded)
+    → is_path path ≡ true → load ≡ loaded.Text text → like ≡ path → same ≡ text
+    → change_step start seat line (Create like same) ≡ load_step start seat line path load
 text_step start seat line path like text same load lawful is paths texts =
     ap (λ (p : List ℕ). change_step start seat line (Create p same)) paths
     ∙ ap (λ (t : List ℕ). change_step start seat line (Create path t)) texts
@@ -139,7 +149,8 @@ text_step start seat line path like text same load lawful is paths texts =
 
 -- ---- settles
 
-settle_at : (before seen : List Entry) (seat line at : ℕ) (refusal : Option Refusal) → seen ≡ before ++ (settled before seat line).added → at ≡ length seen
+settle_at : (before seen : List Entry) (seat line at : ℕ) (refusal : Option Refusal)
+    → seen ≡ before ++ (settled before seat line).added → at ≡ length seen
     → (settled before seat line).refused ≡ refusal
     → settle_step before seat line ≡ record { added = (settled before seat line).added; answer = settle_answer at refusal }
 settle_at before seen seat line at refusal is long ends =
@@ -148,7 +159,8 @@ settle_at before seen seat line at refusal is long ends =
     ∙ ap (λ (n : ℕ). record { added = added; answer = settle_answer n refusal }) (sym (long ∙ ap length is))
 
 -- a settle that ended so
-pub settles : (v w : View Entry) (line at : ℕ) (refusal : Option Refusal) → HasSettled line v w refusal → at ≡ length w.seen
+pub settles : (v w : View Entry) (line at : ℕ) (refusal : Option Refusal)
+    → HasSettled line v w refusal → at ≡ length w.seen
     → IsAnswered (λ start seat. settle_step start seat line) v w (settle_answer at refusal)
 settles v w line at refusal h long =
     let added : List Entry = (settled h.before h.seat line).added in

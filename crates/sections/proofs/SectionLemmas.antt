@@ -1,5 +1,6 @@
 -- One turn of a section's loop.
-use Rattle.std.proofs.Common.{ℕ, ◌≡◌, ◌+◌, ◌<◌, ◌≤◌, inl, inr, Bool, true, List, [], ◌∷◌, ◌++◌, length, refl, ap, sym, ◌∙◌, subst, le_refl, le_trans, append_assoc, append-nil, Some, ⊎_elim, drop, get_or}
+use Rattle.std.proofs.Common.{ℕ, ◌≡◌, ◌+◌, ◌<◌, ◌≤◌, inl, inr, Bool, true, List, [], ◌∷◌, ◌++◌, length}
+use Rattle.std.proofs.Common.{refl, ap, sym, ◌∙◌, subst, le_refl, le_trans, append_assoc, append-nil, Some, ⊎_elim, drop, get_or}
 use Rattle.std.proofs.lemmas.List.{drop_more, drop_all}
 use Rattle.list_laws.specs.Fronts.{IsFront}
 use Rattle.list_laws.proofs.FrontLemmas.{front_length, front_trans}
@@ -32,8 +33,8 @@ record HasMoved (beside : Bool) (seat : ℕ) (line : Line) (load : Loaded) (v w 
   sights : high.sights ≤ w.sights
   fits : (history : List Entry) → IsFront w.seen history → Fits beside history seat line load low own answer high
 
-moved_done : (beside : Bool) (seat : ℕ) (line : Line) (load : Loaded) (v w : View Entry) (low : Mark) (answer : Answer) → v.number ≡ Some seat → Advances v w
-    → low.seen ≤ length v.seen → low.sights ≤ v.sights
+moved_done : (beside : Bool) (seat : ℕ) (line : Line) (load : Loaded) (v w : View Entry) (low : Mark) (answer : Answer)
+    → v.number ≡ Some seat → Advances v w → low.seen ≤ length v.seen → low.sights ≤ v.sights
     → IsAnswered (λ start seat. step_of load start seat line.number line.command) v w answer → HasMoved beside seat line load v w low answer
 moved_done beside seat line load v w low answer number advances seen sights a = record {
   own = a.own;
@@ -51,8 +52,9 @@ moved_done beside seat line load v w low answer number advances seen sights a = 
   };
 }
 
-moved_given_up : (beside : Bool) (seat : ℕ) (line : Line) (load : Loaded) (v w : View Entry) (low : Mark) (answer : Answer) → v.number ≡ Some seat → Advances v w
-    → low.seen ≤ length v.seen → low.sights ≤ v.sights → beside ≡ true → IsGivenUpBy line.command v w answer → HasMoved beside seat line load v w low answer
+moved_given_up : (beside : Bool) (seat : ℕ) (line : Line) (load : Loaded) (v w : View Entry) (low : Mark) (answer : Answer)
+    → v.number ≡ Some seat → Advances v w → low.seen ≤ length v.seen → low.sights ≤ v.sights
+    → beside ≡ true → IsGivenUpBy line.command v w answer → HasMoved beside seat line load v w low answer
 moved_given_up beside seat line load v w low answer number advances seen sights beside_is g =
     let sighted = g.cancelled.sighted in
     let s = g.cancelled.sights in
@@ -81,8 +83,9 @@ moved_given_up beside seat line load v w low answer number advances seen sights 
       );
     }
 
-moved : (beside : Bool) (seat : ℕ) (line : Line) (load : Loaded) (v w : View Entry) (low : Mark) (answer : Answer) → v.number ≡ Some seat → Advances v w
-    → low.seen ≤ length v.seen → low.sights ≤ v.sights → IsLineAnswered beside line load v w answer → HasMoved beside seat line load v w low answer
+moved : (beside : Bool) (seat : ℕ) (line : Line) (load : Loaded) (v w : View Entry) (low : Mark) (answer : Answer)
+    → v.number ≡ Some seat → Advances v w → low.seen ≤ length v.seen → low.sights ≤ v.sights
+    → IsLineAnswered beside line load v w answer → HasMoved beside seat line load v w low answer
 moved beside seat line load v w low answer number advances seen sights h = ⊎_elim
     (λ (a : IsAnswered (λ start seat. step_of load start seat line.number line.command) v w answer).
     moved_done beside seat line load v w low answer number advances seen sights a)
@@ -196,7 +199,8 @@ section_ends beside seat lines loads v w old new loads_left h = record {
 }
 
 -- after all lines
-pub section_over : (beside : Bool) (seat : ℕ) (lines : List Line) (loads : List Loaded) (v w : View Entry) (old new : List Record) (i : ℕ) (loads_left : List Loaded)
+pub section_over : (beside : Bool) (seat : ℕ) (lines : List Line) (loads : List Loaded) (v w : View Entry) (old new : List Record) (i : ℕ)
+    (loads_left : List Loaded)
     → length lines ≤ i → IsUnderWay beside seat lines loads v w old new (drop i lines) loads_left → HasAdded beside seat lines loads v w old new
 section_over beside seat lines loads v w old new i loads_left past h =
     section_ends beside seat lines loads v w old new loads_left

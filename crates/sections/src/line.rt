@@ -1,5 +1,5 @@
 //! The command of one line.
-ghost use Rattle.std.specs.Prelude.{◌≡◌, IfOk, OnOk, Some};
+ghost use Rattle.std.specs.Prelude.{◌≡◌, IfOk, OnOk};
 ghost use Rattle.action_lock.specs.Advances.{Advances};
 ghost use Rattle.script_lang.specs.Held.{IsOfLine};
 ghost use Rattle.index_workers.specs.Passes.{ide_view, IsSameIdePass};
@@ -11,7 +11,6 @@ use crate::changing::{do_change, do_group, do_load};
 use crate::settling::do_settle;
 use action_lock::{Gate, Point};
 use index_workers::IdePass;
-use queries::Query;
 use script_lang::{Command, Line};
 use shared_ide::SharedIde;
 use std::alloc::{AllocError, Global};
@@ -38,18 +37,20 @@ pub(crate) fn do_line<R: Wait, G: Gate>(
     ensures advances { Advances (ide_view pass.old) (ide_view pass.new) }
     ensures answered { OnOk result (HasAnsweredLine beside seat line.now load.now (ide_view pass.old) (ide_view pass.new) records.old records.new) }
 {
-    if seat > 0 {
-        gate.at(Point::Start {
-            seat,
-            line: line.number,
-        });
-    }
+    tell_start(gate, seat, line.number);
     let answer = answer_line(rt, alloc, ide, pass, line, load, beside, gate)?;
     records.push(Record {
         seat,
         line: line.number,
         answer,
     })
+}
+
+/// Tells the gate that a lane is about to begin the command of a line. Seat 0 is no lane's.
+fn tell_start<G: Gate>(gate: &G, seat: u32, line: u32) {
+    if seat > 0 {
+        gate.at(Point::Start { seat, line });
+    }
 }
 
 /// Does the command of a line, for which this was read, and answers it. It may wait for ever.

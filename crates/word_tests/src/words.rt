@@ -9,23 +9,31 @@ struct Case {
     gives: Result<Request, WordsRefusal>,
 }
 
-static CASES: [Case; 40] = [
+static CASES: [Case; 43] = [
     // The subcommands, and their defaults.
     Case {
         words: &[],
-        gives: Ok(Request::Play),
+        gives: Ok(Request::Play { workers: 0 }),
     },
     Case {
         words: &["play"],
-        gives: Ok(Request::Play),
+        gives: Ok(Request::Play { workers: 0 }),
     },
     Case {
         words: &["play", "--workers", "0"],
-        gives: Ok(Request::Play),
+        gives: Ok(Request::Play { workers: 0 }),
     },
     Case {
         words: &["play", "--workers=0"],
-        gives: Ok(Request::Play),
+        gives: Ok(Request::Play { workers: 0 }),
+    },
+    Case {
+        words: &["play", "--workers", "1"],
+        gives: Ok(Request::Play { workers: 1 }),
+    },
+    Case {
+        words: &["play", "--workers=8"],
+        gives: Ok(Request::Play { workers: 8 }),
     },
     Case {
         words: &["demo"],
@@ -33,6 +41,7 @@ static CASES: [Case; 40] = [
             seed: 1,
             files: 8,
             edits: 32,
+            workers: 0,
         }),
     },
     Case {
@@ -41,6 +50,7 @@ static CASES: [Case; 40] = [
             seed: 0,
             files: 1,
             edits: 0,
+            workers: 0,
         }),
     },
     Case {
@@ -58,6 +68,16 @@ static CASES: [Case; 40] = [
             seed: 2147483647,
             files: 10000,
             edits: 50000,
+            workers: 0,
+        }),
+    },
+    Case {
+        words: &["demo", "--workers", "8"],
+        gives: Ok(Request::Demo {
+            seed: 1,
+            files: 8,
+            edits: 32,
+            workers: 8,
         }),
     },
     // Past a bound.
@@ -82,15 +102,11 @@ static CASES: [Case; 40] = [
         gives: Err(WordsRefusal::Usage),
     },
     Case {
-        words: &["play", "--workers", "1"],
-        gives: Err(WordsRefusal::Usage),
-    },
-    Case {
         words: &["play", "--workers", "9"],
         gives: Err(WordsRefusal::Usage),
     },
     Case {
-        words: &["demo", "--workers", "1"],
+        words: &["demo", "--workers", "9"],
         gives: Err(WordsRefusal::Usage),
     },
     // Numbers out of form.
@@ -128,6 +144,10 @@ static CASES: [Case; 40] = [
     },
     Case {
         words: &["play", "--workers", "00"],
+        gives: Err(WordsRefusal::Usage),
+    },
+    Case {
+        words: &["play", "--workers", "03"],
         gives: Err(WordsRefusal::Usage),
     },
     // Outside what clap takes.

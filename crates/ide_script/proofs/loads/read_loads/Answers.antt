@@ -1,5 +1,5 @@
 use Rattle.std.proofs.Common.{arith}
-use Rattle.ide_script.proofs.RunLemmas.{loads_end}
+use Rattle.ide_script.proofs.LoadsLemmas.{loads_end}
 use Rattle.ide_script.proofs.loads.read_loads.Goals as goal
 
 pub returns-clause-loads : goal.returns-clause-loads

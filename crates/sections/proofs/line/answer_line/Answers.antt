@@ -34,7 +34,8 @@ returns-in-Ask-clause-answer g c =
 
 pub returns-in-Soft-clause-answer : goal.returns-in-Soft-clause-answer
 returns-in-Soft-clause-answer g c =
-    line_softly c.args.beside c.args.line.now c.args.load.now _ _ c.in-Soft.attempts c.in-Soft.query _ c.if-beside.true c.in-Soft.is c.do_soft_ask.ensures.answer
+    line_softly c.args.beside c.args.line.now c.args.load.now _ _ c.in-Soft.attempts c.in-Soft.query _ c.if-beside.true
+    c.in-Soft.is c.do_soft_ask.ensures.answer
 
 pub returns-in-Soft-2-clause-answer : goal.returns-in-Soft-2-clause-answer
 returns-in-Soft-2-clause-answer g c =

@@ -24,7 +24,8 @@ loop-line-preserved g c =
       advances = advances_on _ _ _ before.advances done.advances;
       nothing = before.nothing;
       under_way = section_turn c.args.beside c.args.seat c.args.lines.now c.args.loads.now _ _ _ _ _ _ c.loop-line.line-index _ _ _ _
-          c.requires.seat c.loop-line-test.true c.line-item.is c.first_load-load.ensures c.later_loads-left.ensures before.advances done.advances before.under_way done.answered;
+          c.requires.seat c.loop-line-test.true c.line-item.is
+          c.first_load-load.ensures c.later_loads-left.ensures before.advances done.advances before.under_way done.answered;
     }
 
 pub returns-clause-done : goal.returns-clause-done

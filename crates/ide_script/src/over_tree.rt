@@ -1,0 +1,39 @@
+//! Playing a script over a tree, from which its loads are read.
+ghost use Rattle.std.specs.Prelude.{◌≡◌, ◌≢◌, ◌≤◌, IfOk, Err};
+ghost use Rattle.command_line.specs.Request.{max_workers};
+ghost use Rattle.ide_io.specs.Fault.{HasFault};
+ghost use Rattle.ide_script.specs.Play.{Plays, AskNoFile};
+
+use crate::PlayRefusal;
+use crate::loads::read_loads;
+use action_lock::Gate;
+use ide_io::Tree;
+use script_lang::Script;
+use std::alloc::Global;
+use std::sync::Wait;
+use std::thread::Threads;
+use transcripts::Played;
+use transcripts::laws::a_run_alone_is_serial;
+
+/// Plays a script from the empty workspace: the prelude, then its lanes and so many workers, each on a thread of its own
+/// beside the others, then the last section. What the loads ask for is read before all else; a tree that fails ends it. A
+/// load of an unlawful path asks for nothing. It may wait for ever.
+pub fn play<R: Threads + Wait + Sync, T: Tree, G: Gate + Sync>(
+    rt: &R,
+    alloc: Global,
+    script: &Script,
+    workers: u32,
+    tree: &mut T,
+    gate: &G,
+) -> Result<Played, PlayRefusal>
+    requires few { workers ≤ max_workers }
+    ensures plays { IfOk result (λ played. Plays (T.files tree.old) script.now workers played.workers.items
+        (record { history = played.history.entries; records = played.records; last = played.last })) }
+    ensures unread { AskNoFile script.now.prelude → tree.new ≡ tree.old }
+    ensures fault { result ≡ Err PlayRefusal.TreeFault → HasFault (T.faults tree.old) (T.faults tree.new) }
+    ensures quiet { result ≢ Err PlayRefusal.TreeFault → T.faults tree.new ≡ T.faults tree.old }
+{
+    a_run_alone_is_serial();
+    let loads = read_loads(alloc, script.prelude(), tree)?;
+    Ok(playing::play(rt, alloc, script, &loads, workers, gate)?)
+}
