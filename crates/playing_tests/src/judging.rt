@@ -20,7 +20,8 @@ pub fn judge(
     if !push_sections(script, loads, played, &mut walks)? {
         return Ok(false);
     }
-    is_right(alloc, script.lanes() as u32, played, &mut walks)
+    let whole = is_whole(alloc, played, &mut walks)?;
+    Ok(whole && ends_right(script.lanes() as u32, played, &walks))
 }
 
 /// Adds the sections with their records, in order: the prelude, the lanes, the last one. Whether each record is of one.
@@ -124,19 +125,13 @@ fn begin_of(history: &History, lines: &[Line]) -> u64 {
 }
 
 /// Whether the history can be made again, and all that was answered is right at its place.
-fn is_right(
-    alloc: Global,
-    lanes: u32,
-    played: &Played,
-    walks: &mut [Walk<'_>],
-) -> Result<bool, AllocError> {
+fn is_whole(alloc: Global, played: &Played, walks: &mut [Walk<'_>]) -> Result<bool, AllocError> {
     let mut state = empty(alloc)?;
-    let whole = is_whole(alloc, played, &mut state, walks)?;
-    Ok(whole && ends_right(lanes, played, walks))
+    goes_through(alloc, played, &mut state, walks)
 }
 
 /// Whether the state goes through the whole history, and all that was answered is right at its place.
-fn is_whole(
+fn goes_through(
     alloc: Global,
     played: &Played,
     state: &mut State,
