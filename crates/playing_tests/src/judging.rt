@@ -1,7 +1,5 @@
 //! Judging a run by its history: it is made again on a fresh state, and each answer is the one that the state gives at the
 //! length of the history that the answer names.
-ghost use Rattle.std.specs.Prelude.{◌<◌, ◌≤◌, length};
-
 use crate::replaying::make_again;
 use crate::walk::{Walk, Way, place_of};
 use ide_world::{State, empty, job};
@@ -22,7 +20,8 @@ pub fn judge(
     if !push_sections(script, loads, played, &mut walks)? {
         return Ok(false);
     }
-    is_right(alloc, script.lanes(), played, &mut walks)
+    let whole = is_whole(alloc, played, &mut walks)?;
+    Ok(whole && ends_right(script.lanes() as u32, played, &walks))
 }
 
 /// Adds the sections with their records, in order: the prelude, the lanes, the last one. Whether each record is of one.
@@ -33,9 +32,7 @@ fn push_sections<'a>(
     walks: &mut Vec<Walk<'a>>,
 ) -> Result<bool, AllocError> {
     let lines = script.prelude();
-    let Some((own, left)) = cut(played.records.as_slice(), lines.len()) else {
-        return Ok(false);
-    };
+    let (own, left) = cut(played.records.as_slice(), lines.len());
     walks.push(walk(0, Way::Alone, lines, loads, own, 0))?;
     let way = way_of(script.lanes(), played.workers.len());
     if !push_lanes(script, way, left, last_place(own), walks)? {
@@ -56,12 +53,11 @@ fn push_lanes<'a>(
     walks: &mut Vec<Walk<'a>>,
 ) -> Result<bool, AllocError> {
     let mut left = records;
+    let mut seat = 0u32;
     for index in 0..script.lanes() {
+        seat = seat.wrapping_add(1);
         let lines = script.lane(index);
-        let Some((own, later)) = cut(left, lines.len()) else {
-            return Ok(false);
-        };
-        let seat = (index as u32).wrapping_add(1);
+        let (own, later) = cut(left, lines.len());
         walks.push(walk(seat, way, lines, &[], own, low))?;
         left = later;
     }
@@ -98,12 +94,9 @@ fn way_of(lanes: usize, workers: usize) -> Way {
     }
 }
 
-/// The first so many records, and the others.
-fn cut(records: &[Record], count: usize) -> Option<(&[Record], &[Record])> {
-    if count > records.len() {
-        return None;
-    }
-    Some(records.split_at(count))
+/// The first so many records, or all where there are fewer, and the others.
+fn cut(records: &[Record], count: usize) -> (&[Record], &[Record]) {
+    records.split_at(count.min(records.len()))
 }
 
 /// The length of the history at which the last answer of some records holds.
@@ -132,20 +125,24 @@ fn begin_of(history: &History, lines: &[Line]) -> u64 {
 }
 
 /// Whether the history can be made again, and all that was answered is right at its place.
-fn is_right(
+fn is_whole(alloc: Global, played: &Played, walks: &mut [Walk<'_>]) -> Result<bool, AllocError> {
+    let mut state = empty(alloc)?;
+    goes_through(alloc, played, &mut state, walks)
+}
+
+/// Whether the state goes through the whole history, and all that was answered is right at its place.
+fn goes_through(
     alloc: Global,
-    lanes: usize,
     played: &Played,
+    state: &mut State,
     walks: &mut [Walk<'_>],
 ) -> Result<bool, AllocError> {
-    let mut state = empty(alloc)?;
     for before in 0..played.history.len() {
-        if !goes_on(alloc, played, &mut state, before, walks)? {
+        if !goes_on(alloc, played, state, before, walks)? {
             return Ok(false);
         }
     }
-    let whole = is_right_at(alloc, played, &state, played.history.len(), walks)?;
-    Ok(whole && ends_right(lanes, played, walks))
+    is_right_at(alloc, played, state, played.history.len(), walks)
 }
 
 /// Whether all that was answered for this length of the history is right, and the next entry may stand there, and can be made
@@ -156,18 +153,22 @@ fn goes_on(
     state: &mut State,
     before: u64,
     walks: &mut [Walk<'_>],
-) -> Result<bool, AllocError>
-    requires { before < length played.now.history.entries }
-{
+) -> Result<bool, AllocError> {
     let history = &played.history;
-    if !is_right_at(alloc, played, state, before, walks)? || !is_lawful(history, state, before)? {
+    if before >= history.len() {
         return Ok(false);
     }
-    make_again(alloc, state, history.get(before + 1))
+    let entry = history.get(before + 1);
+    if !is_right_at(alloc, played, state, before, walks)?
+        || !is_lawful(history, state, before, entry)?
+    {
+        return Ok(false);
+    }
+    make_again(alloc, state, entry)
 }
 
 /// Whether nothing is left, nothing stands behind the last section, and each entry is told once.
-fn ends_right(lanes: usize, played: &Played, walks: &[Walk<'_>]) -> bool {
+fn ends_right(lanes: u32, played: &Played, walks: &[Walk<'_>]) -> bool {
     are_done(walks) && ends_last(&played.history, walks) && are_all_told(lanes, played, walks)
 }
 
@@ -199,10 +200,12 @@ fn may_all_end(workers: &[Worked], state: &State, at: u64) -> bool {
 
 /// Whether the next entry may stand here: an intake of a settle is that of the lowest unready file, and a worker takes no file
 /// in twice at one stamp.
-fn is_lawful(history: &History, state: &State, before: u64) -> Result<bool, AllocError>
-    requires { before < length history.now.entries }
-{
-    let entry = history.get(before + 1);
+fn is_lawful(
+    history: &History,
+    state: &State,
+    before: u64,
+    entry: &Entry,
+) -> Result<bool, AllocError> {
     let Some((file, stamp)) = intake_of(entry) else {
         return Ok(entry.line != 0);
     };
@@ -221,10 +224,8 @@ fn intake_of(entry: &Entry) -> Option<(u32, u64)> {
 }
 
 /// Whether a seat has taken a file in at a stamp, among the first entries.
-fn has_taken(history: &History, count: u64, seat: u32, file: u32, stamp: u64) -> bool
-    requires { count ≤ length history.now.entries }
-{
-    for before in 0..count {
+fn has_taken(history: &History, count: u64, seat: u32, file: u32, stamp: u64) -> bool {
+    for before in 0..history.len().min(count) {
         let entry = history.get(before + 1);
         if entry.seat == seat && intake_of(entry) == Some((file, stamp)) {
             return true;
@@ -252,12 +253,12 @@ fn ends_last(history: &History, walks: &[Walk<'_>]) -> bool {
 }
 
 /// Whether each entry is told once, by a section or by the worker that made it.
-fn are_all_told(lanes: usize, played: &Played, walks: &[Walk<'_>]) -> bool {
+fn are_all_told(lanes: u32, played: &Played, walks: &[Walk<'_>]) -> bool {
     let mut told = 0u64;
     for walk in walks {
         told = told.wrapping_add(walk.told);
     }
-    let mut seat = lanes as u32;
+    let mut seat = lanes;
     for worked in &played.workers {
         seat = seat.wrapping_add(1);
         if worked.seat() != seat || entries_of(&played.history, seat) != worked.taken() {

@@ -44,21 +44,43 @@ impl Walk<'_> {
         state: &State,
         at: u64,
     ) -> Result<bool, AllocError> {
-        while let Some((record, records)) = self.records.split_first() {
-            if !is_due(&record.answer, at) {
+        for _ in 0..self.records.len() {
+            if !self.is_next_due(at) {
                 return Ok(true);
             }
-            let Some((line, lines)) = self.lines.split_first() else {
-                return Ok(false);
-            };
-            if !self.is_right(alloc, history, state, line, record)? {
+            if !self.step(alloc, history, state)? {
                 return Ok(false);
             }
-            self.records = records;
-            self.lines = lines;
-            self.loads = later(self.loads);
         }
         Ok(true)
+    }
+
+    /// Whether the next record is of this length of the history, or of none.
+    fn is_next_due(&self, at: u64) -> bool {
+        match self.records.first() {
+            Some(record) => is_due(&record.answer, at),
+            None => false,
+        }
+    }
+
+    /// Judges the next record. Whether it is right.
+    fn step(
+        &mut self,
+        alloc: Global,
+        history: &History,
+        state: &State,
+    ) -> Result<bool, AllocError> {
+        let Some((record, records)) = self.records.split_first() else {
+            return Ok(false);
+        };
+        let Some((line, lines)) = self.lines.split_first() else {
+            return Ok(false);
+        };
+        let right = self.is_right(alloc, history, state, line, record)?;
+        self.records = records;
+        self.lines = lines;
+        self.loads = later(self.loads);
+        Ok(right)
     }
 
     /// Whether no line and no record is left.
@@ -179,11 +201,12 @@ fn is_due(answer: &Answer, at: u64) -> bool {
 
 /// How many entries of a seat and line stand right before a place, that place included.
 fn run_of(history: &History, seat: u32, line: u32, at: u64) -> u64 {
-    let mut count = 0u64;
-    while count < at && is_of(history, seat, line, at - count) {
-        count += 1;
+    for count in 0..at {
+        if !is_of(history, seat, line, at - count) {
+            return count;
+        }
     }
-    count
+    at
 }
 
 /// Whether the entry at a position was made by this seat for this line.
