@@ -25,7 +25,8 @@ use Rattle.playing.proofs.ViewLemmas.{HasMetAll}
 
 -- ---- one part more is begun
 
-all_from_push : {A : Type 0} (P : ℕ → A → Type 0) (place : ℕ) (xs : List A) (x : A) → AllFrom P place xs → P (place + length xs) x → AllFrom P place (xs ++ x ∷ [])
+all_from_push : {A : Type 0} (P : ℕ → A → Type 0) (place : ℕ) (xs : List A) (x : A) → AllFrom P place xs → P (place + length xs) x
+    → AllFrom P place (xs ++ x ∷ [])
 all_from_push P place [] x all last = let same : place + 0 ≡ place = omega arith in (subst (λ (n : ℕ). P n x) same last, tt)
 all_from_push P place (y ∷ ys) x all last =
     let same : place + suc (length ys) ≡ suc place + length ys = omega arith in
@@ -64,7 +65,8 @@ can_run_one lanes place (Lane index) is = omega (arith, is.0, is.1)
 can_run_one lanes place Worker is = tt
 
 -- parts that were begun may be run
-pub can_run : (ide : SharedIde) (script : Parts) (v : View Entry) (place : ℕ) (parts : List Part) → AllFrom (IsBegun ide (length script.lanes) v) place parts → All (CanRun ide script) parts
+pub can_run : (ide : SharedIde) (script : Parts) (v : View Entry) (place : ℕ) (parts : List Part)
+    → AllFrom (IsBegun ide (length script.lanes) v) place parts → All (CanRun ide script) parts
 can_run ide script v place [] begun = λ k d less. absurd (omega arith)
 can_run ide script v place (p ∷ ps) begun = All-cons (CanRun ide script) p ps
     (record { rests = begun.0.rests; task = can_run_one script.lanes place p.task begun.0.task })
@@ -115,7 +117,14 @@ can_meet ide lanes beside v place (p ∷ ps) some run = All-cons (CanMeet ide) p
 
 -- before the first
 pub none_met : (v : View Entry) → HasMet [] v v
-none_met v = record { number = refl; drawn = refl; mine = refl; ended = sym (append-nil v.ended); seen = front_self v.seen; learned = λ k d less. absurd (omega arith) }
+none_met v = record {
+  number = refl;
+  drawn = refl;
+  mine = refl;
+  ended = sym (append-nil v.ended);
+  seen = front_self v.seen;
+  learned = λ k d less. absurd (omega arith);
+}
 
 -- one more
 pub met_more : (v x y : View Entry) (parts : List Part) (p : Part) → HasMet parts v x → y ≡ told (joined x (ide_view p.pass)) → IsFront x.seen y.seen
@@ -133,7 +142,8 @@ met_more v x y parts p met gives keeps learns =
       drawn = drawn ∙ met.drawn;
       mine = mine ∙ met.mine;
       ended = ended ∙ ap (λ (es : List (Ended Entry)). es ++ kept p) met.ended ∙ append_assoc v.ended (flat_map kept parts) (kept p)
-          ∙ ap (λ (es : List (Ended Entry)). v.ended ++ es) (ap (λ (es : List (Ended Entry)). flat_map kept parts ++ es) (sym last) ∙ sym (flat_map-append kept parts (p ∷ [])));
+          ∙ ap (λ (es : List (Ended Entry)). v.ended ++ es)
+          (ap (λ (es : List (Ended Entry)). flat_map kept parts ++ es) (sym last) ∙ sym (flat_map-append kept parts (p ∷ [])));
       seen = front_trans v.seen x.seen y.seen met.seen keeps;
       learned = All-append (Learned y.seen) parts (p ∷ [])
           (All-weaken (Learned x.seen) (Learned y.seen) parts (λ q front. front_trans (ide_view q.pass).seen x.seen y.seen front keeps) met.learned)
@@ -142,15 +152,21 @@ met_more v x y parts p met gives keeps learns =
 
 -- before the first
 pub none_taken : (answers : Answers) → HaveTaken [] answers answers
-none_taken answers = record { whole = λ k d less. absurd (omega arith); records = sym (append-nil answers.records); workers = sym (append-nil answers.workers.items) }
+none_taken answers = record {
+  whole = λ k d less. absurd (omega arith);
+  records = sym (append-nil answers.records);
+  workers = sym (append-nil answers.workers.items);
+}
 
-more_of : {A : Type 0} (f : Part → List A) (old now new : List A) (parts : List Part) (p : Part) → now ≡ old ++ flat_map f parts → new ≡ now ++ f p → new ≡ old ++ flat_map f (parts ++ p ∷ [])
+more_of : {A : Type 0} (f : Part → List A) (old now new : List A) (parts : List Part) (p : Part) → now ≡ old ++ flat_map f parts → new ≡ now ++ f p
+    → new ≡ old ++ flat_map f (parts ++ p ∷ [])
 more_of {A} f old now new parts p before is =
     is ∙ ap (λ (l : List A). l ++ f p) before ∙ append_assoc old (flat_map f parts) (f p)
     ∙ ap (λ (l : List A). old ++ l) (ap (λ (l : List A). flat_map f parts ++ l) (sym (append-nil (f p))) ∙ sym (flat_map-append f parts (p ∷ [])))
 
 -- one more
-pub taken_more : (old now new : Answers) (parts : List Part) (p : Part) → HaveTaken parts old now → HasTaken p.outcome now new → HaveTaken (parts ++ p ∷ []) old new
+pub taken_more : (old now new : Answers) (parts : List Part) (p : Part) → HaveTaken parts old now → HasTaken p.outcome now new
+    → HaveTaken (parts ++ p ∷ []) old new
 taken_more old now new parts p taken takes =
     let Whole : Part → Type 0 = λ (q : Part). IsWhole q.outcome in
     record {
@@ -188,7 +204,8 @@ module _ (ide : SharedIde) (lanes : List (List Line)) (beside : Bool) (v : View 
 
   -- their numbers are in order
   pub kept_range : (low high place : ℕ) (parts : List Part) → AllFrom (IsRun ide lanes beside v) place parts → low ≤ v.drawn + place
-      → v.drawn + place + length parts ≤ high → All (λ (e : Ended Entry). (low ≤ e.number) × (e.number < high)) (flat_map (λ (q : Part). kept_of (ide_view q.pass)) parts)
+      → v.drawn + place + length parts ≤ high
+      → All (λ (e : Ended Entry). (low ≤ e.number) × (e.number < high)) (flat_map (λ (q : Part). kept_of (ide_view q.pass)) parts)
   unfolding end_at
   kept_range low high place [] run from to = λ k d less. absurd (omega arith)
   kept_range low high place (p ∷ ps) run from to =
@@ -198,7 +215,8 @@ module _ (ide : SharedIde) (lanes : List (List Line)) (beside : Bool) (v : View 
       (kept_range low high (suc place) ps run.1 (omega arith) (omega arith)))
 
   -- number 0 has met all that were split off it since it had this view
-  pub met_all : (x w : View Entry) (fresh_parts parts : List Part) → HasBegun ide (length lanes) v x fresh_parts → length parts ≡ length fresh_parts → AllFrom (IsRun ide lanes beside v) 0 parts → HasMet parts x w
+  pub met_all : (x w : View Entry) (fresh_parts parts : List Part) → HasBegun ide (length lanes) v x fresh_parts → length parts ≡ length fresh_parts
+      → AllFrom (IsRun ide lanes beside v) 0 parts → HasMet parts x w
       → HasMetAll (λ (e : Entry). e.seat) v w (flat_map (λ (q : Part). kept_of (ide_view q.pass)) parts)
   met_all x w fresh_parts parts begun same run met =
       let all : List (Ended Entry) = flat_map (λ (q : Part). kept_of (ide_view q.pass)) parts in

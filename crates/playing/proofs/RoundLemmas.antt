@@ -40,7 +40,8 @@ record LaneFits (beside : Bool) (seen history middle : List Entry) (seat : ℕ) 
   fits : SectionFits beside history seat (mark_at (length seen)) lane [] (records_of o) (made_by seat middle) high
   no_worker : worked_of o ≡ []
 
-lane_done : (beside : Bool) (seen history middle : List Entry) (seat index : ℕ) (w : View Entry) (lanes : List (List Line)) (lane : List Line) (records : List Record)
+lane_done : (beside : Bool) (seen history middle : List Entry) (seat index : ℕ) (w : View Entry) (lanes : List (List Line)) (lane : List Line)
+    (records : List Record)
     → HasDoneLane lanes beside index (fresh (Some seat) 0 seen) w (Answered records) → slice_get lanes index ≡ Some lane → w.mine ≡ made_by seat middle
     → IsFront w.seen history → LaneFits beside seen history middle seat lane (Answered records)
 lane_done beside seen history middle seat index w lanes lane records told is mine front =
@@ -60,7 +61,8 @@ lane_done beside seen history middle seat index w lanes lane records told is min
     same_some : {A : Type 0} (a b : A) → Some a ≡ Some b → a ≡ b
     same_some a b e = cc
 
-lane_fits : (beside : Bool) (seen history middle : List Entry) (place seat : ℕ) (w : View Entry) (lanes : List (List Line)) (lane : List Line) (task : Task) (o : Outcome)
+lane_fits : (beside : Bool) (seen history middle : List Entry) (place seat : ℕ) (w : View Entry) (lanes : List (List Line)) (lane : List Line)
+    (task : Task) (o : Outcome)
     → place < length lanes → slice_get lanes place ≡ Some lane → IsTaskAt (length lanes) place task
     → HasDoneTask lanes beside task (fresh (Some seat) 0 seen) w o → IsWhole o → w.mine ≡ made_by seat middle
     → IsFront w.seen history → LaneFits beside seen history middle seat lane o
@@ -120,7 +122,8 @@ worker_tells : (beside : Bool) (seen history middle : List Entry) (place seat : 
 worker_tells beside seen history middle place seat w lanes (Lane index) o past task done whole mine front = absurd (omega (arith, task.1))
 worker_tells beside seen history middle place seat w lanes Worker Nothing past task done whole mine front = absurd whole
 worker_tells beside seen history middle place seat w lanes Worker (Answered records) past task done whole mine front = absurd done
-worker_tells beside seen history middle place seat w lanes Worker (Indexed worked) past task done whole mine front = worker_done seen history middle seat w worked done mine front
+worker_tells beside seen history middle place seat w lanes Worker (Indexed worked) past task done whole mine front = worker_done seen history middle
+    seat w worked done mine front
 
 -- ---- all parts
 
@@ -152,7 +155,8 @@ module _ (ide : SharedIde) (lanes : List (List Line)) (beside : Bool) (v : View 
   workers_tell place seat [] is past kept = record { no_records = refl; count = refl; fits = λ bounded. tt }
   workers_tell place seat (p ∷ ps) is past kept =
       let k = kept.0 in
-      let one = worker_tells beside v.seen history middle place (v.drawn + place) (ide_view p.pass) lanes k.run.task p.outcome past k.run.is_task k.run.done k.whole k.mine k.learned in
+      let one = worker_tells beside v.seen history middle place (v.drawn + place) (ide_view p.pass) lanes k.run.task p.outcome past k.run.is_task
+      k.run.done k.whole k.mine k.learned in
       let others = workers_tell (suc place) (suc seat) ps (omega arith) (omega arith) kept.1 in
       let later : List Worked = flat_map (λ (q : Part). worked_of q.outcome) ps in
       let told : worked_of p.outcome ++ later ≡ one.worked ∷ later = ap (λ (l : List Worked). l ++ later) one.tells in
@@ -175,10 +179,12 @@ module _ (ide : SharedIde) (lanes : List (List Line)) (beside : Bool) (v : View 
       let told = workers_tell place seat parts is (omega arith) kept in
       let same : seat + 0 ≡ seat = omega arith in
       record {
-        lanes_fit = subst (λ (ls : List (List Line)). LanesFit beside history (mark_at (length v.seen)) seat ls middle (flat_map (λ (q : Part). records_of q.outcome) parts))
+        lanes_fit = subst (λ (ls : List (List Line)). LanesFit beside history (mark_at (length v.seen)) seat ls middle
+            (flat_map (λ (q : Part). records_of q.outcome) parts))
             (sym (drop_all place lanes (omega arith))) told.no_records;
         count_is = omega (arith, told.count);
-        workers_fit = λ bounded. subst (λ (n : ℕ). WorkersFit history (length v.seen) n middle (flat_map (λ (q : Part). worked_of q.outcome) parts)) (sym same) (told.fits bounded);
+        workers_fit = λ bounded. subst (λ (n : ℕ). WorkersFit history (length v.seen) n middle (flat_map (λ (q : Part). worked_of q.outcome) parts))
+            (sym same) (told.fits bounded);
       }
   parts_tell (suc count) place seat [] is all some kept = absurd (omega arith)
   parts_tell (suc count) place seat (p ∷ ps) is all some kept =
@@ -186,7 +192,8 @@ module _ (ide : SharedIde) (lanes : List (List Line)) (beside : Bool) (v : View 
       let within : place < length lanes = omega arith in
       let lane : List Line = get_or lanes (place) [] in
       let found : slice_get lanes (place) ≡ Some lane = slice_get-get_or lanes (place) [] within in
-      let one = lane_fits beside v.seen history middle place (v.drawn + place) (ide_view p.pass) lanes lane k.run.task p.outcome (omega arith) found k.run.is_task k.run.done k.whole k.mine k.learned in
+      let one = lane_fits beside v.seen history middle place (v.drawn + place) (ide_view p.pass) lanes lane k.run.task p.outcome (omega arith) found
+      k.run.is_task k.run.done k.whole k.mine k.learned in
       let others = parts_tell count (suc place) (suc seat) ps (omega arith) (omega arith) (omega arith) kept.1 in
       let next : place + 1 ≡ suc place = omega arith in
       let front : drop (place) lanes ≡ lane ∷ drop (suc place) lanes =
@@ -196,13 +203,15 @@ module _ (ide : SharedIde) (lanes : List (List Line)) (beside : Bool) (v : View 
       let told : worked_of p.outcome ++ later ≡ later = ap (λ (l : List Worked). l ++ later) one.no_worker in
       let behind : suc seat + count ≡ seat + suc count = omega arith in
       record {
-        lanes_fit = subst (λ (ls : List (List Line)). LanesFit beside history (mark_at (length v.seen)) seat ls middle (records_of p.outcome ++ later_records)) (sym front)
+        lanes_fit = subst (λ (ls : List (List Line)). LanesFit beside history (mark_at (length v.seen)) seat ls middle
+            (records_of p.outcome ++ later_records)) (sym front)
             (record {
               own_records = records_of p.outcome;
               others = later_records;
               high = one.high;
               records_are = refl;
-              fits = subst (λ (n : ℕ). SectionFits beside history n (mark_at (length v.seen)) lane [] (records_of p.outcome) (made_by n middle) one.high) (sym is) one.fits;
+              fits = subst (λ (n : ℕ). SectionFits beside history n (mark_at (length v.seen)) lane [] (records_of p.outcome) (made_by n middle)
+                  one.high) (sym is) one.fits;
               rest = others.lanes_fit;
             });
         count_is = let c = ap length told in let d = others.count_is in omega arith;
@@ -214,15 +223,18 @@ module _ (ide : SharedIde) (lanes : List (List Line)) (beside : Bool) (v : View 
 
 -- number 0 is alone again after the round
 pub round_ends : (ide : SharedIde) (lanes : List (List Line)) (beside : Bool) (v x w : View Entry) (fresh_parts parts : List Part) → IsAlone v
-    → HasBegun ide (length lanes) v x fresh_parts → length parts ≡ length fresh_parts → AllFrom (IsRun ide lanes beside v) 0 parts → HasMet parts x w → KnowsItsLists (λ (e : Entry). e.seat) w → IsAlone w
+    → HasBegun ide (length lanes) v x fresh_parts → length parts ≡ length fresh_parts → AllFrom (IsRun ide lanes beside v) 0 parts → HasMet parts x w
+    → KnowsItsLists (λ (e : Entry). e.seat) w → IsAlone w
 round_ends ide lanes beside v x w fresh_parts parts alone begun same run met knows = record {
-  last = alone_again (λ (e : Entry). e.seat) v w (flat_map (λ (q : Part). kept_of (ide_view q.pass)) parts) alone.last (met_all ide lanes beside v x w fresh_parts parts begun same run met);
+  last = alone_again (λ (e : Entry). e.seat) v w (flat_map (λ (q : Part). kept_of (ide_view q.pass)) parts) alone.last
+      (met_all ide lanes beside v x w fresh_parts parts begun same run met);
   knows = knows;
 }
 
 -- what the round left
 pub played : (ide : SharedIde) (lanes : List (List Line)) (workers : ℕ) (v x w : View Entry) (fresh_parts parts : List Part) (old new : Answers) → IsAlone v
-    → HasBegun ide (length lanes) v x fresh_parts → length parts ≡ length fresh_parts → length fresh_parts ≡ length lanes + workers → AllFrom (IsRun ide lanes (run_beside (length lanes) workers) v) 0 parts
+    → HasBegun ide (length lanes) v x fresh_parts → length parts ≡ length fresh_parts → length fresh_parts ≡ length lanes + workers
+    → AllFrom (IsRun ide lanes (run_beside (length lanes) workers) v) 0 parts
     → HasMet parts x w → KnowsItsLists (λ (e : Entry). e.seat) w → HaveTaken parts old new → HasPlayed lanes workers v w old new
 played ide lanes workers v x w fresh_parts parts old new alone begun same many run met knows taken =
     let beside : Bool = run_beside (length lanes) workers in
@@ -240,7 +252,8 @@ played ide lanes workers v x w fresh_parts parts old new alone begun same many r
       records = flat_map (λ (q : Part). records_of q.outcome) parts;
       worked = flat_map (λ (q : Part). worked_of q.outcome) parts;
       seen = met_them.seen.1;
-      seats = All-weaken (λ (e : Entry). (v.drawn ≤ e.seat) × (e.seat < v.drawn + length all)) (λ (e : Entry). IsSeatFrom v.drawn (length lanes + workers) e.seat) middle
+      seats = All-weaken (λ (e : Entry). (v.drawn ≤ e.seat) × (e.seat < v.drawn + length all))
+          (λ (e : Entry). IsSeatFrom v.drawn (length lanes + workers) e.seat) middle
           (λ e range. record { from = range.0; to = let r = range.1 in omega (arith, sum) }) seats;
       records_are = taken.records;
       workers_are = taken.workers;

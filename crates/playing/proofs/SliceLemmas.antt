@@ -7,13 +7,15 @@ use Rattle.std.proofs.lemmas.List.{drop_all, drop_more, take_all, get_or_at, get
 module _ {A : Type 0} where
   -- what holds of the elements of two lists, pair by pair, holds of them where both are turned round
   pub turned_round : (R : A → A → Type 0) (xs ys zs ws : List A) → ys ≡ reverse xs → length zs ≡ length ys
-      → ((k : ℕ) (d : A) → k < length ys → R (get_or ys k d) (get_or zs k d)) → ws ≡ reverse zs → (k : ℕ) (d : A) → k < length xs → R (get_or xs k d) (get_or ws k d)
+      → ((k : ℕ) (d : A) → k < length ys → R (get_or ys k d) (get_or zs k d)) → ws ≡ reverse zs → (k : ℕ) (d : A) → k < length xs
+      → R (get_or xs k d) (get_or ws k d)
   turned_round R xs ys zs ws turned same related back k d less =
       let long : length ys ≡ length xs = ap length turned ∙ length-reverse xs in
       let at : ℕ = length xs - 1 - k in
       let inside : at < length xs = omega arith in
       let again : length xs - 1 - at ≡ k = omega arith in
-      let old : get_or ys at d ≡ get_or xs k d = ap (λ (l : List A). get_or l at d) turned ∙ get_or-reverse xs at d inside ∙ ap (λ (n : ℕ). get_or xs n d) again in
+      let old : get_or ys at d ≡ get_or xs k d = ap (λ (l : List A). get_or l at d) turned ∙ get_or-reverse xs at d inside
+      ∙ ap (λ (n : ℕ). get_or xs n d) again in
       let place : length zs - 1 - k ≡ at = omega arith in
       let new : get_or ws k d ≡ get_or zs at d =
       ap (λ (l : List A). get_or l k d) back ∙ get_or-reverse zs k d (omega arith) ∙ ap (λ (n : ℕ). get_or zs n d) place in
@@ -39,9 +41,10 @@ pub pushed : {A T E : Type 0} (r : Result T E) (more less all : List A) → IsOk
 pushed (Ok x) more less all ok is = is
 pushed (Err e) more less all ok is = absurd (cc)
 
--- what holds of all elements holds of the first of those that are left
-pub holds_of_first : {A : Type 0} (P : A → Type 0) (all before left rest : List A) (x : A) → All P all → all ≡ before ++ left → left ≡ x ∷ rest → P x
-holds_of_first {A} P all before left rest x each are first =
-    let whole : all ≡ before ++ x ∷ rest = are ∙ ap (λ (l : List A). before ++ l) first in
+-- what holds of all elements holds of the first of those that are left, when it is removed
+pub holds_of_removed : {A : Type 0} (P : A → Type 0) (all before left rest : List A) (x : A) → All P all → all ≡ before ++ left → 0 < length left
+    → x ≡ get_or left 0 x → rest ≡ remove left 0 → P x
+holds_of_removed {A} P all before left rest x each are some first others =
+    let whole : all ≡ before ++ x ∷ rest = are ∙ ap (λ (l : List A). before ++ l) (first_removed left rest x some first others) in
     subst P (get_or_at before x rest x (length before) refl)
-    (subst (λ (l : List A). All P l) whole each (length before) x (omega (arith, ap length whole, length-append before (x ∷ rest))))
+    (subst (λ (l : List A). All P l) whole each (length before) x (omega (arith, length-append before (x ∷ rest))))

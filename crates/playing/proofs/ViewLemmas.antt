@@ -64,16 +64,19 @@ module _ {E : Type 0} (number_of : E → ℕ) where
       → w.seen ≡ before ++ more → (entries_of number_of 0 more ≡ []) ⊎ S 0
       → All (λ (e : Ended E). (entries_of number_of e.number more ≡ []) ⊎ S e.number) w.ended → All (λ e. S (number_of e)) more
   all_of_kind S w before more leads once seen own kept = λ k d less.
-      let here : get_or w.seen (length before + k) d ≡ get_or more k d = ap (λ (l : List E). get_or l (length before + k) d) seen ∙ get_or-append-add before more k d in
+      let here : get_or w.seen (length before + k) d ≡ get_or more k d = ap (λ (l : List E). get_or l (length before + k) d) seen
+      ∙ get_or-append-add before more k d in
       let inside : length before + k < length w.seen = omega (arith, ap length seen, length-append before more) in
       let is : times (number_of (get_or more k d)) w ≡ 1 = subst (λ (e : E). times (number_of e) w ≡ 1) here (once (length before + k) d inside) in
       ⊎_elim
-      (λ none. absurd (filter_has (λ e. eqb (number_of e) (number_of (get_or more k d))) more k d less (eq-eqb (number_of (get_or more k d)) (number_of (get_or more k d)) refl) none))
+      (λ none. absurd (filter_has (λ e. eqb (number_of e) (number_of (get_or more k d))) more k d less
+      (eq-eqb (number_of (get_or more k d)) (number_of (get_or more k d)) refl) none))
       (λ s. s)
       (has_number (λ n. (entries_of number_of n more ≡ []) ⊎ S n) (number_of (get_or more k d)) w leads own kept is)
 
   -- the entries of a number in what was seen first and in what was seen later
-  entries_split : (n : ℕ) (seen before more : List E) → seen ≡ before ++ more → entries_of number_of n seen ≡ entries_of number_of n before ++ entries_of number_of n more
+  entries_split : (n : ℕ) (seen before more : List E) → seen ≡ before ++ more
+      → entries_of number_of n seen ≡ entries_of number_of n before ++ entries_of number_of n more
   entries_split n seen before more e = ap (entries_of number_of n) e ∙ filter-append (λ x. eqb (number_of x) n) before more
 
   -- number 0, alone before and after, has seen nothing but what it made itself
@@ -91,10 +94,12 @@ module _ {E : Type 0} (number_of : E → ℕ) where
       subst (λ (es : List (Ended E)). All (λ (e : Ended E). e.entries ≡ entries_of number_of e.number v.seen) es) (sym on.ended) knows.ended in
       let others : All (λ (e : Ended E). (entries_of number_of e.number more ≡ []) ⊎ (e.number ≡ 0)) w.ended = λ k d less.
       let n : ℕ = (get_or w.ended k d).number in
-      inl (nothing_added (entries_of number_of n v.seen) (entries_of number_of n more) (sym (earlier k d less) ∙ knows'.ended k d less ∙ entries_split n w.seen v.seen more seen)) in
+      inl (nothing_added (entries_of number_of n v.seen) (entries_of number_of n more)
+      (sym (earlier k d less) ∙ knows'.ended k d less ∙ entries_split n w.seen v.seen more seen)) in
       let whole : w.drawn ≡ length w.ended + 1 = on.drawn ∙ last.all_met ∙ ap (λ (es : List (Ended E)). length es + 1) (sym on.ended) in
       let zeros = all_of_kind (λ n. n ≡ 0) w v.seen more leads (knows'.no_others leads whole) seen (inr refl) others in
-      let all : entries_of number_of 0 more ≡ more = filter_all (λ e. eqb (number_of e) 0) more (λ k d less. eq-eqb (number_of (get_or more k d)) 0 (zeros k d less)) in
+      let all : entries_of number_of 0 more ≡ more = filter_all (λ e. eqb (number_of e) 0) more
+      (λ k d less. eq-eqb (number_of (get_or more k d)) 0 (zeros k d less)) in
       seen ∙ ap (λ (l : List E). v.seen ++ l) (sym all ∙ made)
 
   -- a number that the earlier entries can't have
@@ -119,13 +124,15 @@ module _ {E : Type 0} (number_of : E → ℕ) where
     all_met = omega (arith, met.drawn, last.all_met, ap length met.ended, length-append v.ended kept);
   }
 
-  kept_later : (v w : View E) (kept : List (Ended E)) → HasMetAll v w kept → KnowsItsLists number_of w → All (λ (e : Ended E). e.entries ≡ entries_of number_of e.number w.seen) kept
+  kept_later : (v w : View E) (kept : List (Ended E)) → HasMetAll v w kept → KnowsItsLists number_of w
+      → All (λ (e : Ended E). e.entries ≡ entries_of number_of e.number w.seen) kept
   kept_later v w kept met knows = λ k d less.
       let all = subst (λ (es : List (Ended E)). All (λ (e : Ended E). e.entries ≡ entries_of number_of e.number w.seen) es) met.ended knows.ended in
       let here : get_or (v.ended ++ kept) (length v.ended + k) d ≡ get_or kept k d = get_or-append-add v.ended kept k d in
       subst (λ (e : Ended E). e.entries ≡ entries_of number_of e.number w.seen) here (all (length v.ended + k) d (omega (arith, length-append v.ended kept)))
 
-  kept_earlier : (v w : View E) (kept : List (Ended E)) → HasMetAll v w kept → KnowsItsLists number_of w → All (λ (e : Ended E). e.entries ≡ entries_of number_of e.number w.seen) v.ended
+  kept_earlier : (v w : View E) (kept : List (Ended E)) → HasMetAll v w kept → KnowsItsLists number_of w
+      → All (λ (e : Ended E). e.entries ≡ entries_of number_of e.number w.seen) v.ended
   kept_earlier v w kept met knows = λ k d less.
       let all = subst (λ (es : List (Ended E)). All (λ (e : Ended E). e.entries ≡ entries_of number_of e.number w.seen) es) met.ended knows.ended in
       let here : get_or (v.ended ++ kept) k d ≡ get_or v.ended k d = get_or_append_left v.ended kept d k less in

@@ -9,6 +9,7 @@ const NAP: u64 = 1;
 
 /// Counts the lanes that have ended. A worker that finds nothing to do sleeps until a lane ends, or for a short while, and
 /// then goes on; once all lanes have ended it is told to end.
+#[derive(Drop)]
 pub struct LaneGate<'r, R> {
     rt: &'r R,
     lanes: u32,

@@ -86,7 +86,8 @@ fn begin_parts(
     requires leads { (ide_view pass.old).number ≡ Some 0 }
     requires few { (ide_view pass.old).drawn + round.lanes + round.workers ≤ 65536 }
     ensures pass { IsIdePassOf ide.now pass.new × IsSameIdePass pass.old pass.new }
-    ensures parts { IfOk result (λ parts. HasBegun ide.now round.lanes (ide_view pass.old) (ide_view pass.new) parts.items × (length parts.items ≡ round.lanes + round.workers)) }
+    ensures parts { IfOk result (λ parts. HasBegun ide.now round.lanes (ide_view pass.old) (ide_view pass.new) parts.items) }
+    ensures count { IfOk result (λ parts. length parts.items ≡ round.lanes + round.workers) }
     ensures none { OnErr result (ide_view pass.new ≡ ide_view pass.old) }
 {
     let count = round.lanes + round.workers;

@@ -16,8 +16,10 @@ loop-place-preserved c =
     let part : Part = record { pass = c.in-Ok.pass; task = c.task-task.result; outcome = Nothing } in
     let room = c.loop-place.parts.ok in
     let many : length parts ≡ c.loop-place.place = before.many in
-    let items : c.push.new.self.items ≡ parts ++ part ∷ [] = pushed c.push.result (parts ++ part ∷ []) parts c.push.new.self.items (c.push.ensures.succeeds (omega arith)) c.push.ensures.items in
-    let task : IsTaskAt c.args.round.lanes (length parts) c.task-task.result = subst (λ (n : ℕ). IsTaskAt c.args.round.lanes n c.task-task.result) (sym many) c.task-task.ensures in
+    let items : c.push.new.self.items ≡ parts ++ part ∷ [] = pushed c.push.result (parts ++ part ∷ []) parts c.push.new.self.items
+    (c.push.ensures.succeeds (omega arith)) c.push.ensures.items in
+    let task : IsTaskAt c.args.round.lanes (length parts) c.task-task.result = subst (λ (n : ℕ). IsTaskAt c.args.round.lanes n c.task-task.result)
+    (sym many) c.task-task.ensures in
     let more = begun_more c.args.ide.now c.args.round.lanes (ide_view c.args.pass.now) (ide_view c.loop-place.pass) (ide_view c.split.new.pass) parts part
     before.begun split.ok.2 split.ok.0 split.ok.3 task in
     record {

@@ -5,25 +5,25 @@ use Rattle.index_workers.proofs.PassLemmas.{same_on}
 use Rattle.playing.specs.declared.part.Part.{Part}
 use Rattle.playing.specs.Parts.{CanMeet}
 use Rattle.playing.proofs.PartLemmas.{met_more, taken_more}
-use Rattle.playing.proofs.SliceLemmas.{first_removed, holds_of_first, where_ok}
+use Rattle.playing.proofs.SliceLemmas.{first_removed, holds_of_removed, where_ok}
 use Rattle.playing.proofs.round.meet_parts.Goals as goal
 
 pub meet-requires-clause-other : goal.meet-requires-clause-other
 meet-requires-clause-other c =
     let left = c.loop-left.left in
     let ok = left.ok in
-    let first = first_removed left.items c.remove-other.new.self.items c.remove-other.result (omega arith) c.remove-other.ensures.value c.remove-other.ensures.items in
-    let may : CanMeet c.args.ide.now c.remove-other.result =
-    holds_of_first (CanMeet c.args.ide.now) c.args.parts.items c.loop-left.invariant.met left.items c.remove-other.new.self.items c.remove-other.result c.requires.parts c.loop-left.invariant.are first in
+    let removed = c.remove-other in
+    let may : CanMeet c.args.ide.now removed.result = holds_of_removed (CanMeet c.args.ide.now) c.args.parts.items c.loop-left.invariant.met left.items
+    removed.new.self.items removed.result c.requires.parts c.loop-left.invariant.are (omega arith) removed.ensures.value removed.ensures.items in
     may.rests
 
 pub meet-requires-clause-follows : goal.meet-requires-clause-follows
 meet-requires-clause-follows c =
     let left = c.loop-left.left in
     let ok = left.ok in
-    let first = first_removed left.items c.remove-other.new.self.items c.remove-other.result (omega arith) c.remove-other.ensures.value c.remove-other.ensures.items in
-    let may : CanMeet c.args.ide.now c.remove-other.result =
-    holds_of_first (CanMeet c.args.ide.now) c.args.parts.items c.loop-left.invariant.met left.items c.remove-other.new.self.items c.remove-other.result c.requires.parts c.loop-left.invariant.are first in
+    let removed = c.remove-other in
+    let may : CanMeet c.args.ide.now removed.result = holds_of_removed (CanMeet c.args.ide.now) c.args.parts.items c.loop-left.invariant.met left.items
+    removed.new.self.items removed.result c.requires.parts c.loop-left.invariant.are (omega arith) removed.ensures.value removed.ensures.items in
     may.follows
 
 pub loop-left-preserved : goal.loop-left-preserved

@@ -3,5 +3,6 @@ use Rattle.playing.proofs.SliceLemmas.{turned_round}
 use Rattle.playing.proofs.round.run_reversed.Goals as goal
 
 pub returns-clause-run : goal.returns-clause-run
-returns-clause-run g c = turned_round (HasRun c.args.ide.now c.args.script.now c.args.beside) c.args.parts.now c.reverse.new.self c.run_each.new.parts c.reverse-2.new.self
+returns-clause-run g c = turned_round (HasRun c.args.ide.now c.args.script.now c.args.beside) c.args.parts.now c.reverse.new.self c.run_each.new.parts
+    c.reverse-2.new.self
     c.reverse.ensures.after c.run_each.ensures.same c.run_each.ensures.run c.reverse-2.ensures.after
