@@ -1,0 +1,6 @@
+use Rattle.list_laws.specs.Fronts.{IsFront}
+use Rattle.late_tests.proofs.calls.changed.Given as goal
+
+-- the entries so far begin with those at the start
+abbrev pub invariant-loop-edit : goal.invariant-loop-edit
+invariant-loop-edit l = IsFront l.fn.home l.home

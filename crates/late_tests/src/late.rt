@@ -1,0 +1,84 @@
+//! Index data that come late: made after a part of a history, and taken in after more of it.
+ghost use Rattle.std.specs.Prelude.{◌≡◌, Some, IfOk, IfSome};
+ghost use Rattle.write_history.specs.Fold.{fold};
+ghost use Rattle.ide_world.specs.Task.{IsOfWorld, task_with_id};
+
+use crate::calls::{Edit, changed, entry_of, rows, share_of};
+use ide_home::IdeHome;
+use ide_world::laws::a_task_stays_of_the_world;
+use ide_world::{Made, job, make, prepare_intake};
+use std::alloc::{AllocError, Global};
+use write_history::{Change, Refusal};
+
+/// What became of index data.
+#[derive(Clone, Copy, Debug, PartialEq, Eq)]
+pub enum Late {
+    /// No data were made: the file wasn't unready.
+    Nothing,
+    Taken,
+    Refused(Refusal),
+}
+
+/// Edits of a workspace, before and after the index data of a file are made.
+#[derive(Clone, Copy)]
+pub struct Course {
+    pub earlier: &'static [Edit],
+    pub file: u32,
+    pub later: &'static [Edit],
+}
+
+/// What becomes of the index data of a file in a new workspace, and how many types are then named `A`.
+pub fn late_in_new(alloc: Global, course: Course) -> Result<(Late, Option<usize>), AllocError> {
+    let mut home = IdeHome::new(alloc)?;
+    let became = late_intake(alloc, &mut home, course.earlier, course.file, course.later)?;
+    let share = share_of(alloc, &home)?;
+    Ok((became, rows(alloc, share.state(), "A")?))
+}
+
+/// Makes the first edits, then the index data of a file, then the other edits, and then has the data taken in.
+pub fn late_intake(
+    alloc: Global,
+    home: &mut IdeHome,
+    earlier: &[Edit],
+    file: u32,
+    later: &[Edit],
+) -> Result<Late, AllocError> {
+    a_task_stays_of_the_world();
+    changed(alloc, home, earlier)?;
+    let Some(made) = made_of(alloc, home, file)? else {
+        return Ok(Late::Nothing);
+    };
+    changed(alloc, home, later)?;
+    home.len();
+    taken_in(alloc, home, made)
+}
+
+/// The index data of a file, if it is unready.
+fn made_of(alloc: Global, home: &IdeHome, file: u32) -> Result<Option<Made>, AllocError>
+    ensures { IfOk result (λ made. IfSome made (λ m.
+        task_with_id (fold home.now) file ≡ Some (record { file = m.file; stamp = m.stamp; content = m.text }))) }
+{
+    let share = share_of(alloc, home)?;
+    match job(share.state(), file)? {
+        Some(job) => Ok(Some(make(alloc, job)?)),
+        None => Ok(None),
+    }
+}
+
+/// Has index data taken in.
+fn taken_in(alloc: Global, home: &mut IdeHome, made: Made) -> Result<Late, AllocError>
+    requires { IsOfWorld (fold home.old) (record { file = made.file; stamp = made.stamp; content = made.text }) }
+{
+    let intake = Change::Intake {
+        file: made.file,
+        stamp: made.stamp,
+    };
+    let share = share_of(alloc, home)?;
+    match prepare_intake(alloc, share.state(), made) {
+        Ok(ready) => {
+            home.accept(ready, entry_of(intake))?;
+            Ok(Late::Taken)
+        }
+        Err(why) => Ok(Late::Refused(why)),
+    }
+}
