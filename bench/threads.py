@@ -1,7 +1,7 @@
 #!/usr/bin/env python3
 """Times the built program `ide` with lanes and workers on threads.
 
-    bench/threads.py                  lanes that edit and ask, and demos with 0 and 4 workers
+    bench/threads.py                  lanes that edit and ask, lanes that ask beside one that edits, and demos with 0 and 4 workers
     bench/threads.py FOLDER           also the Java files of a folder loaded and indexed, with 0, 1 and 3 workers
 
 For FOLDER see bench/real.py. The least time of three runs counts, and the processor seconds of that run: where they are
@@ -58,6 +58,16 @@ def lanes():
         row(f"{count} lanes", found, f" {COMMANDS / found[0]:9.0f} commands a second")
 
 
+def askers():
+    print("1 and 4 lanes that ask for an outline, 40,000 times each, beside one that writes 10,000 times")
+    edits = "lane\n" + 'write A.java "class A { void m() {} }"\n' * 10_000
+    asks = "lane\n" + "outline B.java\n" * 40_000
+    for count in (1, 4):
+        script = 'create A.java "class A {}"\ncreate B.java "class B { void n() {} }"\n' + edits + asks * count
+        found = measure(["play"], script)
+        row(f"{count} asking lanes", found, f" {40_000 * count / found[0]:9.0f} reads a second")
+
+
 def demos():
     print("a demo of 10,000 files and 50,000 edits")
     for workers in (0, 4):
@@ -69,6 +79,7 @@ def main():
     if len(sys.argv) > 1:
         loaded(pathlib.Path(sys.argv[1]))
     lanes()
+    askers()
     demos()
 
 
