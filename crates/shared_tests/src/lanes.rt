@@ -228,8 +228,10 @@ pub fn run_six<R: Threads + Wait + Sync>(
             ensures { IsLane ide.entry.now one.exit.now.pass × IsLane ide.entry.now two.exit.now.pass }
         { run_two(rt, alloc, ide, one, two, stage) },
         &mut || -> ()
-            requires { IsSync R.row × IsLane ide.now three.now.pass × IsLane ide.now four.now.pass × IsLane ide.now five.now.pass × IsLane ide.now six.now.pass }
-            ensures { IsLane ide.entry.now three.exit.now.pass × IsLane ide.entry.now four.exit.now.pass × IsLane ide.entry.now five.exit.now.pass × IsLane ide.entry.now six.exit.now.pass }
+            requires { IsSync R.row × IsLane ide.now three.now.pass × IsLane ide.now four.now.pass × IsLane ide.now five.now.pass
+                × IsLane ide.now six.now.pass }
+            ensures { IsLane ide.entry.now three.exit.now.pass × IsLane ide.entry.now four.exit.now.pass
+                × IsLane ide.entry.now five.exit.now.pass × IsLane ide.entry.now six.exit.now.pass }
         { run_four(rt, alloc, ide, three, four, five, six, stage) },
     );
 }
