@@ -2,3 +2,4 @@ pub mod BoolLemmas
 pub mod TotalLemmas
 pub mod FrontLemmas
 pub mod PositionLemmas
+pub mod RowLemmas

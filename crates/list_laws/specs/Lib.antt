@@ -1,2 +1,3 @@
 pub mod Totals
 pub mod Fronts
+pub mod Rows
