@@ -13,7 +13,7 @@ use Rattle.vfs_core.specs.Row.{row_in, has_path, id_in, IsStamped}
 use Rattle.vfs_core.specs.Held.{Held, row_of, id_at, MayHave}
 use Rattle.vfs_core.specs.Table.{id_kept, id_after}
 use Rattle.vfs_core.specs.Kept.{is_id}
-use Rattle.vfs_core.proofs.RowLemmas.{past_all, live_inside}
+use Rattle.list_laws.proofs.RowLemmas.{past_all, live_inside}
 
 -- an id is kept where it is the one
 pub is_id-Some : (id : ℕ) (kept : Option ℕ) → is_id id kept ≡ true → kept ≡ Some id

@@ -1,3 +1,3 @@
-pub mod RowLemmas
+pub mod PutLemmas
 pub mod PathLemmas
 pub mod KeptLemmas

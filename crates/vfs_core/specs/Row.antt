@@ -1,11 +1,8 @@
 -- Files by their ids: the one with the id n stands at the place n - 1, and of one that is no more its place alone.
-use Rattle.std.specs.Prelude.{ℕ, zero, suc, ◌<◌, Bool, false, List, [], ◌∷◌, Option, Some, None, option_map, unwrap_or, position, bytes_eq, slice_index_or}
+use Rattle.std.specs.Prelude.{ℕ, suc, ◌<◌, Bool, false, List, Option, Some, None, option_map, unwrap_or, position, bytes_eq}
 use Rattle.std.specs.Option.{option_map_or, option_and_then}
+pub use Rattle.list_laws.specs.Rows.{row_in, put_at, with_row}
 use Rattle.vfs_core.specs.declared.row.FileRow.{FileRow}
-
--- the row with an id among rows, where its file is live; no file has the id 0
-abbrev pub row_in : List (Option FileRow) → ℕ → Option FileRow
-row_in rows id = slice_index_or (None ∷ rows) id None
 
 -- whether a file is live and has this path
 abbrev pub has_path : List ℕ → Option FileRow → Bool
@@ -14,18 +11,6 @@ has_path path row = option_map_or (λ r. bytes_eq r.path path) row false
 -- the id of the first live file with a path
 abbrev pub id_in : List (Option FileRow) → List ℕ → Option ℕ
 id_in rows path = option_map suc (position (has_path path) rows)
-
--- the rows with another at a place: one behind the last makes the list longer, and any other place past the end changes nothing
-abbrev pub put_at : ℕ → Option FileRow → List (Option FileRow) → List (Option FileRow)
-put_at zero row [] = row ∷ []
-put_at zero row (other ∷ rows) = row ∷ rows
-put_at (suc place) row [] = []
-put_at (suc place) row (other ∷ rows) = other ∷ put_at place row rows
-
--- the rows with another that has this id
-abbrev pub with_row : ℕ → Option FileRow → List (Option FileRow) → List (Option FileRow)
-with_row zero row rows = rows
-with_row (suc place) row rows = put_at place row rows
 
 -- the stamp of a row, or 0
 abbrev pub stamp_of : Option FileRow → ℕ

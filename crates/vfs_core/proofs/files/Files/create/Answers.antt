@@ -1,7 +1,7 @@
 use Rattle.std.proofs.Common.{◌+◌, ◌++◌, ◌∷◌, [], Some, ap, ◌∙◌, arith, length, ℕ}
 use Rattle.vfs_core.specs.declared.row.FileRow.{FileRow}
 use Rattle.vfs_core.specs.Row.{new_row}
-use Rattle.vfs_core.proofs.RowLemmas.{with_row-push}
+use Rattle.list_laws.proofs.RowLemmas.{with_row-push}
 use Rattle.vfs_core.proofs.files.Files.create.Goals as goal
 
 pub returns-clause-rows : goal.returns-clause-rows

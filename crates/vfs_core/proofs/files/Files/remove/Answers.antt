@@ -1,5 +1,5 @@
 use Rattle.std.proofs.Common.{None, ◌∙◌}
-use Rattle.vfs_core.proofs.RowLemmas.{with_row-set, live_inside}
+use Rattle.list_laws.proofs.RowLemmas.{with_row-set, live_inside}
 use Rattle.vfs_core.proofs.files.Files.remove.Goals as goal
 
 pub returns-clause-rows : goal.returns-clause-rows

@@ -1,5 +1,7 @@
 use Rattle.std.proofs.Common.{ap, arith}
-use Rattle.vfs_core.proofs.RowLemmas.{IsPut, is_put, byte_one, live_few}
+use Rattle.std.specs.Prelude.{is_some}
+use Rattle.list_laws.proofs.RowLemmas.{count_le}
+use Rattle.vfs_core.proofs.PutLemmas.{IsPut, is_put, byte_one}
 use Rattle.vfs_core.proofs.rows.Rows.put.Goals as goal
 
 put : (c : goal.After-is_some) → IsPut c.args.id c.args.row c.set-old.result c.args.self.now.rows c.self.inside.live c.set-old.new.rows.items
@@ -20,7 +22,7 @@ overflow_add-self c =
     let p = put c in
     let e = byte_one c.is_some.result c.set-old.result c.is_some.ensures in
     let f = byte_one c.is_some-comes.result c.args.row c.is_some-comes.ensures in
-    let few = live_few c.set-old.new.rows.items in
+    let few = count_le is_some c.set-old.new.rows.items in
     omega (arith, e, f, p.count, p.fits, few)
 
 pub invariant_of-self : goal.invariant_of-self
