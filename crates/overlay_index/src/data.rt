@@ -6,7 +6,7 @@ use crate::word_masks::WordMasks;
 use decl_parser::stubs;
 use file_index::{Indexer, KeyRows, copy_rows};
 use ide_text::{Name, Text};
-use java_tokens::words;
+use java_tokens::{tokens, words};
 use std::alloc::{AllocError, Global};
 use std::marker::Model;
 use stub_index::{MethodNames, SharedStub, SharedStubs, SuperNames, TypeNames};
@@ -60,11 +60,12 @@ impl FileData {
 pub fn data_of(alloc: Global, text: &Text) -> Result<FileData, AllocError>
     ensures { IfOk result (λ made. made ≡ parts_of text.now) }
 {
-    let stubs = SharedStubs::of(alloc, stubs(alloc, text)?)?;
+    let tokens = tokens(alloc, text)?;
+    let stubs = SharedStubs::of(alloc, stubs(alloc, text, &tokens)?)?;
     Ok(FileData {
         types: TypeNames.rows(alloc, &stubs)?,
         supers: SuperNames.rows(alloc, &stubs)?,
         methods: MethodNames.rows(alloc, &stubs)?,
-        words: WordMasks.rows(alloc, &words(alloc, text)?)?,
+        words: WordMasks.rows(alloc, &words(alloc, text, &tokens)?)?,
     })
 }

@@ -13,6 +13,7 @@ use decl_parser::laws::names_are_identifiers;
 use decl_parser::stubs;
 use ide_text::Name;
 use ide_world::{State, shown};
+use java_tokens::tokens;
 use std::alloc::Global;
 use stub_tree::Stub;
 
@@ -37,7 +38,7 @@ pub(crate) fn outline<W: Watch>(
     let Some(text) = shown(state, id) else {
         unreachable!()
     };
-    let stubs = stubs(alloc, text)?;
+    let stubs = stubs(alloc, text, &tokens(alloc, text)?)?;
     let rows = file_rows(alloc, state, id, stubs.as_slice(), watch)?;
     Ok(Answer::Rows { rows })
 }
