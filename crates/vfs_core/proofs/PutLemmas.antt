@@ -23,7 +23,8 @@ abbrev pub one : Option FileRow → ℕ
 one row = one_if (is_some row)
 
 -- a row that takes the place of an old one, with all that comes of it
-pub record IsPut (id : ℕ) (row old : Option FileRow) (rows : List (Option FileRow)) (live : ℕ) (new : List (Option FileRow)) : Type 0 where
+pub record IsPut (id : ℕ) (row old : Option FileRow) (rows : List (Option FileRow)) (live : ℕ)
+    (new : List (Option FileRow)) : Type 0 where
   pub goes : one old ≤ live
   pub count : (live - one old) + one row ≡ live_count new
   pub fits : length new ≤ 4294967295
@@ -48,7 +49,7 @@ is_put id row old seen rows live new same above inside small counted few at put 
           let f = ap live_count is in omega (arith, e, f, here, total, goes);
       fits = let e = ap length is in ⊎_elim
           (λ (more : length rows < id).
-            let f = length-next id row rows (omega (arith, more, inside)) in omega (arith, e, f, small, more, inside))
+          let f = length-next id row rows (omega (arith, more, inside)) in omega (arith, e, f, small, more, inside))
           (λ (within : id ≤ length rows). let f = length-within id row rows above within in omega (arith, e, f, few, long))
           (cases_lt (length rows) id);
       each = λ other. ap (λ rs. row_in rs other) is ∙ row_in-with_row id row rows other above inside;

@@ -1,5 +1,5 @@
 -- What stands where after a put, and what a put is that an accepted change makes.
-use Rattle.std.proofs.Common.{ℕ, zero, suc, ◌≡◌, ◌≢◌, ◌⊎◌, inl, inr, ◌+◌, ◌<◌, ◌≤◌, Bool, true, false, not, List, [], ◌∷◌, ◌++◌, length, get_or, refl, ap, sym, ◌∙◌, subst, arith, Some, None}
+use Rattle.std.proofs.Common.{ℕ, zero, suc, ◌≡◌, ◌≢◌, ◌⊎◌, inl, inr, ◌+◌, ◌≤◌, Bool, true, false, not, List, [], ◌∷◌, ◌++◌, length, get_or, refl, ap, sym, ◌∙◌, subst, arith, Some, None}
 use Rattle.std.specs.Prelude.{if◌then◌else◌, ◌==◌, Option, is_some, is_none, option_map, unwrap_or, bytes_eq}
 use Rattle.std.specs.Option.{option_and_then}
 use Rattle.std.specs.List.{position}
@@ -8,43 +8,16 @@ use Rattle.std.proofs.lemmas.Bool.{eqb-true, eq-eqb, ne_eqb}
 use Rattle.std.proofs.lemmas.List.Quantifiers.{position-Some}
 use Rattle.list_laws.proofs.BoolLemmas.{bool_cases}
 use Rattle.list_laws.proofs.PositionLemmas.{position-None}
+use Rattle.list_laws.proofs.RowLemmas.{row_in-here, row_in-there, length-within, length-next, live_is_made}
 use Rattle.document_buf.specs.Document.{opened, inserted, erased, committed}
 use Rattle.write_history.specs.declared.change.Change.{Change}
 use Rattle.write_history.specs.declared.change.Change.TheVariants.{Create, Write, Delete, OpenDoc, Insert, Erase, Commit, Save, CloseDoc, Intake, Move}
-use Rattle.write_history.specs.World.{World, File, file_in, file_of, next_id, has_path, id_at}
-use Rattle.write_history.specs.Effect.{Reason, first_standing, reasons, history_full, refusal_of, stamp_of, Put, put_at, with_file, edit_at, put_of, new_file, rewritten, with_document, edited, saved, taken_in, closed, moved}
+use Rattle.write_history.specs.World.{World, File, file_of, next_id, has_path, id_at}
+use Rattle.write_history.specs.Effect.{Reason, first_standing, reasons, history_full, refusal_of, stamp_of, Put, edit_at, put_of, new_file, rewritten, with_document, edited, saved, taken_in, closed, moved}
 use Rattle.write_history.specs.Fold.{after_put}
 use Rattle.write_history.specs.Stamps.{IsAsStamped, files_made}
 
 -- ---- places
-
-put_at-here : (place : ℕ) (file : Option File) (files : List (Option File)) → place ≤ length files
-    → get_or (put_at place file files) place None ≡ file
-put_at-here zero file [] l = refl
-put_at-here zero file (other ∷ files) l = refl
-put_at-here (suc place) file [] l = absurd (omega arith)
-put_at-here (suc place) file (other ∷ files) l = put_at-here place file files (omega arith)
-
-put_at-there : (place : ℕ) (file : Option File) (files : List (Option File)) (k : ℕ) → k ≢ place
-    → get_or (put_at place file files) k None ≡ get_or files k None
-put_at-there zero file [] zero n = absurd (n refl)
-put_at-there zero file [] (suc k) n = refl
-put_at-there zero file (other ∷ files) zero n = absurd (n refl)
-put_at-there zero file (other ∷ files) (suc k) n = refl
-put_at-there (suc place) file [] k n = refl
-put_at-there (suc place) file (other ∷ files) zero n = refl
-put_at-there (suc place) file (other ∷ files) (suc k) n = put_at-there place file files k (λ e. n (ap suc e))
-
-with_file-here : (n : ℕ) (file : Option File) (files : List (Option File)) → 1 ≤ n → n ≤ length files + 1
-    → file_in (with_file n file files) n ≡ file
-with_file-here zero file files first last = absurd (omega arith)
-with_file-here (suc place) file files first last = put_at-here place file files (omega arith)
-
-with_file-there : (n : ℕ) (file : Option File) (files : List (Option File)) (id : ℕ) → id ≢ n
-    → file_in (with_file n file files) id ≡ file_in files id
-with_file-there zero file files id n = refl
-with_file-there (suc place) file files zero n = refl
-with_file-there (suc place) file files (suc k) n = put_at-there place file files k (λ e. n (ap suc e))
 
 differ : (a b : ℕ) → (a == b) ≡ false → a ≢ b
 differ a b f e = let t : (a == b) ≡ true = eq-eqb a b e in absurd (cc)
@@ -55,9 +28,12 @@ pub by_place : (world : World) (put : Put) (id : ℕ) (P : Option File → Type 
 by_place world put id P first last here there = bool_cases (id == put.id) (λ b. P (file_of (after_put world put) id))
     (λ t.
     let e : id ≡ put.id = eqb-true id put.id t in
-    let is : file_of (after_put world put) id ≡ put.file = ap (λ n. file_of (after_put world put) n) e ∙ with_file-here put.id put.file world.files first last in
+    let is : file_of (after_put world put) id ≡ put.file =
+    ap (λ n. file_of (after_put world put) n) e ∙ row_in-here put.id put.file world.files first last in
     subst P (sym is) (here e))
-    (λ f. let n : id ≢ put.id = differ id put.id f in subst P (sym (with_file-there put.id put.file world.files id n)) (there n))
+    (λ f.
+    let n : id ≢ put.id = differ id put.id f in
+    subst P (sym (row_in-there put.id put.file world.files id n)) (there n))
 
 -- a put changes what has its id, and nothing else
 pub file_of-after_put : (world : World) (put : Put) (id : ℕ) → 1 ≤ put.id → put.id ≤ next_id world
@@ -66,36 +42,11 @@ file_of-after_put world put id first last = by_place world put id (λ o. o ≡ (
     (λ e. sym (ap (λ b. if b then put.file else file_of world id) (eq-eqb id put.id e)))
     (λ n. sym (ap (λ b. if b then put.file else file_of world id) (ne_eqb id put.id n)))
 
-length-put_at : (place : ℕ) (file : Option File) (files : List (Option File)) → place < length files
-    → length (put_at place file files) ≡ length files
-length-put_at place file [] l = absurd (omega arith)
-length-put_at zero file (other ∷ files) l = refl
-length-put_at (suc place) file (other ∷ files) l = ap suc (length-put_at place file files (omega arith))
-
-pub length-put_last : (file : Option File) (files : List (Option File)) → length (put_at (length files) file files) ≡ length files + 1
-length-put_last file [] = refl
-length-put_last file (other ∷ files) = let r = length-put_last file files in omega arith
-
-pub length-with_file : (n : ℕ) (file : Option File) (files : List (Option File)) → 1 ≤ n → n ≤ length files
-    → length (with_file n file files) ≡ length files
-length-with_file zero file files first last = absurd (omega arith)
-length-with_file (suc place) file files first last = length-put_at place file files (omega arith)
-
 same_count : (world : World) (put : Put) (made : ℕ) → made ≡ 0 → (1 ≤ put.id) × (put.id ≤ length world.files)
     → next_id (after_put world put) ≡ next_id world + made
-same_count world put made none l = let e = length-with_file put.id put.file world.files l.0 l.1 in omega arith
+same_count world put made none l = let e = length-within put.id put.file world.files l.0 l.1 in omega arith
 
 -- ---- files that are found
-
--- a live file has an id that was given
-pub live_is_made : (files : List (Option File)) (id : ℕ) (file : File) → file_in files id ≡ Some file → (1 ≤ id) × (id ≤ length files)
-live_is_made files zero file e = absurd (cc)
-live_is_made files (suc k) file e = (omega arith, inside files k e)
-  where
-    inside : (files : List (Option File)) (k : ℕ) → get_or files k None ≡ Some file → suc k ≤ length files
-    inside [] k e = absurd (cc)
-    inside (f ∷ files) zero e = omega arith
-    inside (f ∷ files) (suc k) e = let r = inside files k e in omega arith
 
 -- a live file with a path
 pub live_with_path : (path : List ℕ) (file : Option File) → has_path path file ≡ true → (f : File) × (file ≡ Some f) × (f.path ≡ path)
@@ -187,8 +138,7 @@ is_place world put made (edits old new none found file stamp path indexed) = let
 pub next_id-after_put : (world : World) (put : Put) (made : ℕ) → IsAccepted world put made
     → next_id (after_put world put) ≡ next_id world + made
 next_id-after_put world put made (makes new one id file stamp indexed free) =
-    let n : put.id ≡ suc (length world.files) = omega arith in
-    let e : length (with_file put.id put.file world.files) ≡ length world.files + 1 = ap (λ k. length (with_file k put.file world.files)) n ∙ length-put_last put.file world.files in
+    let e = length-next put.id put.file world.files id in
     omega arith
 next_id-after_put world put made (ends old none found file) = same_count world put made none (live_is_made world.files put.id old found)
 next_id-after_put world put made (edits old new none found file stamp path indexed) = same_count world put made none (live_is_made world.files put.id old found)

@@ -7,7 +7,8 @@ use Rattle.write_history.specs.World.{World, File, empty_world, file_of, id_at}
 use Rattle.write_history.specs.Effect.{Put, put_of, refusal_of}
 use Rattle.write_history.specs.Fold.{after_put, effect_of, fold, IsLegal}
 use Rattle.write_history.specs.Stamps.{files_made, IsAsStamped, KeepsOrRenews}
-use Rattle.write_history.proofs.PutLemmas.{IsAccepted, makes, ends, edits, is_accepted, is_place, by_place, Found, found, none_at_free, live_is_made}
+use Rattle.list_laws.proofs.RowLemmas.{live_is_made}
+use Rattle.write_history.proofs.PutLemmas.{IsAccepted, makes, ends, edits, is_accepted, is_place, by_place, Found, found, none_at_free}
 use Rattle.write_history.proofs.FoldLemmas.{along, IsLegal-split}
 use Rattle.write_history.proofs.StampLemmas.{later-fold}
 

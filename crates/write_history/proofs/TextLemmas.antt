@@ -15,7 +15,8 @@ use Rattle.write_history.specs.Fold.{effect_of, fold, IsLegal}
 use Rattle.write_history.specs.Stamps.{files_made}
 use Rattle.write_history.specs.Texts.{GivesContent}
 use Rattle.write_history.proofs.PathLemmas.{both_false}
-use Rattle.write_history.proofs.PutLemmas.{Found, found, edit_at-found, accepted_reasons, is_accepted, is_place, by_place, live_is_made}
+use Rattle.list_laws.proofs.RowLemmas.{live_is_made}
+use Rattle.write_history.proofs.PutLemmas.{Found, found, edit_at-found, accepted_reasons, is_accepted, is_place, by_place}
 use Rattle.write_history.proofs.FoldLemmas.{along_given}
 
 -- the length of a text with a piece more, and of one without a part

@@ -4,14 +4,15 @@ use Rattle.std.specs.Prelude.{if◌then◌else◌, ◌&&◌, ◌==◌, Option, i
 use Rattle.std.specs.List.{position}
 use Rattle.std.proofs.lemmas.Bool.{eq-eqb}
 use Rattle.std.proofs.lemmas.List.Quantifiers.{position-Some}
+use Rattle.list_laws.specs.Rows.{put_at, with_row}
 use Rattle.list_laws.proofs.BoolLemmas.{bool_cases}
+use Rattle.list_laws.proofs.RowLemmas.{live_is_made}
 use Rattle.list_laws.proofs.PositionLemmas.{position-None, position_first}
 use Rattle.dumb_mode.specs.Filter.{is_java}
 use Rattle.write_history.specs.declared.change.Change.TheVariants.{Intake}
 use Rattle.write_history.specs.World.{World, File, file_of, ids_from, is_unready, unready_ids, lowest_unready, count_of}
-use Rattle.write_history.specs.Effect.{put_at, with_file, stamp_of, taken_in}
+use Rattle.write_history.specs.Effect.{stamp_of, taken_in}
 use Rattle.write_history.specs.Fold.{after_list}
-use Rattle.write_history.proofs.PutLemmas.{live_is_made}
 
 -- the first id of the files that pass a test, and what is left where the file there no longer passes
 record IsFirstId (test : Option File → Bool) (start : ℕ) (files : List (Option File)) (id : ℕ) (others : List ℕ) : Type 0 where
@@ -147,4 +148,5 @@ unready-intake world id stamp others e at =
     let f = first_id is_unready 1 world.files id others e in
     let n : id ≡ suc f.place = omega (arith, f.is) in
     let taken : Option File = option_map (taken_in stamp) (file_of world id) in
-    ap (λ k. ids_from is_unready 1 (with_file k taken world.files)) n ∙ f.left taken (ready_where_taken_in stamp (file_of world id) at)
+    ap (λ k. ids_from is_unready 1 (with_row k taken world.files)) n
+    ∙ f.left taken (ready_where_taken_in stamp (file_of world id) at)

@@ -1,5 +1,5 @@
 -- When a change is refused, and what it does.
-use Rattle.std.specs.Prelude.{ℕ, zero, suc, ◌+◌, Bool, false, not, ◌||◌, List, [], ◌∷◌, ◌++◌, length, nat_le, nat_lt, ◌==◌, if◌then◌else◌, Option, Some, None, is_some, is_none, option_map, unwrap_or, bytes_eq}
+use Rattle.std.specs.Prelude.{ℕ, ◌+◌, Bool, false, not, ◌||◌, List, [], ◌∷◌, ◌++◌, length, nat_le, nat_lt, ◌==◌, if◌then◌else◌, Option, Some, None, is_some, is_none, option_map, unwrap_or, bytes_eq}
 use Rattle.std.specs.Option.{option_map_or, option_and_then}
 use Rattle.ide_text.specs.Text.{max_chars}
 use Rattle.document_buf.specs.Document.{Document, opened, inserted, erased, committed, marked_saved, replaced}
@@ -114,18 +114,6 @@ history_full world = record { stands = nat_le max_entries world.entries; refusal
 -- why a change is refused, if it is
 abbrev pub refusal_of : World → Change → Option Refusal
 refusal_of world change = first_standing (reasons world change ++ history_full world ∷ [])
-
--- the files with another at a place: one behind the last makes the list longer, and any other place past the end changes nothing
-abbrev pub put_at : ℕ → Option File → List (Option File) → List (Option File)
-put_at zero file [] = file ∷ []
-put_at zero file (other ∷ files) = file ∷ files
-put_at (suc place) file [] = []
-put_at (suc place) file (other ∷ files) = other ∷ put_at place file files
-
--- the files with another that has this id
-abbrev pub with_file : ℕ → Option File → List (Option File) → List (Option File)
-with_file zero file files = files
-with_file (suc place) file files = put_at place file files
 
 -- what a change does: the file with this id becomes another, or goes, and so many stamps are drawn
 pub record Put : Type 0 where

@@ -1,14 +1,19 @@
 -- What changes make of the world, and a history of them.
 use Rattle.std.specs.Prelude.{ℕ, ◌≡◌, ◌+◌, List, [], ◌∷◌, Option, Some, None, option_map}
+use Rattle.list_laws.specs.Rows.{with_row}
 use Rattle.write_history.specs.declared.change.Change.{Change}
 use Rattle.write_history.specs.declared.refusal.Refusal.{Refusal}
 use Rattle.write_history.specs.declared.entry.Entry.{Entry}
 use Rattle.write_history.specs.World.{World, empty_world}
-use Rattle.write_history.specs.Effect.{Put, put_of, refusal_of, with_file}
+use Rattle.write_history.specs.Effect.{Put, put_of, refusal_of}
 
 -- the world with a file put in place
 abbrev pub after_put : World → Put → World
-after_put world put = record { files = with_file put.id put.file world.files; next_stamp = world.next_stamp + put.drawn; entries = world.entries }
+after_put world put = record {
+  files = with_row put.id put.file world.files;
+  next_stamp = world.next_stamp + put.drawn;
+  entries = world.entries;
+}
 
 -- the world after a change that is accepted
 abbrev pub effect_of : World → Change → World

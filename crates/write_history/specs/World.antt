@@ -1,6 +1,7 @@
 -- The world: the files that were ever made, with their documents, and the counters.
-use Rattle.std.specs.Prelude.{ℕ, suc, ◌+◌, if◌then◌else◌, Bool, false, List, [], ◌∷◌, filter, position, length, bytes_eq, Option, None, is_some, option_map, slice_index_or}
+use Rattle.std.specs.Prelude.{ℕ, suc, ◌+◌, if◌then◌else◌, Bool, false, List, [], ◌∷◌, filter, position, length, bytes_eq, Option, is_some, option_map}
 use Rattle.std.specs.Option.{option_map_or, option_and_then}
+use Rattle.list_laws.specs.Rows.{row_in}
 use Rattle.document_buf.specs.Document.{Document}
 use Rattle.dumb_mode.specs.Filter.{is_java}
 use Rattle.dumb_mode.specs.Unready.{is_unready_mark}
@@ -31,13 +32,9 @@ empty_world = record { files = []; next_stamp = 1; entries = 0 }
 abbrev pub next_id : World → ℕ
 next_id world = length world.files + 1
 
--- the file with an id among files, where it is live; no file has the id 0
-abbrev pub file_in : List (Option File) → ℕ → Option File
-file_in files id = slice_index_or (None ∷ files) id None
-
--- the file with an id, where it is live
+-- the file with an id, where it is live; no file has the id 0
 abbrev pub file_of : World → ℕ → Option File
-file_of world id = file_in world.files id
+file_of world id = row_in world.files id
 
 -- whether a file is live and has this path
 abbrev pub has_path : List ℕ → Option File → Bool

@@ -1,5 +1,5 @@
 use Rattle.std.proofs.Common.{arith}
-use Rattle.write_history.proofs.PutLemmas.{live_is_made}
+use Rattle.list_laws.proofs.RowLemmas.{live_is_made}
 use Rattle.write_history.proofs.StampLemmas.{next_id-effect_of, gone-effect_of, later-fold}
 use Rattle.write_history.proofs.laws.ids_are_places.Goals as goal
 
