@@ -1,15 +1,15 @@
 -- What the kind of a token at the front says of its length.
-use Rattle.std.proofs.Common.{◌≡◌, ℕ, suc, ◌+◌, ◌<◌, ◌≤◌, Bool, true, false, ◌==◌, ◌||◌, List, [], ◌∷◌, length, drop, ap, ◌∙◌, ⊎_elim, arith, lit<, length-drop}
+use Rattle.std.proofs.Common.{◌≡◌, ◌≢◌, ℕ, suc, cond, ◌+◌, ◌<◌, ◌≤◌, Bool, true, false, ◌==◌, ◌||◌, List, [], ◌∷◌, length, drop, sym, ap, ◌∙◌, ⊎_elim, arith, lit<, length-drop}
 use Rattle.std.specs.List.{prefix_len}
 use Rattle.std.specs.Char.{is_ascii_digit}
-use Rattle.std.proofs.lemmas.Bool.{eqb-true, and_parts, or_cases, or_left, or_right, leb-true, cond_both}
+use Rattle.std.proofs.lemmas.Bool.{eqb-true, and_parts, or_cases, or_left, or_right, leb-true, cond-false, false_from_ne_true, cond_both}
 use Rattle.std.proofs.lemmas.List.{drop-drop}
 use Rattle.std.proofs.lemmas.List.Sums.{prefix_len-le-length}
 use Rattle.unicode_ident.specs.Ident.{is_xid_start, is_xid_continue}
-use Rattle.unicode_ident.proofs.IdentLemmas.{is_xid_continue-ascii, is_xid_start-is_xid_continue}
+use Rattle.unicode_ident.proofs.IdentLemmas.{is_xid_continue-ascii, is_xid_start-ascii, is_xid_start-is_xid_continue}
 use Rattle.java_tokens.specs.declared.kind.Kind.{Kind}
 use Rattle.java_tokens.specs.declared.kind.Kind.TheVariants.{Word, Number, Str, Char, TextBlock, LineComment, BlockComment, Punct}
-use Rattle.java_tokens.specs.Chars.{line_feed, double_quote, single_quote, dot, backslash, is_in_line, begins_word, continues_word, continues_number, begins_with, first_passes}
+use Rattle.java_tokens.specs.Chars.{line_feed, double_quote, single_quote, asterisk, dot, slash, backslash, is_in_line, begins_word, continues_word, continues_number, begins_with, first_passes}
 use Rattle.java_tokens.specs.Kind.{line_comment_mark, comment_mark, comment_end, text_block_mark, begins_number, kind_at, comment_rest, literal_rest, literal_escape, text_block_rest, text_block_escape, length_of}
 
 -- what holds of each kind where its row fits holds of the kind at the front
@@ -148,6 +148,41 @@ pub character_end : (at : ℕ) (cs : List ℕ) → at + 1 + literal_rest single_
 unfolding length_of
 character_end at cs = rw (← drop-drop 1 at cs) (omega arith)
 
--- a number that begins with a dot
-pub begins_number-dot : (at : ℕ) (cs : List ℕ) → begins_with (dot ∷ []) (drop at cs) ≡ true → first_passes is_ascii_digit (drop at cs) ≡ false → first_passes is_ascii_digit (drop (at + 1) cs) ≡ begins_number (drop at cs)
-begins_number-dot at cs is_dot no_digit = rw (← drop-drop 1 at cs) (grind arith)
+-- no word begins with a slash
+begins_word-slash : begins_word slash ≡ false
+begins_word-slash = ap (λ b. b || false || false) (is_xid_start-ascii slash (lit< tt))
+
+-- a slash with neither a slash nor an asterisk behind it
+pub kind_at-slash : (cs : List ℕ) → begins_with (slash ∷ []) cs ≡ false → begins_with (asterisk ∷ []) cs ≡ false → kind_at (slash ∷ cs) ≡ Punct
+unfolding kind_at
+kind_at-slash cs no_line no_block =
+    let last : Kind = cond (begins_word slash) Word Punct in
+    cond-false (begins_with (slash ∷ []) cs) LineComment (cond (begins_with (asterisk ∷ []) cs) BlockComment last) no_line
+    ∙ cond-false (begins_with (asterisk ∷ []) cs) BlockComment last no_block
+    ∙ cond-false (begins_word slash) Word Punct begins_word-slash
+
+-- a comment that a character doesn't end goes on behind it
+pub comment_rest-goes_on : (at c : ℕ) (cs : List ℕ) → drop at cs ≡ c ∷ drop (suc at) cs → begins_with comment_end (c ∷ drop (at + 1) cs) ≡ false
+    → at + 1 + comment_rest (drop (at + 1) cs) ≡ at + comment_rest (drop at cs)
+unfolding comment_rest
+comment_rest-goes_on at c cs stands inside =
+    let behind : at + 1 ≡ suc at = omega arith in
+    let ds = drop (at + 1) cs in
+    let all : comment_rest (drop at cs) ≡ suc (comment_rest ds) =
+    ap comment_rest (stands ∙ ap (λ n. c ∷ drop n cs) (sym behind))
+    ∙ cond-false (begins_with comment_end (c ∷ ds)) 2 (suc (comment_rest ds)) inside in
+    omega (arith, all)
+
+-- and so does a text block
+pub text_block_rest-goes_on : (at c : ℕ) (cs : List ℕ) → drop at cs ≡ c ∷ drop (suc at) cs → c ≢ backslash → begins_with text_block_mark (c ∷ drop (at + 1) cs) ≡ false
+    → at + 1 + text_block_rest (drop (at + 1) cs) ≡ at + text_block_rest (drop at cs)
+unfolding text_block_rest
+text_block_rest-goes_on at c cs stands plain inside =
+    let behind : at + 1 ≡ suc at = omega arith in
+    let ds = drop (at + 1) cs in
+    let rest : ℕ = cond (begins_with text_block_mark (c ∷ ds)) 3 (suc (text_block_rest ds)) in
+    let all : text_block_rest (drop at cs) ≡ suc (text_block_rest ds) =
+    ap text_block_rest (stands ∙ ap (λ n. c ∷ drop n cs) (sym behind))
+    ∙ cond-false (c == backslash) (suc (text_block_escape ds)) rest (false_from_ne_true _ (λ same. plain (eqb-true c backslash same)))
+    ∙ cond-false (begins_with text_block_mark (c ∷ ds)) 3 (suc (text_block_rest ds)) inside in
+    omega (arith, all)

@@ -1,5 +1,6 @@
 //! The classes of characters that the lexical grammar tells apart.
 ghost use Rattle.std.specs.Prelude.{◌≡◌};
+ghost use Rattle.unicode_ident.specs.Ident.{is_xid_start, is_xid_continue};
 ghost use Rattle.java_tokens.specs.Chars.{begins_word, continues_word};
 ghost use Rattle.java_tokens.specs.Class.{is_in};
 
@@ -20,6 +21,7 @@ pub enum Class {
 
 impl Class {
     /// Whether the character belongs to the class.
+    #[inline]
     pub fn contains(self, c: char) -> bool
         ensures { result ≡ is_in self c }
     {
@@ -33,15 +35,41 @@ impl Class {
 }
 
 /// Whether a word may begin with the character.
+#[inline]
 pub fn begins_word(c: char) -> bool
     ensures { result ≡ begins_word c }
 {
-    is_xid_start(c) || c == '_' || c == '$'
+    starts_identifier(c) || c == '_' || c == '$'
 }
 
 /// Whether a word may go on with the character.
+#[inline]
 pub fn continues_word(c: char) -> bool
     ensures { result ≡ continues_word c }
 {
-    is_xid_continue(c) || c == '$'
+    continues_identifier(c) || c == '$'
+}
+
+/// Whether the character has the property XID_Start. One of ASCII is compared, in place of a look into the table.
+#[inline]
+fn starts_identifier(c: char) -> bool
+    ensures { result ≡ is_xid_start c }
+{
+    if c.is_ascii() {
+        c.is_ascii_alphabetic()
+    } else {
+        is_xid_start(c)
+    }
+}
+
+/// Whether the character has the property XID_Continue, found likewise.
+#[inline]
+fn continues_identifier(c: char) -> bool
+    ensures { result ≡ is_xid_continue c }
+{
+    if c.is_ascii() {
+        c.is_ascii_alphanumeric() || c == '_'
+    } else {
+        is_xid_continue(c)
+    }
 }

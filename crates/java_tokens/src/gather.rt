@@ -2,6 +2,7 @@
 ghost use Rattle.std.specs.Prelude.{◌≡◌, ◌+◌, ◌-◌, ◌≤◌, OnOk, IfOk, length, take, drop, fold, [], ◌∷◌};
 ghost use Rattle.std.specs.List.{prefix_len};
 ghost use Rattle.java_tokens.specs.Chars.{continues_word};
+ghost use Rattle.java_tokens.specs.Tokens.{tokens_of};
 ghost use Rattle.java_tokens.specs.Words.{AreInOrder, HasMasksOf, bit_of, gap_at, words_among, words_at, marked, occurrences_at, occurrences_of, with_occurrence, words_of};
 
 use crate::chars::Class;
@@ -12,34 +13,33 @@ use crate::piece::Piece;
 use crate::place::Place;
 use crate::scan::run_end;
 use crate::token::Token;
-use crate::tokenizer::{begins_word_at, next_token};
+use crate::tokenizer::begins_word_at;
 use crate::word_list::WordList;
 use ide_text::Text;
 use std::alloc::{AllocError, Global};
 
-/// The words of a text: its identifiers, and the words in its comments and strings. Each occurrence is looked up once,
-/// by hash, and the distinct words are sorted at the end.
-pub fn words(alloc: Global, text: &Text) -> Result<WordList, AllocError>
+/// The words of a text, of which the tokens are at hand: its identifiers, and the words in its comments and strings.
+/// Each occurrence is looked up once, by hash, and the distinct words are sorted at the end.
+pub fn words(alloc: Global, text: &Text, tokens: &[Token]) -> Result<WordList, AllocError>
+    requires { tokens.now ≡ tokens_of text.now }
     ensures value { IfOk result (λ list. list ≡ words_of text.now) }
 
     // So the names rise, and each has the union of the bits of the places where it stands.
     ensures in_order { IfOk result AreInOrder }
     ensures masks { IfOk result (λ list. HasMasksOf list (occurrences_of text.now)) }
 {
-    WordList::from_masks(alloc, masks_of(alloc, text)?)
+    WordList::from_masks(alloc, masks_of(alloc, text, tokens)?)
 }
 
 /// The words of a text, each with the places where it stands.
 #[tactic(auto, unfolding(crate::specs::Words::words_of))]
-fn masks_of(alloc: Global, text: &Text) -> Result<Masks, AllocError>
+fn masks_of(alloc: Global, text: &Text, tokens: &[Token]) -> Result<Masks, AllocError>
+    requires { tokens.now ≡ tokens_of text.now }
     ensures { IfOk result (λ masks. masks ≡ words_of text.now) }
 {
-    let piece = Piece::whole(text);
     let mut masks = Masks::new(alloc);
-    let mut at = 0;
-    while let Some(token) = next_token(&piece, at) {
-        add_token(&mut masks, text, &token)?;
-        at = token.at + token.len;
+    for token in tokens {
+        add_token(&mut masks, text, token)?;
     }
     Ok(masks)
 }

@@ -56,6 +56,7 @@ impl<'a> Piece<'a> {
     }
 
     /// The character at a place, if the place is inside.
+    #[inline]
     pub fn get(&self, at: u32) -> Option<char>
         ensures some { IfSome result (λ c. drop at self.now ≡ c ∷ drop (suc at) self.now) }
         ensures inside { OnSome result (at < length self.now) }

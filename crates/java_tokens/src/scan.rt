@@ -1,8 +1,10 @@
 //! How far a run, a comment or a literal goes on.
-ghost use Rattle.std.specs.Prelude.{◌≡◌, ℕ, ◌+◌, ◌≤◌, drop};
+ghost use Rattle.std.specs.Prelude.{◌≡◌, ℕ, ◌+◌, ◌≤◌, ◌∷◌, drop};
 ghost use Rattle.std.specs.List.{prefix_len};
+ghost use Rattle.ide_text.specs.Text.{max_chars};
+ghost use Rattle.java_tokens.specs.Chars.{begins_with};
 ghost use Rattle.java_tokens.specs.Class.{is_in};
-ghost use Rattle.java_tokens.specs.Kind.{comment_rest, literal_rest, literal_escape, text_block_rest, text_block_escape};
+ghost use Rattle.java_tokens.specs.Kind.{comment_end, text_block_mark, comment_rest, literal_rest, literal_escape, text_block_rest, text_block_escape};
 
 use crate::chars::Class;
 use crate::piece::Piece;
@@ -27,13 +29,22 @@ pub fn comment_end(piece: &Piece, from: u32) -> u32
     ensures { result ≡ from + comment_rest (drop from piece.now) }
 {
     let mut at = from;
-    while let Some(_) = piece.get(at) {
-        if piece.has(at, &['*', '/']) {
+    while let Some(c) = piece.get(at) {
+        if ends_comment(c, piece, at + 1) {
             return at + 2;
         }
         at += 1;
     }
     at
+}
+
+/// Whether a character and those from a place on end a comment.
+#[inline]
+fn ends_comment(c: char, piece: &Piece, behind: u32) -> bool
+    requires { behind ≤ max_chars }
+    ensures { result ≡ begins_with comment_end (c ∷ drop behind piece.now) }
+{
+    c == '*' && piece.has(behind, &['/'])
 }
 
 /// Where a string or a character ends whose inside begins at a place.
@@ -79,13 +90,22 @@ pub fn text_block_end(piece: &Piece, from: u32) -> u32
     while let Some(c) = piece.get(at) {
         if c == '\\' {
             at = text_block_escape_end(piece, at + 1);
-        } else if piece.has(at, &['"', '"', '"']) {
+        } else if ends_text_block(c, piece, at + 1) {
             return at + 3;
         } else {
             at += 1;
         }
     }
     at
+}
+
+/// Whether a character and those from a place on end a text block.
+#[inline]
+fn ends_text_block(c: char, piece: &Piece, behind: u32) -> bool
+    requires { behind ≤ max_chars }
+    ensures { result ≡ begins_with text_block_mark (c ∷ drop behind piece.now) }
+{
+    c == '"' && piece.has(behind, &['"', '"'])
 }
 
 /// Where the character ends that a backslash right before it takes, in a text block.

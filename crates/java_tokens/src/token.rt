@@ -17,6 +17,7 @@ pub struct Token {
 
 impl Token {
     /// Whether the token is of this kind.
+    #[inline]
     pub fn is(&self, kind: Kind) -> bool
         ensures { result ≡ (self.now.kind == code_of kind) }
     {

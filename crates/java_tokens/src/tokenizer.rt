@@ -2,8 +2,8 @@
 ghost use Rattle.std.specs.Prelude.{◌≡◌, ◌+◌, ◌<◌, ◌≤◌, [], ◌∷◌, IfSome, IfNone, IfOk, All, length, drop};
 ghost use Rattle.std.specs.Char.{is_ascii_digit};
 ghost use Rattle.ide_text.specs.Text.{max_chars};
-ghost use Rattle.java_tokens.specs.Chars.{begins_word, first_passes};
-ghost use Rattle.java_tokens.specs.Kind.{begins_number, kind_at, length_of};
+ghost use Rattle.java_tokens.specs.Chars.{slash, double_quote, begins_word, first_passes};
+ghost use Rattle.java_tokens.specs.Kind.{kind_at, length_of};
 ghost use Rattle.java_tokens.specs.Tokens.{AreTokensFrom, IsInside, tokens_past, tokens_of};
 
 use crate::chars::{Class, begins_word};
@@ -57,25 +57,61 @@ pub fn next_token(piece: &Piece, from: u32) -> Option<Token>
 /// The kind of the token that begins at a place.
 #[tactic(auto, unfolding(crate::specs::Kind::kind_at))]
 fn kind_at(piece: &Piece, at: u32) -> Kind
-    requires { at ≤ max_chars }
     ensures { result ≡ kind_at (drop at piece.now) }
 {
-    if piece.has(at, &['/', '/']) {
-        Kind::LineComment
-    } else if piece.has(at, &['/', '*']) {
-        Kind::BlockComment
-    } else if piece.has(at, &['"', '"', '"']) {
-        Kind::TextBlock
-    } else if piece.has(at, &['"']) {
-        Kind::Str
-    } else if piece.has(at, &['\'']) {
+    match piece.get(at) {
+        Some(first) => kind_from(first, piece, at + 1),
+        None => Kind::Punct,
+    }
+}
+
+/// The kind of a token, by its first character and the place behind that.
+#[inline]
+#[tactic(auto, unfolding(crate::specs::Kind::kind_at))]
+fn kind_from(first: char, piece: &Piece, behind: u32) -> Kind
+    requires { behind ≤ max_chars }
+    ensures { result ≡ kind_at (first ∷ drop behind piece.now) }
+{
+    if first == '/' {
+        kind_from_slash(piece, behind)
+    } else if first == '"' {
+        kind_from_quote(piece, behind)
+    } else if first == '\'' {
         Kind::Char
-    } else if begins_word_at(piece, at) {
+    } else if begins_word(first) {
         Kind::Word
-    } else if begins_number_at(piece, at) {
+    } else if first.is_ascii_digit() || (first == '.' && digit_at(piece, behind)) {
         Kind::Number
     } else {
         Kind::Punct
+    }
+}
+
+/// The kind of a token that begins with a slash, by what stands behind it.
+#[tactic(auto, unfolding(crate::specs::Kind::kind_at))]
+fn kind_from_slash(piece: &Piece, behind: u32) -> Kind
+    requires { behind ≤ max_chars }
+    ensures { result ≡ kind_at (slash ∷ drop behind piece.now) }
+{
+    if piece.has(behind, &['/']) {
+        Kind::LineComment
+    } else if piece.has(behind, &['*']) {
+        Kind::BlockComment
+    } else {
+        Kind::Punct
+    }
+}
+
+/// The kind of a token that begins with a double quote, by what stands behind it.
+#[tactic(auto, unfolding(crate::specs::Kind::kind_at))]
+fn kind_from_quote(piece: &Piece, behind: u32) -> Kind
+    requires { behind ≤ max_chars }
+    ensures { result ≡ kind_at (double_quote ∷ drop behind piece.now) }
+{
+    if piece.has(behind, &['"', '"']) {
+        Kind::TextBlock
+    } else {
+        Kind::Str
     }
 }
 
@@ -97,14 +133,6 @@ fn digit_at(piece: &Piece, at: u32) -> bool
         Some(c) => c.is_ascii_digit(),
         None => false,
     }
-}
-
-/// Whether a number begins at a place.
-fn begins_number_at(piece: &Piece, at: u32) -> bool
-    requires { at ≤ max_chars }
-    ensures { result ≡ begins_number (drop at piece.now) }
-{
-    digit_at(piece, at) || (piece.has(at, &['.']) && digit_at(piece, at + 1))
 }
 
 /// Where the token of a kind that begins at a place ends.

@@ -230,13 +230,15 @@ fn tokens_of_texts(rt: HostRuntime) -> Result<(), Fail> {
 fn words_of_texts(rt: HostRuntime) -> Result<(), Fail> {
     for case in &CASES {
         let text = text_of(rt.alloc(), case.text)?;
-        let list = words(rt.alloc(), &text)?.copy()?;
+        let cut = tokens(rt.alloc(), &text)?;
+        let list = words(rt.alloc(), &text, &cut)?.copy()?;
         let mut shown = String::new(rt.alloc());
         for (name, mask) in list.as_slice() {
             assert_eq!(rt; list.mask_of(name), Some(*mask));
             write!(shown, "{name} {mask}, ")?;
         }
         assert_eq!(rt; list.is_empty(), list.len() == 0);
+        assert_eq!(rt; list.copy()?.into_rows().as_slice(), list.as_slice());
         let wanted = case.words;
         assert_eq!(rt; shown.as_str(), wanted);
     }
@@ -246,11 +248,13 @@ fn words_of_texts(rt: HostRuntime) -> Result<(), Fail> {
 /// Enough words that the table in which they are found grows several times.
 #[test]
 fn many_words(rt: HostRuntime) -> Result<(), Fail> {
-    let mut text = String::new(rt.alloc());
+    let mut made = String::new(rt.alloc());
     for n in 0..500 {
-        write!(text, "w{n} /* w{n} v{n} */ ")?;
+        write!(made, "w{n} /* w{n} v{n} */ ")?;
     }
-    let list = words(rt.alloc(), &text_of(rt.alloc(), text.as_str())?)?;
+    let text = text_of(rt.alloc(), made.as_str())?;
+    let cut = tokens(rt.alloc(), &text)?;
+    let list = words(rt.alloc(), &text, &cut)?;
     assert_eq!(rt; list.len(), 1000);
     for (name, mask) in list.as_slice() {
         let in_code = name.as_str().starts_with('w');

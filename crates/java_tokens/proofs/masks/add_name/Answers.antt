@@ -1,4 +1,4 @@
-use Rattle.std.proofs.Common.{◌≡◌, ℕ, List, Some, cond, ap, sym, ◌∙◌}
+use Rattle.std.proofs.Common.{◌≡◌, Some, cond, ap, sym, ◌∙◌}
 use Rattle.std.specs.Prelude.{bit_or, is_some, unwrap_or}
 use Rattle.std.specs.Map.{lookup}
 use Rattle.std.specs.Str.{bytes_eq}
