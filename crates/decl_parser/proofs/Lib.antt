@@ -1,4 +1,5 @@
 pub mod ForestLemmas
+pub mod RoleLemmas
 pub mod UnitLemmas
 pub mod HeaderLemmas
 pub mod ListingLemmas

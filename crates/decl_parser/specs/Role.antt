@@ -1,12 +1,12 @@
 -- What a token is to the rules of the listing.
-use Rattle.std.specs.Prelude.{ℕ, Bool, ◌==◌, if◌then◌else◌, List, [], ◌∷◌, codes, Option, None, Some, slice_get}
+use Rattle.std.specs.Prelude.{ℕ, Bool, ◌==◌, if◌then◌else◌, List, [], ◌∷◌, ◌++◌, codes, Option, None, Some, slice_get}
 use Rattle.std.specs.List.{list_any}
 use Rattle.std.specs.Str.{bytes_eq}
 use Rattle.java_tokens.specs.declared.token.Token.{Token}
 use Rattle.java_tokens.specs.declared.kind.Kind.TheVariants.{Word, Punct}
 use Rattle.java_tokens.specs.Kind.{code_of as kind_code}
 use Rattle.java_tokens.specs.Tokens.{characters_of}
-use Rattle.java_tokens.specs.Identifier.{is_reserved}
+use Rattle.java_tokens.specs.Identifier.{reserved_words, literal_words, is_reserved}
 use Rattle.java_tokens.specs.Words.{is_comment}
 use Rattle.decl_parser.specs.declared.bracket.Bracket.{Bracket}
 use Rattle.decl_parser.specs.declared.bracket.Bracket.TheVariants.{Paren, Square, Brace}
@@ -107,6 +107,19 @@ word_role cs =
     else if is_among (codes "implements" ∷ []) cs then Implements
     else if is_among (codes "permits" ∷ []) cs then Permits
     else common_word_role cs
+
+-- the words that are no plain identifiers to the rules: those that are no identifiers, `record` and `permits`
+abbrev pub marked_words : List (List ℕ)
+marked_words = reserved_words ++ literal_words ++ codes "record" ∷ codes "permits" ∷ []
+
+-- the characters are those of such a word
+unfoldable pub is_marked : List ℕ → Bool
+is_marked cs = is_among marked_words cs
+
+-- what the first of some words that has these characters is to the rules; an identifier, if none has
+abbrev pub role_among : {W : Type 0} → (W → List ℕ) → (W → Role) → List W → List ℕ → Role
+role_among name role [] cs = Identifier
+role_among name role (w ∷ ws) cs = if bytes_eq (name w) cs then role w else role_among name role ws cs
 
 -- a mark of one character
 unfoldable pub mark_role : ℕ → Role

@@ -19,5 +19,6 @@ mod role;
 mod supers;
 mod type_head;
 mod unit;
+mod word;
 
 pub use listing::stubs;

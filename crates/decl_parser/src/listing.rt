@@ -1,5 +1,6 @@
 //! The listing of a text.
 ghost use Rattle.std.specs.Prelude.{◌≡◌, ◌≤◌, ◌+◌, ◌++◌, ◌∷◌, [], IfOk, OnOk, map};
+ghost use Rattle.java_tokens.specs.Tokens.{tokens_of};
 ghost use Rattle.stub_tree.specs.Lawful.{max_depth};
 ghost use Rattle.decl_parser.specs.Unit.{units_of};
 ghost use Rattle.decl_parser.specs.Listing.{constant_stub, stub_of, constants_at, units_of_items, item_stubs, stubs_at, listing_of};
@@ -13,18 +14,18 @@ use crate::item::first_item;
 use crate::node::Node;
 use crate::supers::supers_of;
 use ide_text::{MAX_CHARS, Text};
-use java_tokens::tokens;
+use java_tokens::Token;
 use std::alloc::{AllocError, Global};
 use stub_tree::{MAX_DEPTH, Stub, StubKind, StubList};
 
-/// The declarations that a text lists, in its order. Linear in the text; types in types are the only recursion, and
-/// go no deeper than the greatest depth.
-pub fn stubs(alloc: Global, text: &Text) -> Result<StubList, AllocError>
+/// The declarations that a text lists, in its order, from its tokens. Linear in them; types in types are the only
+/// recursion, and go no deeper than the greatest depth.
+pub fn stubs(alloc: Global, text: &Text, tokens: &[Token]) -> Result<StubList, AllocError>
+    requires { tokens.now ≡ tokens_of text.now }
     ensures { IfOk result (λ list. list ≡ listing_of text.now) }
 {
     prove!(text.len() as usize <= MAX_CHARS);
-    let tokens = tokens(alloc, text)?;
-    let forest = forest(alloc, text, &tokens)?;
+    let forest = forest(alloc, text, tokens)?;
     let mut stubs = Vec::new(alloc);
     add_level(alloc, text, &forest, 0, None, &mut stubs)?;
     Ok(StubList::from_vec(stubs))

@@ -18,6 +18,7 @@ pub(crate) struct Node {
 
 impl Node {
     /// Whether the node has a role.
+    #[inline]
     pub(crate) fn is(&self, role: Role) -> bool
         ensures { result ≡ is role self.now }
     {
@@ -25,6 +26,7 @@ impl Node {
     }
 
     /// Whether the node is an identifier.
+    #[inline]
     pub(crate) fn is_identifier(&self) -> bool
         ensures { result ≡ is_identifier self.now }
     {

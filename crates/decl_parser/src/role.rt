@@ -1,13 +1,11 @@
 //! What a token is to the rules of the listing.
 ghost use Rattle.std.specs.Prelude.{◌≡◌, ◌==◌, ◌≤◌, ◌+◌, length};
-ghost use Rattle.decl_parser.specs.Role.{code_of, same_role, opened_by, closed_by, mark_role, word_role, common_word_role, role_of};
-ghost use Rattle.java_tokens.specs.Kind.{code_of as kind_code};
-ghost use Rattle.java_tokens.specs.declared.kind.Kind.TheVariants.{Word};
-ghost use Rattle.java_tokens.specs.Tokens.{characters_of};
+ghost use Rattle.decl_parser.specs.Role.{code_of, same_role, opened_by, closed_by, mark_role, role_of};
 
 use crate::bracket::Bracket;
+use crate::word::word_role;
 use ide_text::Text;
-use java_tokens::{Kind, Token, is_any_of, is_identifier_at};
+use java_tokens::{Kind, Token};
 
 /// What a token is to the rules.
 #[derive(Clone, Copy)]
@@ -70,6 +68,7 @@ pub(crate) enum Role {
 
 impl Role {
     /// Whether the roles are the same.
+    #[inline]
     pub(crate) fn is(self, other: Role) -> bool
         ensures { result ≡ same_role other self }
     {
@@ -77,6 +76,7 @@ impl Role {
     }
 
     /// The kind of bracket that the token opens, if it does.
+    #[inline]
     pub(crate) fn opened(self) -> Option<Bracket>
         ensures { result ≡ opened_by self }
     {
@@ -89,6 +89,7 @@ impl Role {
     }
 
     /// The kind of bracket that the token closes, if it does.
+    #[inline]
     pub(crate) fn closed(self) -> Option<Bracket>
         ensures { result ≡ closed_by self }
     {
@@ -112,73 +113,6 @@ pub(crate) fn role_of(text: &Text, token: &Token) -> Role
         word_role(text, token)
     } else if token.is(Kind::Punct) && token.at < text.len() {
         mark_role(text.char_at(token.at))
-    } else {
-        Role::Other
-    }
-}
-
-/// What a word is to the rules.
-#[tactic(auto, unfolding(crate::specs::Role::word_role))]
-fn word_role(text: &Text, token: &Token) -> Role
-    requires inside { token.now.at + token.now.len ≤ length text.now }
-    requires word { token.now.kind ≡ kind_code Word }
-    ensures { result ≡ word_role (characters_of text.now token.now) }
-{
-    if is_any_of(text, token, &["class"]) {
-        Role::Class
-    } else if is_any_of(text, token, &["interface"]) {
-        Role::Interface
-    } else if is_any_of(text, token, &["enum"]) {
-        Role::Enum
-    } else if is_any_of(text, token, &["record"]) {
-        Role::Record
-    } else if is_any_of(text, token, &["extends"]) {
-        Role::Extends
-    } else if is_any_of(text, token, &["implements"]) {
-        Role::Implements
-    } else if is_any_of(text, token, &["permits"]) {
-        Role::Permits
-    } else {
-        common_word_role(text, token)
-    }
-}
-
-/// What a word is to the rules that is none of those that only one rule asks for.
-#[tactic(auto, unfolding(crate::specs::Role::common_word_role))]
-fn common_word_role(text: &Text, token: &Token) -> Role
-    requires inside { token.now.at + token.now.len ≤ length text.now }
-    requires word { token.now.kind ≡ kind_code Word }
-    ensures { result ≡ common_word_role (characters_of text.now token.now) }
-{
-    if is_any_of(
-        text,
-        token,
-        &[
-            "public",
-            "protected",
-            "private",
-            "abstract",
-            "static",
-            "final",
-            "native",
-            "synchronized",
-            "strictfp",
-            "transient",
-            "volatile",
-            "default",
-        ],
-    ) {
-        Role::Modifier
-    } else if is_any_of(
-        text,
-        token,
-        &[
-            "boolean", "byte", "char", "short", "int", "long", "float", "double",
-        ],
-    ) {
-        Role::Primitive
-    } else if is_identifier_at(text, token) {
-        Role::Identifier
     } else {
         Role::Other
     }

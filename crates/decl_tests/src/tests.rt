@@ -1,6 +1,7 @@
 //! A table of texts with what they list, and texts of the greatest size.
 use decl_parser::stubs;
 use ide_text::Text;
+use java_tokens::tokens;
 use std::alloc::{AllocError, Global};
 use std::test::Fail;
 use stub_tree::{Names, Stub, StubKind, StubList};
@@ -199,11 +200,17 @@ fn shown(alloc: Global, text: &Text, list: &StubList) -> Result<String, Fail> {
 fn listings_of_texts(rt: HostRuntime) -> Result<(), Fail> {
     for case in &CASES {
         let text = Text::from_utf8(rt.alloc(), case.text.as_bytes())?;
-        let list = stubs(rt.alloc(), &text)?.copy()?;
+        let list = listed(rt.alloc(), &text)?.copy()?;
         let wanted = case.listing;
         assert_eq!(rt; shown(rt.alloc(), &text, &list)?.as_str(), wanted);
     }
     Ok(())
+}
+
+/// The declarations of a text, from its tokens.
+fn listed(alloc: Global, text: &Text) -> Result<StubList, AllocError> {
+    let tokens = tokens(alloc, text)?;
+    stubs(alloc, text, &tokens)
 }
 
 /// A text many times over.
@@ -219,10 +226,10 @@ fn repeated(alloc: Global, part: &str, times: u32) -> Result<Text, Fail> {
 fn deep_texts(rt: HostRuntime) -> Result<(), Fail> {
     for part in ["([", "{[)", "}", "class"] {
         let text = repeated(rt.alloc(), part, 16_384)?;
-        assert!(rt; stubs(rt.alloc(), &text)?.is_empty());
+        assert!(rt; listed(rt.alloc(), &text)?.is_empty());
     }
     let text = repeated(rt.alloc(), "class A{", 70)?;
-    let list = stubs(rt.alloc(), &text)?;
+    let list = listed(rt.alloc(), &text)?;
     assert_eq!(rt; list.len(), 65);
     for i in 0..list.len() {
         assert_eq!(rt; list.at(i).depth as u32, i);
@@ -235,14 +242,14 @@ fn deep_texts(rt: HostRuntime) -> Result<(), Fail> {
 #[test]
 fn as_many_braces_as_a_text_may_have(rt: HostRuntime) -> Result<(), Fail> {
     let text = repeated(rt.alloc(), "{", 1_048_576)?;
-    assert!(rt; stubs(rt.alloc(), &text)?.is_empty());
+    assert!(rt; listed(rt.alloc(), &text)?.is_empty());
     Ok(())
 }
 
 #[test]
 fn lists_of_stubs(rt: HostRuntime) -> Result<(), Fail> {
     let text = Text::from_utf8(rt.alloc(), b"enum A { B }")?;
-    let made = stubs(rt.alloc(), &text)?;
+    let made = listed(rt.alloc(), &text)?;
     assert!(rt; made.len() == 2);
     let mut names = Names::new(rt.alloc());
     names.push(made.at(0).name.copy()?)?;

@@ -1,6 +1,5 @@
 //! Whether a text is a word or an identifier.
 ghost use Rattle.std.specs.Prelude.{◌≡◌, ◌+◌, ◌≤◌, length};
-ghost use Rattle.std.specs.List.{list_any};
 ghost use Rattle.std.specs.Str.{bytes_eq, chars};
 ghost use Rattle.java_tokens.specs.Chars.{begins_word, first_passes};
 ghost use Rattle.java_tokens.specs.Identifier.{is_word, is_identifier};
@@ -10,7 +9,7 @@ ghost use Rattle.java_tokens.specs.Words.{is_identifier_token};
 use crate::chars::{begins_word, continues_word};
 use crate::kind::Kind;
 use crate::piece::Piece;
-use crate::reserved::{is_reserved, is_reserved_text, spells_any};
+use crate::reserved::{self, is_reserved, is_reserved_text};
 use crate::token::Token;
 use ide_text::Text;
 
@@ -37,12 +36,15 @@ pub fn is_identifier_at(text: &Text, token: &Token) -> bool
     token.is(Kind::Word) && !is_reserved(&Piece::part(text, token.at, token.len))
 }
 
-/// Whether a token of a text has the characters of one of these ASCII words.
-pub fn is_any_of(text: &Text, token: &Token, words: &[&str]) -> bool
+/// Whether a token of a text has the characters of an ASCII word. Lengths are compared first.
+pub fn spells(text: &Text, token: &Token, word: &str) -> bool
     requires { token.now.at + token.now.len ≤ length text.now }
-    ensures { result ≡ list_any (λ word. bytes_eq word.now (characters_of text.now token.now)) words.now }
+    ensures { result ≡ bytes_eq word.now (characters_of text.now token.now) }
 {
-    spells_any(&Piece::part(text, token.at, token.len), words)
+    if token.len as usize != word.len() {
+        return false;
+    }
+    reserved::spells(&Piece::part(text, token.at, token.len), word)
 }
 
 /// Whether the first character of a text may begin a word.

@@ -15,7 +15,7 @@ mod tokenizer;
 mod word_list;
 
 pub use gather::words;
-pub use identifier::{is_any_of, is_identifier, is_identifier_at, is_word};
+pub use identifier::{is_identifier, is_identifier_at, is_word, spells};
 pub use kind::Kind;
 pub use place::Place;
 pub use token::Token;

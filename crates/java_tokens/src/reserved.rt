@@ -61,7 +61,7 @@ fn reserved_from(first: char) -> &'static [&'static str]
 }
 
 /// Whether the characters are those of one of these ASCII words.
-pub fn spells_any(piece: &Piece, words: &[&str]) -> bool
+fn spells_any(piece: &Piece, words: &[&str]) -> bool
     ensures { result ≡ list_any (λ word. bytes_eq word.now piece.now) words.now }
 {
     for word in words {
@@ -73,7 +73,7 @@ pub fn spells_any(piece: &Piece, words: &[&str]) -> bool
 }
 
 /// Whether the characters are those of an ASCII word.
-fn spells(piece: &Piece, word: &str) -> bool
+pub fn spells(piece: &Piece, word: &str) -> bool
     ensures { result ≡ bytes_eq word.now piece.now }
 {
     if word.len() != piece.len() as usize {
