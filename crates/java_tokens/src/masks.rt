@@ -1,5 +1,7 @@
 //! Words and their masks, while they are gathered.
 ghost use Rattle.std.specs.Prelude.{◌≡◌, ◌-◌, ◌≤◌, OnOk, IfOk, length, take, drop, []};
+ghost use Rattle.std.specs.List.{IsDistinct};
+ghost use Rattle.std.specs.Map.{keys_of};
 ghost use Rattle.std.specs.Str.{bytes_eq};
 ghost use Rattle.indexmap.specs.IndexMap.{IsUnique};
 ghost use Rattle.java_tokens.specs.Words.{bit_of, in_order_of, with_occurrence};
@@ -64,9 +66,9 @@ impl Masks {
     pub(crate) fn into_rows(self, alloc: Global) -> Result<Vec<(Name, u8)>, AllocError>
         ensures { IfOk result (λ rows. rows.items ≡ self) }
     {
-        let mut rows = self.rows;
-        rows.sort_keys()?;
-        all_rows(alloc, rows)
+        let mut rows = all_rows(alloc, self.rows)?;
+        put_in_order(&mut rows);
+        Ok(rows)
     }
 }
 
@@ -93,4 +95,12 @@ fn all_rows(alloc: Global, map: IndexMap<Name, u8>) -> Result<Vec<(Name, u8)>, A
         rows.push(row)?;
     }
     Ok(rows)
+}
+
+/// Puts rows, each with a name of its own, in the order of their names.
+fn put_in_order(rows: &mut Vec<(Name, u8)>)
+    requires { IsDistinct bytes_eq (keys_of rows.old.items) }
+    ensures { rows.new.items ≡ in_order_of rows.old.items }
+{
+    rows.sort_unstable_by(|a, b| a.0.cmp(&b.0));
 }

@@ -1,14 +1,10 @@
-use Rattle.std.proofs.Common.{◌≡◌, ◌∙◌}
-use Rattle.std.proofs.lemmas.Result.{IfOk-weaker}
-use Rattle.java_tokens.proofs.GatherLemmas.{gathered_sorted}
+use Rattle.std.proofs.Common.{List, sym, subst}
+use Rattle.std.specs.List.{IsDistinct}
+use Rattle.std.specs.Map.{keys_of}
+use Rattle.std.specs.Str.{bytes_eq}
+use Rattle.java_tokens.specs.Words.{WordRow}
 use Rattle.java_tokens.proofs.masks.Masks.into_rows.Goals as goal
 
--- sorted, the rows are the ordered list
-pub returns : goal.returns
-returns c =
-    let es = c.self.inside.rows.entries in
-    let sorted = c.in_ok-sort_keys.ensures in
-    let ds = c.sort_keys.new.self.entries in
-    IfOk-weaker c.all_rows.result (λ rows. rows.items ≡ ds) (λ rows. rows.items ≡ c.args.self)
-    (λ rows are. are ∙ gathered_sorted es ds c.self.invariant sorted.unique sorted.sorted sorted.reordered.2 ∙ c.self.view_is)
-    c.all_rows.ensures
+-- the names of the table differ
+pub put_in_order-requires : goal.put_in_order-requires
+put_in_order-requires c = subst (λ (rows : List WordRow). IsDistinct bytes_eq (keys_of rows)) (sym c.in_ok-rows.ensures) c.self.invariant
