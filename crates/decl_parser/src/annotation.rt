@@ -1,14 +1,42 @@
 //! Annotations in a header.
 ghost use Rattle.std.specs.Prelude.{◌≡◌, ◌≢◌, ◌≤◌, IfOk, IfNone, IfSome, length, drop};
+ghost use Rattle.std.specs.List.{list_any};
+ghost use Rattle.std.specs.Option.{option_to_list};
+ghost use Rattle.decl_parser.specs.declared.role.Role.TheVariants.{At};
+ghost use Rattle.decl_parser.specs.Forest.{is};
 ghost use Rattle.decl_parser.specs.Header.{annotation_rest, annotation_len, without_annotations};
+ghost use Rattle.decl_parser.specs.Rule.{first_identifier};
 
 use crate::node::Node;
 use crate::role::Role;
 use std::alloc::{AllocError, Global};
 
-/// The nodes with their annotations taken out, in one pass from the left.
+/// The nodes with their annotations taken out, in one pass from the left. Nodes without a `@` stay where they are.
+pub(crate) fn without_annotations(alloc: Global, nodes: Vec<Node>) -> Result<Vec<Node>, AllocError>
+    ensures { IfOk result (λ plain. plain.items ≡ without_annotations nodes.items) }
+{
+    if has_at(&nodes) {
+        plain_nodes(alloc, &nodes)
+    } else {
+        Ok(nodes)
+    }
+}
+
+/// Whether one of the nodes is a `@`.
+fn has_at(nodes: &[Node]) -> bool
+    ensures { result ≡ list_any (is At) nodes.now }
+{
+    for node in nodes {
+        if node.is(Role::At) {
+            return true;
+        }
+    }
+    false
+}
+
+/// The nodes that belong to no annotation, in a list of their own.
 #[tactic(auto, unfolding(crate::specs::Header::plain_past))]
-pub(crate) fn without_annotations(alloc: Global, nodes: &[Node]) -> Result<Vec<Node>, AllocError>
+fn plain_nodes(alloc: Global, nodes: &[Node]) -> Result<Vec<Node>, AllocError>
     ensures { IfOk result (λ plain. plain.items ≡ without_annotations nodes.now) }
 {
     let mut plain = Vec::new(alloc);
@@ -23,6 +51,25 @@ pub(crate) fn without_annotations(alloc: Global, nodes: &[Node]) -> Result<Vec<N
         }
     }
     Ok(plain)
+}
+
+/// The first node that belongs to no annotation, if it is an identifier.
+#[tactic(auto, unfolding(crate::specs::Header::plain_past))]
+pub(crate) fn first_plain_identifier(nodes: &[Node]) -> Option<Node>
+    ensures { option_to_list result ≡ first_identifier (without_annotations nodes.now) }
+{
+    let mut rest = nodes;
+    while let Some((node, others)) = rest.split_first() {
+        match behind_annotation(node, others) {
+            Some(behind) => rest = behind,
+            None => return if node.is_identifier() {
+                Some(*node)
+            } else {
+                None
+            },
+        }
+    }
+    None
 }
 
 /// The nodes behind the annotation that a node begins, if it begins one.

@@ -3,7 +3,7 @@ ghost use Rattle.std.specs.Prelude.{◌≡◌, ◌++◌, [], IfOk, OnOk};
 ghost use Rattle.decl_parser.specs.Unit.{units_of, behind_semicolon};
 ghost use Rattle.decl_parser.specs.Rule.{constant_of, constants_after};
 
-use crate::annotation::without_annotations;
+use crate::annotation::first_plain_identifier;
 use crate::node::Node;
 use crate::role::Role;
 use crate::unit::first_unit;
@@ -33,13 +33,13 @@ pub(crate) fn enum_body<'a>(alloc: Global, level: &'a [Node]) -> Result<EnumBody
             break;
         }
         if unit.node.is(Role::Comma) {
-            push_constant(alloc, &mut constants, &piece)?;
+            push_constant(&mut constants, &piece)?;
             piece.clear();
         } else {
             piece.push(unit.node)?;
         }
     }
-    push_constant(alloc, &mut constants, &piece)?;
+    push_constant(&mut constants, &piece)?;
     Ok(EnumBody {
         constants,
         behind: rest,
@@ -47,14 +47,11 @@ pub(crate) fn enum_body<'a>(alloc: Global, level: &'a [Node]) -> Result<EnumBody
 }
 
 /// Adds the constant of a piece, if it gives one.
-fn push_constant(alloc: Global, constants: &mut Vec<Node>, piece: &[Node]) -> Result<(), AllocError>
+fn push_constant(constants: &mut Vec<Node>, piece: &[Node]) -> Result<(), AllocError>
     ensures { OnOk result (constants.new.items ≡ constants.old.items ++ constant_of piece.now) }
 {
-    let plain = without_annotations(alloc, piece)?;
-    if let Some(first) = plain.first() {
-        if first.is_identifier() {
-            constants.push(*first)?;
-        }
+    if let Some(name) = first_plain_identifier(piece) {
+        constants.push(name)?;
     }
     Ok(())
 }

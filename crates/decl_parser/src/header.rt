@@ -8,30 +8,31 @@ use crate::role::Role;
 use std::alloc::{AllocError, Global};
 
 /// The header with annotations taken out, and with what stands within angles set aside.
-pub(crate) fn header_of(alloc: Global, nodes: &[Node]) -> Result<Vec<Node>, AllocError>
-    ensures { IfOk result (λ header. header.items ≡ header_of nodes.now) }
+pub(crate) fn header_of(alloc: Global, nodes: Vec<Node>) -> Result<Vec<Node>, AllocError>
+    ensures { IfOk result (λ header. header.items ≡ header_of nodes.items) }
 {
-    let plain = without_annotations(alloc, nodes)?;
-    with_angled(alloc, &plain)
+    let mut header = without_annotations(alloc, nodes)?;
+    set_angled(&mut header);
+    Ok(header)
 }
 
-/// The nodes, those within angles set aside.
+/// Sets the nodes within angles aside.
 #[tactic(auto, unfolding(crate::specs::Header::angled_after))]
-fn with_angled(alloc: Global, nodes: &[Node]) -> Result<Vec<Node>, AllocError>
-    ensures { IfOk result (λ header. header.items ≡ angled_after 0 nodes.now) }
+fn set_angled(nodes: &mut Vec<Node>)
+    ensures { nodes.new.items ≡ angled_after 0 nodes.old.items }
 {
-    let mut header = Vec::new(alloc);
     let mut depth: usize = 0;
-    for node in nodes {
-        let mut role = node.role;
+    for place in 0..nodes.len() {
+        let node = nodes[place];
         if node.is(Role::Less) {
             depth += 1;
         } else if node.is(Role::Greater) {
             depth = depth.saturating_sub(1);
         } else if depth > 0 {
-            role = Role::Angled;
+            nodes[place] = Node {
+                role: Role::Angled,
+                ..node
+            };
         }
-        header.push(Node { role, ..*node })?;
     }
-    Ok(header)
 }

@@ -49,8 +49,8 @@ fn add_level(
     }
     let mut rest = add_constants(alloc, text, level, depth, holder, stubs)?;
     while let Some(item) = first_item(alloc, rest)? {
-        add_item(alloc, text, &item.header, item.body, depth, holder, stubs)?;
         rest = item.behind;
+        add_item(alloc, text, item.header, item.body, depth, holder, stubs)?;
     }
     Ok(())
 }
@@ -60,7 +60,7 @@ fn add_level(
 fn add_item(
     alloc: Global,
     text: &Text,
-    header: &[Node],
+    header: Vec<Node>,
     body: &[Node],
     depth: u8,
     holder: Option<Holder>,
@@ -68,7 +68,7 @@ fn add_item(
 ) -> Result<(), AllocError>
     requires { depth ≤ max_depth }
     ensures { OnOk result (stubs.new.items ≡ stubs.old.items
-        ++ item_stubs text.now depth (stubs_at text.now (depth + 1)) holder (record { header = header.now; body = body.now })) }
+        ++ item_stubs text.now depth (stubs_at text.now (depth + 1)) holder (record { header = header.items; body = body.now })) }
 {
     let header = header_of(alloc, header)?;
     let Some(found) = declaration_of(text, holder, &header) else {

@@ -16,9 +16,9 @@ pub add_item-returns-in_default : goal.add_item-returns-in_default
 add_item-returns-in_default t c =
     let stubs = c.args.stubs.now.items in
     let text = c.args.text.now in
-    let read : c.deref.result.now ≡ header_of c.args.header.now = c.deref.ensures.value ∙ c.in_ok-header.ensures in
-    let is : declaration_of text c.args.holder (header_of c.args.header.now) ≡ None = ap (declaration_of text c.args.holder) (sym read) ∙ c.in_default.ensures in
-    sym (ap (λ l. stubs ++ l) (item_stubs-none text c.args.depth (stubs_at text (c.args.depth + 1)) c.args.holder c.args.header.now c.args.body.now is)
+    let read : c.deref.result.now ≡ header_of c.args.header.items = c.deref.ensures.value ∙ c.in_ok-header.ensures in
+    let is : declaration_of text c.args.holder (header_of c.args.header.items) ≡ None = ap (declaration_of text c.args.holder) (sym read) ∙ c.in_default.ensures in
+    sym (ap (λ l. stubs ++ l) (item_stubs-none text c.args.depth (stubs_at text (c.args.depth + 1)) c.args.holder c.args.header.items c.args.body.now is)
     ∙ append-nil stubs)
 
 -- the item declares a type with its members, or something else
@@ -29,8 +29,8 @@ add_item-returns t c =
     let members = stubs_at text (c.args.depth + 1) in
     let d : Declaration = record { kind = c.in-Some.found.kind; name = c.in-Some.found.name; behind = c.in-Some.found.behind.now } in
     let stub = c.in_ok-stub.stub in
-    let read : c.deref.result.now ≡ header_of c.args.header.now = c.deref.ensures.value ∙ c.in_ok-header.ensures in
-    let is : declaration_of text c.args.holder (header_of c.args.header.now) ≡ Some d = ap (declaration_of text c.args.holder) (sym read) ∙ c.in-Some.ensures in
+    let read : c.deref.result.now ≡ header_of c.args.header.items = c.deref.ensures.value ∙ c.in_ok-header.ensures in
+    let is : declaration_of text c.args.holder (header_of c.args.header.items) ≡ Some d = ap (declaration_of text c.args.holder) (sym read) ∙ c.in-Some.ensures in
     elim c.if-is_type.branch [
       | add_item-then-is_type+in_ok-add_level w ↦
           let type : is_type stub ≡ true = sym c.is_type-is_type.ensures ∙ w.if-is_type.true in
@@ -39,12 +39,12 @@ add_item-returns t c =
           ∙ w.in_ok-add_level.ensures
           ∙ ap (λ l. l ++ below) c.in_ok-push.ensures.items
           ∙ append_assoc stubs (stub ∷ []) below
-          ∙ sym (ap (λ l. stubs ++ l) (item_stubs-type text c.args.depth members c.args.holder c.args.header.now c.args.body.now d stub is c.in_ok-stub.ensures type))
+          ∙ sym (ap (λ l. stubs ++ l) (item_stubs-type text c.args.depth members c.args.holder c.args.header.items c.args.body.now d stub is c.in_ok-stub.ensures type))
       | add_item-else-is_type w ↦
           let other : is_type stub ≡ false = sym c.is_type-is_type.ensures ∙ w.if-is_type.false in
           ap (λ v. v.items) w.stubs-is
           ∙ c.in_ok-push.ensures.items
-          ∙ sym (ap (λ l. stubs ++ l) (item_stubs-member text c.args.depth members c.args.holder c.args.header.now c.args.body.now d stub is c.in_ok-stub.ensures other))
+          ∙ sym (ap (λ l. stubs ++ l) (item_stubs-member text c.args.depth members c.args.holder c.args.header.items c.args.body.now d stub is c.in_ok-stub.ensures other))
     ]
 
 -- the level is too deep

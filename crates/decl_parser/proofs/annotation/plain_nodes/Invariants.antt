@@ -1,6 +1,6 @@
 use Rattle.std.proofs.Common.{◌≡◌, ◌++◌, length}
 use Rattle.decl_parser.specs.Header.{without_annotations}
-use Rattle.decl_parser.proofs.annotation.without_annotations.Given as goal
+use Rattle.decl_parser.proofs.annotation.plain_nodes.Given as goal
 
 -- the nodes so far and those that the rest leaves are all
 abbrev pub invariant-loop-node : goal.invariant-loop-node

@@ -1,0 +1,9 @@
+use Rattle.std.proofs.Common.{◌≡◌, drop}
+use Rattle.std.specs.List.{list_any}
+use Rattle.decl_parser.specs.declared.role.Role.TheVariants.{At}
+use Rattle.decl_parser.specs.Forest.{is}
+use Rattle.decl_parser.proofs.annotation.has_at.Given as goal
+
+-- the nodes that are left decide
+abbrev pub invariant-loop-node : goal.invariant-loop-node
+invariant-loop-node l = list_any (is At) (drop l.node-index l.nodes) ≡ list_any (is At) l.nodes
