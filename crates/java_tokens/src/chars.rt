@@ -62,12 +62,14 @@ fn starts_identifier(c: char) -> bool
     }
 }
 
-/// Whether the character has the property XID_Continue, found likewise.
+/// Whether the character has the property XID_Continue, found likewise. Small letters come first, since most are.
 #[inline]
 fn continues_identifier(c: char) -> bool
     ensures { result ≡ is_xid_continue c }
 {
-    if c.is_ascii() {
+    if c.is_ascii_lowercase() {
+        true
+    } else if c.is_ascii() {
         c.is_ascii_alphanumeric() || c == '_'
     } else {
         is_xid_continue(c)

@@ -37,7 +37,8 @@ fn masks_of(alloc: Global, text: &Text, tokens: &[Token]) -> Result<Masks, Alloc
     requires { tokens.now ≡ tokens_of text.now }
     ensures { IfOk result (λ masks. masks ≡ words_of text.now) }
 {
-    let mut masks = Masks::new(alloc);
+    // Of eight tokens about one is a word that wasn't met before.
+    let mut masks = Masks::with_room(alloc, tokens.len() / 8)?;
     for token in tokens {
         add_token(&mut masks, text, token)?;
     }

@@ -36,14 +36,14 @@ impl Model for Masks {
 }
 
 impl Masks {
-    /// No words.
-    pub(crate) fn new(alloc: Global) -> Masks
-        ensures { result ≡ [] }
+    /// No words, with room for so many.
+    pub(crate) fn with_room(alloc: Global, count: usize) -> Result<Masks, AllocError>
+        ensures { IfOk result (λ masks. masks ≡ []) }
     {
-        Masks {
-            rows: IndexMap::new(alloc),
+        Ok(Masks {
+            rows: IndexMap::with_capacity(alloc, count)?,
             name: Name::from(String::new(alloc)),
-        }
+        })
     }
 
     /// Adds one occurrence: the characters of a piece from one place up to another.

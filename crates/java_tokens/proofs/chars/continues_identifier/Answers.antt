@@ -1,7 +1,14 @@
-use Rattle.std.proofs.Common.{◌<◌, ◌||◌, ◌==◌, sym, ap, ◌∙◌}
-use Rattle.std.proofs.lemmas.Bool.{ltb-true, or_left}
+use Rattle.std.proofs.Common.{◌<◌, ◌||◌, ◌==◌, sym, ap, ◌∙◌, arith}
+use Rattle.std.proofs.lemmas.Bool.{ltb-true, leb-true, and_parts, or_left, or_right}
 use Rattle.unicode_ident.proofs.IdentLemmas.{is_xid_continue-ascii}
 use Rattle.java_tokens.proofs.chars.continues_identifier.Goals as goal
+
+-- a small letter of ASCII
+pub returns-then-is_ascii_lowercase : goal.returns-then-is_ascii_lowercase
+returns-then-is_ascii_lowercase c =
+    let small = sym c.is_ascii_lowercase.ensures.value ∙ c.if-is_ascii_lowercase.true in
+    let ascii : c.args.c < 128 = omega (arith, leb-true c.args.c 122 (and_parts _ _ small).1) in
+    sym (is_xid_continue-ascii c.args.c ascii ∙ or_left _ _ (or_right _ _ small))
 
 -- a letter or a digit of ASCII
 pub returns-then-is_ascii_alphanumeric : goal.returns-then-is_ascii_alphanumeric
