@@ -76,6 +76,9 @@ fn spells_any(piece: &Piece, words: &[&str]) -> bool
 pub fn spells(piece: &Piece, word: &str) -> bool
     ensures { result ≡ bytes_eq word.now piece.now }
 {
+    if word.len() != piece.len() as usize {
+        return false;
+    }
     let mut at = 0;
     for byte in word.as_bytes() {
         if piece.get(at) != Some(*byte as char) {
