@@ -36,14 +36,11 @@ pub fn is_identifier_at(text: &Text, token: &Token) -> bool
     token.is(Kind::Word) && !is_reserved(&Piece::part(text, token.at, token.len))
 }
 
-/// Whether a token of a text has the characters of an ASCII word. Lengths are compared first.
+/// Whether a token of a text has the characters of an ASCII word.
 pub fn spells(text: &Text, token: &Token, word: &str) -> bool
     requires { token.now.at + token.now.len ≤ length text.now }
     ensures { result ≡ bytes_eq word.now (characters_of text.now token.now) }
 {
-    if token.len as usize != word.len() {
-        return false;
-    }
     reserved::spells(&Piece::part(text, token.at, token.len), word)
 }
 
