@@ -1,4 +1,4 @@
--- A text in quotes, read character by character.
+-- A text in quotes, read by runs of characters that mean themselves and by single ones.
 use Rattle.std.proofs.Common.{◌≡◌, ◌≢◌, ℕ, ◌<◌, Bool, true, false, cond, Ok, Err, List, [], ◌∷◌, ◌++◌, length, get_or, take, drop, Option, Some, None, option_map, refl, ap, sym, ◌∙◌, append_assoc, arith, subst, lit<, eqb, ◌||◌}
 use Rattle.std.specs.Str.{chars, IsUtf8, IsCharBoundary}
 use Rattle.std.specs.Option.{option_and_then, option_to_list, unwrap_or}
