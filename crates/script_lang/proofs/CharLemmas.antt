@@ -1,42 +1,41 @@
 -- Characters of a text, one after another, and where a space stands among them.
-use Rattle.std.proofs.Common.{◌≡◌, ◌≢◌, ℕ, true, ◌+◌, ◌<◌, List, [], ◌∷◌, ◌++◌, length, get_or, drop, take, Option, Some, None, option_map, refl, ap, sym, ◌∙◌, arith, Bor, subst, lit<, ◌≤◌}
+use Rattle.std.proofs.Common.{◌≡◌, ◌≢◌, ℕ, true, ◌+◌, ◌<◌, List, [], ◌∷◌, ◌++◌, length, get_or, take, Option, Some, None, option_map, refl, ap, sym, ◌∙◌, arith, Bor, subst, lit<, ◌≤◌}
 use Rattle.std.specs.List.{All}
 use Rattle.std.proofs.lemmas.List.Elements.{All-nil, All-cons, All-head, All-tail}
 use Rattle.std.specs.Str.{chars, IsUtf8, IsCharBoundary, bytes_eq}
 use lib.Utf8.{encodes, encode, scalars}
 use Rattle.std.proofs.lemmas.Bool.{ne_eqb}
 use Rattle.std.proofs.lemmas.Bool.Decides.{same_from_decides}
-use Rattle.std.proofs.lemmas.List.{drop_more, get_or-append-add, length-append, take_at, get_or_at, append-nil, drop_at}
+use Rattle.std.proofs.lemmas.List.{get_or-append-add, length-append, take_at, get_or_at, append-nil, drop_at}
 use Rattle.std.proofs.lemmas.Slice.Eq.{bytes_eq-Decides}
 use Rattle.std.proofs.lemmas.Str.{chars-append, chars-encodes, encodes-chars, IsUtf8-take, IsCharBoundary-before_ascii, encode_ascii, IsUtf8-drop, IsCharBoundary-from_take, chars_past_char, chars-nil}
 use Rattle.std.proofs.lemmas.Str.Pattern.{IsSplitOnceResult, split_parts}
 use Rattle.script_lang.specs.Fields.{space, parts_at_space}
 
--- the characters from a place on, where the character there is known
-pub drop_here : (cs : List ℕ) (n c : ℕ) → (n < length cs) × (c ≡ get_or cs n c) → drop n cs ≡ c ∷ drop (n + 1) cs
-drop_here cs n c h = drop_more cs n c h.0 ∙ ap (λ x. x ∷ drop (n + 1) cs) (sym h.1)
+-- no byte of the list is this one
+abbrev pub Lacks : ℕ → List ℕ → Type 0
+Lacks b bs = (i : ℕ) → i < length bs → get_or bs i 0 ≢ b
 
--- no byte of the list is a space
-abbrev HasNoSpace : List ℕ → Type 0
-HasNoSpace bs = (i : ℕ) → i < length bs → get_or bs i 0 ≢ 32
-
--- the first character is no space, and no byte after it is one
-first_no_space : (c : ℕ) (cs : List ℕ) → HasNoSpace (encode c ++ encodes cs) → c ≢ 32
-first_no_space c cs none e =
-    let s : encode c ++ encodes cs ≡ 32 ∷ encodes cs = ap (λ d. encode d ++ encodes cs) e ∙ ap (λ l. l ++ encodes cs) (encode_ascii 32 (lit< tt)) in
-    let none' : HasNoSpace (32 ∷ encodes cs) = subst HasNoSpace s none in
+-- the first character isn't an ASCII character that no byte is
+first_lacks : (b c : ℕ) (cs : List ℕ) → b < 128 → Lacks b (encode c ++ encodes cs) → c ≢ b
+first_lacks b c cs ascii none e =
+    let s : encode c ++ encodes cs ≡ b ∷ encodes cs = ap (λ d. encode d ++ encodes cs) e ∙ ap (λ l. l ++ encodes cs) (encode_ascii b ascii) in
+    let none' : Lacks b (b ∷ encodes cs) = subst (Lacks b) s none in
     none' 0 (omega arith) refl
 
-rest_no_space : (xs ys : List ℕ) → HasNoSpace (xs ++ ys) → HasNoSpace ys
-rest_no_space xs ys none i l =
+rest_lacks : (b : ℕ) (xs ys : List ℕ) → Lacks b (xs ++ ys) → Lacks b ys
+rest_lacks b xs ys none i l =
     let e : get_or (xs ++ ys) (length xs + i) 0 ≡ get_or ys i 0 = get_or-append-add xs ys i 0 in
     λ is. none (length xs + i) (omega (arith, length-append xs ys)) (e ∙ is)
 
--- then no character is a space
-All-no_space : (cs : List ℕ) → HasNoSpace (encodes cs) → All (λ c. c ≢ space) cs
-All-no_space [] none = All-nil (λ c. c ≢ space)
-All-no_space (c ∷ cs) none =
-    All-cons (λ c. c ≢ space) c cs (first_no_space c cs none) (All-no_space cs (rest_no_space (encode c) (encodes cs) none))
+All-encoded_lacks : (b : ℕ) (cs : List ℕ) → b < 128 → Lacks b (encodes cs) → All (λ c. c ≢ b) cs
+All-encoded_lacks b [] ascii none = All-nil (λ c. c ≢ b)
+All-encoded_lacks b (c ∷ cs) ascii none =
+    All-cons (λ c. c ≢ b) c cs (first_lacks b c cs ascii none) (All-encoded_lacks b cs ascii (rest_lacks b (encode c) (encodes cs) none))
+
+-- no character of a text is an ASCII character that none of its bytes is
+pub All-lacks : (b : ℕ) (bs : List ℕ) → b < 128 → IsUtf8 bs → Lacks b bs → All (λ c. c ≢ b) (chars bs)
+All-lacks b bs ascii text none = All-encoded_lacks b (chars bs) ascii (subst (Lacks b) (sym (encodes-chars bs text)) none)
 
 -- the parts of characters, where none of the first is a space
 pub parts_at_space-none : (cs : List ℕ) → All (λ c. c ≢ space) cs → parts_at_space cs ≡ None
@@ -56,7 +55,7 @@ chars-space : (ys : List ℕ) → chars (32 ∷ ys) ≡ 32 ∷ chars ys
 unfolding encode chars
 chars-space ys = chars-append (32 ∷ []) ys (32 ∷ [], (refl, refl))
 
-parts_at_space-chars : (bs xs ys : List ℕ) → IsUtf8 bs → bs ≡ xs ++ 32 ∷ ys → HasNoSpace xs → parts_at_space (chars bs) ≡ Some (chars xs, chars ys)
+parts_at_space-chars : (bs xs ys : List ℕ) → IsUtf8 bs → bs ≡ xs ++ 32 ∷ ys → Lacks 32 xs → parts_at_space (chars bs) ≡ Some (chars xs, chars ys)
 parts_at_space-chars bs xs ys text split none =
     let is_space : get_or bs (length xs) 0 ≡ 32 = ap (λ l. get_or l (length xs) 0) split ∙ get_or_at xs 32 ys 0 (length xs) refl in
     let inside : length xs < length bs = omega (arith, ap length split, length-append xs (32 ∷ ys)) in
@@ -65,15 +64,14 @@ parts_at_space-chars bs xs ys text split none =
     let text_front : IsUtf8 xs = subst IsUtf8 front cut in
     let all : chars bs ≡ chars xs ++ 32 ∷ chars ys
     = ap chars split ∙ chars-append xs (32 ∷ ys) text_front ∙ ap (λ l. chars xs ++ l) (chars-space ys) in
-    let none' : HasNoSpace (encodes (chars xs)) = subst HasNoSpace (sym (encodes-chars xs text_front)) none in
-    ap parts_at_space all ∙ parts_at_space-found (chars xs) (chars ys) (All-no_space (chars xs) none')
+    ap parts_at_space all ∙ parts_at_space-found (chars xs) (chars ys) (All-lacks 32 xs (lit< tt) text_front none)
 
 -- what `split_once` at a space gives, by characters
 pub parts_from_split : (bs : List ℕ) (r : Option (Bor (List ℕ) × Bor (List ℕ))) → IsUtf8 bs → IsSplitOnceResult 32 bs r
     → option_map (λ p. (chars p.0.now, chars p.1.now)) r ≡ parts_at_space (chars bs)
 parts_from_split bs None text h =
-    let none : HasNoSpace bs = split_parts 32 bs None h (lit< tt) in
-    sym (parts_at_space-none (chars bs) (All-no_space (chars bs) (subst HasNoSpace (sym (encodes-chars bs text)) none)))
+    let none : Lacks 32 bs = split_parts 32 bs None h (lit< tt) in
+    sym (parts_at_space-none (chars bs) (All-lacks 32 bs (lit< tt) text none))
 parts_from_split bs (Some p) text h =
     let parts = split_parts 32 bs (Some p) h (lit< tt) in
     sym (parts_at_space-chars bs p.0.now p.1.now text parts.0 parts.1)

@@ -1,7 +1,8 @@
 -- Where the lines of bytes end.
-use Rattle.std.proofs.Common.{◌≡◌, ◌≢◌, ℕ, zero, suc, ◌<◌, List, [], ◌∷◌, length, get_or, take, drop, refl, arith, eqb, false}
-use Rattle.std.proofs.lemmas.Bool.{eq-eqb, ne_eqb}
-use Rattle.script_lang.specs.Lines.{lines_of}
+use Rattle.std.proofs.Common.{◌≡◌, ◌≢◌, ℕ, zero, suc, ◌<◌, List, [], ◌∷◌, length, get_or, take, drop, Option, Some, None, MatchOption, refl, arith, eqb, false}
+use Rattle.std.proofs.lemmas.Bool.{eq-eqb, eqb-true, ne_eqb}
+use Rattle.memchr.specs.Find.{IsFirstByte, is_byte}
+use Rattle.script_lang.specs.Lines.{lines_of, line_feed}
 
 -- at the first line feed
 pub lines_of-at : (bs : List ℕ) (n : ℕ) → n < length bs → ((k : ℕ) → k < n → get_or bs k 0 ≢ 10) → get_or bs n 0 ≡ 10
@@ -26,3 +27,10 @@ pub lines_of-filled : (bs : List ℕ) → eqb (length bs) 0 ≡ false → ((k : 
 unfolding lines_of
 lines_of-filled [] filled none = cc
 lines_of-filled (b ∷ bs) filled none = lines_of-one b bs none
+
+-- at what a search for a line feed finds
+pub lines_of-cut : (bs : List ℕ) (found : Option ℕ) → IsFirstByte (is_byte line_feed) bs found → eqb (length bs) 0 ≡ false
+    → MatchOption found (lines_of bs ≡ bs ∷ lines_of []) (λ n. lines_of bs ≡ take n bs ∷ lines_of (drop (suc n) bs))
+lines_of-cut bs None none filled = lines_of-filled bs filled (λ k l is. none k (omega arith) l (eq-eqb (get_or bs k 0) 10 is))
+lines_of-cut bs (Some n) found filled =
+    lines_of-at bs n found.0.high (λ k l is. found.0.before k (omega arith) l (eq-eqb (get_or bs k 0) 10 is)) (eqb-true (get_or bs n 0) 10 found.1)

@@ -1,9 +1,10 @@
 //! A text in quotes: its form, its escapes, its line breaks and its length.
-ghost use Rattle.std.specs.Prelude.{◌≡◌, ℕ, IfOk, Some, None, option_map, string_bytes};
-ghost use Rattle.std.specs.Str.{chars};
+ghost use Rattle.std.specs.Prelude.{◌≡◌, ℕ, ◌<◌, [], ◌∷◌, ◌++◌, IfOk, MatchOption, Some, None, length, take, drop, option_map, string_bytes};
+ghost use Rattle.std.specs.Str.{chars, IsCharBoundary};
 ghost use Rattle.script_lang.specs.Quotes.{escape_of, step_of, unquoted_from, text_of_field};
 
 use ide_text::{SharedText, Text, TextRefusal};
+use memchr::memchr2;
 use std::alloc::{AllocError, Global};
 
 /// Where the reading of a text in quotes stands.
@@ -42,19 +43,45 @@ fn unquoted(alloc: Global, field: &str) -> Result<Option<String>, AllocError>
 {
     let mut text = String::with_capacity(alloc, field.len())?;
     let mut place = Place::Outside;
-    for c in field.chars() {
+    let mut rest = field;
+    while let Some((c, after)) = first_char(rest) {
         let Some((next, meant)) = step(place, c) else {
             return Ok(None);
         };
         if let Some(meant) = meant {
             text.push(meant)?;
         }
+        let (plain, left) = after.split_at(plain_len(next, after));
+        text.push_str(plain)?;
         place = next;
+        rest = left;
     }
     Ok(match place {
         Place::Behind => Some(text),
         _ => None,
     })
+}
+
+/// The first character and what stands behind it, where there is a character.
+fn first_char(text: &str) -> Option<(char, &str)>
+    ensures cut { MatchOption result (chars text.now ≡ []) (λ p. chars text.now ≡ p.0 ∷ chars p.1.now) }
+    ensures shorter { MatchOption result (chars text.now ≡ []) (λ p. length p.1.now < length text.now) }
+{
+    let mut chars = text.chars();
+    let c = chars.next()?;
+    Some((c, chars.as_str()))
+}
+
+/// How many bytes of a text, read from a place on, spell characters that mean themselves, up to the first that doesn't.
+fn plain_len(place: Place, text: &str) -> usize
+    ensures boundary { IsCharBoundary text.now result }
+    ensures cut { unquoted_from place (chars text.now)
+        ≡ option_map (λ cs. chars (take result text.now) ++ cs) (unquoted_from place (chars (drop result text.now))) }
+{
+    match place {
+        Place::Inside => memchr2(b'"', b'\\', text.as_bytes()).unwrap_or(text.len()),
+        _ => 0,
+    }
 }
 
 /// The place after a character and the character that it means, where the form goes on.

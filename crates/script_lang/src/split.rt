@@ -2,6 +2,8 @@
 ghost use Rattle.std.specs.Prelude.{◌≡◌, ◌<◌, ◌∷◌, [], MatchOption, length};
 ghost use Rattle.script_lang.specs.Lines.{lines_of};
 
+use memchr::memchr;
+
 /// The first line and the bytes after it, where there is a line.
 pub(crate) fn first_line(bytes: &[u8]) -> Option<(&[u8], &[u8])>
     ensures cut { MatchOption result (bytes.now ≡ []) (λ p. lines_of bytes.now ≡ p.0.now ∷ lines_of p.1.now) }
@@ -10,10 +12,8 @@ pub(crate) fn first_line(bytes: &[u8]) -> Option<(&[u8], &[u8])>
     if bytes.is_empty() {
         return None;
     }
-    for (at, b) in bytes.iter().enumerate() {
-        if *b == b'\n' {
-            return Some((&bytes[..at], &bytes[at + 1..]));
-        }
-    }
-    Some((bytes, &[]))
+    Some(match memchr(b'\n', bytes) {
+        Some(at) => (&bytes[..at], &bytes[at + 1..]),
+        None => (bytes, &[]),
+    })
 }
