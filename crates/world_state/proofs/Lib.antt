@@ -1,4 +1,3 @@
-pub mod FileLemmas
 pub mod MarkLemmas
 pub mod WorldLemmas
 pub mod RoomLemmas

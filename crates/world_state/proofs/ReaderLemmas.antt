@@ -9,11 +9,12 @@ use Rattle.document_buf.specs.Document.{Document}
 use Rattle.document_buf.specs.Held.{HeldDoc}
 use Rattle.vfs_core.specs.declared.row.FileRow.{FileRow}
 use Rattle.vfs_core.specs.Row as rows
-use Rattle.write_history.specs.World.{File, file_in, has_path, is_unready}
-use Rattle.world_state.specs.Marks.{Marks, is_on, one_if}
+use Rattle.list_laws.specs.Rows.{row_in, one_if}
+use Rattle.list_laws.proofs.RowLemmas.{length-filter-cons}
+use Rattle.write_history.specs.World.{File, has_path, is_unready}
+use Rattle.world_state.specs.Marks.{Marks, is_on}
 use Rattle.world_state.specs.Step.{joined}
 use Rattle.world_state.specs.State.{files_from}
-use Rattle.world_state.proofs.FileLemmas.{length-filter-cons}
 use Rattle.world_state.proofs.WorldLemmas.{none_first}
 
 is_some-joined : (row : Option FileRow) (document : Option Document) → is_some (joined row document) ≡ is_some row
@@ -60,7 +61,8 @@ past_all (file ∷ files) zero past = absurd (omega (arith, past))
 past_all (file ∷ files) (suc place) past = past_all files place (omega (arith, past))
 
 -- the lowest unready file, where marks say which are unready
-pub lowest_is : (files : List (Option File)) (id : ℕ) → is_unready (file_in files id) ≡ true → ((other : ℕ) → other < id → is_unready (file_in files other) ≡ false)
+pub lowest_is : (files : List (Option File)) (id : ℕ) → is_unready (row_in files id) ≡ true
+    → ((other : ℕ) → other < id → is_unready (row_in files other) ≡ false)
     → Some id ≡ option_map suc (position is_unready files)
 lowest_is files zero on before = absurd (false≢true on)
 lowest_is files (suc place) on before =
@@ -75,13 +77,14 @@ lowest_is files (suc place) on before =
         (λ past e. absurd (false≢true (sym (ap is_unready (past_all files place (ltb-false place (length files) past))) ∙ on)))
         refl
 
-pub lowest_none : (files : List (Option File)) → ((id : ℕ) → is_unready (file_in files id) ≡ false) → None ≡ option_map suc (position is_unready files)
+pub lowest_none : (files : List (Option File)) → ((id : ℕ) → is_unready (row_in files id) ≡ false)
+    → None ≡ option_map suc (position is_unready files)
 lowest_none files none = ap (option_map suc) (sym (none_first is_unready files None (λ place. none (suc place))))
 
 -- the lowest id that is on is the lowest unready file's
 pub lowest_result : (marks : Marks) (files : List (Option File)) (lowest : Option ℕ) → IfSome lowest (λ id. is_on marks id ≡ true)
     → IfSome lowest (λ id. (other : ℕ) → other < id → is_on marks other ≡ false) → IfNone lowest ((id : ℕ) → is_on marks id ≡ false)
-    → ((id : ℕ) → is_on marks id ≡ is_unready (file_in files id)) → lowest ≡ option_map suc (position is_unready files)
+    → ((id : ℕ) → is_on marks id ≡ is_unready (row_in files id)) → lowest ≡ option_map suc (position is_unready files)
 lowest_result marks files None on before none each = lowest_none files (λ id. sym (each id) ∙ none id)
 lowest_result marks files (Some id) on before none each =
     lowest_is files id (sym (each id) ∙ on) (λ other below. sym (each other) ∙ before other below)

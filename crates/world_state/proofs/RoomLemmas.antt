@@ -18,11 +18,11 @@ use Rattle.world_state.specs.RowEdits.{put_row}
 use Rattle.world_state.specs.DocEdits.{edited_document, IsWide, inserted_by}
 use Rattle.world_state.specs.Step.{after_step, after_steps}
 use Rattle.world_state.specs.Lawful.{IsLawfulStep, AreLawfulFrom, AreLawful, inserted_by_all}
-use Rattle.world_state.specs.Marks.{one_if}
+use Rattle.list_laws.specs.Rows.{one_if}
 use Rattle.world_state.specs.Room.{Room, HasStepRoom, HasEachRoom, HasRoomIn, KeepsRoom, KeepsCounts, inserted_into, all_inserted_into, rows_of, brought}
 use Rattle.world_state.specs.Held.{Held, HasRoom}
 use Rattle.world_state.specs.Ready.{IsReady}
-use Rattle.world_state.proofs.FileLemmas.{one_if_le}
+use Rattle.list_laws.proofs.RowLemmas.{one_if_le}
 
 -- the room for characters that is left after the document of a file was edited
 pub chars_left : (old new : docs.Held) (step : Step)

@@ -13,7 +13,8 @@ use Rattle.dumb_mode.specs.Unready.{is_indexed_at}
 use Rattle.overlay_index.specs.Parts.{Parts, no_parts, parts_of}
 use Rattle.overlay_index.specs.Layers as layers
 use Rattle.overlay_index.specs.Found as walk
-use Rattle.write_history.specs.World.{File, file_in, is_unready, shown_text}
+use Rattle.list_laws.specs.Rows.{row_in}
+use Rattle.write_history.specs.World.{File, is_unready, shown_text}
 use Rattle.world_state.specs.IndexEdits.{Indexed}
 use Rattle.world_state.specs.Sound.{HoldsLive, HoldsIndex}
 use Rattle.world_state.specs.Found.{found_at, found_from}
@@ -37,7 +38,8 @@ ready_at files none place = bool_cases (ltb place (length files)) (λ b. (ltb pl
         (λ behind e. ltb-false (position_or_len is_unready files) (length files) behind)
         refl
 
-pub ready_in : (files : List (Option File)) → option_map suc (position is_unready files) ≡ None → (id : ℕ) → is_unready (file_in files id) ≡ false
+pub ready_in : (files : List (Option File)) → option_map suc (position is_unready files) ≡ None → (id : ℕ)
+    → is_unready (row_in files id) ≡ false
 ready_in files none zero = refl
 ready_in files none (suc place) = ready_at files none place
 
@@ -92,7 +94,8 @@ module _ {V : Type 0} (part : Parts → List (List ℕ × V)) (name : List ℕ) 
       ∙ ap (λ i. found_from read i files) next)
 
   -- the walk gives what the world has
-  pub walk_found : (kept : layers.Held) (files : List (Option File)) → ((id : ℕ) → HoldsIndex (file_in files id) (indexed_in kept id))
+  pub walk_found : (kept : layers.Held) (files : List (Option File))
+      → ((id : ℕ) → HoldsIndex (row_in files id) (indexed_in kept id))
       → option_map suc (position is_unready files) ≡ None
       → walk.found_to (λ id. walk.values_of name (part (layers.shown_of kept id))) (length files) ≡ found_from read 1 files
   walk_found kept files holds none = all_from (λ id. walk.values_of name (part (layers.shown_of kept id))) 1 files each
@@ -106,7 +109,8 @@ bare_parts : (held : Indexed) → HoldsIndex None held → unwrap_or held.overla
 bare_parts held none = ap (λ o. unwrap_or o held.base) none.1 ∙ none.0
 
 -- only files that were made show rows
-pub shown_to : (kept : layers.Held) (files : List (Option File)) → ((id : ℕ) → HoldsIndex (file_in files id) (indexed_in kept id)) → layers.IsShownTo kept (length files)
+pub shown_to : (kept : layers.Held) (files : List (Option File))
+    → ((id : ℕ) → HoldsIndex (row_in files id) (indexed_in kept id)) → layers.IsShownTo kept (length files)
 shown_to kept files holds = record {
   first = bare_parts (indexed_in kept 0) (holds 0);
   rest = λ file past. beyond file past;

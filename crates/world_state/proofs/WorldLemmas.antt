@@ -6,15 +6,17 @@ use Rattle.std.proofs.lemmas.Option.{none-some, same_Some}
 use Rattle.std.proofs.lemmas.List.Sums.{passes_at_first}
 use Rattle.std.specs.List.{position_or_len}
 use Rattle.std.specs.Cmp.Lexicographic.{same_text}
+use Rattle.list_laws.specs.Rows.{row_in, with_row, one_if}
 use Rattle.list_laws.proofs.BoolLemmas.{bool_cases}
+use Rattle.list_laws.proofs.RowLemmas.{row_in-with_row, length-with_row, same_rows, count-with_row, counted_in, count_le, one_if_le}
 use Rattle.document_buf.specs.Document.{Document}
 use Rattle.vfs_core.specs.declared.row.FileRow.{FileRow}
 use Rattle.vfs_core.specs.Row as rows
 use Rattle.vfs_core.specs.Held as files
 use Rattle.document_buf.specs.Held as docs
 use Rattle.overlay_index.specs.Layers as layers
-use Rattle.write_history.specs.World.{World, File, empty_world, file_in, file_of, is_unready, is_open, count_of}
-use Rattle.write_history.specs.Effect.{max_files, with_file}
+use Rattle.write_history.specs.World.{World, File, empty_world, file_of, is_unready, is_open, count_of}
+use Rattle.write_history.specs.Effect.{max_files}
 use Rattle.overlay_index.specs.Parts.{Parts, no_parts}
 use Rattle.world_state.specs.declared.step.RowEdit.{RowEdit}
 use Rattle.world_state.specs.declared.step.RowEdit.TheVariants.{Keep as KeepRow, Put as PutRow, Remove as RemoveRow}
@@ -25,10 +27,9 @@ use Rattle.world_state.specs.IndexEdits.{Indexed, edited_index}
 use Rattle.world_state.specs.Step.{file_with, joined, row_part, document_part, stepped, drawn_by, after_step}
 use Rattle.world_state.specs.Sound.{IsSoundFile, HoldsIndex}
 use Rattle.world_state.specs.Lawful.{IsLawfulStep, IsPathFree}
-use Rattle.world_state.specs.Marks.{Marks, is_on, one_if}
+use Rattle.world_state.specs.Marks.{Marks, is_on}
 use Rattle.world_state.specs.Room.{Room}
 use Rattle.world_state.specs.State.{files_from, world_in, indexed_in, IsKept}
-use Rattle.world_state.proofs.FileLemmas.{file_in-with_file, length-with_file, same_files, count-with_file, counted_in, count_le, one_if_le}
 
 -- a row and a document are those of the file that they make
 pub row_part-joined : (row : Option FileRow) (document : Option Document) → row_part (joined row document) ≡ row
@@ -52,9 +53,10 @@ get-files_from document id (row ∷ all) (suc place) =
     get-files_from document (id + 1) all place ∙ ap (λ i. joined (get_or all place None) (document i)) e
 
 -- the file with an id is made of its row and its document
-pub file_in-files_from : (document : ℕ → Option Document) (all : List (Option FileRow)) (id : ℕ) → file_in (files_from document 1 all) id ≡ joined (rows.row_in all id) (document id)
-file_in-files_from document all zero = refl
-file_in-files_from document all (suc place) =
+pub row_in-files_from : (document : ℕ → Option Document) (all : List (Option FileRow)) (id : ℕ)
+    → row_in (files_from document 1 all) id ≡ joined (row_in all id) (document id)
+row_in-files_from document all zero = refl
+row_in-files_from document all (suc place) =
     let e : 1 + place ≡ suc place = omega arith in
     get-files_from document 1 all place ∙ ap (λ i. joined (get_or all place None) (document i)) e
 
@@ -75,36 +77,39 @@ files_in held documents = files_from (docs.document_of documents) 1 held.rows
 
 -- the file with an id after it
 pub file_changed : (old new : files.Held) (olds news : docs.Held) (id : ℕ) (row : Option FileRow) (document : Option Document) → IsChanged old new olds news id row document
-    → (other : ℕ) → file_in (files_in new news) other ≡ cond (eqb id other) (joined row document) (file_in (files_in old olds) other)
+    → (other : ℕ)
+    → row_in (files_in new news) other ≡ cond (eqb id other) (joined row document) (row_in (files_in old olds) other)
 file_changed old new olds news id row document h other =
-    file_in-files_from (docs.document_of news) new.rows other
+    row_in-files_from (docs.document_of news) new.rows other
     ∙ ap (λ r. joined r (docs.document_of news other)) (h.rows_are other)
     ∙ ap (joined (cond (eqb id other) row (files.row_of old other))) (h.documents_are other)
     ∙ joined-cond (eqb id other) row (files.row_of old other) document (docs.document_of olds other)
-    ∙ ap (cond (eqb id other) (joined row document)) (sym (file_in-files_from (docs.document_of olds) old.rows other))
+    ∙ ap (cond (eqb id other) (joined row document)) (sym (row_in-files_from (docs.document_of olds) old.rows other))
 
 -- the files after it
 pub files_changed : (old new : files.Held) (olds news : docs.Held) (id : ℕ) (row : Option FileRow) (document : Option Document) → IsChanged old new olds news id row document
-    → files_in new news ≡ with_file id (joined row document) (files_in old olds)
-files_changed old new olds news id row document h = same_files (files_in new news) (with_file id (joined row document) (files_in old olds)) long each
+    → files_in new news ≡ with_row id (joined row document) (files_in old olds)
+files_changed old new olds news id row document h =
+    same_rows (files_in new news) (with_row id (joined row document) (files_in old olds)) long each
   where
     within : id ≤ length (files_in old olds) + 1
     within = omega (arith, h.within, length-files_from (docs.document_of olds) 1 old.rows)
 
-    long : length (files_in new news) ≡ length (with_file id (joined row document) (files_in old olds))
+    long : length (files_in new news) ≡ length (with_row id (joined row document) (files_in old olds))
     long =
         length-files_from (docs.document_of news) 1 new.rows ∙ h.made
-        ∙ sym (length-with_file id (joined row document) (files_in old olds) h.some within
+        ∙ sym (length-with_row id (joined row document) (files_in old olds) h.some within
         ∙ ap (λ n. cond (ltb n id) id n) (length-files_from (docs.document_of olds) 1 old.rows))
 
-    each : (other : ℕ) → file_in (files_in new news) other ≡ file_in (with_file id (joined row document) (files_in old olds)) other
+    each : (other : ℕ)
+        → row_in (files_in new news) other ≡ row_in (with_row id (joined row document) (files_in old olds)) other
     each other =
         file_changed old new olds news id row document h other
-        ∙ sym (file_in-with_file id (joined row document) (files_in old olds) other h.some within)
+        ∙ sym (row_in-with_row id (joined row document) (files_in old olds) other h.some within)
 
 -- the file with an id in the world of a state
 pub file_of-world : (held : files.Held) (documents : docs.Held) (entries id : ℕ) → file_of (world_in held documents entries) id ≡ joined (files.row_of held id) (docs.document_of documents id)
-file_of-world held documents entries id = file_in-files_from (docs.document_of documents) held.rows id
+file_of-world held documents entries id = row_in-files_from (docs.document_of documents) held.rows id
 
 -- what the edits of a step made of the parts of a state
 pub record IsCarriedOut (old new : files.Held) (olds news : docs.Held) (kept kept' : layers.Held) (marks marks' : Marks) (step : Step) : Type 0 where
@@ -135,7 +140,8 @@ pub carried_out : (old drawn new : files.Held) (olds news : docs.Held) (kept kep
     → marks'.count + one_if (is_on marks step.id) ≡ marks.count + one_if on
     → IsCarriedOut old new olds news kept kept' marks marks' step
 carried_out old drawn new olds news kept kept' marks marks' step on same next rows_are made next' documents_are open_are bases overlays is_on_is each count = record {
-  rows_are = λ other. rows_are other ∙ ap (λ all. if step.id == other then edited_row step.row (rows.row_in all step.id) else rows.row_in all other) same;
+  rows_are = λ other. rows_are other
+      ∙ ap (λ all. if step.id == other then edited_row step.row (row_in all step.id) else row_in all other) same;
   made = made ∙ ap (λ (all : List (Option FileRow)). if nat_lt (length all) step.id then step.id else length all) same;
   next = next' ∙ next;
   documents_are = documents_are;
@@ -228,7 +234,7 @@ kept_same old new olds news kept kept' marks marks' entries sound same next docu
     subst (λ w. IsKept w (room_in new news kept' marks')) (sym (world_same old new olds news entries same next documents)) record {
       sound = sound.sound;
       drawn = sound.drawn;
-      whole = λ id none. documents id ∙ sound.whole id (sym (ap (λ all. rows.row_in all id) same) ∙ none);
+      whole = λ id none. documents id ∙ sound.whole id (sym (ap (λ all. row_in all id) same) ∙ none);
       index = λ id. subst (HoldsIndex (file_of (world_in old olds entries) id)) (sym (indexed id)) (sound.index id);
       unready = λ id. each id ∙ sound.unready id;
       unready_count = count ∙ sound.unready_count;
@@ -238,7 +244,7 @@ kept_same old new olds news kept kept' marks marks' entries sound same next docu
     indexed : (id : ℕ) → indexed_in kept' id ≡ indexed_in kept id
     indexed id = ap (λ b. indexed_with b (layers.overlay_of kept' id)) (bases id) ∙ ap (indexed_with (layers.base_of kept id)) (overlays id)
 
-no_file : (id : ℕ) → file_in [] id ≡ None
+no_file : (id : ℕ) → file_of empty_world id ≡ None
 no_file zero = refl
 no_file (suc place) = refl
 
@@ -336,7 +342,7 @@ module _ (old : files.Held) (olds : docs.Held) (kept : layers.Held) (marks : Mar
       → IfSome (put_row step.row) (λ row. files.HasPathRoom old row.path) → IfSome (put_row step.row) (λ row. files.MayHave drawn step.id row.path)
   may_have drawn same keeps room = fit_for drawn step.id (put_row step.row) (λ r put lacks. (
     ap (λ all. rows.id_in all r.path) same ∙ path_free r (some_of (put_row step.row) (λ x. IsPathFree (world_in old olds entries) step.id x.path) r put lawful.path)
-        (ap (λ all. rows.has_path r.path (rows.row_in all step.id)) (sym same) ∙ lacks),
+        (ap (λ all. rows.has_path r.path (row_in all step.id)) (sym same) ∙ lacks),
     keeps r.path (some_of (put_row step.row) (λ x. files.HasPathRoom old x.path) r put room),
   ))
 
@@ -351,22 +357,27 @@ module _ (old : files.Held) (olds : docs.Held) (kept : layers.Held) (marks : Mar
     changed : IsChanged old new olds news step.id row_after document_after
     changed = record { some = omega (arith, lawful.some); within = rows_known; rows_are = carried.rows_are; made = carried.made; documents_are = carried.documents_are }
 
-    files_after : files_in new news ≡ with_file step.id (joined row_after document_after) (files_in old olds)
+    files_after : files_in new news ≡ with_row step.id (joined row_after document_after) (files_in old olds)
     files_after = files_changed old new olds news step.id row_after document_after changed
 
     -- the world after the step
     pub world_after : world_in new news entries ≡ after_step (world_in old olds entries) step
     world_after =
-        ap (λ fs. world_with entries fs new.next_stamp) (files_after ∙ ap (λ f. with_file step.id f (files_in old olds)) (sym stepped_here))
-        ∙ ap (world_with entries (with_file step.id (stepped step (file_of (world_in old olds entries) step.id)) (files_in old olds))) carried.next
+        ap (λ fs. world_with entries fs new.next_stamp)
+        (files_after ∙ ap (λ f. with_row step.id f (files_in old olds)) (sym stepped_here))
+        ∙ ap (world_with entries
+        (with_row step.id (stepped step (file_of (world_in old olds entries) step.id)) (files_in old olds)))
+        carried.next
 
     file_here : (other : ℕ) → other ≡ step.id → file_of (world_in new news entries) other ≡ joined row_after document_after
     file_here other same = file_changed old new olds news step.id row_after document_after changed other
-        ∙ cond-true (eqb step.id other) (joined row_after document_after) (file_in (files_in old olds) other) (eq-eqb step.id other (sym same))
+        ∙ cond-true (eqb step.id other) (joined row_after document_after) (row_in (files_in old olds) other)
+        (eq-eqb step.id other (sym same))
 
     file_there : (other : ℕ) → (step.id ≡ other → ⊥) → file_of (world_in new news entries) other ≡ file_of (world_in old olds entries) other
     file_there other apart = file_changed old new olds news step.id row_after document_after changed other
-        ∙ cond-false (eqb step.id other) (joined row_after document_after) (file_in (files_in old olds) other) (ne_eqb step.id other apart)
+        ∙ cond-false (eqb step.id other) (joined row_after document_after) (row_in (files_in old olds) other)
+        (ne_eqb step.id other apart)
 
     drawn_le : drawn_by step ≤ 1
     drawn_le = one_if_le step.draws
@@ -455,7 +466,8 @@ module _ (old : files.Held) (olds : docs.Held) (kept : layers.Held) (marks : Mar
         → length (filter test (files_in new news)) + one_if (test (file_of (world_in old olds entries) step.id)) ≡ length (filter test (files_in old olds)) + one_if (test (joined row_after document_after))
     count_after test none =
         ap (λ fs. length (filter test fs) + one_if (test (file_of (world_in old olds entries) step.id))) files_after
-        ∙ count-with_file test none step.id (joined row_after document_after) (files_in old olds) (omega (arith, lawful.some))
+        ∙ count-with_row test none step.id (joined row_after document_after) (files_in old olds)
+        (omega (arith, lawful.some))
         (omega (arith, rows_known, length-files_from (docs.document_of olds) 1 old.rows))
 
     unready_count_after : marks'.count ≡ count_of is_unready (world_in new news entries)

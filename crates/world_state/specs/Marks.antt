@@ -1,5 +1,5 @@
 -- Marks of ids: each id is on or off, and those that are on are counted.
-use Rattle.std.specs.Prelude.{ℕ, Bool, false, List, Option, unwrap_or, is_some, if◌then◌else◌}
+use Rattle.std.specs.Prelude.{ℕ, Bool, false, List, Option, unwrap_or, is_some}
 use Rattle.std.specs.Ordering.{nat_cmp}
 use Rattle.std.specs.Map.{lookup}
 use Rattle.std.specs.BTreeMap.{is_at}
@@ -20,7 +20,3 @@ is_on marks id = unwrap_or (mark_in marks.entries id) false
 -- whether an id has a place, so that it can be turned on without memory
 abbrev pub has_mark : Marks → ℕ → Bool
 has_mark marks id = is_some (mark_in marks.entries id)
-
--- one, where it is so
-abbrev pub one_if : Bool → ℕ
-one_if b = if b then 1 else 0

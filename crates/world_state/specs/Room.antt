@@ -11,7 +11,8 @@ use Rattle.world_state.specs.declared.step.IndexEdit.TheVariants.{Keep as KeepIn
 use Rattle.world_state.specs.declared.step.Step.{Step}
 use Rattle.world_state.specs.RowEdits.{put_row}
 use Rattle.world_state.specs.DocEdits.{inserted_by}
-use Rattle.world_state.specs.Marks.{Marks, has_mark, one_if}
+use Rattle.list_laws.specs.Rows.{one_if}
+use Rattle.world_state.specs.Marks.{Marks, has_mark}
 
 -- the room of a state: that of its files, its documents, its index data and its marks
 pub record Room : Type 0 where

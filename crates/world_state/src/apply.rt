@@ -7,7 +7,7 @@ ghost use Rattle.overlay_index.specs.Layers.{base_of, overlay_of, HasRoom as Has
 ghost use Rattle.world_state.specs.RowEdits.{edited_row, put_row};
 ghost use Rattle.world_state.specs.DocEdits.{edited_document, IsDocEditFit, IsWide, inserted_by};
 ghost use Rattle.world_state.specs.IndexEdits.{edited_index};
-ghost use Rattle.world_state.specs.Marks.{one_if};
+ghost use Rattle.list_laws.specs.Rows.{one_if};
 ghost use Rattle.world_state.specs.Room.{opens, brought};
 ghost use Rattle.world_state.specs.State.{indexed_in};
 

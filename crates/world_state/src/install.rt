@@ -10,7 +10,7 @@ ghost use Rattle.world_state.specs.RowEdits.{put_row};
 ghost use Rattle.world_state.specs.DocEdits.{IsWide};
 ghost use Rattle.world_state.specs.Step.{joined, drawn_by, after_step, after_steps};
 ghost use Rattle.world_state.specs.Lawful.{AreLawful, IsLawfulStep};
-ghost use Rattle.world_state.specs.Marks.{one_if};
+ghost use Rattle.list_laws.specs.Rows.{one_if};
 ghost use Rattle.world_state.specs.Held.{HasRoom};
 ghost use Rattle.world_state.specs.Ready.{IsReady};
 ghost use Rattle.world_state.specs.Room.{HasStepRoom, inserted_into, KeepsRoom};

@@ -1,6 +1,7 @@
 //! The ids of the unready files: each is put in and taken out in the time of the logarithm of their number.
 ghost use Rattle.std.specs.Prelude.{◌≡◌, ◌≤◌, ◌<◌, ◌+◌, ℕ, Bool, OnOk, IfOk, IfSome, IfNone, IsTrue, true, false, ◌==◌, if◌then◌else◌};
-ghost use Rattle.world_state.specs.Marks.{is_on, has_mark, one_if};
+ghost use Rattle.list_laws.specs.Rows.{one_if};
+ghost use Rattle.world_state.specs.Marks.{is_on, has_mark};
 
 use std::alloc::{AllocError, Global};
 use std::collections::BTreeMap;

@@ -1,5 +1,5 @@
 use Rattle.std.proofs.Common.{ap, length, ◌∙◌}
-use Rattle.world_state.proofs.FileLemmas.{length-with_row}
+use Rattle.list_laws.proofs.RowLemmas.{length-with_row}
 use Rattle.world_state.proofs.apply.apply_row.Goals as goal
 
 pub returns-in-Put-clause-made : goal.returns-in-Put-clause-made

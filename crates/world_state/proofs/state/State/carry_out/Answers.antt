@@ -5,7 +5,7 @@ use Rattle.document_buf.specs.Held.{document_of, room_of}
 use Rattle.world_state.specs.DocEdits.{IsDocEditFit}
 use Rattle.world_state.specs.Step.{after_step}
 use Rattle.world_state.specs.RowEdits.{put_row}
-use Rattle.world_state.specs.Marks.{one_if}
+use Rattle.list_laws.specs.Rows.{one_if}
 use Rattle.world_state.specs.Room.{Room, KeepsRoom, inserted_into}
 use Rattle.world_state.specs.Lawful.{IsLawfulStep}
 use Rattle.world_state.proofs.WorldLemmas.{rows_known, document_here, new_row_room, may_have, marks_some, marks_few, rows_left, carried_out, world_after, kept_after}
