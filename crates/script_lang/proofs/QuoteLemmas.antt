@@ -38,14 +38,18 @@ unquoted_from-step : (place next : Place) (c : ℕ) (meant : Option ℕ) (cs fro
 unfolding unquoted_from
 unquoted_from-step place next c meant cs front e = rw e (read_then-more front (option_to_list meant) (unquoted_from next cs))
 
--- a turn of the loop: one character, and then a run of those that mean themselves
-pub unquoted_from-turn : (place next : Place) (c : ℕ) (meant : Option ℕ) (after run rest front front' front'' : List ℕ) (u : Option (List ℕ))
-    → step_of place c ≡ Some (next, meant) → front' ≡ front ++ option_to_list meant → front'' ≡ front' ++ run
-    → unquoted_from next after ≡ read_then run (unquoted_from next rest)
-    → read_then front (unquoted_from place (c ∷ after)) ≡ u → read_then front'' (unquoted_from next rest) ≡ u
-unquoted_from-turn place next c meant after run rest front front' front'' u step one more cut before =
-    rw more (sym (read_then-more front' run (unquoted_from next rest)) ∙ ap (read_then front') (sym cut)
-    ∙ ap (λ l. read_then l (unquoted_from next after)) one ∙ sym (unquoted_from-step place next c meant after front step) ∙ before)
+-- a turn of the loop: one character, and then what leaves the meaning as it is
+pub unquoted_from-turn : (place next : Place) (c : ℕ) (meant : Option ℕ) (after front front' : List ℕ) (u left : Option (List ℕ))
+    → step_of place c ≡ Some (next, meant) → front' ≡ front ++ option_to_list meant → left ≡ read_then front' (unquoted_from next after)
+    → read_then front (unquoted_from place (c ∷ after)) ≡ u → left ≡ u
+unquoted_from-turn place next c meant after front front' u left step one same before =
+    same ∙ ap (λ l. read_then l (unquoted_from next after)) one ∙ sym (unquoted_from-step place next c meant after front step) ∙ before
+
+-- a run of characters that mean themselves, moved from the rest to what was read
+pub unquoted_from-moved : (place : Place) (text run rest front front' : List ℕ) → front' ≡ front ++ run
+    → unquoted_from place text ≡ read_then run (unquoted_from place rest)
+    → read_then front' (unquoted_from place rest) ≡ read_then front (unquoted_from place text)
+unquoted_from-moved place text run rest front front' more cut = rw (more, cut) (sym (read_then-more front run (unquoted_from place rest)))
 
 -- where the form breaks
 pub unquoted_from-breaks : (place : Place) (c : ℕ) (cs front : List ℕ) (u : Option (List ℕ)) → step_of place c ≡ None

@@ -1,5 +1,5 @@
 //! A text in quotes: its form, its escapes, its line breaks and its length.
-ghost use Rattle.std.specs.Prelude.{◌≡◌, ℕ, ◌<◌, [], ◌∷◌, ◌++◌, IfOk, MatchOption, Some, None, length, take, drop, option_map, string_bytes};
+ghost use Rattle.std.specs.Prelude.{◌≡◌, ℕ, ◌<◌, ◌≤◌, [], ◌∷◌, ◌++◌, IfOk, MatchOption, Some, None, length, take, drop, option_map, string_bytes};
 ghost use Rattle.std.specs.Str.{chars, IsCharBoundary};
 ghost use Rattle.script_lang.specs.Quotes.{escape_of, step_of, unquoted_from, text_of_field};
 
@@ -51,10 +51,8 @@ fn unquoted(alloc: Global, field: &str) -> Result<Option<String>, AllocError>
         if let Some(meant) = meant {
             text.push(meant)?;
         }
-        let (plain, left) = after.split_at(plain_len(next, after));
-        text.push_str(plain)?;
+        rest = add_plain(&mut text, next, after)?;
         place = next;
-        rest = left;
     }
     Ok(match place {
         Place::Behind => Some(text),
@@ -70,6 +68,34 @@ fn first_char(text: &str) -> Option<(char, &str)>
     let mut chars = text.chars();
     let c = chars.next()?;
     Some((c, chars.as_str()))
+}
+
+/// Adds the first characters of a text, read from a place on, that mean themselves, where there are some; and gives
+/// what stands behind them.
+fn add_plain<'a>(out: &mut String, place: Place, text: &'a str) -> Result<&'a str, AllocError>
+    ensures same { IfOk result (λ rest. option_map (λ cs. chars (string_bytes out.new) ++ cs) (unquoted_from place (chars rest.now))
+        ≡ option_map (λ cs. chars (string_bytes out.old) ++ cs) (unquoted_from place (chars text.now))) }
+    ensures shorter { IfOk result (λ rest. length rest.now ≤ length text.now) }
+{
+    if !begins_plain(place, text.as_bytes()) {
+        return Ok(text);
+    }
+    let (plain, rest) = text.split_at(plain_len(place, text));
+    out.push_str(plain)?;
+    Ok(rest)
+}
+
+/// Whether two bytes at the front mean themselves: a single one isn't worth a search.
+fn begins_plain(place: Place, bytes: &[u8]) -> bool {
+    match place {
+        Place::Inside => 1 < bytes.len() && is_plain(bytes[0]) && is_plain(bytes[1]),
+        _ => false,
+    }
+}
+
+/// Whether a byte is no quote and no backslash.
+fn is_plain(byte: u8) -> bool {
+    byte != b'"' && byte != b'\\'
 }
 
 /// How many bytes of a text, read from a place on, spell characters that mean themselves, up to the first that doesn't.
