@@ -7,7 +7,7 @@ use Rattle.document_buf.specs.Document.{Document}
 use Rattle.write_history.specs.World.{World, File, file_of, id_at}
 use Rattle.write_history.specs.Effect.{Put, edit_at}
 use Rattle.write_history.specs.Fold.{after_put}
-use Rattle.write_history.proofs.PutLemmas.{live_is_made}
+use Rattle.list_laws.proofs.RowLemmas.{live_is_made}
 use Rattle.world_state.specs.declared.step.Step.{Step}
 use Rattle.world_state.specs.RowEdits.{edited_row, put_row}
 use Rattle.world_state.specs.DocEdits.{edited_document, IsDocEditFit}

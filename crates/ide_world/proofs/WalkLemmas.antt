@@ -1,12 +1,14 @@
 -- What the readers of a draft see, as folds over its steps; and a draft with one step more.
-use Rattle.std.proofs.Common.{ℕ, zero, suc, ◌≡◌, ◌+◌, ◌<◌, ◌≤◌, Bool, true, false, List, [], ◌∷◌, ◌++◌, length, get_or, filter, refl, ap, sym, ◌∙◌, subst, arith, Some, None, length-append}
+use Rattle.std.proofs.Common.{ℕ, ◌≡◌, ◌+◌, ◌<◌, ◌≤◌, Bool, true, false, List, [], ◌∷◌, ◌++◌, length, refl, ap, sym, ◌∙◌, subst, arith, Some, None, length-append}
 use Rattle.std.specs.Prelude.{Result, Ok, Err, IfOk, Option, option_map, is_some, if◌then◌else◌, ◌==◌, not, ◌&&◌, ◌||◌}
 use Rattle.std.specs.List.{fold, list_any}
 use Rattle.std.proofs.lemmas.Bool.{eqb-true}
+use Rattle.list_laws.specs.Rows.{one_if}
 use Rattle.list_laws.proofs.BoolLemmas.{bool_cases}
+use Rattle.list_laws.proofs.RowLemmas.{length-within, length-next, count-with_row, counted_in, count_le}
 use Rattle.document_buf.specs.Document.{Document}
-use Rattle.write_history.specs.World.{World, File, file_in, file_of, id_at, is_open, count_of, next_id}
-use Rattle.write_history.specs.Effect.{put_at, with_file, is_uncommitted, max_files}
+use Rattle.write_history.specs.World.{World, File, file_of, id_at, is_open, count_of}
+use Rattle.write_history.specs.Effect.{is_uncommitted, max_files}
 use Rattle.world_state.specs.declared.step.Step.{Step}
 use Rattle.world_state.specs.declared.step.DocEdit.{DocEdit}
 use Rattle.world_state.specs.declared.step.DocEdit.TheVariants.{Keep, Open, Insert, Erase, Commit, MarkSaved, Replace, Close}
@@ -18,7 +20,7 @@ use Rattle.world_state.specs.Lawful.{IsLawfulStep, AreLawfulFrom, AreWide, inser
 use Rattle.ide_world.specs.declared.look.Look.{Look}
 use Rattle.ide_world.specs.Drafted.{Drafted, IsDraft, world_now, drafted, IsKept}
 use Rattle.ide_world.specs.declared.draft.Draft.TheInside.{Inside}
-use Rattle.ide_world.specs.Walk.{row_after, look_of, look_after, edited_look, committed_after, edited_committed, text_after, edited_text, id_after, edits_texts, keeps_texts, IsTextEditFit, AreTextEditsFit, one, is_open_after}
+use Rattle.ide_world.specs.Walk.{row_after, look_of, look_after, edited_look, committed_after, edited_committed, text_after, edited_text, id_after, edits_texts, keeps_texts, IsTextEditFit, AreTextEditsFit, is_open_after}
 use Rattle.ide_world.proofs.StepLemmas.{part-after_step, row_part-stepped, document_part-stepped, reads_steps, sound_after_step}
 use Rattle.ide_world.proofs.EditLemmas.{text_of_document, committed_of, look-edited, committed-edited, text-edited, text_edit_fits, kept_text, kept_committed}
 use Rattle.ide_world.proofs.PathLemmas.{id_at-after_step}
@@ -143,68 +145,29 @@ pushed d s h l few wide = record {
 
 -- ---- how many files were made, and how many are open
 
-tally-cons : (test : Option File → Bool) (x : Option File) (xs : List (Option File)) → length (filter test (x ∷ xs)) ≡ one (test x) + length (filter test xs)
-tally-cons test x xs = bool_cases (test x) (λ b. length (if b then x ∷ filter test xs else filter test xs) ≡ one b + length (filter test xs)) (λ t. omega arith) (λ f. omega arith)
-
-tally-put : (test : Option File → Bool) → test None ≡ false → (place : ℕ) (file : Option File) (files : List (Option File)) → place ≤ length files
-    → length (filter test (put_at place file files)) + one (test (get_or files place None)) ≡ length (filter test files) + one (test file)
-tally-put test none zero file [] l = let a = tally-cons test file [] in let z : one (test None) ≡ 0 = ap one none in omega arith
-tally-put test none zero file (other ∷ files) l = let a = tally-cons test file files in let b = tally-cons test other files in omega arith
-tally-put test none (suc place) file [] l = absurd (omega arith)
-tally-put test none (suc place) file (other ∷ files) l =
-    let r = tally-put test none place file files (omega arith) in
-    let a = tally-cons test other (put_at place file files) in
-    let b = tally-cons test other files in
-    omega arith
-
-tally-with : (test : Option File → Bool) → test None ≡ false → (id : ℕ) (file : Option File) (files : List (Option File)) → 1 ≤ id → id ≤ length files + 1
-    → length (filter test (with_file id file files)) + one (test (file_in files id)) ≡ length (filter test files) + one (test file)
-tally-with test none zero file files some within = absurd (omega arith)
-tally-with test none (suc place) file files some within = tally-put test none place file files (omega arith)
-
 is_open-part : (file : Option File) → is_open file ≡ is_some (document_part file)
 is_open-part None = refl
 is_open-part (Some file) = refl
 
 pub open_count-step : (w : World) (s : Step) → IsLawfulStep w s
-    → count_of is_open (after_step w s) + one (is_some (document_part (file_of w s.id)))
-    ≡ count_of is_open w + one (is_some (edited_document s.doc (document_part (file_of w s.id))))
+    → count_of is_open (after_step w s) + one_if (is_some (document_part (file_of w s.id)))
+    ≡ count_of is_open w + one_if (is_some (edited_document s.doc (document_part (file_of w s.id))))
 open_count-step w s l =
-    let e = tally-with is_open refl s.id (stepped s (file_of w s.id)) w.files l.some l.within in
-    let a : one (is_open (file_of w s.id)) ≡ one (is_some (document_part (file_of w s.id))) = ap one (is_open-part (file_of w s.id)) in
-    let b : one (is_open (stepped s (file_of w s.id))) ≡ one (is_some (edited_document s.doc (document_part (file_of w s.id))))
-    = ap one (is_open-part (stepped s (file_of w s.id)) ∙ ap is_some (document_part-stepped w s l)) in
+    let e = count-with_row is_open refl s.id (stepped s (file_of w s.id)) w.files l.some l.within in
+    let a : one_if (is_open (file_of w s.id)) ≡ one_if (is_some (document_part (file_of w s.id))) =
+    ap one_if (is_open-part (file_of w s.id)) in
+    let b : one_if (is_open (stepped s (file_of w s.id)))
+    ≡ one_if (is_some (edited_document s.doc (document_part (file_of w s.id)))) =
+    ap one_if (is_open-part (stepped s (file_of w s.id)) ∙ ap is_some (document_part-stepped w s l)) in
     ap (λ n. count_of is_open (after_step w s) + n) (sym a) ∙ e ∙ ap (λ n. count_of is_open w + n) b
 
-length-inside : (place : ℕ) (file : Option File) (files : List (Option File)) → place < length files → length (put_at place file files) ≡ length files
-length-inside place file [] l = absurd (omega arith)
-length-inside zero file (other ∷ files) l = refl
-length-inside (suc place) file (other ∷ files) l = ap suc (length-inside place file files (omega arith))
-
-length-behind : (place : ℕ) (file : Option File) (files : List (Option File)) → place ≡ length files → length (put_at place file files) ≡ length files + 1
-length-behind zero file [] l = refl
-length-behind zero file (other ∷ files) l = absurd (omega arith)
-length-behind (suc place) file [] l = absurd (omega arith)
-length-behind (suc place) file (other ∷ files) l = let r = length-behind place file files (omega arith) in omega arith
-
 pub made_same : (w : World) (s : Step) → IsLawfulStep w s → s.id ≤ length w.files → length (after_step w s).files ≡ length w.files
-made_same w s l le = with_id s.id l.some le
-  where
-    with_id : (id : ℕ) → 1 ≤ id → id ≤ length w.files → length (with_file id (stepped s (file_of w s.id)) w.files) ≡ length w.files
-    with_id zero some within = absurd (omega arith)
-    with_id (suc place) some within = length-inside place (stepped s (file_of w s.id)) w.files (omega arith)
+made_same w s l le = length-within s.id (stepped s (file_of w s.id)) w.files l.some le
 
 pub made_more : (w : World) (s : Step) → IsLawfulStep w s → length w.files < s.id → (length (after_step w s).files ≡ length w.files + 1) × (length w.files < max_files)
-made_more w s l lt = let le = l.within in (with_id s.id (omega arith), (l.made (omega arith)).0)
-  where
-    with_id : (id : ℕ) → id ≡ length w.files + 1 → length (with_file id (stepped s (file_of w s.id)) w.files) ≡ length w.files + 1
-    with_id zero e = absurd (omega arith)
-    with_id (suc place) e = length-behind place (stepped s (file_of w s.id)) w.files (omega arith)
-
-pub filter-le : (test : Option File → Bool) (files : List (Option File)) → length (filter test files) ≤ length files
-filter-le test [] = omega arith
-filter-le test (file ∷ files) = let a = tally-cons test file files in let r = filter-le test files in
-    bool_cases (test file) (λ b. length (filter test (file ∷ files)) ≡ one b + length (filter test files) → length (filter test (file ∷ files)) ≤ length (file ∷ files)) (λ t e. omega arith) (λ f e. omega arith) a
+made_more w s l lt =
+    let le = l.within in
+    (length-next s.id (stepped s (file_of w s.id)) w.files (omega arith), (l.made (omega arith)).0)
 
 -- a walk from what the state has gives what the draft has
 pub read_by : {A : Type 0} (edit : A → Step → A) (r first old now : A) (ss kept : List Step) → r ≡ fold edit first ss → first ≡ old → ss ≡ kept → now ≡ fold edit old kept → r ≡ now
@@ -235,14 +198,15 @@ is_some-edited Close d fit = refl
 
 pub open_count-after : (d now : Drafted) (s : Step) (opened result : ℕ) (was is : Bool) (look : Option Look) → d ≡ now → IsLawfulStep (world_now now) s
     → look ≡ option_map look_of (document_part (file_of (world_now now) s.id)) → was ≡ is_some look → is ≡ is_open_after s.doc was
-    → opened ≡ count_of is_open (world_now d) → result + one was ≡ opened + one is → result ≡ count_of is_open (after_step (world_now now) s)
+    → opened ≡ count_of is_open (world_now d) → result + one_if was ≡ opened + one_if is
+    → result ≡ count_of is_open (after_step (world_now now) s)
 open_count-after d now s opened result was is look same l looked w i o e =
     let doc = document_part (file_of (world_now now) s.id) in
     let a : was ≡ is_some doc = w ∙ ap is_some looked ∙ is_some_look doc in
     let b : is ≡ is_some (edited_document s.doc doc) = i ∙ ap (is_open_after s.doc) a ∙ sym (is_some-edited s.doc doc l.doc) in
     let c = open_count-step (world_now now) s l in
-    let a' : one was ≡ one (is_some doc) = ap one a in
-    let b' : one is ≡ one (is_some (edited_document s.doc doc)) = ap one b in
+    let a' : one_if was ≡ one_if (is_some doc) = ap one_if a in
+    let b' : one_if is ≡ one_if (is_some (edited_document s.doc doc)) = ap one_if b in
     let o' : opened ≡ count_of is_open (world_now now) = o ∙ ap (λ x. count_of is_open (world_now x)) same in
     omega arith
   where
@@ -250,12 +214,14 @@ open_count-after d now s opened result was is look same l looked w i o e =
     is_some_look None = refl
     is_some_look (Some doc) = refl
 
-pub some_open : (d now : Drafted) (id opened : ℕ) (was : Bool) (look : Option Look) → d ≡ now → 1 ≤ id → id ≤ next_id (world_now now)
-    → look ≡ option_map look_of (document_part (file_of (world_now now) id)) → was ≡ is_some look → opened ≡ count_of is_open (world_now d) → one was ≤ opened
-some_open d now id opened was look same some within looked w o =
+pub some_open : (d now : Drafted) (id opened : ℕ) (was : Bool) (look : Option Look) → d ≡ now
+    → look ≡ option_map look_of (document_part (file_of (world_now now) id)) → was ≡ is_some look
+    → opened ≡ count_of is_open (world_now d) → one_if was ≤ opened
+some_open d now id opened was look same looked w o =
     let doc = document_part (file_of (world_now now) id) in
-    let a : one was ≡ one (is_open (file_of (world_now now) id)) = ap one (w ∙ ap is_some looked ∙ is_some_look (file_of (world_now now) id)) in
-    let c = tally-with is_open refl id None (world_now now).files some within in
+    let a : one_if was ≡ one_if (is_open (file_of (world_now now) id)) =
+    ap one_if (w ∙ ap is_some looked ∙ is_some_look (file_of (world_now now) id)) in
+    let c = counted_in is_open refl id (world_now now).files in
     let o' : opened ≡ count_of is_open (world_now now) = o ∙ ap (λ x. count_of is_open (world_now x)) same in
     omega arith
   where
@@ -268,7 +234,7 @@ some_open d now id opened was look same some within looked w o =
         by_document (Some doc) = refl
 
 pub few_open : (d : Drafted) (opened made : ℕ) → opened ≡ count_of is_open (world_now d) → made ≡ length (world_now d).files → made ≤ max_files → opened ≤ 65536
-few_open d opened made o m s = let l = filter-le is_open (world_now d).files in omega arith
+few_open d opened made o m s = let l = count_le is_open (world_now d).files in omega arith
 
 pub made_after_more : (d now : Drafted) (s : Step) (made : ℕ) → d ≡ now → IsLawfulStep (world_now now) s → made ≡ length (world_now d).files → made < s.id
     → (made + 1 ≡ length (after_step (world_now now) s).files) × (made + 1 ≤ 65536)

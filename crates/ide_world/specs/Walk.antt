@@ -111,11 +111,6 @@ AreTextEditsFit id text [] = Unit {0}
 AreTextEditsFit id text (step ∷ steps) =
     ((step.id == id) ≡ true → IsTextEditFit step.doc text) × AreTextEditsFit id (text_after id text step) steps
 
--- 1 where a test holds, else 0
-abbrev pub one : Bool → ℕ
-one true = 1
-one false = 0
-
 -- whether a document is open after an edit
 abbrev pub is_open_after : DocEdit → Bool → Bool
 is_open_after Keep was = was

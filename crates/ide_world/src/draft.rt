@@ -1,12 +1,13 @@
 //! A draft: the state, read only, and the steps that the changes of a list made so far.
 ghost use Rattle.std.specs.Prelude.{◌≡◌, ◌<◌, ◌≤◌, ◌≢◌, ◌+◌, ◌*◌, ◌^◌, if◌then◌else◌, ◌++◌, ◌∷◌, [], not, IfOk, IfSome, IfNone, OnOk, OnErr, IsSome, is_some, length, option_map};
 ghost use Rattle.std.specs.Option.{option_copied};
+ghost use Rattle.list_laws.specs.Rows.{one_if};
 ghost use Rattle.write_history.specs.World.{file_of, id_at, document_at, count_of, is_open};
 ghost use Rattle.write_history.specs.Effect.{is_uncommitted, document_len, is_unsaved};
 ghost use Rattle.world_state.specs.Step.{row_part, document_part, after_step};
 ghost use Rattle.world_state.specs.Lawful.{AreLawful, IsLawfulStep, inserted_by_all};
 ghost use Rattle.world_state.specs.DocEdits.{IsWide};
-ghost use Rattle.ide_world.specs.Walk.{look_of, one, is_open_after};
+ghost use Rattle.ide_world.specs.Walk.{look_of, is_open_after};
 
 use crate::look::Look;
 use crate::walk;
@@ -291,9 +292,9 @@ fn later(stamp: u64, draws: bool) -> u64
 
 /// A number of open documents, where one was open or not and is or isn't now.
 fn exchanged(count: u32, was_open: bool, is_open: bool) -> u32
-    requires some { one was_open ≤ count }
+    requires some { one_if was_open ≤ count }
     requires few { count < 2 ^ 31 }
-    ensures { result + one was_open ≡ count + one is_open }
+    ensures { result + one_if was_open ≡ count + one_if is_open }
 {
     match (was_open, is_open) {
         (true, false) => count - 1,
