@@ -8,17 +8,23 @@
     bench/bench.py limits     a history, files and documents at their limits, at a half and at all of them
     bench/bench.py demo       `ide demo` with 5,000 and 10,000 files
     bench/bench.py one        one file of 1,000,000 characters, of ordinary code and of hostile texts
+    bench/bench.py creates one --beside OLD
+                              the same of another built program too, in turn, with the ratios of this one to it
 
 Run `./ide < examples/first.ide` once before, so that the program is built. Times on shared machines say
 little by themselves: read the ratios between the rows of one run.
 """
-import pathlib
-import subprocess
+import multiprocessing
 import sys
-import time
+import tempfile
 
-TOP = pathlib.Path(__file__).resolve().parent.parent
-PROGRAM = TOP / "crates/ide/out/ide"
+from real import PROGRAM, used
+
+# Another built program, where one is named.
+BESIDE = []
+
+# A small process that starts the programs: the memory of the one that starts a program counts as the program's own peak.
+STARTER = multiprocessing.get_context("fork").Pool(1)
 
 
 def text(i, size):
@@ -29,18 +35,18 @@ def text(i, size):
     return (body + "/" + "/" + "x" * max(0, size - len(body) - 3) + "}")[:size]
 
 
+def measured(program, script, words=()):
+    """Seconds, the least of three runs, and megabytes, the most of them, that a program takes on a script."""
+    with tempfile.NamedTemporaryFile("w", suffix=".ide") as source:
+        source.write(script)
+        source.flush()
+        turns = [STARTER.apply(used, ([program, *words], source.name)) for _ in range(3)]
+    return min(turn[0] for turn in turns), max(turn[2] for turn in turns)
+
+
 def run(script, words=()):
-    """Seconds that the program takes on a script, with these words; the least of three runs."""
-    data = script.encode()
-    best = None
-    for _ in range(3):
-        start = time.perf_counter()
-        done = subprocess.run([PROGRAM, *words], input=data, stdout=subprocess.PIPE, stderr=subprocess.PIPE)
-        took = time.perf_counter() - start
-        if done.returncode != 0:
-            sys.exit(f"the program ended with {done.returncode}: {done.stderr.decode()}")
-        best = took if best is None else min(best, took)
-    return best
+    """Seconds that this repository's program takes on a script, with these words; the least of three runs."""
+    return measured(PROGRAM, script, words)[0]
 
 
 def workspace(files, size):
@@ -54,11 +60,21 @@ def row(name, script, seconds, rest=""):
     print(f"  {name:14} {size:7.2f} MB  {seconds:7.3f} s  {size / seconds:6.1f} MB/s{rest}")
 
 
+def rows(name, script):
+    """A row for this program, beside the other one where one is named."""
+    seconds, memory = measured(PROGRAM, script)
+    rest = f"  {memory:6.1f} MB"
+    for other in BESIDE:
+        before, held = measured(other, script)
+        rest += f"   beside {before:7.3f} s {held:6.1f} MB   time {seconds / before:5.2f} memory {memory / held:5.2f}"
+    row(name, script, seconds, rest)
+
+
 def creates(files=500, size=5000, words=100):
     print(f"files of {size} characters, a settle and {words} words")
     for n in (files, 2 * files, 4 * files):
         script = workspace(n, size) + "".join(f"word method{i}\n" for i in range(words))
-        row(f"{n} files", script, run(script))
+        rows(f"{n} files", script)
 
 
 def edits(turns=20000, size=500):
@@ -78,10 +94,10 @@ def limits():
     print("limits: half of each and all of it, with one more refused")
     for n in (524288, 1048576):
         script = 'create A ""\n' + 'write A ""\n' * n
-        row(f"{n} writes", script, run(script))
+        rows(f"{n} writes", script)
     for n in (32768, 65536):
         script = "".join(f'create f{i} ""\n' for i in range(n)) + 'create z ""\n'
-        row(f"{n} files", script, run(script))
+        rows(f"{n} files", script)
     for n in (512, 1024):
         script = "".join(f'create f{i} ""\nopen f{i}\n' for i in range(n)) + 'create z ""\nopen z\n'
         row(f"{n} documents", script, run(script))
@@ -111,12 +127,15 @@ def one(size=1_000_000):
     }
     for name, body in texts.items():
         script = f'create A.java "{body}"\nsettle\nword a\n'
-        row(name, script, run(script))
+        rows(name, script)
 
 
 def main():
     measures = {"creates": creates, "edits": edits, "one": one, "limits": limits, "demo": demo}
-    for name in sys.argv[1:] or measures:
+    words = sys.argv[1:]
+    if "--beside" in words:
+        words, BESIDE[:] = words[: words.index("--beside")], words[words.index("--beside") + 1 :]
+    for name in words or measures:
         measures[name]()
 
 

@@ -1,5 +1,5 @@
 -- What the words of the command line ask for.
-use Rattle.std.specs.Prelude.{ℕ, ◌≤◌, List, Option, Some, None, option_and_then, option_map, codes, if◌then◌else◌, Bool, is_some}
+use Rattle.std.specs.Prelude.{ℕ, ◌≤◌, List, Option, Some, None, option_and_then, option_map, codes, if◌then◌else◌}
 use Rattle.std.specs.Str.{bytes_eq}
 use Rattle.clap.specs.Walk.{Row, Text, first_of, is_empty}
 use Rattle.clap.specs.Words.{fault_of, subcommand_of}
@@ -52,10 +52,6 @@ request_by (Some (name, options)) = if bytes_eq name (codes "play") then play_by
 -- what the words ask for, where clap takes them and no help is asked for: then it has no fault to tell of them
 abbrev pub request_of : List Text → Option Request
 request_of words = if is_empty (fault_of command words) then request_by (subcommand_of command words) else None
-
--- the words are in the grammar
-abbrev pub is_command : List Text → Bool
-is_command words = is_some (request_of words)
 
 -- the numbers of a request lie within their bounds
 abbrev pub IsInRange : Request → Type 0
