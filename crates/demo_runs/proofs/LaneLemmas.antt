@@ -8,7 +8,7 @@ use Rattle.write_history.specs.declared.change.Change.TheVariants.{Write}
 use Rattle.write_history.specs.declared.entry.Entry.{Entry}
 use Rattle.write_history.specs.Effect.{max_entries}
 use Rattle.write_history.specs.Fold.{list_refusal, ListRefusal, fold, IsLegal}
-use Rattle.ide_home.specs.Settle.{entry_of}
+use Rattle.ide_calls.specs.Settle.{entry_of}
 use Rattle.script_lang.specs.declared.command.Command.TheVariants as command
 use Rattle.transcripts.specs.declared.loaded.Loaded.TheVariants.{Nothing}
 use Rattle.transcripts.specs.declared.record.Answer.{Answer}

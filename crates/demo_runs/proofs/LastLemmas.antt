@@ -8,7 +8,7 @@ use Rattle.write_history.specs.declared.refusal.Refusal.{Refusal}
 use Rattle.write_history.specs.World.{World, next_id}
 use Rattle.write_history.specs.Effect.{max_entries}
 use Rattle.write_history.specs.Fold.{fold, IsLegal}
-use Rattle.ide_home.specs.Settle.{Settled, settled}
+use Rattle.ide_calls.specs.Settle.{Settled, settled}
 use Rattle.queries.specs.declared.query.Query.{Query}
 use Rattle.queries.specs.declared.query.Query.TheVariants as query
 use Rattle.query_engine.specs.declared.answer.Row.{Row}

@@ -7,7 +7,7 @@ use Rattle.write_history.specs.World.{World, File, file_of, next_id, id_at, is_u
 use Rattle.write_history.specs.Effect.{Put, put_of, refusal_of, max_entries}
 use Rattle.write_history.specs.Fold.{after_put, effect_of, list_refusal, ListRefusal, fold, fold_from, IsLegal, IsLegalFrom}
 use Rattle.write_history.specs.Stamps.{files_made}
-use Rattle.ide_home.specs.Settle.{all_settled, with_entry, intake_of, intake_entry, settled}
+use Rattle.ide_calls.specs.Settle.{all_settled, with_entry, intake_of, intake_entry, settled}
 
 -- what the functions of laws of the history tell
 pub record Laws : Type 0 where

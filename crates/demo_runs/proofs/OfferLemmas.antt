@@ -11,7 +11,7 @@ use Rattle.write_history.specs.declared.refusal.Refusal.{Refusal}
 use Rattle.write_history.specs.World.{World, File, file_of, next_id}
 use Rattle.write_history.specs.Effect.{Put, put_of, refusal_of, stamp_of, rewritten, taken_in}
 use Rattle.write_history.specs.Fold.{effect_of, counted, fold, IsLegal}
-use Rattle.ide_home.specs.Settle.{intake_of}
+use Rattle.ide_calls.specs.Settle.{intake_of}
 use Rattle.index_workers.specs.Work.{IsIntakeBy}
 use Rattle.transcripts.specs.Fits.{made_by}
 use Rattle.demo_runs.specs.Alike.{IsOneEdit}

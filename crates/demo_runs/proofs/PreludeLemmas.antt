@@ -8,7 +8,7 @@ use Rattle.write_history.specs.declared.entry.Entry.{Entry}
 use Rattle.write_history.specs.Path.{is_path}
 use Rattle.write_history.specs.World.{next_id, id_at}
 use Rattle.write_history.specs.Fold.{ListRefusal, fold, IsLegal}
-use Rattle.ide_home.specs.Settle.{entry_of}
+use Rattle.ide_calls.specs.Settle.{entry_of}
 use Rattle.transcripts.specs.declared.record.Record.{Record}
 use Rattle.transcripts.specs.Serial.{Step, step_unless, change_step, done_from}
 use Rattle.demo_runs.specs.Apart.{Edit, create_line, IsAmong}

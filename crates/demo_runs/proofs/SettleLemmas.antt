@@ -7,7 +7,7 @@ use Rattle.write_history.specs.declared.entry.Entry.{Entry}
 use Rattle.write_history.specs.World.{File, file_of, next_id, is_unready, ids_from, lowest_unready, unready_ids}
 use Rattle.write_history.specs.Effect.{stamp_of, max_entries}
 use Rattle.write_history.specs.Fold.{list_refusal, ListRefusal, fold, IsLegal}
-use Rattle.ide_home.specs.Settle.{Settled, settled, all_settled, with_entry, intake_of, intake_entry}
+use Rattle.ide_calls.specs.Settle.{Settled, settled, all_settled, with_entry, intake_of, intake_entry}
 use Rattle.demo_runs.specs.Alike.{Seen, seen_at, seen_after_all, IsOneEdit, IsAlike}
 use Rattle.demo_runs.proofs.LawLemmas.{Laws, SettleLaws}
 use Rattle.demo_runs.proofs.SeenLemmas.{seen_all, ids_all}

@@ -8,7 +8,7 @@ ghost use Rattle.transcripts.specs.Transcript.{summary_of};
 ghost use Rattle.demo_runs.specs.Apart.{WritesApart};
 ghost use Rattle.demo_runs.specs.Parts.{demo_parts};
 
-use ide_home::laws::{a_settle_goes_by_the_lowest, intakes_are_refused_where_full};
+use ide_calls::laws::{a_settle_goes_by_the_lowest, intakes_are_refused_where_full};
 use transcripts::laws::a_section_alone_is_serial;
 use write_history::laws::{
     histories_go_on, ids_are_places, live_files_have_paths_of_their_own, puts_change_one_file,

@@ -8,8 +8,8 @@ use Rattle.action_lock.proofs.AdvanceLemmas.{advances_on}
 use Rattle.write_history.specs.declared.change.Change.{Change}
 use Rattle.write_history.specs.declared.entry.Entry.{Entry}
 use Rattle.write_history.specs.Fold.{fold, list_refusal, IsLegal}
-use Rattle.ide_home.specs.Made.{HasFound}
-use Rattle.ide_home.specs.Settle.{entry_of}
+use Rattle.ide_calls.specs.Made.{HasFound}
+use Rattle.ide_calls.specs.Settle.{entry_of}
 use Rattle.ide_calls.specs.Change.{HasAccepted}
 use Rattle.ide_calls.proofs.FoundLemmas.{CountsEntries}
 

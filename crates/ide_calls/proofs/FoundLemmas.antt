@@ -12,7 +12,7 @@ use Rattle.write_history.specs.declared.entry.Entry.{Entry}
 use Rattle.write_history.specs.World.{World}
 use Rattle.write_history.specs.Fold.{fold, IsLegal}
 use Rattle.queries.specs.declared.query.Query.{Query}
-use Rattle.ide_home.specs.Made.{HasFound}
+use Rattle.ide_calls.specs.Made.{HasFound}
 use Rattle.ide_calls.specs.declared.replied.Replied.{Replied}
 use Rattle.ide_calls.specs.Replied.{IsRepliedIn, HasReplied}
 

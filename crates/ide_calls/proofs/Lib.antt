@@ -1,3 +1,9 @@
+pub mod SettledLemmas
+pub mod ReadLemmas
+pub mod MadeLemmas
+pub mod StepLemmas
+pub mod TurnLemmas
+pub mod SettleLemmas
 pub mod RuleLemmas
 pub mod FoundLemmas
 pub mod PlanLemmas

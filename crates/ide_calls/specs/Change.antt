@@ -8,8 +8,8 @@ use Rattle.write_history.specs.declared.refusal.Refusal.{Refusal}
 use Rattle.write_history.specs.World.{file_of, is_unready}
 use Rattle.write_history.specs.Fold.{fold, list_refusal}
 use Rattle.ide_world.specs.Ready.{is_want_of_memory}
-use Rattle.ide_home.specs.Made.{HasMade, HasFound}
-use Rattle.ide_home.specs.Settle.{entry_of}
+use Rattle.ide_calls.specs.Made.{HasMade, HasFound}
+use Rattle.ide_calls.specs.Settle.{entry_of}
 use Rattle.ide_calls.specs.declared.change_refusal.ChangeRefusal.{ChangeRefusal}
 use Rattle.ide_calls.specs.declared.change_refusal.ChangeRefusal.TheVariants as change
 use Rattle.ide_calls.specs.declared.group_refusal.GroupChangeRefusal.{GroupChangeRefusal}

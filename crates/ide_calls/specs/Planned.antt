@@ -7,7 +7,7 @@ use Rattle.write_history.specs.World.{World}
 use Rattle.write_history.specs.Effect.{refusal_of}
 use Rattle.write_history.specs.Fold.{fold, list_refusal}
 use Rattle.ide_world.specs.Ready.{IsReadyFor, Makes, is_want_of_memory}
-use Rattle.ide_home.specs.Made.{HasFound}
+use Rattle.ide_calls.specs.Made.{HasFound}
 use Rattle.ide_calls.specs.declared.group_refusal.GroupChangeRefusal.{GroupChangeRefusal}
 use Rattle.ide_calls.specs.declared.group_refusal.GroupChangeRefusal.TheVariants.{Refused, OutOfMemory}
 use Rattle.ide_calls.specs.declared.planning.Planned.{Planned}

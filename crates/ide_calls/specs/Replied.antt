@@ -10,7 +10,7 @@ use Rattle.query_engine.specs.declared.answer.AskRefusal.{AskRefusal}
 use Rattle.query_engine.specs.declared.answer.AskRefusal.TheVariants as refused
 use Rattle.query_engine.specs.Reply.{reply}
 use Rattle.query_engine.specs.Listed.{path_at}
-use Rattle.ide_home.specs.Made.{HasFound}
+use Rattle.ide_calls.specs.Made.{HasFound}
 use Rattle.ide_calls.specs.declared.reply.Reply.{Reply}
 use Rattle.ide_calls.specs.declared.reply.Reply.TheVariants.{Found, NoSuchFile, NotReady}
 use Rattle.ide_calls.specs.declared.replied.Replied.{Replied}

@@ -4,10 +4,10 @@ ghost use Rattle.action_lock.specs.Advances.{Advances};
 ghost use Rattle.action_lock.specs.Passes.{view_of, IsSamePass, IsPassOf};
 ghost use Rattle.ide_calls.specs.Replied.{IsRepliedIn, HasReplied};
 
+use crate::IdeHome;
 use crate::answering::reply_by;
 use crate::replied::Replied;
 use action_lock::{ActionLock, Gate, Pass, Point};
-use ide_home::IdeHome;
 use ide_world::State;
 use nonblocking_read::Stopped;
 use queries::Query;

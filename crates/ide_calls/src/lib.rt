@@ -1,27 +1,51 @@
-//! Calls on a workspace that threads share under one lock: changes go in, alone or as a group, and questions are answered.
+//! The workspace as the value under a lock, and the calls on it: changes go in, alone or as a group, questions are answered,
+//! and unready files are indexed, by one step of a worker or by a settle.
 #![tactic(auto)]
 
 mod accepted;
 mod answering;
 mod asking;
 mod change_refusal;
+mod changed;
 mod changing;
+mod choice;
+mod entries;
+mod first_look;
 mod group_refusal;
+mod home;
+mod intake;
+mod judge;
+mod kept;
+pub mod laws;
+mod lowest;
 mod planning;
 mod question;
 mod replied;
 mod reply;
+mod settle_refusal;
+mod settling;
+mod share;
 mod sighted;
 mod soft_asking;
 mod soft_refusal;
+mod step;
+mod stepping;
+mod writing;
 
 pub use accepted::Accepted;
 pub use asking::ask;
 pub use change_refusal::ChangeRefusal;
 pub use changing::{change, change_group};
 pub use group_refusal::GroupChangeRefusal;
+pub use home::IdeHome;
 pub use replied::Replied;
 pub use reply::Reply;
+pub use settle_refusal::SettleRefusal;
+pub use settling::settle;
+pub use share::IdeShare;
 pub use sighted::Sighted;
 pub use soft_asking::soft_ask;
 pub use soft_refusal::SoftAskRefusal;
+pub use step::Step;
+pub use stepping::index_step;
+pub use writing::write_entry;

@@ -6,9 +6,9 @@ ghost use Rattle.ide_world.specs.Ready.{is_edit};
 ghost use Rattle.ide_calls.specs.Change.{IsGroupRefused};
 ghost use Rattle.ide_calls.specs.Planned.{IsPlanned, IsRefusedIn, HasPlanned};
 
+use crate::IdeHome;
 use crate::group_refusal::GroupChangeRefusal;
 use action_lock::{ActionLock, Pass};
-use ide_home::IdeHome;
 use ide_world::{Ready, State, prepare_group};
 use std::alloc::Global;
 use std::sync::Wait;

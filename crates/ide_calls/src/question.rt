@@ -1,8 +1,8 @@
 //! A question as a piece of work that can be stopped.
 use crate::answering::reply_by;
 use crate::replied::Replied;
+use crate::{IdeHome, IdeShare};
 use action_lock::Watch;
-use ide_home::{IdeHome, IdeShare};
 use nonblocking_read::{Stopped, Work};
 use queries::Query;
 use std::alloc::Global;

@@ -5,12 +5,12 @@ ghost use Rattle.action_lock.specs.Passes.{view_of, IsSamePass, IsPassOf};
 ghost use Rattle.ide_calls.specs.Replied.{HasReplied};
 ghost use Rattle.ide_calls.specs.SoftRefusal.{IsSoftlyRefused};
 
+use crate::IdeHome;
 use crate::question::Question;
 use crate::replied::Replied;
 use crate::sighted::Sighted;
 use crate::soft_refusal::SoftAskRefusal;
 use action_lock::{ActionLock, Gate, Pass};
-use ide_home::IdeHome;
 use nonblocking_read::{SoftRefusal, soft};
 use queries::Query;
 use std::alloc::Global;

@@ -8,13 +8,13 @@ use Rattle.write_history.specs.World.{World, File, file_of, id_at}
 use Rattle.write_history.specs.Effect.{Put, edit_at}
 use Rattle.write_history.specs.Fold.{after_put}
 use Rattle.list_laws.proofs.RowLemmas.{live_is_made}
-use Rattle.world_state.specs.declared.step.Step.{Step}
-use Rattle.world_state.specs.RowEdits.{edited_row, put_row}
-use Rattle.world_state.specs.DocEdits.{edited_document, IsDocEditFit}
-use Rattle.world_state.specs.IndexEdits.{Indexed, edited_index}
-use Rattle.world_state.specs.Step.{file_with, row_part, document_part, stepped, drawn_by, after_step}
-use Rattle.world_state.specs.Sound.{IsSoundLive, IsSoundFile, AreSoundFiles, HoldsIndex}
-use Rattle.world_state.specs.Lawful.{IsPathFree, IsLawfulStep}
+use Rattle.ide_world.specs.declared.step.Step.{Step}
+use Rattle.ide_world.specs.RowEdits.{edited_row, put_row}
+use Rattle.ide_world.specs.DocEdits.{edited_document, IsDocEditFit}
+use Rattle.ide_world.specs.IndexEdits.{Indexed, edited_index}
+use Rattle.ide_world.specs.Step.{file_with, row_part, document_part, stepped, drawn_by, after_step}
+use Rattle.ide_world.specs.Sound.{IsSoundLive, IsSoundFile, AreSoundFiles, HoldsIndex}
+use Rattle.ide_world.specs.Lawful.{IsPathFree, IsLawfulStep}
 use Rattle.ide_world.specs.Builds.{IsLiveAt}
 
 -- a live file at a path, with its row and document

@@ -3,9 +3,9 @@ use Rattle.std.proofs.Common.{ℕ, ◌≡◌, ◌+◌, ◌-◌, ◌≤◌, Bool,
 use Rattle.std.proofs.lemmas.List.{length-take-le}
 use Rattle.std.specs.Prelude.{Option, option_map}
 use Rattle.document_buf.specs.Document.{Document, with_piece, without_part}
-use Rattle.world_state.specs.declared.step.DocEdit.{DocEdit}
-use Rattle.world_state.specs.declared.step.DocEdit.TheVariants.{Keep, Open, Insert, Erase, Commit, MarkSaved, Replace, Close}
-use Rattle.world_state.specs.DocEdits.{edited_document, IsDocEditFit}
+use Rattle.ide_world.specs.declared.step.DocEdit.{DocEdit}
+use Rattle.ide_world.specs.declared.step.DocEdit.TheVariants.{Keep, Open, Insert, Erase, Commit, MarkSaved, Replace, Close}
+use Rattle.ide_world.specs.DocEdits.{edited_document, IsDocEditFit}
 use Rattle.ide_world.specs.declared.look.Look.{Look}
 use Rattle.ide_world.specs.Walk.{look_of, edited_look, edited_committed, edited_text, IsTextEditFit, keeps_texts}
 

@@ -6,7 +6,7 @@ use Rattle.write_history.specs.declared.refusal.Refusal.{Refusal}
 use Rattle.write_history.specs.World.{World}
 use Rattle.write_history.specs.Effect.{refusal_of}
 use Rattle.write_history.specs.Fold.{effect_of, ListRefusal, one_later, refusal_or, list_refusal}
-use Rattle.world_state.specs.declared.step.Step.{Step}
+use Rattle.ide_world.specs.declared.step.Step.{Step}
 use Rattle.ide_world.specs.declared.group.GroupRefusal.{GroupRefusal}
 use Rattle.ide_world.specs.Drafted.{Drafted, world_now}
 use Rattle.ide_world.proofs.GroupLemmas.{later_by, IsSoFar, world_at_first}

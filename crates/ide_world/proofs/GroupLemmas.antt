@@ -9,9 +9,9 @@ use Rattle.write_history.specs.World.{World}
 use Rattle.write_history.specs.Effect.{Reason, reasons, history_full, refusal_of, max_entries}
 use Rattle.write_history.specs.Fold.{effect_of, effects_of, ListRefusal, one_later, refusal_or, list_refusal}
 use Rattle.write_history.proofs.PutLemmas.{NoneStands, accepted_reasons}
-use Rattle.world_state.specs.declared.step.Step.{Step}
-use Rattle.world_state.specs.Step.{after_steps}
-use Rattle.world_state.specs.Lawful.{AreLawful, AreWide, inserted_by_all}
+use Rattle.ide_world.specs.declared.step.Step.{Step}
+use Rattle.ide_world.specs.Step.{after_steps}
+use Rattle.ide_world.specs.Lawful.{AreLawful, AreWide, inserted_by_all}
 use Rattle.ide_world.specs.Ready.{Makes, IsReadyFor, IsRefusalOf, IsListRefusalOf, is_want_of_memory, is_edit}
 use Rattle.ide_world.specs.Drafted.{Drafted, IsDraft, IsExtended, world_now, inserted_by_change, inserted_by_changes}
 use Rattle.ide_world.specs.Builds.{Builds}

@@ -16,17 +16,17 @@ use Rattle.write_history.specs.Effect.{Put, refusal_of, document_len, is_unsaved
 use Rattle.write_history.specs.Fold.{after_put, effect_of}
 use Rattle.list_laws.proofs.RowLemmas.{live_is_made}
 use Rattle.write_history.proofs.PutLemmas.{none_at_free, accepted_reasons}
-use Rattle.world_state.specs.declared.step.Step.{Step}
-use Rattle.world_state.specs.declared.step.RowEdit.TheVariants as row_edit
-use Rattle.world_state.specs.declared.step.DocEdit.{DocEdit}
+use Rattle.ide_world.specs.declared.step.Step.{Step}
+use Rattle.ide_world.specs.declared.step.RowEdit.TheVariants as row_edit
+use Rattle.ide_world.specs.declared.step.DocEdit.{DocEdit}
 use Rattle.document_buf.specs.Held.{HeldDoc}
-use Rattle.world_state.specs.declared.step.DocEdit.TheVariants as doc_edit
-use Rattle.world_state.specs.declared.step.IndexEdit.{IndexEdit}
-use Rattle.world_state.specs.declared.step.IndexEdit.TheVariants as index_edit
-use Rattle.world_state.specs.IndexEdits.{Indexed, edited_index}
-use Rattle.world_state.specs.Step.{file_with, row_part, document_part, stepped, after_step}
-use Rattle.world_state.specs.Sound.{IsSoundLive, IsSoundFile, AreSoundFiles, HoldsIndex, HoldsLive}
-use Rattle.world_state.specs.Lawful.{IsLawfulStep}
+use Rattle.ide_world.specs.declared.step.DocEdit.TheVariants as doc_edit
+use Rattle.ide_world.specs.declared.step.IndexEdit.{IndexEdit}
+use Rattle.ide_world.specs.declared.step.IndexEdit.TheVariants as index_edit
+use Rattle.ide_world.specs.IndexEdits.{Indexed, edited_index}
+use Rattle.ide_world.specs.Step.{file_with, row_part, document_part, stepped, after_step}
+use Rattle.ide_world.specs.Sound.{IsSoundLive, IsSoundFile, AreSoundFiles, HoldsIndex, HoldsLive}
+use Rattle.ide_world.specs.Lawful.{IsLawfulStep}
 use Rattle.ide_world.specs.declared.look.Look.{Look}
 use Rattle.ide_world.specs.Walk.{look_of}
 use Rattle.ide_world.specs.Builds.{Builds, IsLiveAt, edit_step, overlay_edit, moved_index, close_index, intake_index}

@@ -1,3 +1,8 @@
+pub mod MarkLemmas
+pub mod WorldLemmas
+pub mod RoomLemmas
+pub mod ReaderLemmas
+pub mod FoundLemmas
 pub mod StepLemmas
 pub mod EditLemmas
 pub mod PathLemmas

@@ -8,14 +8,14 @@ use Rattle.vfs_core.specs.declared.row.FileRow.{FileRow}
 use Rattle.document_buf.specs.Document.{Document}
 use Rattle.write_history.specs.World.{World, File, file_of, id_at}
 use Rattle.write_history.proofs.PutLemmas.{found, none_at_free}
-use Rattle.world_state.specs.declared.step.Step.{Step}
-use Rattle.world_state.specs.declared.step.RowEdit.{RowEdit}
-use Rattle.world_state.specs.declared.step.RowEdit.TheVariants.{Keep, Put, Remove}
-use Rattle.world_state.specs.RowEdits.{edited_row}
-use Rattle.world_state.specs.DocEdits.{edited_document}
-use Rattle.world_state.specs.Step.{file_with, joined, row_part, document_part, after_step}
-use Rattle.world_state.specs.Sound.{AreSoundFiles}
-use Rattle.world_state.specs.Lawful.{IsLawfulStep}
+use Rattle.ide_world.specs.declared.step.Step.{Step}
+use Rattle.ide_world.specs.declared.step.RowEdit.{RowEdit}
+use Rattle.ide_world.specs.declared.step.RowEdit.TheVariants.{Keep, Put, Remove}
+use Rattle.ide_world.specs.RowEdits.{edited_row}
+use Rattle.ide_world.specs.DocEdits.{edited_document}
+use Rattle.ide_world.specs.Step.{file_with, joined, row_part, document_part, after_step}
+use Rattle.ide_world.specs.Sound.{AreSoundFiles}
+use Rattle.ide_world.specs.Lawful.{IsLawfulStep}
 use Rattle.ide_world.specs.Walk.{other_than, moved_id, id_after}
 use Rattle.ide_world.proofs.StepLemmas.{file_here, file_there, sound_after_step}
 

@@ -9,14 +9,14 @@ use Rattle.vfs_core.specs.declared.row.FileRow.{FileRow}
 use Rattle.document_buf.specs.Document.{Document}
 use Rattle.write_history.specs.World.{World, File, file_of}
 use Rattle.write_history.proofs.PutLemmas.{by_place}
-use Rattle.world_state.specs.declared.step.Step.{Step}
-use Rattle.world_state.specs.declared.step.RowEdit.{RowEdit}
-use Rattle.world_state.specs.declared.step.RowEdit.TheVariants.{Keep, Put, Remove}
-use Rattle.world_state.specs.RowEdits.{edited_row, put_row}
-use Rattle.world_state.specs.DocEdits.{edited_document}
-use Rattle.world_state.specs.Step.{file_with, joined, row_part, document_part, stepped, drawn_by, after_step, after_steps}
-use Rattle.world_state.specs.Sound.{IsSoundFile, AreSoundFiles}
-use Rattle.world_state.specs.Lawful.{IsPathFree, IsLawfulStep, AreLawfulFrom}
+use Rattle.ide_world.specs.declared.step.Step.{Step}
+use Rattle.ide_world.specs.declared.step.RowEdit.{RowEdit}
+use Rattle.ide_world.specs.declared.step.RowEdit.TheVariants.{Keep, Put, Remove}
+use Rattle.ide_world.specs.RowEdits.{edited_row, put_row}
+use Rattle.ide_world.specs.DocEdits.{edited_document}
+use Rattle.ide_world.specs.Step.{file_with, joined, row_part, document_part, stepped, drawn_by, after_step, after_steps}
+use Rattle.ide_world.specs.Sound.{IsSoundFile, AreSoundFiles}
+use Rattle.ide_world.specs.Lawful.{IsPathFree, IsLawfulStep, AreLawfulFrom}
 
 -- a step changes what has its id
 pub file_here : (w : World) (s : Step) → IsLawfulStep w s → file_of (after_step w s) s.id ≡ stepped s (file_of w s.id)

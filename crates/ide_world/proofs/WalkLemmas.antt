@@ -9,14 +9,14 @@ use Rattle.list_laws.proofs.RowLemmas.{length-within, length-next, count-with_ro
 use Rattle.document_buf.specs.Document.{Document}
 use Rattle.write_history.specs.World.{World, File, file_of, id_at, is_open, count_of}
 use Rattle.write_history.specs.Effect.{is_uncommitted, max_files}
-use Rattle.world_state.specs.declared.step.Step.{Step}
-use Rattle.world_state.specs.declared.step.DocEdit.{DocEdit}
-use Rattle.world_state.specs.declared.step.DocEdit.TheVariants.{Keep, Open, Insert, Erase, Commit, MarkSaved, Replace, Close}
-use Rattle.world_state.specs.RowEdits.{edited_row}
-use Rattle.world_state.specs.DocEdits.{edited_document, IsDocEditFit, IsWide, inserted_by}
-use Rattle.world_state.specs.Step.{row_part, document_part, stepped, after_step, after_steps}
-use Rattle.world_state.specs.Sound.{AreSoundFiles}
-use Rattle.world_state.specs.Lawful.{IsLawfulStep, AreLawfulFrom, AreWide, inserted_by_all}
+use Rattle.ide_world.specs.declared.step.Step.{Step}
+use Rattle.ide_world.specs.declared.step.DocEdit.{DocEdit}
+use Rattle.ide_world.specs.declared.step.DocEdit.TheVariants.{Keep, Open, Insert, Erase, Commit, MarkSaved, Replace, Close}
+use Rattle.ide_world.specs.RowEdits.{edited_row}
+use Rattle.ide_world.specs.DocEdits.{edited_document, IsDocEditFit, IsWide, inserted_by}
+use Rattle.ide_world.specs.Step.{row_part, document_part, stepped, after_step, after_steps}
+use Rattle.ide_world.specs.Sound.{AreSoundFiles}
+use Rattle.ide_world.specs.Lawful.{IsLawfulStep, AreLawfulFrom, AreWide, inserted_by_all}
 use Rattle.ide_world.specs.declared.look.Look.{Look}
 use Rattle.ide_world.specs.Drafted.{Drafted, IsDraft, world_now, drafted, IsKept}
 use Rattle.ide_world.specs.declared.draft.Draft.TheInside.{Inside}

@@ -4,15 +4,15 @@ use Rattle.vfs_core.specs.declared.row.FileRow.{FileRow}
 use Rattle.write_history.specs.declared.change.Change.{Change}
 use Rattle.write_history.specs.World.{World, file_of, id_at}
 use Rattle.write_history.specs.Fold.{effect_of}
-use Rattle.world_state.specs.declared.step.Step.{Step}
-use Rattle.world_state.specs.declared.step.RowEdit.TheVariants as row_edit
-use Rattle.world_state.specs.declared.step.DocEdit.{DocEdit}
-use Rattle.world_state.specs.declared.step.IndexEdit.{IndexEdit}
-use Rattle.world_state.specs.declared.step.IndexEdit.TheVariants.{Keep, SetBase, SetOverlay, ToBase, Drop}
+use Rattle.ide_world.specs.declared.step.Step.{Step}
+use Rattle.ide_world.specs.declared.step.RowEdit.TheVariants as row_edit
+use Rattle.ide_world.specs.declared.step.DocEdit.{DocEdit}
+use Rattle.ide_world.specs.declared.step.IndexEdit.{IndexEdit}
+use Rattle.ide_world.specs.declared.step.IndexEdit.TheVariants.{Keep, SetBase, SetOverlay, ToBase, Drop}
 use Rattle.overlay_index.specs.Parts.{parts_of}
-use Rattle.world_state.specs.DocEdits.{IsWide, inserted_by}
-use Rattle.world_state.specs.Step.{after_step, row_part}
-use Rattle.world_state.specs.Lawful.{IsLawfulStep}
+use Rattle.ide_world.specs.DocEdits.{IsWide, inserted_by}
+use Rattle.ide_world.specs.Step.{after_step, row_part}
+use Rattle.ide_world.specs.Lawful.{IsLawfulStep}
 use Rattle.ide_world.specs.Drafted.{inserted_by_change}
 
 -- the live file at a path has this id and this row

@@ -5,10 +5,10 @@ use Rattle.write_history.specs.declared.change.Change.TheVariants.{Create, Write
 use Rattle.write_history.specs.World.{World, count_of, is_open}
 use Rattle.write_history.specs.Effect.{max_files, max_entries}
 use Rattle.write_history.specs.Fold.{effect_of}
-use Rattle.world_state.specs.declared.step.Step.{Step}
-use Rattle.world_state.specs.Step.{after_steps}
-use Rattle.world_state.specs.Sound.{AreSoundFiles, IsSoundWorld}
-use Rattle.world_state.specs.Lawful.{AreLawfulFrom, AreWide, max_steps, inserted_by_all}
+use Rattle.ide_world.specs.declared.step.Step.{Step}
+use Rattle.ide_world.specs.Step.{after_steps}
+use Rattle.ide_world.specs.Sound.{AreSoundFiles, IsSoundWorld}
+use Rattle.ide_world.specs.Lawful.{AreLawfulFrom, AreWide, max_steps, inserted_by_all}
 use Rattle.ide_world.specs.declared.draft.Draft.TheInside.{Inside}
 
 -- what contracts see of a draft

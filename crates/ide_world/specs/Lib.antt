@@ -3,20 +3,46 @@
 pub mod Ready
 -- The work of indexing a file
 pub mod Task
--- Internal.
+-- What contracts see of a state
+pub mod Held
+-- What the walks of a state find
+pub mod Found
+-- Internal: the state and its steps.
+-- What an edit of a row makes of it
+pub mod RowEdits
+-- What an edit of a document makes of it
+pub mod DocEdits
+-- What an edit of index data makes of them
+pub mod IndexEdits
+-- One change of one file, and what it makes of the world
+pub mod Step
+-- What always holds of the world of a state
+pub mod Sound
+-- When steps may be carried out
+pub mod Lawful
+-- The ids of the unready files
+pub mod Marks
+-- What steps need room for
+pub mod Room
+-- When steps can be carried out one after another
+pub mod StepsReady
+-- What ties the parts of a state together
+pub mod State
+-- Internal: how changes become steps.
 -- A draft of a world, and the steps made from it so far
 pub mod Drafted
 -- What a step makes of the parts that a draft's readers see
 pub mod Walk
 -- What it means that a step makes a change
 pub mod Builds
--- What public clauses cite from below: the state, its steps, the world and its changes, index data.
-pub use Rattle.world_state.specs.Held
-pub use Rattle.world_state.specs.Step
-pub use Rattle.world_state.specs.Lawful
-pub use Rattle.world_state.specs.Found
+-- What public clauses cite from below: the world and its changes, documents, rows of files, index data and listings.
 pub use Rattle.write_history.specs.World
 pub use Rattle.write_history.specs.Changes
 pub use Rattle.write_history.specs.Effect
 pub use Rattle.write_history.specs.Fold
+pub use Rattle.document_buf.specs.Document
 pub use Rattle.overlay_index.specs.Parts
+pub use Rattle.overlay_index.specs.Named
+pub use Rattle.overlay_index.specs.Listing
+pub use Rattle.overlay_index.specs.Words
+pub use Rattle.dumb_mode.specs.Filter

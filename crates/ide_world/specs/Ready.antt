@@ -7,9 +7,9 @@ use Rattle.write_history.specs.declared.refusal.Refusal.TheVariants.{NoSuchFile,
 use Rattle.write_history.specs.World.{World}
 use Rattle.write_history.specs.Effect.{max_entries}
 use Rattle.write_history.specs.Fold.{ListRefusal, list_refusal, effects_of}
-use Rattle.world_state.specs.declared.step.Step.{Step}
-use Rattle.world_state.specs.Step.{after_steps}
-use Rattle.world_state.specs.Lawful.{AreLawful}
+use Rattle.ide_world.specs.declared.step.Step.{Step}
+use Rattle.ide_world.specs.Step.{after_steps}
+use Rattle.ide_world.specs.Lawful.{AreLawful}
 use Rattle.ide_world.specs.declared.group.GroupRefusal.{GroupRefusal}
 
 -- the changes are accepted, and the steps do what they do

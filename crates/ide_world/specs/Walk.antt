@@ -4,12 +4,12 @@ use Rattle.std.specs.Option.{option_and_then}
 use Rattle.ide_text.specs.Text.{max_chars}
 use Rattle.vfs_core.specs.declared.row.FileRow.{FileRow}
 use Rattle.document_buf.specs.Document.{Document, with_piece, without_part}
-use Rattle.world_state.specs.declared.step.Step.{Step}
-use Rattle.world_state.specs.declared.step.RowEdit.{RowEdit}
-use Rattle.world_state.specs.declared.step.RowEdit.TheVariants as row_edit
-use Rattle.world_state.specs.declared.step.DocEdit.{DocEdit}
-use Rattle.world_state.specs.declared.step.DocEdit.TheVariants.{Keep, Open, Insert, Erase, Commit, MarkSaved, Replace, Close}
-use Rattle.world_state.specs.RowEdits.{edited_row}
+use Rattle.ide_world.specs.declared.step.Step.{Step}
+use Rattle.ide_world.specs.declared.step.RowEdit.{RowEdit}
+use Rattle.ide_world.specs.declared.step.RowEdit.TheVariants as row_edit
+use Rattle.ide_world.specs.declared.step.DocEdit.{DocEdit}
+use Rattle.ide_world.specs.declared.step.DocEdit.TheVariants.{Keep, Open, Insert, Erase, Commit, MarkSaved, Replace, Close}
+use Rattle.ide_world.specs.RowEdits.{edited_row}
 use Rattle.ide_world.specs.declared.look.Look.{Look}
 
 -- the row of an id after a step

@@ -7,13 +7,13 @@ ghost use Rattle.ide_world.specs.Drafted.{world_now};
 ghost use Rattle.ide_world.specs.Builds.{Builds, overlay_edit, edit_step};
 
 use crate::draft::Draft;
+use crate::{DocEdit, IndexEdit, RowEdit, Step};
 use document_buf::Doc;
 use dumb_mode::is_java;
 use ide_text::{Name, SharedText};
 use overlay_index::data_of;
 use std::alloc::{AllocError, Global};
 use vfs_core::FileRow;
-use world_state::{DocEdit, IndexEdit, RowEdit, Step};
 
 pub(crate) fn opened(alloc: Global, draft: &Draft<'_>, path: &Name) -> Result<Step, AllocError>
     requires { refusal_of (world_now draft.now) (OpenDoc path.now) ≡ None }

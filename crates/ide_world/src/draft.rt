@@ -4,18 +4,17 @@ ghost use Rattle.std.specs.Option.{option_copied};
 ghost use Rattle.list_laws.specs.Rows.{one_if};
 ghost use Rattle.write_history.specs.World.{file_of, id_at, document_at, count_of, is_open};
 ghost use Rattle.write_history.specs.Effect.{is_uncommitted, document_len, is_unsaved};
-ghost use Rattle.world_state.specs.Step.{row_part, document_part, after_step};
-ghost use Rattle.world_state.specs.Lawful.{AreLawful, IsLawfulStep, inserted_by_all};
-ghost use Rattle.world_state.specs.DocEdits.{IsWide};
+ghost use Rattle.ide_world.specs.Step.{row_part, document_part, after_step};
+ghost use Rattle.ide_world.specs.Lawful.{AreLawful, IsLawfulStep, inserted_by_all};
+ghost use Rattle.ide_world.specs.DocEdits.{IsWide};
 ghost use Rattle.ide_world.specs.Walk.{look_of, is_open_after};
 
 use crate::look::Look;
-use crate::walk;
+use crate::{DocEdit, State, Step, Steps, walk};
 use ide_text::{Name, SharedText, Text};
 use std::alloc::{AllocError, Global};
 use std::marker::Model;
 use vfs_core::FileRow;
-use world_state::{DocEdit, State, Step, Steps};
 
 /// The state, read only, and what a list of changes made of it so far. Its readers go over the steps, of which there
 /// are at most 64.

@@ -11,13 +11,13 @@ ghost use Rattle.ide_world.specs.Task.{IsOfWorld};
 
 use crate::data::Made;
 use crate::draft::Draft;
+use crate::{DocEdit, IndexEdit, RowEdit, Step};
 use document_buf::Doc;
 use dumb_mode::is_java;
 use ide_text::{Name, SharedText};
 use overlay_index::{FileData, data_of};
 use std::alloc::{AllocError, Global};
 use vfs_core::FileRow;
-use world_state::{DocEdit, IndexEdit, RowEdit, Step};
 
 pub(crate) fn created(draft: &Draft<'_>, path: &Name, text: &SharedText) -> Result<Step, AllocError>
     requires { refusal_of (world_now draft.now) (Create path.now text.now) ≡ None }

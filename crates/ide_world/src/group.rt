@@ -8,7 +8,7 @@ ghost use Rattle.write_history.specs.World.{empty_world};
 ghost use Rattle.write_history.specs.Changes.{AreFew};
 ghost use Rattle.write_history.specs.Effect.{refusal_of, max_entries};
 ghost use Rattle.write_history.specs.Fold.{list_refusal, after_list};
-ghost use Rattle.world_state.specs.Held.{HasRoom};
+ghost use Rattle.ide_world.specs.Held.{HasRoom};
 ghost use Rattle.ide_world.specs.Ready.{Makes, IsReadyFor, is_edit, IsRefusalOf, IsListRefusalOf};
 ghost use Rattle.ide_world.specs.Task.{IsOfWorld};
 ghost use Rattle.ide_world.specs.Drafted.{world_now, inserted_by_change, inserted_by_changes, IsExtended};
@@ -17,10 +17,9 @@ ghost use Rattle.ide_world.specs.Builds.{Builds};
 use crate::data::Made;
 use crate::draft::Draft;
 use crate::refusal::{intake_refusal, refusal};
-use crate::{documents, files};
+use crate::{State, Step, Steps, documents, files};
 use std::alloc::{AllocError, Global};
 use std::marker::Model;
-use world_state::{State, Step, Steps};
 use write_history::{Change, Refusal};
 
 /// Changes that are ready to go in, all memory for their data and texts taken: seen as the steps that make them.
@@ -31,7 +30,7 @@ pub struct Ready {
 
 impl Model for Ready {
     ghost use Rattle.std.specs.Prelude.{List};
-    ghost use Rattle.world_state.specs.declared.step.Step.{Step};
+    ghost use Rattle.ide_world.specs.declared.step.Step.{Step};
 
     ghost Value = { List Step };
 

@@ -2,11 +2,11 @@
 ghost use Rattle.std.specs.Prelude.{◌≡◌, IfOk, IfSome, option_map};
 ghost use Rattle.ide_world.specs.Task.{task_with_id, IsOfWorld};
 
+use crate::State;
 use crate::data::{Job, Made};
 use crate::readers::mark;
 use overlay_index::data_of;
 use std::alloc::{AllocError, Global};
-use world_state::State;
 
 /// The work of indexing a file, where it is unready.
 pub fn job(state: &State, id: u32) -> Result<Option<Job>, AllocError>

@@ -1,16 +1,25 @@
-//! The state of a workspace as its users change it: changes are judged and made ready, then go in and can't fail.
+//! The state of a workspace, and how its users change it: files, documents and index data are kept in step with one another,
+//! and changes are judged and made ready, then go in and can't fail.
 #![tactic(auto)]
 
+mod apply;
+mod carrying;
 mod data;
 mod documents;
 mod draft;
 mod files;
 mod group;
 mod index;
+mod index_walks;
 pub mod laws;
 mod look;
+mod marks;
 mod readers;
 mod refusal;
+mod room;
+mod state;
+mod step;
+mod steps;
 mod walk;
 
 pub use data::{Job, Made};
@@ -20,4 +29,6 @@ pub use group::{
 pub use index::{job, make};
 pub use overlay_index::{StubWalk, WordWalk};
 pub use readers::{content, counts, mark, next_id, path, shown};
-pub use world_state::State;
+pub use state::State;
+pub use step::{DocEdit, IndexEdit, RowEdit, Step};
+pub use steps::Steps;

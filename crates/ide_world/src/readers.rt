@@ -3,9 +3,9 @@ ghost use Rattle.std.specs.Prelude.{◌≡◌, ◌+◌, length, is_some, option_
 ghost use Rattle.std.specs.Option.{option_copied};
 ghost use Rattle.write_history.specs.World.{file_of, next_id, shown_text, mark_of, is_open, is_unready, count_of};
 
+use crate::State;
 use dumb_mode::{Mark, is_java};
 use ide_text::{Name, Text};
-use world_state::State;
 
 /// The id that the next file gets.
 pub fn next_id(state: &State) -> u32

@@ -3,15 +3,15 @@ ghost use Rattle.std.specs.Prelude.{◌≡◌, ◌≤◌, ◌+◌, ◌*◌, List
 ghost use Rattle.std.specs.List.{fold, list_any};
 ghost use Rattle.std.specs.Option.{option_copied};
 ghost use Rattle.ide_text.specs.Text.{max_chars};
-ghost use Rattle.world_state.specs.RowEdits.{edited_row};
+ghost use Rattle.ide_world.specs.RowEdits.{edited_row};
 ghost use Rattle.ide_world.specs.Walk.{row_after, look_after, edited_look, committed_after, edited_committed, id_after, moved_id, other_than, keeps_texts, edits_texts, text_after, edited_text, IsTextEditFit, AreTextEditsFit};
 ghost use Rattle.document_buf.specs.Document.{with_piece, without_part};
 
 use crate::look::Look;
+use crate::{DocEdit, RowEdit, Step};
 use ide_text::{Name, SharedText, Text};
 use std::alloc::AllocError;
 use vfs_core::FileRow;
-use world_state::{DocEdit, RowEdit, Step};
 
 /// The row of an id after steps.
 pub(crate) fn row<'a>(steps: &'a [Step], id: u32, first: Option<&'a FileRow>) -> Option<&'a FileRow>

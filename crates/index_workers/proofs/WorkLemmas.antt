@@ -13,11 +13,11 @@ use Rattle.write_history.specs.declared.change.Change.TheVariants.{Intake}
 use Rattle.write_history.specs.declared.entry.Entry.{Entry}
 use Rattle.write_history.specs.Fold.{IsLegal}
 use Rattle.write_history.proofs.FoldLemmas.{IsLegal-split}
-use Rattle.ide_home.specs.Made.{HasMade}
-use Rattle.ide_home.specs.Settle.{entry_of}
-use Rattle.ide_indexing.specs.declared.step.Step.{Step}
-use Rattle.ide_indexing.specs.declared.step.Step.TheVariants.{Idle, Gone, Stale, Refused, Taken}
-use Rattle.ide_indexing.specs.Step.{HasStepped, HasTried}
+use Rattle.ide_calls.specs.Made.{HasMade}
+use Rattle.ide_calls.specs.Settle.{entry_of}
+use Rattle.ide_calls.specs.declared.step.Step.{Step}
+use Rattle.ide_calls.specs.declared.step.Step.TheVariants.{Idle, Gone, Stale, Refused, Taken}
+use Rattle.ide_calls.specs.Step.{HasStepped, HasTried}
 use Rattle.index_workers.specs.declared.worked.End.{End}
 use Rattle.index_workers.specs.declared.worked.End.TheVariants as end
 use Rattle.index_workers.specs.Work.{Done, Leads, taken_by, GoesOn, IsEndOf, EndsWith, EndsBy, IsAtEnd, IsIntakeBy}

@@ -3,5 +3,5 @@ pub mod Passes
 pub mod Hints
 pub mod Work
 -- What these cite from below: what a step leaves, and what became of hints
-pub use Rattle.ide_indexing.specs.Step
+pub use Rattle.ide_calls.specs.Step
 pub use Rattle.job_queue.specs.Accounts

@@ -4,8 +4,8 @@ use Rattle.action_lock.specs.declared.lock.ActionLock.{ActionLock}
 use Rattle.action_lock.specs.declared.view.View.{View}
 use Rattle.action_lock.specs.Passes.{view_of, IsSamePass, IsPassOf}
 use Rattle.write_history.specs.declared.entry.Entry.{Entry}
-use Rattle.ide_home.specs.declared.home.IdeHome.{IdeHome}
-use Rattle.ide_home.specs.declared.share.IdeShare.{IdeShare}
+use Rattle.ide_calls.specs.declared.home.IdeHome.{IdeHome}
+use Rattle.ide_calls.specs.declared.share.IdeShare.{IdeShare}
 use Rattle.job_queue.specs.declared.queue.JobQueue.{JobQueue}
 use Rattle.job_queue.specs.Passes.{queue_view, IsQueuePassOf, IsSameQueuePass}
 use Rattle.index_workers.specs.declared.pass.IdePass.{IdePass}

@@ -7,10 +7,10 @@ use Rattle.write_history.specs.declared.entry.Entry.{Entry}
 use Rattle.write_history.specs.World.{lowest_unready}
 use Rattle.write_history.specs.Effect.{max_entries}
 use Rattle.write_history.specs.Fold.{fold}
-use Rattle.ide_home.specs.Settle.{entry_of}
-use Rattle.ide_indexing.specs.declared.step.Step.{Step}
-use Rattle.ide_indexing.specs.declared.step.Step.TheVariants as step
-use Rattle.ide_indexing.specs.Step.{HasStepped}
+use Rattle.ide_calls.specs.Settle.{entry_of}
+use Rattle.ide_calls.specs.declared.step.Step.{Step}
+use Rattle.ide_calls.specs.declared.step.Step.TheVariants as step
+use Rattle.ide_calls.specs.Step.{HasStepped}
 use Rattle.index_workers.specs.declared.worked.End.{End}
 use Rattle.index_workers.specs.declared.worked.End.TheVariants.{Idle, Refused, Turns}
 use Rattle.index_workers.specs.declared.worked.Worked.{Worked}

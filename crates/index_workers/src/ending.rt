@@ -4,7 +4,7 @@ ghost use Rattle.index_workers.specs.Work.{GoesOn, IsEndOf, taken_by};
 
 use crate::worked::End;
 use action_lock::{Gate, Point};
-use ide_indexing::Step;
+use ide_calls::Step;
 
 /// How many entries the step made.
 pub(crate) fn taken(step: &Step) -> u32

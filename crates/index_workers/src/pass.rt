@@ -3,7 +3,7 @@ ghost use Rattle.std.specs.Prelude.{◌≡◌, Some};
 ghost use Rattle.action_lock.specs.Passes.{view_of};
 
 use action_lock::Pass;
-use ide_home::IdeHome;
+use ide_calls::IdeHome;
 use job_queue::QueuePass;
 
 /// A pass of the lock, and one of the queue of hints with the same number. It has to be spent, by `meet` or `close`.

@@ -16,7 +16,7 @@ ghost use Rattle.index_workers.specs.Passes.{ide_view, IsIdePassOf, IsSameIdePas
 
 use crate::pass::IdePass;
 use action_lock::{ActionLock, Pass, SplitRefusal};
-use ide_home::IdeHome;
+use ide_calls::IdeHome;
 use job_queue::{JobQueue, QueuePass};
 
 /// The first pass of a lock and the first pass of a queue, as one.

@@ -3,14 +3,13 @@ ghost use Rattle.std.specs.Prelude.{◌≡◌, IfOk, OnErr, Option, option_map};
 ghost use Rattle.action_lock.specs.Advances.{Advances};
 ghost use Rattle.job_queue.specs.declared.hint.Hint.{Hint};
 ghost use Rattle.job_queue.specs.Passes.{queue_view};
-ghost use Rattle.ide_indexing.specs.Step.{HasStepped};
+ghost use Rattle.ide_calls.specs.Step.{HasStepped};
 ghost use Rattle.index_workers.specs.Hints.{after_take, file_of_hint};
 ghost use Rattle.index_workers.specs.Passes.{ide_view, IsIdePassOf, IsSameIdePass};
 
 use crate::pass::IdePass;
 use action_lock::{ActionLock, Gate};
-use ide_home::IdeHome;
-use ide_indexing::Step;
+use ide_calls::{IdeHome, Step};
 use job_queue::JobQueue;
 use std::alloc::{AllocError, Global};
 use std::sync::Wait;
@@ -34,5 +33,5 @@ pub fn index_step<R: Wait, G: Gate>(
 {
     let hint = queue.take(rt, &mut pass.queue);
     let file = hint.map(|hint| hint.file);
-    ide_indexing::index_step(rt, alloc, lock, &mut pass.lock, file, gate)
+    ide_calls::index_step(rt, alloc, lock, &mut pass.lock, file, gate)
 }

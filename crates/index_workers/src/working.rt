@@ -11,7 +11,7 @@ use crate::pass::IdePass;
 use crate::stepping::index_step;
 use crate::worked::{End, Worked};
 use action_lock::{ActionLock, Gate};
-use ide_home::IdeHome;
+use ide_calls::IdeHome;
 use job_queue::JobQueue;
 use std::alloc::{AllocError, Global};
 use std::sync::Wait;

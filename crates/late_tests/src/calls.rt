@@ -5,13 +5,12 @@ ghost use Rattle.write_history.specs.Fold.{fold};
 ghost use Rattle.ide_world.specs.Ready.{is_edit};
 
 use action_lock::Home;
-use ide_home::{IdeHome, IdeShare};
+use ide_calls::{IdeHome, IdeShare};
 use ide_text::{Name, SharedText, Text};
-use ide_world::prepare;
+use ide_world::{State, prepare};
 use queries::Query;
 use query_engine::{Answer, ask_unwatched};
 use std::alloc::{AllocError, Global};
-use world_state::State;
 use write_history::{Change, Changes, Entry};
 
 /// One change to the file `A.java`.

@@ -4,7 +4,7 @@ ghost use Rattle.write_history.specs.Fold.{fold};
 ghost use Rattle.ide_world.specs.Task.{IsOfWorld, task_with_id};
 
 use crate::calls::{Edit, changed, entry_of, rows, share_of};
-use ide_home::IdeHome;
+use ide_calls::IdeHome;
 use ide_world::laws::a_task_stays_of_the_world;
 use ide_world::{Made, job, make, prepare_intake};
 use std::alloc::{AllocError, Global};

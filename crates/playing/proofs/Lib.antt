@@ -1,3 +1,6 @@
+pub mod AnsweredLemmas
+pub mod EditLemmas
+pub mod SectionLemmas
 pub mod ViewLemmas
 pub mod PartLemmas
 pub mod RoundLemmas

@@ -20,7 +20,7 @@ use Rattle.index_workers.specs.Work.{Done, EndsBy, IsAtEnd, IsIntakeBy, AreApart
 use Rattle.shared_ide.specs.declared.shared.SharedIde.{SharedIde}
 use Rattle.transcripts.specs.declared.record.Record.{Record}
 use Rattle.transcripts.specs.Fits.{Mark, mark_at, made_by, SectionFits, LanesFit, EndFits, WorkerFits, WorkersFit, run_beside}
-use Rattle.sections.specs.Done.{HasDone}
+use Rattle.playing.specs.Done.{HasDone}
 use Rattle.playing.specs.declared.answers.Answers.{Answers}
 use Rattle.playing.specs.declared.part.Outcome.{Outcome}
 use Rattle.playing.specs.declared.part.Outcome.TheVariants.{Nothing, Answered, Indexed}

@@ -8,7 +8,7 @@ use Rattle.write_history.specs.declared.entry.Entry.{Entry}
 use Rattle.script_lang.specs.declared.line.Line.{Line}
 use Rattle.transcripts.specs.declared.loaded.Loaded.{Loaded}
 use Rattle.transcripts.specs.declared.record.Record.{Record}
-use Rattle.sections.specs.Done.{HasAdded}
+use Rattle.playing.specs.Done.{HasAdded}
 use Rattle.playing.specs.Rounds.{IsAlone, HasDoneAlone}
 use Rattle.playing.proofs.ViewLemmas.{alone_adds}
 

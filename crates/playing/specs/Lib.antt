@@ -1,3 +1,7 @@
+-- What callers rest on: what was done of a section
+pub mod Done
+-- Internal: how the command of one line is answered
+pub mod Answered
 -- Parts of a round: what each does, and what number 0 learns of it
 pub mod Parts
 -- Rounds, and the sections of number 0 before and behind them
@@ -6,4 +10,4 @@ pub mod Rounds
 pub mod Runs
 -- What these cite from below
 pub use Rattle.transcripts.specs.Fits
-pub use Rattle.sections.specs.Done
+pub use Rattle.shared_ide.specs.Passes

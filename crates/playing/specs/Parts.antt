@@ -16,7 +16,7 @@ use Rattle.index_workers.specs.Work.{HasWorked}
 use Rattle.shared_ide.specs.declared.shared.SharedIde.{SharedIde}
 use Rattle.shared_ide.specs.Passes.{IsIdePassOf}
 use Rattle.transcripts.specs.declared.record.Record.{Record}
-use Rattle.sections.specs.Done.{HasDone}
+use Rattle.playing.specs.Done.{HasDone}
 use Rattle.playing.specs.declared.answers.Answers.{Answers}
 use Rattle.playing.specs.declared.part.Outcome.{Outcome}
 use Rattle.playing.specs.declared.part.Outcome.TheVariants.{Nothing, Answered, Indexed}

@@ -10,7 +10,7 @@ use Rattle.index_workers.specs.declared.worked.Worked.{Worked}
 use Rattle.transcripts.specs.declared.loaded.Loaded.{Loaded}
 use Rattle.transcripts.specs.declared.record.Record.{Record}
 use Rattle.transcripts.specs.Fits.{Mark, mark_at, SectionFits, LanesFit, WorkersFit, run_beside}
-use Rattle.sections.specs.Done.{mark_of}
+use Rattle.playing.specs.Done.{mark_of}
 use Rattle.playing.specs.declared.answers.Answers.{Answers}
 
 -- the view is that of number 0, every other number that was given was met, and it knows whose entries it has seen

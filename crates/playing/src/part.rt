@@ -6,10 +6,10 @@ ghost use Rattle.index_workers.specs.Passes.{ide_view, IsSameIdePass};
 ghost use Rattle.shared_ide.specs.Passes.{IsIdePassOf};
 ghost use Rattle.playing.specs.Parts.{CanRun, HasRun, MayHaveDone, MayHaveWorked};
 
+use crate::do_section;
 use action_lock::{Gate, Point};
 use index_workers::{IdePass, Worked};
 use script_lang::{Line, Script};
-use sections::do_section;
 use shared_ide::SharedIde;
 use std::alloc::{AllocError, Global};
 use std::sync::Wait;

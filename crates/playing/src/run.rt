@@ -9,11 +9,11 @@ ghost use Rattle.playing.specs.Rounds.{IsAlone, HasDoneAlone};
 ghost use Rattle.playing.specs.Runs.{HasRunAll};
 
 use crate::answers::Answers;
+use crate::do_section;
 use crate::round::play_round;
 use action_lock::Gate;
 use index_workers::IdePass;
 use script_lang::{Line, Script};
-use sections::do_section;
 use shared_ide::SharedIde;
 use std::alloc::{AllocError, Global};
 use std::sync::Wait;

@@ -11,7 +11,7 @@ use Rattle.stub_tree.specs.Lawful.{IsLawfulList}
 use Rattle.decl_parser.specs.Listing.{listing_of, IsNamedIn}
 use Rattle.java_tokens.specs.Words.{words_of, mask_in}
 use Rattle.write_history.specs.World.{World, File, file_of, shown_text}
-use Rattle.world_state.specs.Found.{found, found_from, found_in, stubs_in, masks_in}
+use Rattle.ide_world.specs.Found.{found, found_from, found_in, stubs_in, masks_in}
 use Rattle.query_engine.specs.declared.answer.WordRow.{WordRow}
 use Rattle.query_engine.specs.Reply.{of_files, of_java, of_world, row_of, rows_in, word_in, word_row}
 use Rattle.query_engine.specs.Listed.{Listed, AreLive, AreAhead, AreFrom, listed_at, offset_in, path_at, text_at, row_found, word_found}

@@ -3,11 +3,11 @@ pub mod Passes
 pub mod Hints
 -- What public clauses cite from below
 pub use Rattle.action_lock.specs.Advances
-pub use Rattle.ide_home.specs.Made
-pub use Rattle.ide_home.specs.Settle
+pub use Rattle.ide_calls.specs.Made
+pub use Rattle.ide_calls.specs.Settle
 pub use Rattle.ide_calls.specs.Change
 pub use Rattle.ide_calls.specs.Replied
 pub use Rattle.ide_calls.specs.SoftRefusal
-pub use Rattle.ide_indexing.specs.Settling
-pub use Rattle.ide_indexing.specs.Step
+pub use Rattle.ide_calls.specs.Settling
+pub use Rattle.ide_calls.specs.Step
 pub use Rattle.index_workers.specs.Work

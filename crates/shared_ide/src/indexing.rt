@@ -3,8 +3,8 @@ ghost use Rattle.std.specs.Prelude.{◌≡◌, IfOk, IfErr, OnErr, Option};
 ghost use Rattle.action_lock.specs.Advances.{Advances};
 ghost use Rattle.job_queue.specs.declared.hint.Hint.{Hint};
 ghost use Rattle.job_queue.specs.Passes.{queue_view};
-ghost use Rattle.ide_indexing.specs.Settling.{IsSettled, HasStopped};
-ghost use Rattle.ide_indexing.specs.Step.{HasStepped};
+ghost use Rattle.ide_calls.specs.Settling.{IsSettled, HasStopped};
+ghost use Rattle.ide_calls.specs.Step.{HasStepped};
 ghost use Rattle.index_workers.specs.Hints.{after_take, file_of_hint, HasOnlyTaken};
 ghost use Rattle.index_workers.specs.Passes.{ide_view, IsSameIdePass};
 ghost use Rattle.index_workers.specs.Work.{HasWorked, HasWorkedInPart};
@@ -12,7 +12,7 @@ ghost use Rattle.shared_ide.specs.Passes.{IsIdePassOf};
 
 use crate::shared::SharedIde;
 use action_lock::Gate;
-use ide_indexing::{SettleRefusal, Step};
+use ide_calls::{SettleRefusal, Step};
 use index_workers::{IdePass, Worked};
 use std::alloc::{AllocError, Global};
 use std::sync::Wait;
@@ -34,7 +34,7 @@ impl SharedIde {
         ensures err { IfErr result (HasStopped line (ide_view pass.old) (ide_view pass.new)) }
         ensures hints { pass.new.queue ≡ pass.old.queue }
     {
-        ide_indexing::settle(rt, alloc, &self.lock, &mut pass.lock, line)
+        ide_calls::settle(rt, alloc, &self.lock, &mut pass.lock, line)
     }
 
     /// Takes a hint, if there is one, and does a step of indexing: of the hinted file if it is unready, else of the unready

@@ -2,8 +2,7 @@
 ghost use Rattle.std.specs.Prelude.{◌≡◌, true, IfOk};
 ghost use Rattle.ide_world.specs.Ready.{is_edit};
 
-use ide_calls::Replied;
-use ide_indexing::Step;
+use ide_calls::{Replied, Step};
 use ide_text::{Name, SharedText, Text};
 use index_workers::Worked;
 use queries::Query;

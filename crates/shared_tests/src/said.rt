@@ -1,7 +1,6 @@
 //! What the passes of a run were answered, as lines.
 use crate::action::{Outcome, Record};
-use ide_calls::{Replied, Reply};
-use ide_indexing::Step;
+use ide_calls::{Replied, Reply, Step};
 use index_workers::{End, Worked};
 use query_engine::{Answer, Row, WordRow};
 use std::alloc::{AllocError, Global};

@@ -12,6 +12,6 @@ pub use Rattle.query_engine.specs.Reply
 pub use Rattle.write_history.specs.World
 pub use Rattle.write_history.specs.Effect
 pub use Rattle.write_history.specs.Fold
-pub use Rattle.ide_home.specs.Settle
+pub use Rattle.ide_calls.specs.Settle
 pub use Rattle.ide_calls.specs.Sighting
 pub use Rattle.index_workers.specs.Work

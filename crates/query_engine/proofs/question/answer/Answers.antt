@@ -1,5 +1,5 @@
 use Rattle.std.proofs.Common.{ℕ, ap, sym, subst, None}
-use Rattle.world_state.specs.Found.{masks_in}
+use Rattle.ide_world.specs.Found.{masks_in}
 use Rattle.query_engine.specs.declared.answer.Answer.TheVariants.{Rows, Words}
 use Rattle.query_engine.specs.declared.answer.RowList.{RowList}
 use Rattle.query_engine.specs.declared.answer.WordRows.{WordRows}

@@ -1,0 +1,120 @@
+-- The parts of a step put together.
+use Rattle.std.proofs.Common.{◌≡◌, ℕ, ◌+◌, true, List, [], ◌∷◌, ◌++◌, length, sym, ap, ◌∙◌, subst, append_assoc, Some, None, Option, Result, IfOk}
+use Rattle.std.specs.Prelude.{option_map, if◌then◌else◌}
+use Rattle.std.specs.declared.alloc.AllocError.{AllocError}
+use Rattle.std.proofs.lemmas.Result.{IfOk-weaker}
+use Rattle.list_laws.proofs.BoolLemmas.{bool_cases}
+use Rattle.action_lock.specs.declared.view.View.{View}
+use Rattle.action_lock.specs.Advances.{Advances}
+use Rattle.action_lock.specs.Steps.{finished, released}
+use Rattle.action_lock.specs.Writings.{HasIntended}
+use Rattle.ide_world.specs.declared.step.Step.{Step}
+use Rattle.write_history.specs.declared.change.Change.{Change}
+use Rattle.write_history.specs.declared.change.Change.TheVariants.{Intake}
+use Rattle.write_history.specs.declared.entry.Entry.{Entry}
+use Rattle.write_history.specs.World.{World, File, file_of, is_unready}
+use Rattle.write_history.specs.Effect.{stamp_of}
+use Rattle.write_history.specs.Fold.{fold, IsLegal}
+use Rattle.ide_world.specs.declared.data.Job.{Job}
+use Rattle.ide_world.specs.Task.{Task, task_of}
+use Rattle.ide_calls.specs.Settle.{entry_of}
+use Rattle.ide_calls.specs.declared.step.Step.{Step as Answer}
+use Rattle.ide_calls.specs.declared.step.Step.TheVariants.{Idle, Gone, Stale, Refused, Taken}
+use Rattle.ide_calls.specs.declared.judge.Judged.TheVariants.{Prepared}
+use Rattle.ide_calls.specs.declared.first_look.Look.{Look}
+use Rattle.ide_calls.specs.Choice.{IsWork, IsChoice, task_of_job}
+use Rattle.ide_calls.specs.Step.{HasTried, HasStepped}
+use Rattle.ide_calls.specs.Reads.{HasReadOnce}
+use Rattle.ide_calls.specs.Intake.{HasLooked, HasJudged, HasAnswered, IsAnsweredBy}
+use Rattle.ide_calls.proofs.MadeLemmas.{made_behind_read, made_later, made_within, reads_within}
+
+-- data that were judged to fit went in
+pub taken_in : (seat file stamp len : ℕ) (steps : List Step) (changes : List Change) (v u w : View Entry)
+    → HasJudged file stamp v u (Prepared len steps) → changes ≡ Intake file stamp ∷ [] → Advances v w
+    → w ≡ finished (entry_of seat 0 changes) u → IsLegal w.seen → HasAnswered seat file stamp v w (Taken (len + 1))
+taken_in seat file stamp len steps changes v u w judged intake advances after legal = record {
+  last = u.seen;
+  own = entry_of seat 0 changes ∷ [];
+  reads = ap (λ (x : View Entry). x.reads) after ∙ judged.read.reads;
+  made = made_behind_read v u w (entry_of seat 0 changes) judged.read advances after legal;
+  answer = (ap (λ n. n + 1) (judged.judged_so.whole ∙ judged.entries), ap (λ (l : List Change). entry_of seat 0 l ∷ []) intake, judged.judged_so.live);
+}
+
+-- an answer given under an intent is that of the call
+pub answered_within : (seat file stamp : ℕ) (v inner inner' w : View Entry) (answer : Result Answer AllocError) → v.number ≡ Some seat
+    → HasIntended v inner → w ≡ released inner' → Advances v w
+    → IfOk answer (HasAnswered seat file stamp inner inner') → IfOk answer (IsAnsweredBy file stamp v w)
+answered_within seat file stamp v inner inner' w answer number intended after advances =
+    IfOk-weaker answer (HasAnswered seat file stamp inner inner') (IsAnsweredBy file stamp v w) (λ step given. record {
+      seat = seat;
+      number = number;
+      answered = record {
+        last = given.last;
+        own = given.own;
+        reads = reads_within v inner inner' w intended after (length given.last ∷ []) given.reads;
+        made = made_within v inner inner' w intended after given.last given.own advances given.made;
+        answer = given.answer;
+      };
+    })
+
+-- a file whose work there is
+record HasTask (file : Option File) (task : Task) : Type 0 where
+  unready : is_unready file ≡ true
+  stamped : stamp_of file ≡ task.stamp
+
+has_task : (file : Option File) (id : ℕ) (task : Task) → (if is_unready file then option_map (task_of id) file else None) ≡ Some task → HasTask file task
+has_task None id task is = absurd (cc)
+has_task (Some file) id task found =
+    bool_cases (is_unready (Some file)) (λ b. (if b then Some (task_of id file) else None) ≡ Some task → HasTask (Some file) task)
+    (λ ready is. let same : task_of id file ≡ task = cc in record { unready = ready; stamped = ap (λ (t : Task). t.stamp) same })
+    (λ ready is. absurd (cc))
+    found
+
+-- the first read, and what was answered of the file that was taken up
+tried : (hint : Option ℕ) (task : Task) (v u w : View Entry) (step : Answer) → HasReadOnce v u → IsWork (fold u.seen) hint task
+    → Advances v w → IsAnsweredBy task.file task.stamp u w step → HasTried hint v w step
+tried hint task v u w step read work advances by =
+    let given = by.answered in
+    let has = has_task (file_of (fold u.seen) task.file) task.file task work.task_of_file in
+    record {
+      seat = by.seat;
+      number = sym read.learned.advances.number ∙ by.number;
+      file = task.file;
+      stamp = task.stamp;
+      first = u.seen;
+      last = given.last;
+      own = given.own;
+      known = read.learned.advances.seen;
+      longer = given.made.known;
+      reads = given.reads
+          ∙ ap (λ (l : List ℕ). l ++ length given.last ∷ []) read.reads
+          ∙ append_assoc v.reads (length u.seen ∷ []) (length given.last ∷ []);
+      chosen = work.chosen;
+      unready = has.unready;
+      stamped = has.stamped;
+      made = made_later v u w given.last given.own read.learned advances given.made;
+      answer = given.answer;
+    }
+
+stepped_by : (hint : Option ℕ) (v w : View Entry) (step : Answer) → HasTried hint v w step → HasStepped hint v w step
+stepped_by hint v w (Idle len) by = absurd by.answer
+stepped_by hint v w (Gone id) by = by
+stepped_by hint v w (Stale id made present) by = by
+stepped_by hint v w (Refused len) by = by
+stepped_by hint v w (Taken place) by = by
+
+-- the work of the job that was chosen
+chosen_work : (world : World) (hint : Option ℕ) (choice : Option Job) (job : Job) → choice ≡ Some job
+    → IsChoice world hint choice → IsWork world hint (task_of_job job)
+chosen_work world hint choice job is chosen = subst (IsChoice world hint) is chosen
+
+-- a step that took a file up
+pub stepped : (hint : Option ℕ) (look : Look) (job : Job) (file stamp : ℕ) (v u w : View Entry) (answer : Result Answer AllocError)
+    → HasLooked hint v u look → look.job ≡ Some job → Advances v w → file ≡ job.file → stamp ≡ job.stamp
+    → IfOk answer (IsAnsweredBy file stamp u w) → IfOk answer (HasStepped hint v w)
+stepped hint look job file stamp v u w answer looked is advances same_file same_stamp =
+    IfOk-weaker answer (IsAnsweredBy file stamp u w) (HasStepped hint v w) (λ step by.
+    let work = chosen_work (fold u.seen) hint look.job job is looked.choice in
+    let of_stamp = subst (λ s. IsAnsweredBy file s u w step) same_stamp by in
+    let of_file = subst (λ f. IsAnsweredBy f job.stamp u w step) same_file of_stamp in
+    stepped_by hint v w step (tried hint (task_of_job job) v u w step looked.read work advances of_file))

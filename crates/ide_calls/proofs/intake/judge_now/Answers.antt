@@ -1,0 +1,10 @@
+use Rattle.std.proofs.Common.{◌∙◌}
+use Rattle.ide_calls.specs.Intake.{task_of_made}
+use Rattle.ide_calls.proofs.ReadLemmas.{work_stays}
+use Rattle.ide_calls.proofs.intake.judge_now.Goals as goal
+
+pub judge-judged-requires : goal.judge-judged-requires
+judge-judged-requires g c =
+    let read = c.in_ok-reading.ensures.ok in
+    work_stays c.a_task_stays_of_the_world.ensures _ _ c.args.made.file (task_of_made c.args.made) c.state.result.now.world
+    read.4.seen c.share.ensures.stands.1 (c.state.ensures ∙ c.share.ensures.stands.0) c.requires.work

@@ -1,0 +1,54 @@
+//! The first read of a step: what there is to do.
+ghost use Rattle.std.specs.Prelude.{IfOk};
+ghost use Rattle.action_lock.specs.Passes.{view_of, IsSamePass, IsPassOf};
+ghost use Rattle.ide_calls.specs.Reads.{HasOnlyLearned};
+ghost use Rattle.ide_calls.specs.Intake.{HasLooked, IsLook};
+
+use crate::IdeHome;
+use crate::choice::find_work;
+use crate::entries::entries;
+use action_lock::{ActionLock, Gate, Pass, Point};
+use ide_world::{Job, State};
+use std::alloc::{AllocError, Global};
+use std::sync::Wait;
+use write_history::laws::histories_go_on;
+
+/// How long the history was, and the job of the file that is to be indexed, if one is unready.
+#[derive(Drop)]
+pub(crate) struct Look {
+    pub(crate) at: u64,
+    pub(crate) job: Option<Job>,
+}
+
+/// Reads, without the intent, and looks for a file to index.
+pub(crate) fn first_look<R: Wait, G: Gate>(
+    rt: &R,
+    alloc: Global,
+    lock: &ActionLock<IdeHome>,
+    pass: &mut Pass<IdeHome>,
+    hint: Option<u32>,
+    gate: &G,
+) -> Result<Look, AllocError>
+    requires { IsPassOf lock.now pass.old }
+    ensures pass { IsPassOf lock.now pass.new × IsSamePass pass.old pass.new }
+    ensures learned { HasOnlyLearned (view_of pass.old) (view_of pass.new) }
+    ensures ok { IfOk result (HasLooked hint (view_of pass.old) (view_of pass.new)) }
+{
+    histories_go_on();
+    let seat = pass.number();
+    let reading = pass.read(rt, alloc, lock)?;
+    let found = look_at(reading.share().state(), hint);
+    gate.at(Point::Reading { seat });
+    reading.leave();
+    found
+}
+
+/// What there is to do in a state.
+fn look_at(state: &State, hint: Option<u32>) -> Result<Look, AllocError>
+    ensures { IfOk result (IsLook state.now.world hint) }
+{
+    Ok(Look {
+        at: entries(state),
+        job: find_work(state, hint)?,
+    })
+}

@@ -1,0 +1,129 @@
+//! A settle: every unready file is taken in, under one intent.
+ghost use Rattle.std.specs.Prelude.{◌≡◌, Some, IfOk, IfErr, OnErr};
+ghost use Rattle.action_lock.specs.Advances.{Advances};
+ghost use Rattle.action_lock.specs.Passes.{view_of, IsSamePass, IsPassOf, Intends};
+ghost use Rattle.ide_calls.specs.Reads.{HasOnlyLearned};
+ghost use Rattle.ide_calls.specs.Settling.{IsSettled, HasStopped};
+ghost use Rattle.ide_calls.specs.Turn.{HasFoundLowest, HasTurned, GoesThrough, Stops};
+
+use crate::laws::a_settle_goes_by_the_lowest;
+use crate::lowest::{Lowest, prepare_lowest};
+use crate::refusal::SettleRefusal;
+use crate::{IdeHome, write_entry};
+use action_lock::{ActionLock, Pass};
+use std::alloc::{AllocError, Global};
+use std::sync::Wait;
+use write_history::laws::{histories_go_on, unready_files_have_an_order};
+use write_history::{Change, Changes, Entry};
+
+/// Takes every unready file in, in order of ids, one entry each, for a line of a script. It answers with the number of
+/// entries after which no file is unready. It may wait for ever.
+pub fn settle<R: Wait>(
+    rt: &R,
+    alloc: Global,
+    lock: &ActionLock<IdeHome>,
+    pass: &mut Pass<IdeHome>,
+    line: u32,
+) -> Result<u64, SettleRefusal>
+    requires { IsPassOf lock.now pass.old }
+    ensures pass { IsPassOf lock.now pass.new × IsSamePass pass.old pass.new }
+    ensures advances { Advances (view_of pass.old) (view_of pass.new) }
+    ensures ok { IfOk result (IsSettled line (view_of pass.old) (view_of pass.new)) }
+    ensures err { IfErr result (HasStopped line (view_of pass.old) (view_of pass.new)) }
+{
+    let seat = pass.number();
+    pass.intent(rt, lock);
+    let answer = settle_now(rt, alloc, lock, pass, seat, line);
+    pass.release(lock);
+    answer
+}
+
+/// What a turn of a settle did.
+pub(crate) enum Turn {
+    /// No file was unready after this many entries.
+    Smart { at: u64 },
+    /// The history is full, with this many entries.
+    Full { at: u64 },
+    /// The unready file with the lowest id was taken in.
+    Taken,
+}
+
+/// A settle under the intent that the pass, whose number is `seat`, has.
+fn settle_now<R: Wait>(
+    rt: &R,
+    alloc: Global,
+    lock: &ActionLock<IdeHome>,
+    pass: &mut Pass<IdeHome>,
+    seat: u32,
+    line: u32,
+) -> Result<u64, SettleRefusal>
+    requires intends { Intends lock.now pass.old }
+    requires own { (view_of pass.old).number ≡ Some seat }
+    ensures pass { Intends lock.now pass.new × IsSamePass pass.old pass.new }
+    ensures advances { Advances (view_of pass.old) (view_of pass.new) }
+    ensures ok { IfOk result (GoesThrough seat line (view_of pass.old) (view_of pass.new)) }
+    ensures err { IfErr result (Stops seat line (view_of pass.old) (view_of pass.new)) }
+{
+    a_settle_goes_by_the_lowest();
+    unready_files_have_an_order();
+    for _ in rt.forever() {
+        match take_lowest_in(rt, alloc, lock, pass, seat, line) {
+            Ok(Turn::Taken) => (),
+            Ok(Turn::Smart { at }) => return Ok(at),
+            Ok(Turn::Full { at }) => return Err(SettleRefusal::HistoryFull { at }),
+            Err(_) => return Err(SettleRefusal::OutOfMemory),
+        }
+    }
+    unreachable!()
+}
+
+/// Takes the unready file with the lowest id in, where there is one and the history has room.
+fn take_lowest_in<R: Wait>(
+    rt: &R,
+    alloc: Global,
+    lock: &ActionLock<IdeHome>,
+    pass: &mut Pass<IdeHome>,
+    seat: u32,
+    line: u32,
+) -> Result<Turn, AllocError>
+    requires intends { Intends lock.now pass.old }
+    requires own { (view_of pass.old).number ≡ Some seat }
+    ensures pass { Intends lock.now pass.new × IsSamePass pass.old pass.new }
+    ensures advances { Advances (view_of pass.old) (view_of pass.new) }
+    ensures ok { IfOk result (HasTurned seat line (view_of pass.old) (view_of pass.new)) }
+    ensures err { OnErr result (HasOnlyLearned (view_of pass.old) (view_of pass.new)) }
+{
+    match find_lowest(rt, alloc, lock, pass)? {
+        Lowest::Nothing { at } => Ok(Turn::Smart { at }),
+        Lowest::Full { at } => Ok(Turn::Full { at }),
+        Lowest::Prepared { file, stamp, ready } => {
+            let changes = Changes::one(Change::Intake { file, stamp });
+            let entry = Entry {
+                seat,
+                line,
+                changes,
+            };
+            write_entry(rt, lock, pass, ready, entry)?;
+            Ok(Turn::Taken)
+        }
+    }
+}
+
+/// Reads under the intent, and makes the intake of the unready file with the lowest id ready.
+fn find_lowest<R: Wait>(
+    rt: &R,
+    alloc: Global,
+    lock: &ActionLock<IdeHome>,
+    pass: &mut Pass<IdeHome>,
+) -> Result<Lowest, AllocError>
+    requires { Intends lock.now pass.old }
+    ensures pass { Intends lock.now pass.new × IsSamePass pass.old pass.new }
+    ensures learned { HasOnlyLearned (view_of pass.old) (view_of pass.new) }
+    ensures ok { IfOk result (HasFoundLowest (view_of pass.old) (view_of pass.new)) }
+{
+    histories_go_on();
+    let reading = pass.read(rt, alloc, lock)?;
+    let lowest = prepare_lowest(alloc, reading.share().state());
+    reading.leave();
+    lowest
+}

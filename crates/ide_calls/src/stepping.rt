@@ -1,0 +1,45 @@
+//! A step of indexing: one unready file is taken up, and its data go in where they still fit.
+ghost use Rattle.std.specs.Prelude.{◌≡◌, IfOk, OnErr};
+ghost use Rattle.action_lock.specs.Advances.{Advances};
+ghost use Rattle.action_lock.specs.Passes.{view_of, IsSamePass, IsPassOf};
+ghost use Rattle.ide_calls.specs.Step.{HasStepped};
+
+use crate::IdeHome;
+use crate::first_look::{Look, first_look};
+use crate::intake::take_in;
+use crate::step::Step;
+use action_lock::{ActionLock, Gate, Pass, Point};
+use ide_world::make;
+use std::alloc::{AllocError, Global};
+use std::sync::Wait;
+
+/// Takes up the hinted file where it is unready, else the unready file with the lowest id: makes its index data outside
+/// the lock, and takes them in where the file is still at the same stamp. The gate is told `Reading` while the first read
+/// is still held, and `Made` before the intent is asked for. It may wait for ever.
+pub fn index_step<R: Wait, G: Gate>(
+    rt: &R,
+    alloc: Global,
+    lock: &ActionLock<IdeHome>,
+    pass: &mut Pass<IdeHome>,
+    hint: Option<u32>,
+    gate: &G,
+) -> Result<Step, AllocError>
+    requires { IsPassOf lock.now pass.old }
+    ensures pass { IsPassOf lock.now pass.new × IsSamePass pass.old pass.new }
+    ensures advances { Advances (view_of pass.old) (view_of pass.new) }
+    ensures ok { IfOk result (HasStepped hint (view_of pass.old) (view_of pass.new)) }
+    ensures err { OnErr result ((view_of pass.new).mine ≡ (view_of pass.old).mine) }
+{
+    let seat = pass.number();
+    let Look { at, job } = first_look(rt, alloc, lock, pass, hint, gate)?;
+    let Some(job) = job else {
+        return Ok(Step::Idle { at });
+    };
+    let made = make(alloc, job)?;
+    gate.at(Point::Made {
+        seat,
+        file: made.file,
+        stamp: made.stamp,
+    });
+    take_in(rt, alloc, lock, pass, made)
+}

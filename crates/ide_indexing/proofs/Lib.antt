@@ -1,5 +1,0 @@
-pub mod ReadLemmas
-pub mod MadeLemmas
-pub mod StepLemmas
-pub mod TurnLemmas
-pub mod SettleLemmas

@@ -1,0 +1,121 @@
+-- What a name finds where no file is unready.
+use Rattle.std.proofs.Common.{◌≡◌, ℕ, zero, suc, ◌+◌, ◌<◌, ◌≤◌, Bool, true, false, cond, eqb, ltb, List, [], ◌∷◌, ◌++◌, length, get_or, Some, None, refl, sym, ap, subst, ◌∙◌, arith, ltb-true, ltb-false}
+use Rattle.std.specs.Prelude.{Option, is_some, option_map, unwrap_or, position, not, ◌&&◌}
+use Rattle.std.specs.List.{position_or_len}
+use Rattle.std.specs.Option.{option_map_or}
+use Rattle.std.proofs.lemmas.Bool.{false≢true, eqb-true}
+use Rattle.std.proofs.lemmas.Option.{none-some}
+use Rattle.std.proofs.lemmas.List.Sums.{fails_before_first}
+use Rattle.list_laws.proofs.BoolLemmas.{bool_cases}
+use Rattle.document_buf.specs.Document.{Document}
+use Rattle.dumb_mode.specs.Filter.{is_java}
+use Rattle.dumb_mode.specs.Unready.{is_indexed_at}
+use Rattle.overlay_index.specs.Parts.{Parts, no_parts, parts_of}
+use Rattle.overlay_index.specs.Layers as layers
+use Rattle.overlay_index.specs.Found as walk
+use Rattle.list_laws.specs.Rows.{row_in}
+use Rattle.write_history.specs.World.{File, is_unready, shown_text}
+use Rattle.ide_world.specs.IndexEdits.{Indexed}
+use Rattle.ide_world.specs.Sound.{HoldsLive, HoldsIndex}
+use Rattle.ide_world.specs.Found.{found_at, found_from}
+use Rattle.ide_world.specs.State.{indexed_in}
+
+past_all : (files : List (Option File)) (place : ℕ) → length files ≤ place → get_or files place None ≡ None
+past_all [] place past = refl
+past_all (file ∷ files) zero past = absurd (omega (arith, past))
+past_all (file ∷ files) (suc place) past = past_all files place (omega (arith, past))
+
+-- where none is the lowest, no file is unready
+ready_at : (files : List (Option File)) → option_map suc (position is_unready files) ≡ None → (place : ℕ) → is_unready (get_or files place None) ≡ false
+ready_at files none place = bool_cases (ltb place (length files)) (λ b. (ltb place (length files) ≡ b) → is_unready (get_or files place None) ≡ false)
+    (λ within e. fails_before_first is_unready files place None (omega (arith, ltb-true place (length files) within, past)))
+    (λ behind e. ap is_unready (past_all files place (ltb-false place (length files) behind)))
+    refl
+  where
+    past : length files ≤ position_or_len is_unready files
+    past = bool_cases (ltb (position_or_len is_unready files) (length files)) (λ b. (ltb (position_or_len is_unready files) (length files) ≡ b) → length files ≤ position_or_len is_unready files)
+        (λ within e. absurd (none-some (suc (position_or_len is_unready files)) (sym none ∙ ap (λ b. option_map suc (cond b (Some (position_or_len is_unready files)) None)) within)))
+        (λ behind e. ltb-false (position_or_len is_unready files) (length files) behind)
+        refl
+
+pub ready_in : (files : List (Option File)) → option_map suc (position is_unready files) ≡ None → (id : ℕ)
+    → is_unready (row_in files id) ≡ false
+ready_in files none zero = refl
+ready_in files none (suc place) = ready_at files none place
+
+indexed_now : (present : ℕ) (indexed : Option ℕ) → not (is_indexed_at present indexed) ≡ false → indexed ≡ Some present
+indexed_now present None h = absurd (false≢true (sym h))
+indexed_now present (Some stamp) h = ap Some (eqb-true stamp present (by (eqb stamp present) h))
+  where
+    by : (b : Bool) → not b ≡ false → b ≡ true
+    by true e = refl
+    by false e = absurd (false≢true (sym e))
+
+module _ {V : Type 0} (part : Parts → List (List ℕ × V)) (name : List ℕ) (read : List ℕ → List V) (nothing : walk.values_of name (part no_parts) ≡ [])
+    (law : (text : List ℕ) → walk.values_of name (part (parts_of text)) ≡ read text) where
+  bare : (held : Indexed) → (held.base ≡ no_parts) × (held.overlay ≡ None) → walk.values_of name (part (unwrap_or held.overlay held.base)) ≡ []
+  bare held none =
+      ap (λ o. walk.values_of name (part (unwrap_or o held.base))) none.1
+      ∙ ap (λ p. walk.values_of name (part p)) none.0
+      ∙ nothing
+
+  live : (file : File) (held : Indexed) (java : Bool) → is_java file.path ≡ java → HoldsLive java file held → is_unready (Some file) ≡ false
+      → walk.values_of name (part (unwrap_or held.overlay held.base)) ≡ cond java (read (shown_text file)) []
+  live file held false is holds ready = bare held holds
+  live file held true is holds ready = by file.document refl
+    where
+      by : (document : Option Document) → file.document ≡ document → walk.values_of name (part (unwrap_or held.overlay held.base)) ≡ read (shown_text file)
+      by (Some d) open' =
+          ap (λ o. walk.values_of name (part (unwrap_or o held.base))) (holds.0 ∙ ap (option_map (λ (x : Document). parts_of x.committed)) open')
+          ∙ law d.committed
+          ∙ ap (λ o. read (option_map_or (λ (x : Document). x.committed) o file.content)) (sym open')
+      by None closed =
+          ap (λ o. walk.values_of name (part (unwrap_or o held.base))) (holds.0 ∙ ap (option_map (λ (x : Document). parts_of x.committed)) closed)
+          ∙ ap (λ p. walk.values_of name (part p)) (holds.1 (indexed_now file.stamp file.indexed
+          (sym (ap (λ j. j && not (is_some file.document) && not (is_indexed_at file.stamp file.indexed)) is
+          ∙ ap (λ o. true && not (is_some o) && not (is_indexed_at file.stamp file.indexed)) closed) ∙ ready)))
+          ∙ law file.content
+          ∙ ap (λ o. read (option_map_or (λ (x : Document). x.committed) o file.content)) (sym closed)
+
+  -- what the shown parts of a file that isn't unready have under the name is what its text has
+  one : (file : Option File) (held : Indexed) → HoldsIndex file held → is_unready file ≡ false → walk.values_of name (part (unwrap_or held.overlay held.base)) ≡ found_at read file
+  one None held holds ready = bare held holds
+  one (Some file) held holds ready = live file held (is_java file.path) refl holds ready
+
+  all_from : (look : ℕ → List V) (first : ℕ) (files : List (Option File)) → ((place : ℕ) → look (first + place) ≡ found_at read (get_or files place None))
+      → walk.found_from look first (length files) ≡ found_from read first files
+  all_from look first [] each = refl
+  all_from look first (file ∷ files) each =
+      let here : look first ≡ found_at read file = (let e : first ≡ first + 0 = omega arith in ap look e) ∙ each 0 in
+      let next : suc first ≡ first + 1 = omega arith in
+      ap (λ vs. walk.with_id first vs ++ walk.found_from look (suc first) (length files)) here
+      ∙ ap (λ rest. walk.with_id first (found_at read file) ++ rest)
+      (all_from look (suc first) files (λ place. (let e : suc first + place ≡ first + suc place = omega arith in ap look e) ∙ each (suc place))
+      ∙ ap (λ i. found_from read i files) next)
+
+  -- the walk gives what the world has
+  pub walk_found : (kept : layers.Held) (files : List (Option File))
+      → ((id : ℕ) → HoldsIndex (row_in files id) (indexed_in kept id))
+      → option_map suc (position is_unready files) ≡ None
+      → walk.found_to (λ id. walk.values_of name (part (layers.shown_of kept id))) (length files) ≡ found_from read 1 files
+  walk_found kept files holds none = all_from (λ id. walk.values_of name (part (layers.shown_of kept id))) 1 files each
+    where
+      each : (place : ℕ) → walk.values_of name (part (layers.shown_of kept (1 + place))) ≡ found_at read (get_or files place None)
+      each place =
+          (let e : 1 + place ≡ suc place = omega arith in ap (λ id. walk.values_of name (part (layers.shown_of kept id))) e)
+          ∙ one (get_or files place None) (indexed_in kept (suc place)) (holds (suc place)) (ready_at files none place)
+
+bare_parts : (held : Indexed) → HoldsIndex None held → unwrap_or held.overlay held.base ≡ no_parts
+bare_parts held none = ap (λ o. unwrap_or o held.base) none.1 ∙ none.0
+
+-- only files that were made show rows
+pub shown_to : (kept : layers.Held) (files : List (Option File))
+    → ((id : ℕ) → HoldsIndex (row_in files id) (indexed_in kept id)) → layers.IsShownTo kept (length files)
+shown_to kept files holds = record {
+  first = bare_parts (indexed_in kept 0) (holds 0);
+  rest = λ file past. beyond file past;
+}
+  where
+    beyond : (file : ℕ) → length files < file → layers.shown_of kept file ≡ no_parts
+    beyond zero past = absurd (omega (arith, past))
+    beyond (suc place) past = bare_parts (indexed_in kept (suc place)) (subst (λ f. HoldsIndex f (indexed_in kept (suc place))) (past_all files place (omega (arith, past))) (holds (suc place)))

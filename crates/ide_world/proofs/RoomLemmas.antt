@@ -1,0 +1,230 @@
+-- What room is left after a step.
+use Rattle.std.proofs.Common.{◌≡◌, ℕ, zero, suc, ◌+◌, ◌*◌, ◌<◌, ◌≤◌, Bool, true, false, cond, eqb, List, [], ◌∷◌, ◌++◌, length, get_or, take, Some, None, refl, sym, ap, ◌∙◌, subst, arith, inl, inr, ⊎_elim, ◌⊎◌}
+use Rattle.std.specs.Prelude.{Option, is_some, IsSome, IfSome}
+use Rattle.std.proofs.lemmas.List.{take_more}
+use Rattle.std.proofs.lemmas.Bool.{eq-eqb, ne_eqb, eqb-true, cond-true, cond-false, cases_eq}
+use Rattle.list_laws.proofs.BoolLemmas.{bool_cases}
+use Rattle.vfs_core.specs.declared.row.FileRow.{FileRow}
+use Rattle.vfs_core.specs.Held as files
+use Rattle.document_buf.specs.Held as docs
+use Rattle.overlay_index.specs.Layers as layers
+use Rattle.overlay_index.specs.Parts.{Parts}
+use Rattle.write_history.specs.World.{World}
+use Rattle.write_history.specs.Fold.{counted}
+use Rattle.ide_world.specs.declared.step.DocEdit.{DocEdit}
+use Rattle.ide_world.specs.declared.step.DocEdit.TheVariants.{Keep, Open, Insert, Erase, Commit, MarkSaved, Replace, Close}
+use Rattle.ide_world.specs.declared.step.Step.{Step}
+use Rattle.ide_world.specs.RowEdits.{put_row}
+use Rattle.ide_world.specs.DocEdits.{edited_document, IsWide, inserted_by}
+use Rattle.ide_world.specs.Step.{after_step, after_steps}
+use Rattle.ide_world.specs.Lawful.{IsLawfulStep, AreLawfulFrom, AreLawful, inserted_by_all}
+use Rattle.list_laws.specs.Rows.{one_if}
+use Rattle.ide_world.specs.Room.{Room, HasStepRoom, HasEachRoom, HasRoomIn, KeepsRoom, KeepsCounts, inserted_into, all_inserted_into, rows_of, brought}
+use Rattle.ide_world.specs.Held.{Held, HasRoom}
+use Rattle.ide_world.specs.StepsReady.{IsReady}
+use Rattle.list_laws.proofs.RowLemmas.{one_if_le}
+
+-- the room for characters that is left after the document of a file was edited
+pub chars_left : (old new : docs.Held) (step : Step)
+    → docs.Becomes old new step.id (edited_document step.doc (docs.document_of old step.id))
+    → ((other : ℕ) → eqb step.id other ≡ false → docs.room_of old other ≤ docs.room_of new other)
+    → ((n : ℕ) → IsWide n step.doc → (IsSome (docs.document_of old step.id) → inserted_by step.doc + n ≤ docs.room_of old step.id)
+    → IsSome (edited_document step.doc (docs.document_of old step.id)) → n ≤ docs.room_of new step.id)
+    → (id n : ℕ) → IsWide n step.doc → (IsSome (docs.document_of old id) → inserted_into id step + n ≤ docs.room_of old id)
+    → IsSome (docs.document_of new id) → n ≤ docs.room_of new id
+chars_left old new step becomes others here id n wide room open' = ⊎_elim
+    (λ (same : step.id ≡ id).
+    let is : eqb step.id id ≡ true = eq-eqb step.id id same in
+    let into : inserted_into id step ≡ inserted_by step.doc = cond-true (eqb step.id id) (inserted_by step.doc) 0 is in
+    let open_here : IsSome (edited_document step.doc (docs.document_of old step.id)) =
+    ap is_some (sym (becomes id ∙ cond-true (eqb step.id id) (edited_document step.doc (docs.document_of old step.id)) (docs.document_of old id) is)) ∙ open' in
+    let left : n ≤ docs.room_of new step.id = here n wide (λ some.
+    let had : inserted_into id step + n ≤ docs.room_of old id = room (ap (λ i. is_some (docs.document_of old i)) (sym same) ∙ some) in
+    omega (arith, had, into, ap (docs.room_of old) same)) open_here in
+    omega (arith, left, ap (docs.room_of new) same))
+    (λ (apart : step.id ≡ id → ⊥).
+    let is : eqb step.id id ≡ false = ne_eqb step.id id apart in
+    let into : inserted_into id step ≡ 0 = cond-false (eqb step.id id) (inserted_by step.doc) 0 is in
+    let had : inserted_into id step + n ≤ docs.room_of old id = room
+    (ap is_some (sym (becomes id ∙ cond-false (eqb step.id id) (edited_document step.doc (docs.document_of old step.id)) (docs.document_of old id) is)) ∙ open') in
+    omega (arith, had, into, others id is))
+    (cases_eq step.id id)
+
+wide_less : (n m : ℕ) (edit : DocEdit) → n ≤ m → IsWide m edit → IsWide n edit
+wide_less n m Keep less wide = tt
+wide_less n m (Open doc) less wide = omega (arith, less, wide)
+wide_less n m (Insert at text) less wide = tt
+wide_less n m (Erase from to) less wide = tt
+wide_less n m (Commit text) less wide = tt
+wide_less n m MarkSaved less wide = tt
+wide_less n m (Replace doc) less wide = omega (arith, less, wide)
+wide_less n m Close less wide = tt
+
+into_le : (id : ℕ) (step : Step) → inserted_into id step ≤ inserted_by step.doc
+into_le id step = bool_cases (eqb step.id id) (λ b. cond b (inserted_by step.doc) 0 ≤ inserted_by step.doc) (λ e. omega arith) (λ ne. omega arith)
+
+all_into_le : (id : ℕ) (steps : List Step) → all_inserted_into id steps ≤ inserted_by_all steps
+all_into_le id [] = omega arith
+all_into_le id (step ∷ steps) = omega (arith, into_le id step, all_into_le id steps)
+
+step_room_kept : (old new : Room) (step : Step) → KeepsRoom old new → HasStepRoom old step → HasStepRoom new step
+step_room_kept old new step keeps room = record {
+  path = path (put_row step.row) room.path;
+  place = λ opening above. keeps.places step.id (room.place opening above);
+  parts = parts (brought step.index) room.parts;
+  mark = keeps.marks step.id room.mark;
+}
+  where
+    path : (row : Option FileRow) → IfSome row (λ r. files.HasPathRoom old.files r.path) → IfSome row (λ r. files.HasPathRoom new.files r.path)
+    path None h = tt
+    path (Some r) h = keeps.paths r.path h
+
+    parts : (given : Option Parts) → IfSome given (layers.HasRoom old.layers step.id) → IfSome given (layers.HasRoom new.layers step.id)
+    parts None h = tt
+    parts (Some p) h = keeps.parts step.id p h
+
+-- what had room for what steps bring still has it
+pub each_room_kept : (old new : Room) (steps : List Step) → KeepsRoom old new → HasEachRoom old steps → HasEachRoom new steps
+each_room_kept old new [] keeps room = tt
+each_room_kept old new (step ∷ steps) keeps room = (step_room_kept old new step keeps room.0, each_room_kept old new steps keeps room.1)
+
+-- one step more was carried out
+pub ready_after : (old new : Held) (step : Step) (steps : List Step) → IsReady old (step ∷ steps)
+    → new.world ≡ after_step old.world step → KeepsRoom old.room new.room
+    → ((count : ℕ) → files.HasRowRoom old.room.files (one_if (is_some (put_row step.row)) + count) → files.HasRowRoom new.room.files count)
+    → ((id n : ℕ) → IsWide n step.doc → (IsSome (docs.document_of old.room.docs id) → inserted_into id step + n ≤ docs.room_of old.room.docs id)
+    → IsSome (docs.document_of new.room.docs id) → n ≤ docs.room_of new.room.docs id)
+    → IsReady new steps
+ready_after old new step steps ready world keeps rows chars = record {
+  spare = ready.spare;
+  lawful = subst (λ w. AreLawfulFrom w steps) (sym world) ready.lawful.1;
+  room = record {
+    rows = rows (rows_of steps) ready.room.rows;
+    each = each_room_kept old.room new.room steps keeps ready.room.each.1;
+    chars = λ id open'. chars id (all_inserted_into id steps)
+        (wide_less (all_inserted_into id steps) ready.spare step.doc (omega (arith, all_into_le id steps, ready.few)) ready.wide.0)
+        (ready.room.chars id) open';
+  };
+  wide = ready.wide.1;
+  few = omega (arith, ready.few);
+  stamps = omega (arith, ready.stamps, ap (λ (w : World). w.next_stamp) world, ap (λ (w : World). w.entries) world, one_if_le step.draws);
+}
+
+-- what carrying out the first of them asks
+pub first_rows : (held : Held) (step : Step) (steps : List Step) → IsReady held (step ∷ steps) → files.HasRowRoom held.room.files (one_if (is_some (put_row step.row)))
+first_rows held step steps ready = omega (arith, ready.room.rows)
+
+pub first_chars : (held : Held) (step : Step) (steps : List Step) → IsReady held (step ∷ steps) → IsSome (docs.document_of held.room.docs step.id) → inserted_into step.id step ≤ docs.room_of held.room.docs step.id
+first_chars held step steps ready some = omega (arith, ready.room.chars step.id some)
+
+pub first_stamps : (held : Held) (step : Step) (steps : List Step) → IsReady held (step ∷ steps) → held.world.next_stamp + 1 ≤ 64 * held.world.entries + 1
+first_stamps held step steps ready = omega (arith, ready.stamps)
+
+-- lawful steps are so where one entry more is counted
+lawful_counted : (world : World) (step : Step) → IsLawfulStep world step → IsLawfulStep (counted world) step
+lawful_counted world step lawful = record {
+  some = lawful.some;
+  within = lawful.within;
+  made = lawful.made;
+  path = lawful.path;
+  doc = lawful.doc;
+  whole = lawful.whole;
+  sound = lawful.sound;
+  index = lawful.index;
+}
+
+all_lawful_counted : (world : World) (steps : List Step) → AreLawfulFrom world steps → AreLawfulFrom (counted world) steps
+all_lawful_counted world [] lawful = tt
+all_lawful_counted world (step ∷ steps) lawful = (lawful_counted world step lawful.0, all_lawful_counted (after_step world step) steps lawful.1)
+
+-- steps of an entry are ready when the entry is counted
+pub ready_counted : (old new : Held) (steps : List Step) → AreLawful old.world steps → HasRoom old steps → old.world.next_stamp ≤ 64 * old.world.entries + 1
+    → new.world ≡ counted old.world → new.room ≡ old.room → IsReady new steps
+ready_counted old new steps lawful room stamps world same = record {
+  spare = inserted_by_all steps;
+  lawful = subst (λ w. AreLawfulFrom w steps) (sym world) (all_lawful_counted old.world steps lawful.each);
+  room = subst (λ r. HasRoomIn r steps) (sym same) room.all;
+  wide = lawful.wide;
+  few = omega arith;
+  stamps = omega (arith, stamps, lawful.few, ap (λ (w : World). w.next_stamp) world, ap (λ (w : World). w.entries) world);
+}
+
+-- counting an entry before the steps or behind them is the same
+pub after_steps-counted : (world : World) (steps : List Step) → after_steps (counted world) steps ≡ counted (after_steps world steps)
+after_steps-counted world [] = refl
+after_steps-counted world (step ∷ steps) = after_steps-counted (after_step world step) steps
+
+-- there is room for what each of some steps inserts with all of them
+abbrev pub HasEachChars : Room → List Step → List Step → Type 0
+HasEachChars room all [] = Unit {0}
+HasEachChars room all (step ∷ steps) =
+    (0 < inserted_by step.doc → IsSome (docs.document_of room.docs step.id) → all_inserted_into step.id all ≤ docs.room_of room.docs step.id)
+    × HasEachChars room all steps
+
+each_room_push : (room : Room) (steps : List Step) (step : Step) → HasEachRoom room steps → HasStepRoom room step → HasEachRoom room (steps ++ step ∷ [])
+each_room_push room [] step each one = (one, tt)
+each_room_push room (first ∷ steps) step each one = (each.0, each_room_push room steps step each.1 one)
+
+each_chars_push : (room : Room) (all steps : List Step) (step : Step) → HasEachChars room all steps
+    → (0 < inserted_by step.doc → IsSome (docs.document_of room.docs step.id) → all_inserted_into step.id all ≤ docs.room_of room.docs step.id)
+    → HasEachChars room all (steps ++ step ∷ [])
+each_chars_push room all [] step each one = (one, tt)
+each_chars_push room all (first ∷ steps) step each one = (each.0, each_chars_push room all steps step each.1 one)
+
+each_chars_kept : (old new : Room) (all steps : List Step) → KeepsCounts old new → HasEachChars old all steps → HasEachChars new all steps
+each_chars_kept old new all [] keeps each = tt
+each_chars_kept old new all (step ∷ steps) keeps each = (
+  (λ some open'. omega (arith, each.0 some (ap is_some (sym (keeps.documents step.id)) ∙ open'), keeps.chars step.id)),
+  each_chars_kept old new all steps keeps each.1,
+)
+
+-- room was made for one step more
+pub each_more : (old new : Room) (all : List Step) (i : ℕ) (step : Step) → i < length all → step ≡ get_or all i step
+    → KeepsRoom old new → KeepsCounts old new → HasStepRoom new step
+    → (0 < inserted_by step.doc → IsSome (docs.document_of new.docs step.id) → all_inserted_into step.id all ≤ docs.room_of new.docs step.id)
+    → HasEachRoom old (take i all) × HasEachChars old all (take i all) → HasEachRoom new (take (i + 1) all) × HasEachChars new all (take (i + 1) all)
+each_more old new all i step within at_i keeps counts room chars each =
+    let more : take (i + 1) all ≡ take i all ++ step ∷ [] = take_more all i step within ∙ ap (λ s. take i all ++ s ∷ []) (sym at_i) in
+    subst (λ done. HasEachRoom new done × HasEachChars new all done) (sym more) (
+      each_room_push new (take i all) step (each_room_kept old new (take i all) keeps each.0) room,
+      each_chars_push new all (take i all) step (each_chars_kept old new all (take i all) counts each.1) chars,
+    )
+
+rows_le : (steps : List Step) → rows_of steps ≤ length steps
+rows_le [] = omega arith
+rows_le (step ∷ steps) = omega (arith, rows_le steps, one_if_le (is_some (put_row step.row)))
+
+chars_or_none : (room : Room) (all steps : List Step) (id : ℕ) → HasEachChars room all steps → IsSome (docs.document_of room.docs id)
+    → (all_inserted_into id steps ≡ 0) ⊎ (all_inserted_into id all ≤ docs.room_of room.docs id)
+chars_or_none room all [] id each open' = inl refl
+chars_or_none room all (step ∷ steps) id each open' = ⊎_elim
+    (λ (none : all_inserted_into id steps ≡ 0). ⊎_elim
+    (λ (nothing : inserted_into id step ≡ 0). inl (omega (arith, none, nothing)))
+    (λ (some : (step.id ≡ id) × (0 < inserted_by step.doc)).
+    let here : all_inserted_into step.id all ≤ docs.room_of room.docs step.id = each.0 some.1 (ap (λ i. is_some (docs.document_of room.docs i)) some.0 ∙ open') in
+    inr (subst (λ i. all_inserted_into i all ≤ docs.room_of room.docs i) some.0 here))
+    (into_cases id step))
+    (λ (held : all_inserted_into id all ≤ docs.room_of room.docs id). inr held)
+    (chars_or_none room all steps id each.1 open')
+  where
+    by : (b : Bool) (n : ℕ) → (cond b n 0 ≡ 0) ⊎ ((b ≡ true) × (0 < n))
+    by true zero = inl refl
+    by true (suc n) = inr (refl, omega arith)
+    by false n = inl refl
+
+    into_cases : (id : ℕ) (step : Step) → (inserted_into id step ≡ 0) ⊎ ((step.id ≡ id) × (0 < inserted_by step.doc))
+    into_cases id step = ⊎_elim
+        (λ (nothing : inserted_into id step ≡ 0). inl nothing)
+        (λ (some : (eqb step.id id ≡ true) × (0 < inserted_by step.doc)). inr (eqb-true step.id id some.0, some.1))
+        (by (eqb step.id id) (inserted_by step.doc))
+
+-- room was made for all of them
+pub room_made : (room : Room) (all : List Step) → files.HasRowRoom room.files (length all) → HasEachRoom room all × HasEachChars room all all → HasRoomIn room all
+room_made room all rows each = record {
+  rows = omega (arith, rows, rows_le all);
+  each = each.0;
+  chars = λ id open'. ⊎_elim
+      (λ (none : all_inserted_into id all ≡ 0). omega (arith, none))
+      (λ (held : all_inserted_into id all ≤ docs.room_of room.docs id). held)
+      (chars_or_none room all all id each.1 open');
+}

@@ -1,0 +1,13 @@
+use Rattle.std.proofs.Common.{◌≡◌, length, take}
+use Rattle.vfs_core.specs.Held.{HasRowRoom}
+use Rattle.ide_world.specs.Room.{HasEachRoom}
+use Rattle.ide_world.proofs.RoomLemmas.{HasEachChars}
+use Rattle.ide_world.proofs.state.State.reserve_all.Given as goal
+
+-- the world stays, and there is room for the rows of all and for what the steps so far bring
+abbrev pub invariant-loop-step : goal.invariant-loop-step
+invariant-loop-step l = record {
+  world : l.self.world ≡ l.fn.self.world;
+  rows : HasRowRoom l.self.room.files (length l.steps);
+  each : HasEachRoom l.self.room (take l.step-index l.steps) × HasEachChars l.self.room l.steps (take l.step-index l.steps);
+}

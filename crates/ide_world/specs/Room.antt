@@ -1,0 +1,86 @@
+-- What steps need room for.
+use Rattle.std.specs.Prelude.{ℕ, ◌≡◌, ◌≤◌, ◌<◌, ◌+◌, ◌==◌, Bool, true, false, if◌then◌else◌, is_some, List, [], ◌∷◌, Option, Some, None, IsSome, IfSome}
+use Rattle.vfs_core.specs.Held as files
+use Rattle.document_buf.specs.Held as docs
+use Rattle.overlay_index.specs.Layers as layers
+use Rattle.overlay_index.specs.Parts.{Parts}
+use Rattle.ide_world.specs.declared.step.DocEdit.{DocEdit}
+use Rattle.ide_world.specs.declared.step.DocEdit.TheVariants.{Keep as KeepDoc, Open, Insert, Erase, Commit, MarkSaved, Replace, Close}
+use Rattle.ide_world.specs.declared.step.IndexEdit.{IndexEdit}
+use Rattle.ide_world.specs.declared.step.IndexEdit.TheVariants.{Keep as KeepIndex, SetBase, SetOverlay, ToBase, Drop}
+use Rattle.ide_world.specs.declared.step.Step.{Step}
+use Rattle.ide_world.specs.RowEdits.{put_row}
+use Rattle.ide_world.specs.DocEdits.{inserted_by}
+use Rattle.list_laws.specs.Rows.{one_if}
+use Rattle.ide_world.specs.Marks.{Marks, has_mark}
+
+-- the room of a state: that of its files, its documents, its index data and its marks
+pub record Room : Type 0 where
+  pub files : files.Held
+  pub docs : docs.Held
+  pub layers : layers.Held
+  pub marks : Marks
+
+-- whether an edit opens a document
+abbrev pub opens : DocEdit → Bool
+opens KeepDoc = false
+opens (Open doc) = true
+opens (Insert at text) = false
+opens (Erase from to) = false
+opens (Commit text) = false
+opens MarkSaved = false
+opens (Replace doc) = false
+opens Close = false
+
+-- the data that an edit brings
+abbrev pub brought : IndexEdit → Option Parts
+brought KeepIndex = None
+brought (SetBase parts) = Some parts
+brought (SetOverlay parts) = Some parts
+brought ToBase = None
+brought Drop = None
+
+-- how many rows steps may make
+abbrev pub rows_of : List Step → ℕ
+rows_of [] = 0
+rows_of (step ∷ steps) = one_if (is_some (put_row step.row)) + rows_of steps
+
+-- how many characters a step inserts into the document of a file
+abbrev pub inserted_into : ℕ → Step → ℕ
+inserted_into id step = if step.id == id then inserted_by step.doc else 0
+
+-- how many characters steps insert into the document of a file
+abbrev pub all_inserted_into : ℕ → List Step → ℕ
+all_inserted_into id [] = 0
+all_inserted_into id (step ∷ steps) = inserted_into id step + all_inserted_into id steps
+
+-- room for what a step brings, but for rows and characters, which add up
+pub record HasStepRoom (room : Room) (step : Step) : Type 0 where
+  pub path : IfSome (put_row step.row) (λ row. files.HasPathRoom room.files row.path)
+  pub place : opens step.doc ≡ true → 0 < step.id → docs.HasPlace room.docs step.id
+  pub parts : IfSome (brought step.index) (layers.HasRoom room.layers step.id)
+  pub mark : has_mark room.marks step.id ≡ true
+
+-- the same for each of the steps
+abbrev pub HasEachRoom : Room → List Step → Type 0
+HasEachRoom room [] = Unit {0}
+HasEachRoom room (step ∷ steps) = HasStepRoom room step × HasEachRoom room steps
+
+-- room for all that steps bring
+pub record HasRoomIn (room : Room) (steps : List Step) : Type 0 where
+  pub rows : files.HasRowRoom room.files (rows_of steps)
+  pub each : HasEachRoom room steps
+  pub chars : (id : ℕ) → IsSome (docs.document_of room.docs id) → all_inserted_into id steps ≤ docs.room_of room.docs id
+
+-- what had room for what a step brings still has it
+pub record KeepsRoom (old new : Room) : Type 0 where
+  pub paths : (path : List ℕ) → files.HasPathRoom old.files path → files.HasPathRoom new.files path
+  pub places : (id : ℕ) → docs.HasPlace old.docs id → docs.HasPlace new.docs id
+  pub parts : layers.KeepsRoom old.layers new.layers
+  pub marks : (id : ℕ) → has_mark old.marks id ≡ true → has_mark new.marks id ≡ true
+
+-- the room that adds up isn't less, and the same documents are open
+pub record KeepsCounts (old new : Room) : Type 0 where
+  pub rows : (count : ℕ) → files.HasRowRoom old.files count → files.HasRowRoom new.files count
+  pub chars : (id : ℕ) → docs.room_of old.docs id ≤ docs.room_of new.docs id
+  pub documents : docs.SameDocuments old.docs new.docs

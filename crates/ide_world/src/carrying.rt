@@ -1,0 +1,135 @@
+//! Carrying steps out: the one door by which files, documents and index data change, in step with one another.
+ghost use Rattle.std.specs.Prelude.{◌≡◌, ◌≤◌, ◌<◌, ◌+◌, ◌*◌, ℕ, true, false, List, length, is_some, IsSome, IfSome, ◌==◌, if◌then◌else◌, [], vec_len};
+ghost use Rattle.std.specs.Vec.{vec_capacity};
+ghost use Rattle.vfs_core.specs.Held.{row_of, HasRowRoom, KeepsRoom as KeepsFileRoom};
+ghost use Rattle.document_buf.specs.Held.{document_of, room_of};
+ghost use Rattle.write_history.specs.World.{is_unready};
+ghost use Rattle.write_history.specs.Effect.{max_entries};
+ghost use Rattle.write_history.specs.Fold.{counted};
+ghost use Rattle.ide_world.specs.RowEdits.{put_row};
+ghost use Rattle.ide_world.specs.DocEdits.{IsWide};
+ghost use Rattle.ide_world.specs.Step.{joined, drawn_by, after_step, after_steps};
+ghost use Rattle.ide_world.specs.Lawful.{AreLawful, IsLawfulStep};
+ghost use Rattle.list_laws.specs.Rows.{one_if};
+ghost use Rattle.ide_world.specs.Held.{HasRoom};
+ghost use Rattle.ide_world.specs.StepsReady.{IsReady};
+ghost use Rattle.ide_world.specs.Room.{HasStepRoom, inserted_into, KeepsRoom};
+
+use crate::apply::{Gone, apply_document, apply_index, apply_row};
+use crate::{State, Step, Steps};
+use document_buf::Docs;
+use dumb_mode::{Mark, is_java};
+use vfs_core::Files;
+
+/// Draws a stamp, where one is wanted.
+fn draw_if(files: &mut Files, draws: bool)
+    requires { files.old.next_stamp < u64.MAX }
+    ensures next { files.new.next_stamp ≡ files.old.next_stamp + one_if draws }
+    ensures rows { files.new.rows ≡ files.old.rows }
+    ensures keeps { KeepsFileRoom files.old files.new }
+{
+    if draws {
+        files.draw();
+    }
+}
+
+/// Whether a file is live and unready.
+fn is_unready_file(files: &Files, docs: &Docs, id: u32) -> bool
+    ensures { result ≡ is_unready (joined (row_of files.now id) (document_of docs.now id)) }
+{
+    let Some(row) = files.by_id(id) else {
+        return false;
+    };
+    let mark = Mark {
+        file: id,
+        java: is_java(&row.path),
+        docs_open: docs.get(id).is_some(),
+        present: row.stamp,
+        indexed: row.indexed,
+    };
+    mark.is_unready()
+}
+
+impl State {
+    /// Carries one step out. It takes no memory.
+    fn carry_out(&mut self, step: Step) -> Gone
+        requires lawful { IsLawfulStep self.old.world step }
+        requires room { HasStepRoom self.old.room step }
+        requires rows { HasRowRoom self.old.room.files (one_if (is_some (put_row step.row))) }
+        requires chars { IsSome (document_of self.old.room.docs step.id) → inserted_into step.id step ≤ room_of self.old.room.docs step.id }
+        requires stamps { self.old.world.next_stamp + 1 ≤ 64 * self.old.world.entries + 1 }
+        ensures world { self.new.world ≡ after_step self.old.world step }
+        ensures keeps { KeepsRoom self.old.room self.new.room }
+        ensures rows { (count : ℕ) → HasRowRoom self.old.room.files (one_if (is_some (put_row step.row)) + count) → HasRowRoom self.new.room.files count }
+        ensures chars { (id n : ℕ) → IsWide n step.doc
+            → (IsSome (document_of self.old.room.docs id) → inserted_into id step + n ≤ room_of self.old.room.docs id)
+            → IsSome (document_of self.new.room.docs id) → n ≤ room_of self.new.room.docs id }
+    {
+        let id = step.id;
+        draw_if(&mut self.files, step.draws);
+        let row = apply_row(&mut self.files, id, step.row);
+        apply_document(&mut self.docs, id, step.doc);
+        let data = apply_index(&mut self.layers, id, step.index);
+        let is_unready = is_unready_file(&self.files, &self.docs, id);
+        self.unready.set(id, is_unready);
+        Gone { id, row, data }
+    }
+    /// Carries steps out, one after another, and keeps what they took out. It takes no memory.
+    fn carry_out_all(&mut self, steps: Vec<Step>, gone: &mut Vec<Gone>)
+        requires ready { IsReady self.old steps.items }
+        requires place { vec_len gone.old + vec_len steps ≤ vec_capacity gone.old }
+        ensures { self.new.world ≡ after_steps self.old.world steps.items }
+    {
+        for step in steps {
+            let taken = self.carry_out(step);
+            let Ok(()) = gone.push(taken) else {
+                unreachable!()
+            };
+        }
+    }
+
+    /// Gives up the room of what went, where nothing needs it now.
+    fn sweep(&mut self, gone: &Gone)
+        ensures { self.new.world ≡ self.old.world }
+    {
+        if let Some(row) = &gone.row {
+            self.files.sweep(&row.path);
+        }
+        if let Some(data) = &gone.data {
+            self.layers.sweep(gone.id, data);
+        }
+        self.unready.sweep(gone.id);
+    }
+
+    /// The same of all that went.
+    fn sweep_all(&mut self, gone: &[Gone])
+        ensures { self.new.world ≡ self.old.world }
+    {
+        for taken in gone {
+            self.sweep(taken);
+        }
+    }
+
+    /// Counts one entry more.
+    fn count_entry(&mut self)
+        requires { self.old.world.entries < max_entries }
+        ensures world { self.new.world ≡ counted self.old.world }
+        ensures room { self.new.room ≡ self.old.room }
+        ensures stamps { self.old.world.next_stamp ≤ 64 * self.old.world.entries + 1 }
+    {
+        self.entries += 1;
+    }
+
+    /// Carries out the steps of an entry. It takes no memory.
+    pub fn install(&mut self, steps: Steps)
+        requires lawful { AreLawful self.old.world steps }
+        requires room { HasRoom self.old steps }
+        requires entries { self.old.world.entries < max_entries }
+        ensures { self.new.world ≡ counted (after_steps self.old.world steps) }
+    {
+        self.count_entry();
+        let Steps { steps, mut gone } = steps;
+        self.carry_out_all(steps, &mut gone);
+        self.sweep_all(&gone);
+    }
+}

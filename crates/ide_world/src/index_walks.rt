@@ -1,0 +1,51 @@
+//! Walks over what a name finds, file by file in order of their ids. They take no memory.
+ghost use Rattle.std.specs.Prelude.{◌≡◌, None};
+ghost use Rattle.write_history.specs.World.{lowest_unready};
+ghost use Rattle.overlay_index.specs.Named.{is_type_named, names_super, is_method_named};
+ghost use Rattle.ide_world.specs.Found.{found, stubs_in, masks_in};
+
+use crate::State;
+use ide_text::Name;
+use overlay_index::laws::{
+    a_name_finds_its_methods, a_name_finds_its_subtypes, a_name_finds_its_types,
+    a_word_finds_its_mask,
+};
+use overlay_index::{StubWalk, WordWalk};
+
+impl State {
+    /// The types with a name.
+    pub fn type_rows<'a>(&'a self, name: &'a Name) -> StubWalk<'a>
+        requires { lowest_unready self.now.world ≡ None }
+        ensures { result ≡ found (stubs_in (is_type_named name.now)) self.now.world }
+    {
+        a_name_finds_its_types();
+        self.layers.type_rows(name)
+    }
+
+    /// The types that name a type as a super, each once.
+    pub fn super_rows<'a>(&'a self, name: &'a Name) -> StubWalk<'a>
+        requires { lowest_unready self.now.world ≡ None }
+        ensures { result ≡ found (stubs_in (names_super name.now)) self.now.world }
+    {
+        a_name_finds_its_subtypes();
+        self.layers.super_rows(name)
+    }
+
+    /// The methods with a name.
+    pub fn method_rows<'a>(&'a self, name: &'a Name) -> StubWalk<'a>
+        requires { lowest_unready self.now.world ≡ None }
+        ensures { result ≡ found (stubs_in (is_method_named name.now)) self.now.world }
+    {
+        a_name_finds_its_methods();
+        self.layers.method_rows(name)
+    }
+
+    /// The files that have a word, each with the word's mask in it.
+    pub fn word_rows<'a>(&'a self, name: &'a Name) -> WordWalk<'a>
+        requires { lowest_unready self.now.world ≡ None }
+        ensures { result ≡ found (masks_in name.now) self.now.world }
+    {
+        a_word_finds_its_mask();
+        self.layers.word_rows(name)
+    }
+}

@@ -1,0 +1,34 @@
+use Rattle.std.proofs.Common.{rules, arith, refl}
+use Rattle.action_lock.proofs.AdvanceLemmas.{advances_not, advances_on}
+use Rattle.index_workers.proofs.PassLemmas.{same_on}
+use Rattle.index_workers.specs.Passes.{ide_view}
+use Rattle.playing.proofs.SectionLemmas.{section_begins, section_turn, section_over}
+use Rattle.playing.proofs.section.do_section.Goals as goal
+
+pub loop-line-init : goal.loop-line-init
+loop-line-init g c = record {
+  rests = c.requires.pass;
+  same = search rules;
+  advances = advances_not (ide_view c.args.pass.now);
+  nothing = refl;
+  under_way = section_begins c.args.beside c.args.seat c.args.lines.now c.args.loads.now (ide_view c.args.pass.now) c.args.records.now;
+}
+
+pub loop-line-preserved : goal.loop-line-preserved
+loop-line-preserved g c =
+    let before = c.loop-line.invariant in
+    let done = c.in_ok-do_line.ensures in
+    record {
+      rests = done.pass.0;
+      same = same_on _ _ _ before.same done.pass.1;
+      advances = advances_on _ _ _ before.advances done.advances;
+      nothing = before.nothing;
+      under_way = section_turn c.args.beside c.args.seat c.args.lines.now c.args.loads.now _ _ _ _ _ _ c.loop-line.line-index _ _ _ _
+          c.requires.seat c.loop-line-test.true c.line-item.is
+          c.first_load-load.ensures c.later_loads-left.ensures before.advances done.advances before.under_way done.answered;
+    }
+
+pub returns-clause-done : goal.returns-clause-done
+returns-clause-done g c =
+    section_over c.args.beside c.args.seat c.args.lines.now c.args.loads.now _ _ _ _ c.loop-line.line-index _ (omega (arith, c.loop-line-test.false))
+    c.loop-line.invariant.under_way

@@ -1,0 +1,39 @@
+//! Settles of lines.
+ghost use Rattle.std.specs.Prelude.{◌≡◌, IfOk};
+ghost use Rattle.action_lock.specs.Advances.{Advances};
+ghost use Rattle.index_workers.specs.Passes.{ide_view, IsSameIdePass};
+ghost use Rattle.shared_ide.specs.Passes.{IsIdePassOf};
+ghost use Rattle.transcripts.specs.Serial.{settle_step};
+ghost use Rattle.playing.specs.Answered.{IsAnswered};
+
+use ide_calls::SettleRefusal;
+use index_workers::IdePass;
+use shared_ide::SharedIde;
+use std::alloc::{AllocError, Global};
+use std::sync::Wait;
+use transcripts::Answer;
+use write_history::Refusal;
+
+/// Takes every unready file in, or answers that the history is full. It may wait for ever.
+pub(crate) fn do_settle<R: Wait>(
+    rt: &R,
+    alloc: Global,
+    ide: &SharedIde,
+    pass: &mut IdePass,
+    line: u32,
+) -> Result<Answer, AllocError>
+    requires { IsIdePassOf ide.now pass.old }
+    ensures pass { IsIdePassOf ide.now pass.new × IsSameIdePass pass.old pass.new }
+    ensures advances { Advances (ide_view pass.old) (ide_view pass.new) }
+    ensures answer { IfOk result (IsAnswered (λ start seat. settle_step start seat line) (ide_view pass.old) (ide_view pass.new)) }
+{
+    match ide.settle(rt, alloc, pass, line) {
+        Ok(at) => Ok(Answer::Smart { at }),
+        Err(SettleRefusal::HistoryFull { at }) => Ok(Answer::Refused {
+            at,
+            place: None,
+            why: Refusal::HistoryFull,
+        }),
+        Err(SettleRefusal::OutOfMemory) => Err(AllocError),
+    }
+}

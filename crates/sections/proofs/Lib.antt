@@ -1,3 +1,0 @@
-pub mod AnsweredLemmas
-pub mod EditLemmas
-pub mod SectionLemmas

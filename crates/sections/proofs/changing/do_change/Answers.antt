@@ -1,9 +1,0 @@
-use Rattle.std.proofs.Common.{ℕ, None}
-use Rattle.sections.proofs.AnsweredLemmas.{accepted, refused}
-use Rattle.sections.proofs.changing.do_change.Goals as goal
-
-pub returns-in-Ok-clause-answer : goal.returns-in-Ok-clause-answer
-returns-in-Ok-clause-answer g c = accepted _ _ _ _ _ (λ (place : ℕ). None) c.in-Ok.ensures.accepted
-
-pub returns-in-Err-Refused-clause-answer : goal.returns-in-Err-Refused-clause-answer
-returns-in-Err-Refused-clause-answer g c = refused _ _ _ _ _ _ _ (λ (place : ℕ). None) (rw c.in-Err-Refused.field-0-is at c.in-Err-Refused.ensures.refused)

@@ -1,5 +1,0 @@
-pub mod MarkLemmas
-pub mod WorldLemmas
-pub mod RoomLemmas
-pub mod ReaderLemmas
-pub mod WalkLemmas

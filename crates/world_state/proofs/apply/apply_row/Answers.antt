@@ -1,9 +1,0 @@
-use Rattle.std.proofs.Common.{ap, length, ◌∙◌}
-use Rattle.list_laws.proofs.RowLemmas.{length-with_row}
-use Rattle.world_state.proofs.apply.apply_row.Goals as goal
-
-pub returns-in-Put-clause-made : goal.returns-in-Put-clause-made
-returns-in-Put-clause-made c = ap length c.put.ensures.rows ∙ length-with_row _ _ _ c.requires.some c.requires.within
-
-pub returns-in-Remove-clause-made : goal.returns-in-Remove-clause-made
-returns-in-Remove-clause-made c = ap length c.put-in-Remove.ensures.rows ∙ length-with_row _ _ _ c.requires.some c.requires.within
