@@ -6,6 +6,7 @@ use Rattle.action_lock.specs.declared.view.Phase.{Phase}
 use Rattle.action_lock.specs.declared.view.Phase.TheVariants.{Out}
 use Rattle.action_lock.specs.declared.view.View.{View}
 use Rattle.action_lock.specs.Advances.{Advances}
+use Rattle.action_lock.specs.Views.{all_checks}
 use Rattle.action_lock.specs.Steps.{looked, with_phase}
 use Rattle.action_lock.specs.Reads.{HasLooked, HasRead, HasFailed, HasWaited, IsRefused}
 use Rattle.action_lock.proofs.ReadLemmas.{looked_once}
@@ -23,6 +24,7 @@ module _ {E : Type 0} where
     reads = front_self v.reads;
     sights = le_refl v.sights;
     looks = le_refl v.looks;
+    checks = le_refl (all_checks v);
     held = le_refl v.held;
   }
 
@@ -37,17 +39,18 @@ module _ {E : Type 0} where
     reads = front_trans u.reads v.reads w.reads p.reads q.reads;
     sights = le_trans p.sights q.sights;
     looks = le_trans p.looks q.looks;
+    checks = le_trans p.checks q.checks;
     held = le_trans p.held q.held;
   }
 
   -- a change of the phase alone
   pub with_phase-advances : (v : View E) (phase : Phase) → Advances v (with_phase phase v)
   with_phase-advances v phase = let same = advances_not v in
-      record { number = refl; drawn = refl; ended = refl; seen = same.seen; mine = same.mine; reads = same.reads; sights = same.sights; looks = same.looks; held = same.held }
+      record { number = refl; drawn = refl; ended = refl; seen = same.seen; mine = same.mine; reads = same.reads; sights = same.sights; looks = same.looks; checks = same.checks; held = same.held }
 
   pub looked-advances : (v w : View E) → HasLooked v w → Advances v w
   looked-advances v w p = let same = advances_not v in subst (Advances v) (sym p.same)
-      record { number = refl; drawn = refl; ended = refl; seen = same.seen; mine = same.mine; reads = same.reads; sights = p.sights; looks = p.looks; held = same.held }
+      record { number = refl; drawn = refl; ended = refl; seen = same.seen; mine = same.mine; reads = same.reads; sights = p.sights; looks = p.looks; checks = (let more = p.checks in omega arith); held = same.held }
 
   pub look-advances : (v w : View E) (found : ℕ) → w ≡ looked found v → Advances v w
   look-advances v w found is = subst (Advances v) (sym is) (looked-advances v (looked found v) (looked_once v found))
@@ -58,7 +61,7 @@ module _ {E : Type 0} where
   module _ (number_of : E → ℕ) where
     pub read-advances : (phase : Phase) (v w : View E) → HasRead number_of phase v w → Advances v w
     read-advances phase v w p = let same = advances_not v in subst (Advances v) (sym p.after)
-        record { number = refl; drawn = refl; ended = refl; seen = p.learns.longer; mine = same.mine; reads = (length w.seen ∷ [], refl); sights = same.sights; looks = omega arith; held = same.held }
+        record { number = refl; drawn = refl; ended = refl; seen = p.learns.longer; mine = same.mine; reads = (length w.seen ∷ [], refl); sights = same.sights; looks = omega arith; checks = omega arith; held = same.held }
 
     pub failed-advances : (v w : View E) → HasFailed number_of v w → Advances v w
     failed-advances v w p = ⊎_elim (look-advances v w w.last) (read-advances Out v w) p

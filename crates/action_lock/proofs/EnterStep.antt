@@ -7,7 +7,7 @@ use Rattle.atomic_table.specs.Table.{Me, State, step, Act, keeps, takes, stepped
 use Rattle.action_lock.specs.declared.view.Phase.TheVariants.{Out, Entering, Backing}
 use Rattle.action_lock.specs.declared.view.View.{View}
 use Rattle.action_lock.specs.Words.{gate, has_turn, has_pending}
-use Rattle.action_lock.specs.Views.{Tally, tally, bit}
+use Rattle.action_lock.specs.Views.{Tally, tally, bit, all_checks}
 use Rattle.action_lock.specs.Rule.{gate_word}
 use Rattle.action_lock.specs.Steps.{looked, backing, entering, sights_after, EntersAt, Enters}
 use Rattle.action_lock.proofs.WordLemmas.{turn_set, turn_clear, or_odd, or_even}
@@ -67,7 +67,7 @@ module _ {H E : Type 0} (number_of : E → ℕ) (stands : H → List E → Type 
         takes 0 home.0,
         there s.homes home.0 home.1,
         moved number_of stands s r id v w (set s.words gate (bit_or found 1)) (set s.homes 0 none) at refl refl
-            (entered number_of r.history r.drawn v n has sound Entering v.intent (v.looks + 1) found (v.reads ++ length r.history ∷ []) (λ some_mark. absurd (omega arith)) (λ e. e) refl)
+            (entered number_of r.history r.drawn v n has sound Entering v.intent (v.looks + 1) 0 (all_checks v) found (v.reads ++ length r.history ∷ []) (λ some_mark. absurd (omega arith)) (λ e. e) refl)
             (goes_out stands r.history t t' s.words s.homes guarded (bit_or found 1) home.0 (or_even found free ∙ omega arith) (omega arith) (omega arith) (λ some_write. absurd (omega arith)) home.1 (omega arith)),
         (r.history, home.0, learned number_of r.history r.drawn v sound, home.2, refl),
       )

@@ -4,18 +4,18 @@ use mathlib.Core.Option.{none}
 use Rattle.atomic_table.specs.Table.{Me, step, keeps, Allows}
 use Rattle.action_lock.specs.declared.view.View.{View}
 use Rattle.action_lock.specs.Words.{gate}
-use Rattle.action_lock.specs.Steps.{looked, sights_after, Looks}
+use Rattle.action_lock.specs.Steps.{checked, sights_after, Looks}
 use Rattle.action_lock.proofs.Placing.{Rule, quiet}
-use Rattle.action_lock.proofs.Sound.{renewed, is_current}
+use Rattle.action_lock.proofs.Sound.{renewed, counted_in, is_current}
 
 module _ {H E : Type 0} (number_of : E → ℕ) (stands : H → List E → Type 0) where
   pub looks : (slots id n : ℕ) (me : Me H (View E)) → me.0.number ≡ Some n → Allows (Rule number_of stands) slots id me gate (λ x. x) (Looks (step slots gate 0 0 none) me)
   looks slots id n me has s r _ at _ =
       let found : ℕ = get_or s.words gate 0 in let v : View E = me.0 in let sound = r.recorded.each id v at in (
-        looked found v,
+        checked found v,
         keeps,
         tt,
-        quiet number_of stands s r gate id v (looked found v) at refl refl refl
-            (renewed number_of r.history r.drawn v n has sound v.phase v.intent v.current (v.looks + 1) v.held (sights_after v.sights found) found sound.asks (is_current number_of r.history r.drawn v sound) sound.entered),
+        quiet number_of stands s r gate id v (checked found v) at refl refl refl
+            (renewed number_of r.history r.drawn (record v { checks = v.checks + 1 }) n has (counted_in number_of r.history r.drawn v n (v.checks + 1) has sound) v.phase v.intent v.current (v.looks + 1) v.held (sights_after v.sights found) found sound.asks (is_current number_of r.history r.drawn v sound) sound.entered),
         refl,
       )

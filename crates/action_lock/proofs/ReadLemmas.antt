@@ -35,7 +35,7 @@ found_none sights found b is e = rw (sym is ∙ e) refl
 
 module _ {E : Type 0} where
   pub looked_once : (v : View E) (found : ℕ) → HasLooked v (looked found v)
-  looked_once v found = record { same = refl; looks = omega arith; sights = sighted v.sights found }
+  looked_once v found = record { same = refl; looks = omega arith; checks = omega arith; sights = sighted v.sights found }
 
   -- one look more
   pub looked_again : (u v w : View E) (found : ℕ) → HasLooked u v → w ≡ looked found v → HasLooked u w

@@ -31,15 +31,30 @@ module _ {E : Type 0} (number_of : E → ℕ) (history : List E) (drawn : ℕ) w
     ended = sound.ended;
   }
 
+  -- one look more in a read
+  pub counted_in : (v : View E) (n checks : ℕ) → v.number ≡ Some n → IsSound number_of history drawn v → IsSound number_of history drawn (record v { checks = checks })
+  counted_in v n checks has sound = record {
+    spent = λ none_there. absurd (some_number v.number n has none_there);
+    counts = sound.counts;
+    asks = sound.asks;
+    current_intends = sound.current_intends;
+    seen = sound.seen;
+    olds = sound.olds;
+    entered = sound.entered;
+    current = sound.current;
+    mine = sound.mine;
+    ended = sound.ended;
+  }
+
   -- a view that is current intends, and has seen the whole history
   pub is_current : (v : View E) → IsSound number_of history drawn v → v.current ≡ true → (v.intent ≡ true) × (v.seen ≡ history)
   is_current v sound e = (sound.current_intends e, sound.current e)
 
   -- all of the history is seen
   pub entered : (v : View E) (n : ℕ) → v.number ≡ Some n → IsSound number_of history drawn v
-      → (phase : Phase) (current : Bool) (looks last : ℕ) (reads : List ℕ) → (0 < (weight_in phase (bit v.intent)).pendings → v.intent ≡ true) → (current ≡ true → v.intent ≡ true) → SeesAll phase (history ≡ history)
-      → IsSound number_of history drawn (record v { phase = phase; current = current; seen = history; reads = reads; looks = looks; last = last })
-  entered v n has sound phase current looks last reads asks intends sees = record {
+      → (phase : Phase) (current : Bool) (looks checks earlier last : ℕ) (reads : List ℕ) → (0 < (weight_in phase (bit v.intent)).pendings → v.intent ≡ true) → (current ≡ true → v.intent ≡ true) → SeesAll phase (history ≡ history)
+      → IsSound number_of history drawn (record v { phase = phase; current = current; seen = history; reads = reads; looks = looks; checks = checks; earlier_checks = earlier; last = last })
+  entered v n has sound phase current looks checks earlier last reads asks intends sees = record {
     spent = λ none_there. absurd (some_number v.number n has none_there);
     counts = sound.counts;
     asks = asks;

@@ -61,7 +61,7 @@ module _ {H E : Type 0} (number_of : E → ℕ) (stands : H → List E → Type 
         takes 0 home.0,
         there s.homes home.0 home.1,
         moved number_of stands s r id v w (set s.words gate 7) (set s.homes 0 none) at refl refl
-            (entered number_of r.history r.drawn v n has sound Writing true v.looks v.last v.reads (λ _. intends) (λ _. intends) refl)
+            (entered number_of r.history r.drawn v n has sound Writing true v.looks v.checks v.earlier_checks v.last v.reads (λ _. intends) (λ _. intends) refl)
             (goes_out stands r.history t t' s.words s.homes guarded 7 home.0 (omega arith) (omega arith) (omega arith) (λ some_write. omega arith) home.1 (omega arith)),
         (r.history, home.0, learned number_of r.history r.drawn v sound, home.2, refl),
       )

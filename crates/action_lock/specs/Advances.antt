@@ -1,6 +1,7 @@
 -- What each call leaves of a pass's view, whatever else it does: it goes on, and loses nothing.
 use Rattle.std.specs.Prelude.{◌≡◌, ◌≤◌}
 use Rattle.action_lock.specs.declared.view.View.{View}
+use Rattle.action_lock.specs.Views.{all_checks}
 use Rattle.list_laws.specs.Fronts.{IsFront}
 
 module _ {E : Type 0} where
@@ -14,4 +15,5 @@ module _ {E : Type 0} where
     pub reads : IsFront v.reads w.reads
     pub sights : v.sights ≤ w.sights
     pub looks : v.looks ≤ w.looks
+    pub checks : all_checks v ≤ all_checks w
     pub held : v.held ≤ w.held

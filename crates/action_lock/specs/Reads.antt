@@ -1,18 +1,20 @@
 -- What an attempt to read, and a write, leave of the pass's view.
-use Rattle.std.specs.Prelude.{◌≡◌, ℕ, ◌≤◌, true, false, ◌⊎◌}
+use Rattle.std.specs.Prelude.{◌≡◌, ℕ, ◌<◌, ◌≤◌, true, false, ◌⊎◌}
 use Rattle.action_lock.specs.declared.refusal.ReadRefusal.{ReadRefusal}
 use Rattle.action_lock.specs.declared.refusal.ReadRefusal.TheVariants.{Pending, Turn, OutOfMemory}
 use Rattle.action_lock.specs.declared.view.Phase.{Phase}
 use Rattle.action_lock.specs.declared.view.Phase.TheVariants.{Out}
 use Rattle.action_lock.specs.declared.view.View.{View}
 use Rattle.action_lock.specs.Words.{has_turn, has_pending}
+use Rattle.action_lock.specs.Views.{all_checks}
 use Rattle.action_lock.specs.Steps.{Learns, looked, entering, writing, with_phase}
 
 module _ {E : Type 0} where
   -- the pass has looked at the gate, and learned nothing else
   pub record HasLooked (v w : View E) : Type 0 where
-    pub same : w ≡ record v { looks = w.looks; last = w.last; sights = w.sights }
+    pub same : w ≡ record v { looks = w.looks; checks = w.checks; last = w.last; sights = w.sights }
     pub looks : v.looks ≤ w.looks
+    pub checks : v.checks ≤ w.checks
     pub sights : v.sights ≤ w.sights
 
   module _ (number_of : E → ℕ) where
@@ -33,6 +35,11 @@ module _ {E : Type 0} where
     IsRefused (Pending word) v w = (has_pending word ≡ true) × (w ≡ looked word v)
     IsRefused (Turn word) v w = (has_pending word ≡ false) × (has_turn word ≡ true) × (w ≡ looked word v)
     IsRefused OutOfMemory v w = HasFailed v w
+
+  -- the pass was let in, and has looked at the gate in the last of its reads
+  pub record HasChecked (v w : View E) : Type 0 where
+    pub earlier : all_checks v ≤ w.earlier_checks
+    pub some : 0 < w.checks
 
   -- after some looks
   pub record HasWaited (then : View E → View E → Type 0) (v w : View E) : Type 0 where

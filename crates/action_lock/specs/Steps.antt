@@ -7,7 +7,7 @@ use Rattle.action_lock.specs.declared.view.Ended.{Ended}
 use Rattle.action_lock.specs.declared.view.View.{View}
 use Rattle.action_lock.specs.Counts.{counted}
 use Rattle.action_lock.specs.Words.{has_turn, has_pending}
-use Rattle.action_lock.specs.Views.{numbers, times, fresh}
+use Rattle.action_lock.specs.Views.{numbers, times, fresh, all_checks}
 use Rattle.action_lock.specs.Rule.{entries_of}
 use Rattle.list_laws.specs.Fronts.{IsFront, longer}
 
@@ -16,9 +16,13 @@ abbrev pub sights_after : ℕ → ℕ → ℕ
 sights_after sights found = if has_pending found then counted sights else sights
 
 module _ {E : Type 0} where
-  -- a look at the gate that found this word
+  -- a try to enter that found this word
   abbrev pub looked : ℕ → View E → View E
   looked found v = record v { looks = v.looks + 1; last = found; sights = sights_after v.sights found }
+
+  -- a look at the gate, in a read, that found this word
+  abbrev pub checked : ℕ → View E → View E
+  checked found v = record v { looks = v.looks + 1; checks = v.checks + 1; last = found; sights = sights_after v.sights found }
 
   -- the look found the pending mark and no turn, and has taken the turn
   abbrev pub backing : ℕ → View E → View E
@@ -27,7 +31,7 @@ module _ {E : Type 0} where
   -- the look found neither, and has taken the turn and the home value, which stands for what is now seen
   abbrev pub entering : ℕ → List E → View E → View E
   entering found seen v =
-      record v { phase = Entering; looks = v.looks + 1; last = found; seen = seen; reads = v.reads ++ length seen ∷ []; current = v.intent }
+      record v { phase = Entering; looks = v.looks + 1; checks = 0; earlier_checks = all_checks v; last = found; seen = seen; reads = v.reads ++ length seen ∷ []; current = v.intent }
 
   -- only the phase changed
   abbrev pub with_phase : Phase → View E → View E
@@ -101,9 +105,9 @@ module _ {E : Type 0} where
       pub mine : (n : ℕ) → v.number ≡ Some n → v.mine ≡ entries_of number_of n seen
 
   module _ {H : Type 0} where
-    -- a load of the gate word
+    -- a load of the gate word, in a read
     abbrev pub Looks : Step H → Me H (View E) → ℕ → Me H (View E) → Type 0
-    Looks st m found m' = m' ≡ (looked found m.0, m.1)
+    Looks st m found m' = m' ≡ (checked found m.0, m.1)
 
     -- a reader leaves, or a turn is given back
     abbrev pub Exits : Step H → Me H (View E) → ℕ → Me H (View E) → Type 0

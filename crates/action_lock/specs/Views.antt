@@ -73,6 +73,10 @@ module _ {E : Type 0} where
   abbrev pub times : ℕ → View E → ℕ
   times n v = number_is n v.number + total (λ (e : Ended E). bit (e.number == n)) v.ended
 
+  -- how often it looked at the gate in all its reads
+  abbrev pub all_checks : View E → ℕ
+  all_checks v = v.earlier_checks + v.checks
+
   -- the view of a new pass
   abbrev pub fresh : Option ℕ → ℕ → List E → View E
   fresh number drawn seen = record {
@@ -88,6 +92,8 @@ module _ {E : Type 0} where
     sights = 0;
     reads = [];
     looks = 0;
+    checks = 0;
+    earlier_checks = 0;
     held = 0;
     last = 0;
   }

@@ -10,13 +10,14 @@ use Rattle.action_lock.specs.Readings.{StaysReading}
 module _ {E : Type 0} where
   -- a view that nobody looked with
   pub looked_not : (v : View E) → HasLooked v v
-  looked_not v = record { same = refl; looks = le_refl v.looks; sights = le_refl v.sights }
+  looked_not v = record { same = refl; looks = le_refl v.looks; checks = le_refl v.checks; sights = le_refl v.sights }
 
   -- looks, and then more looks
   pub looked_on : (u v w : View E) → HasLooked u v → HasLooked v w → HasLooked u w
   looked_on u v w p q = record {
-    same = q.same ∙ ap (λ (x : View E). record x { looks = w.looks; last = w.last; sights = w.sights }) p.same;
+    same = q.same ∙ ap (λ (x : View E). record x { looks = w.looks; checks = w.checks; last = w.last; sights = w.sights }) p.same;
     looks = le_trans p.looks q.looks;
+    checks = le_trans p.checks q.checks;
     sights = le_trans p.sights q.sights;
   }
 

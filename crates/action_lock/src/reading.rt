@@ -3,7 +3,7 @@ ghost use Rattle.std.specs.Prelude.{◌≡◌, ◌≤◌, Some, None, IfOk};
 ghost use Rattle.std.specs.Borrow.{sem};
 ghost use Rattle.action_lock.specs.declared.view.Phase.TheVariants as phase;
 ghost use Rattle.action_lock.specs.Words.{has_pending};
-ghost use Rattle.action_lock.specs.Steps.{looked, with_phase};
+ghost use Rattle.action_lock.specs.Steps.{checked, with_phase};
 ghost use Rattle.action_lock.specs.Advances.{Advances};
 ghost use Rattle.action_lock.specs.Passes.{view_of, IsSamePass, IsOut};
 ghost use Rattle.action_lock.specs.Reads.{HasRead, HasWaited};
@@ -74,7 +74,7 @@ impl<'a, H: Home> Reading<'a, H> {
         ensures same { GoesOn self.new × IsSameRead self.old self.new }
         ensures reads { IsReading self.old → IsReading self.new }
         ensures share { kept_share self.new ≡ kept_share self.old }
-        ensures view { view_of (pass_of self.new) ≡ looked (view_of (pass_of self.new)).last (view_of (pass_of self.old)) }
+        ensures view { view_of (pass_of self.new) ≡ checked (view_of (pass_of self.new)).last (view_of (pass_of self.old)) }
         ensures kept { (view_of (pass_of self.old)).sights ≤ (view_of (pass_of self.new)).sights }
         ensures found { result ≡ has_pending (view_of (pass_of self.new)).last }
     {
@@ -128,8 +128,8 @@ impl<'a, H: Home> Watch for Reading<'a, H> {
     ghost use Rattle.action_lock.specs.Readings.{GoesOn, StaysReading, pass_of};
     ghost use Rattle.action_lock.specs.Watching.{stays_itself, stays_on};
 
-    // The looks of the view, which have no end, up to 2^64 - 1.
-    ghost looks = { λ r. min (view_of (pass_of r)).looks 18446744073709551615 };
+    // The looks in this read, which have no end, up to 2^64 - 1.
+    ghost looks = { λ r. min (view_of (pass_of r)).checks 18446744073709551615 };
 
     ghost sightings = { λ r. (view_of (pass_of r)).sights };
 

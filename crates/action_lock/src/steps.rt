@@ -4,7 +4,7 @@ ghost use Rattle.action_lock.specs.declared.view.Phase.TheVariants.{Out, Backing
 ghost use Rattle.action_lock.specs.Words.{has_turn, has_pending};
 ghost use Rattle.action_lock.specs.Passes.{view_of, IsSamePass, IsAt, IsOut, IsInside, IsEntering};
 ghost use Rattle.action_lock.specs.Reads.{HasRead, HasFailed, HasWaited, IsRefused};
-ghost use Rattle.action_lock.specs.Steps.{EntersAt, looked, with_phase};
+ghost use Rattle.action_lock.specs.Steps.{EntersAt, checked, with_phase};
 
 use crate::home::Home;
 use crate::lock::ActionLock;
@@ -72,7 +72,7 @@ impl<H: Home> ActionLock<H> {
         requires { IsAt self.now pass.old Reading }
         ensures same { IsSamePass pass.old pass.new }
         ensures share { pass.new.share ≡ pass.old.share }
-        ensures view { pass.new.seat.me ≡ (looked result (view_of pass.old), []) }
+        ensures view { pass.new.seat.me ≡ (checked result (view_of pass.old), []) }
         ensures kept { (view_of pass.old).sights ≤ (view_of pass.new).sights }
     {
         let shared = &self.table.shared;

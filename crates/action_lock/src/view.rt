@@ -42,6 +42,10 @@ pub struct View<E> {
     pub reads: LinkedList<u64>,
     /// How often it looked at the gate or tried to enter.
     pub looks: u64,
+    /// How often it looked at the gate in its last read, or in the one that goes on.
+    pub checks: u64,
+    /// How often it did in the reads before that.
+    pub earlier_checks: u64,
     /// How often it found the intent taken.
     pub held: u64,
     /// The gate word that it found last.

@@ -1,6 +1,6 @@
 //! The answer to a question, at a moment of the workspace.
-ghost use Rattle.std.specs.Prelude.{◌≡◌, IfOk, IfErr, IsSome};
-ghost use Rattle.action_lock.specs.Counts.{HasRisen};
+ghost use Rattle.std.specs.Prelude.{◌≡◌, ◌≤◌, IfOk, IfErr, OnOk, IsSome};
+ghost use Rattle.action_lock.specs.Counts.{counted, HasRisen};
 ghost use Rattle.write_history.specs.World.{file_of};
 ghost use Rattle.query_engine.specs.Listed.{path_at};
 ghost use Rattle.ide_calls.specs.Replied.{IsRepliedIn};
@@ -16,7 +16,7 @@ use query_engine::AskRefusal;
 use std::alloc::{AllocError, Global};
 use write_history::laws::unready_files_have_an_order;
 
-/// Answers a question, unless the watch sees that the work is to end.
+/// Answers a question, unless the watch sees that the work is to end. It looks before it has an answer.
 pub(crate) fn reply_by<W: Watch>(
     alloc: Global,
     state: &State,
@@ -27,6 +27,7 @@ pub(crate) fn reply_by<W: Watch>(
     ensures again { W.can_look watch.new }
     ensures stays { W.stays watch.old watch.new }
     ensures ok { IfOk result (IsRepliedIn state.now.world query.now) }
+    ensures looked { OnOk result (counted (W.looks watch.old) ≤ W.looks watch.new) }
     ensures stopped { IfErr result (λ why. why ≡ Stopped.Seen → HasRisen (W.sightings watch.old) (W.sightings watch.new)) }
 {
     unready_files_have_an_order();

@@ -1,7 +1,8 @@
 //! Questions that end early where a write waits.
-ghost use Rattle.std.specs.Prelude.{◌≡◌, ◌<◌, IfOk, IfErr};
+ghost use Rattle.std.specs.Prelude.{◌≡◌, ◌<◌, IfOk, IfErr, OnOk};
 ghost use Rattle.action_lock.specs.Advances.{Advances};
 ghost use Rattle.action_lock.specs.Passes.{view_of, IsSamePass, IsPassOf};
+ghost use Rattle.action_lock.specs.Reads.{HasChecked};
 ghost use Rattle.ide_calls.specs.Replied.{HasReplied};
 ghost use Rattle.ide_calls.specs.SoftRefusal.{IsSoftlyRefused};
 
@@ -18,7 +19,7 @@ use std::sync::Wait;
 use write_history::laws::histories_go_on;
 
 /// Answers a question as `ask` does, but gives way to writes: an attempt that sees that one waits ends, and after
-/// `attempts` of them the call ends too. It may wait for ever.
+/// `attempts` of them the call ends too. An answer comes from a read that looked whether one waits. It may wait for ever.
 pub fn soft_ask<R: Wait, G: Gate>(
     rt: &R,
     alloc: Global,
@@ -34,6 +35,7 @@ pub fn soft_ask<R: Wait, G: Gate>(
     ensures advances { Advances (view_of pass.old) (view_of pass.new) }
     ensures mine { (view_of pass.new).mine ≡ (view_of pass.old).mine }
     ensures ok { IfOk result (HasReplied (view_of pass.old) (view_of pass.new) query.now) }
+    ensures looked { OnOk result (HasChecked (view_of pass.old) (view_of pass.new)) }
     ensures cancelled { IfErr result (IsSoftlyRefused (view_of pass.old) (view_of pass.new) attempts) }
 {
     histories_go_on();

@@ -1,7 +1,9 @@
 -- Attempts, one after another.
-use Rattle.std.proofs.Common.{ℕ, ◌+◌, ◌≤◌, ◌↔◌, inl, inr, ◌∙◌, ⊎_elim, refl, arith}
+use Rattle.std.proofs.Common.{ℕ, ◌+◌, ◌≤◌, ◌↔◌, inl, inr, ◌∙◌, ⊎_elim, refl, arith, le_trans}
 use Rattle.action_lock.specs.declared.view.View.{View}
+use Rattle.action_lock.specs.Advances.{Advances}
 use Rattle.action_lock.specs.Counts.{HasRisen, HasRisenBy}
+use Rattle.action_lock.specs.Reads.{HasChecked}
 use Rattle.action_lock.proofs.AdvanceLemmas.{advances_not, advances_on}
 use Rattle.nonblocking_read.specs.Soft.{HasOnlyRead, HasReadLast}
 use Rattle.list_laws.proofs.FrontLemmas.{front_trans}
@@ -25,6 +27,10 @@ module _ {E : Type 0} where
   pub only_on : (u v w : View E) → HasOnlyRead u v → HasOnlyRead v w → HasOnlyRead u w
   only_on u v w p q = record { advances = advances_on u v w p.advances q.advances; mine = q.mine ∙ p.mine }
 
+  -- a look in the last read, after some attempts
+  checked_on : (u v w : View E) → Advances u v → HasChecked v w → HasChecked u w
+  checked_on u v w p q = record { earlier = le_trans p.checks q.earlier; some = q.some }
+
   -- the last read, after some attempts
   pub last_on : (number_of : E → ℕ) (u v w : View E) → HasOnlyRead u v → HasReadLast number_of v w → HasReadLast number_of u w
-  last_on number_of u v w p q = record { earlier = q.earlier; reads = front_trans u.reads v.reads q.earlier p.advances.reads q.reads; last = q.last; own = q.own }
+  last_on number_of u v w p q = record { earlier = q.earlier; reads = front_trans u.reads v.reads q.earlier p.advances.reads q.reads; last = q.last; own = q.own; checked = checked_on u v w p.advances q.checked }

@@ -3,3 +3,4 @@ pub mod Soft
 pub use Rattle.action_lock.specs.Counts
 pub use Rattle.action_lock.specs.Advances
 pub use Rattle.action_lock.specs.Passes
+pub use Rattle.action_lock.specs.Reads

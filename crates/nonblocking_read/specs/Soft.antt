@@ -2,6 +2,7 @@
 use Rattle.std.specs.Prelude.{◌≡◌, ℕ, List, [], ◌∷◌, ◌++◌, length, Some}
 use Rattle.action_lock.specs.declared.view.View.{View}
 use Rattle.action_lock.specs.Advances.{Advances}
+use Rattle.action_lock.specs.Reads.{HasChecked}
 use Rattle.action_lock.specs.Rule.{entries_of}
 use Rattle.list_laws.specs.Fronts.{IsFront}
 
@@ -18,3 +19,5 @@ module _ {E : Type 0} where
     pub reads : IsFront v.reads earlier
     pub last : w.reads ≡ earlier ++ length w.seen ∷ []
     pub own : (n : ℕ) → w.number ≡ Some n → w.mine ≡ entries_of number_of n w.seen
+    -- it looked at the gate while it was open
+    pub checked : HasChecked v w

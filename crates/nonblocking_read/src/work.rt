@@ -1,6 +1,6 @@
 //! A piece of work that can be stopped.
-ghost use Rattle.std.specs.Prelude.{◌≡◌, ◌↔◌, List, IfOk, IfErr};
-ghost use Rattle.action_lock.specs.Counts.{HasRisen};
+ghost use Rattle.std.specs.Prelude.{◌≡◌, ◌≤◌, ◌↔◌, List, IfOk, IfErr, OnOk};
+ghost use Rattle.action_lock.specs.Counts.{counted, HasRisen};
 
 use action_lock::{Home, Watch};
 use std::alloc::Global;
@@ -13,7 +13,7 @@ pub enum Stopped {
     OutOfMemory,
 }
 
-/// Work on what a share stands for. It looks at its watch now and then.
+/// Work on what a share stands for. It looks at its watch now and then, at least once before it has an answer.
 pub trait Work<H: Home> {
     type Out;
 
@@ -32,5 +32,6 @@ pub trait Work<H: Home> {
         ensures stays { W.stays watch.old watch.new }
         ensures meaning { (out : Self.Out) (entries : List H.Entry) → fits self.old out entries ↔ fits self.new out entries }
         ensures ok { IfOk result (λ out. (entries : List H.Entry) → H.share_stands share.now entries → fits self.old out entries) }
+        ensures looked { OnOk result (counted (W.looks watch.old) ≤ W.looks watch.new) }
         ensures stopped { IfErr result (λ why. why ≡ Stopped.Seen → HasRisen (W.sightings watch.old) (W.sightings watch.new)) };
 }

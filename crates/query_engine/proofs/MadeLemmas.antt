@@ -1,9 +1,9 @@
 -- Rows made one after another, with the looks between them.
-use Rattle.std.proofs.Common.{ℕ, ◌≡◌, ◌≤◌, ◌+◌, ◌/◌, List, [], ◌∷◌, ◌++◌, map, length, ap, sym, subst, ◌∙◌, append_assoc, append-nil, arith, Ok, Err}
+use Rattle.std.proofs.Common.{ℕ, ◌≡◌, ◌≤◌, ◌+◌, ◌/◌, List, [], ◌∷◌, ◌++◌, map, length, ap, sym, subst, ◌∙◌, append_assoc, append-nil, arith, Err}
 use Rattle.std.proofs.lemmas.List.{length-append, length-map}
 use Rattle.query_engine.specs.declared.answer.AskRefusal.{AskRefusal}
 use Rattle.query_engine.specs.Looks.{rows_a_look, looks_at, HasLooked, LooksThrough, StopsUnseen, EndsEarly}
-use Rattle.query_engine.proofs.LookLemmas.{looked_not, looked_next, looked_short, looked_unseen}
+use Rattle.query_engine.proofs.LookLemmas.{looked_not, through_next, looked_next, looked_short, looked_unseen}
 
 -- Rows are made of the first of all that was found, and others are left; the watch was looked at for these rows.
 pub record IsMade {W F R : Type 0} (l s : W → ℕ) (row : F → R) (all : List F) (rows : List R) (left : List F) (old new : W) : Type 0 where
@@ -47,16 +47,16 @@ module _ {W F R : Type 0} (l s : W → ℕ) (row : F → R) (all : List F) where
   pub made_more : (rows rows' : List R) (y : R) (x : F) (left left' : List F) (n : ℕ) (old mid new : W) → left ≡ x ∷ left' → rows' ≡ rows ++ y ∷ [] → y ≡ row x → n ≡ length rows'
       → IsMade l s row all rows left old mid → LooksThrough l s (looks_at n) mid new → IsMade l s row all rows' left' old new
   made_more rows rows' y x left left' n old mid new next grown is count h q = record {
-    looked = looked_next l s (length rows) (length rows') (Ok y) old mid new (more rows rows' y grown) h.looked (subst (λ k. LooksThrough l s (looks_at k) mid new) count q);
+    looked = through_next l s (length rows) (length rows') old mid new (more rows rows' y grown) h.looked (subst (λ k. LooksThrough l s (looks_at k) mid new) count q);
     made = joined rows rows' y x left left' next grown is h.made;
   }
 
   -- one row more, and the look behind it ends the call
-  pub made_stopped : (X : Type 0) (rows rows' : List R) (y : R) (x : F) (left left' : List F) (n : ℕ) (e : AskRefusal) (old mid new : W) → left ≡ x ∷ left' → rows' ≡ rows ++ y ∷ [] → y ≡ row x → n ≡ length rows'
-      → EndsEarly e → IsMade l s row all rows left old mid → HasLooked {X = X} l s (Err e) (looks_at n) mid new → HasLooked {X = X} l s (Err e) (length all / rows_a_look) old new
-  made_stopped X rows rows' y x left left' n e old mid new next grown is count early h q =
-      looked_short l s X (length rows' / rows_a_look) (length all / rows_a_look) e old new (few_looks rows' left' (joined rows rows' y x left left' next grown is h.made)) early
-      (looked_next l s {X = X} (length rows) (length rows') (Err e) old mid new (more rows rows' y grown) h.looked (subst (λ k. HasLooked {X = X} l s (Err e) (looks_at k) mid new) count q))
+  pub made_stopped : (st : W → W → Type 0) (on : (x y z : W) → st x y → st y z → st x z) (X : Type 0) (rows rows' : List R) (y : R) (x : F) (left left' : List F) (n : ℕ) (e : AskRefusal) (old mid new : W) → left ≡ x ∷ left' → rows' ≡ rows ++ y ∷ [] → y ≡ row x → n ≡ length rows'
+      → EndsEarly e → st old mid → IsMade l s row all rows left old mid → HasLooked {X = X} l s st (Err e) (looks_at n) mid new → HasLooked {X = X} l s st (Err e) (length all / rows_a_look) old new
+  made_stopped st on X rows rows' y x left left' n e old mid new next grown is count early kept h q =
+      looked_short l s st X (length rows' / rows_a_look) (length all / rows_a_look) e old new (few_looks rows' left' (joined rows rows' y x left left' next grown is h.made)) early
+      (looked_next l s st {X = X} (length rows) (length rows') (Err e) old mid new on (more rows rows' y grown) kept h.looked (subst (λ k. HasLooked {X = X} l s st (Err e) (looks_at k) mid new) count q))
 
   -- want of memory on the way
   pub made_short : (rows : List R) (left : List F) (old new : W) → IsMade l s row all rows left old new → StopsUnseen l s (length all / rows_a_look) old new

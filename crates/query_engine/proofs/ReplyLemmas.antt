@@ -25,13 +25,13 @@ module _ (o : Option ℕ) (answer : Answer) (expected : Result Answer AskRefusal
       subst (λ (f : AskRefusal). IsRefusalOf expected f) (sym (is ∙ named)) (told ∙ dumb)
 
   -- and no look belongs to it but the first
-  pub dumb_looked : {W : Type 0} (l s : W → ℕ) (watch : W) (e : AskRefusal) → IsSomeAnd o (λ file. e ≡ NotReady file) → (r : Result Answer AskRefusal) → IsErrAnd r (λ f. f ≡ e)
-      → HasLooked l s r (later_looks expected) watch watch
-  dumb_looked l s watch e h (Ok x) is = absurd is
-  dumb_looked l s watch e h (Err f) is =
+  pub dumb_looked : {W : Type 0} (l s : W → ℕ) (st : W → W → Type 0) (watch : W) (e : AskRefusal) → IsSomeAnd o (λ file. e ≡ NotReady file) → (r : Result Answer AskRefusal) → IsErrAnd r (λ f. f ≡ e)
+      → HasLooked l s st r (later_looks expected) watch watch
+  dumb_looked l s st watch e h (Ok x) is = absurd is
+  dumb_looked l s st watch e h (Err f) is =
       let (file, dumb, named) = unready_reply o answer e h in
-      subst (λ (x : Result Answer AskRefusal). HasLooked {X = Answer} l s (Err f) (later_looks x) watch watch) (sym (told ∙ dumb))
-      (subst (λ (f : AskRefusal). HasLooked {X = Answer} l s (Err f) 0 watch watch) (sym (is ∙ named)) (looked_not l s watch))
+      subst (λ (x : Result Answer AskRefusal). HasLooked {X = Answer} l s st (Err f) (later_looks x) watch watch) (sym (told ∙ dumb))
+      (subst (λ (f : AskRefusal). HasLooked {X = Answer} l s st (Err f) 0 watch watch) (sym (is ∙ named)) (looked_not l s watch))
 
   -- the answer, where no file is unready
   smart_reply : o ≡ None → expected ≡ Ok answer

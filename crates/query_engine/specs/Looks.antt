@@ -46,23 +46,27 @@ pub record StopsUnseen {W : Type 0} (looks_of sights_of : W → ℕ) (n : ℕ) (
   pub few : looks_of new ≤ counted_by n (looks_of old)
   pub unseen : sights_of new ≡ sights_of old
 
--- at most so many looks, of which the last and no other saw that the work is to end
-pub record StopsAtSight {W : Type 0} (looks_of sights_of : W → ℕ) (n : ℕ) (old new : W) : Type 0 where
+-- at most so many looks, of which the last and no other saw that the work is to end; `stays` says of two moments of a watch that only
+-- looks came between them
+pub record StopsAtSight {W : Type 0} (looks_of sights_of : W → ℕ) (stays : W → W → Type 0) (n : ℕ) (old new : W) : Type 0 where
   pub some : looks_of old ≤ looks_of new
   pub few : looks_of new ≤ counted_by n (looks_of old)
-  -- the watch before the last look
+  -- the watch before the last look of the call
   pub before : W
+  pub begun : stays old before
+  pub earlier : looks_of old ≤ looks_of before
+  pub ended : stays before new
   pub last : looks_of new ≡ counted (looks_of before)
   pub unseen : sights_of before ≡ sights_of old
   pub seen : HasRisen (sights_of before) (sights_of new)
 
 -- how a call looks, by what it gives, where so many looks lead to its end
-abbrev pub HasLooked : {W X : Type 0} → (W → ℕ) → (W → ℕ) → Result X AskRefusal → ℕ → W → W → Type 0
-HasLooked looks_of sights_of (Ok answer) n old new = LooksThrough looks_of sights_of n old new
-HasLooked looks_of sights_of (Err NoSuchFile) n old new = LooksThrough looks_of sights_of n old new
-HasLooked looks_of sights_of (Err (NotReady file)) n old new = LooksThrough looks_of sights_of n old new
-HasLooked looks_of sights_of (Err Cancelled) n old new = StopsAtSight looks_of sights_of n old new
-HasLooked looks_of sights_of (Err OutOfMemory) n old new = StopsUnseen looks_of sights_of n old new
+abbrev pub HasLooked : {W X : Type 0} → (W → ℕ) → (W → ℕ) → (W → W → Type 0) → Result X AskRefusal → ℕ → W → W → Type 0
+HasLooked looks_of sights_of stays (Ok answer) n old new = LooksThrough looks_of sights_of n old new
+HasLooked looks_of sights_of stays (Err NoSuchFile) n old new = LooksThrough looks_of sights_of n old new
+HasLooked looks_of sights_of stays (Err (NotReady file)) n old new = LooksThrough looks_of sights_of n old new
+HasLooked looks_of sights_of stays (Err Cancelled) n old new = StopsAtSight looks_of sights_of stays n old new
+HasLooked looks_of sights_of stays (Err OutOfMemory) n old new = StopsUnseen looks_of sights_of n old new
 
 -- a call ends early alone: it was stopped, or memory ran out
 abbrev pub EndsEarly : AskRefusal → Type 0

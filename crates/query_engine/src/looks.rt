@@ -58,7 +58,7 @@ pub(crate) fn look<W: Watch>(watch: &mut W) -> Result<(), AskRefusal>
     requires { W.can_look watch.old }
     ensures again { W.can_look watch.new }
     ensures stays { W.stays watch.old watch.new }
-    ensures looked { HasLooked W.looks W.sightings result 1 watch.old watch.new }
+    ensures looked { HasLooked W.looks W.sightings W.stays result 1 watch.old watch.new }
     ensures once { W.looks watch.new ≡ counted (W.looks watch.old) }
     ensures cancelled { IfErr result (λ refusal. refusal ≡ AskRefusal.Cancelled) }
 {
@@ -74,7 +74,7 @@ pub(crate) fn look_after<W: Watch>(rows: usize, watch: &mut W) -> Result<(), Ask
     requires { W.can_look watch.old }
     ensures again { W.can_look watch.new }
     ensures stays { W.stays watch.old watch.new }
-    ensures looked { HasLooked W.looks W.sightings result (looks_at rows) watch.old watch.new }
+    ensures looked { HasLooked W.looks W.sightings W.stays result (looks_at rows) watch.old watch.new }
     ensures early { IfErr result EndsEarly }
 {
     if rows % ROWS_A_LOOK == 0 {

@@ -27,7 +27,7 @@ pub(crate) fn outline<W: Watch>(
     requires { W.can_look watch.old }
     ensures again { W.can_look watch.new }
     ensures stays { W.stays watch.old watch.new }
-    ensures looked { HasLooked W.looks W.sightings result (later_looks (listing_reply state.now.world (id_at state.now.world path.now))) watch.old watch.new }
+    ensures looked { HasLooked W.looks W.sightings W.stays result (later_looks (listing_reply state.now.world (id_at state.now.world path.now))) watch.old watch.new }
     ensures answer { IfOk result (λ answer. listing_reply state.now.world (id_at state.now.world path.now) ≡ Ok answer) }
     ensures refused { IfErr result (IsRefusalOf (listing_reply state.now.world (id_at state.now.world path.now))) }
 {
@@ -56,7 +56,7 @@ fn file_rows<W: Watch>(
     requires ahead { AreFrom (length (text_at state.now.world id)) 0 stubs.now }
     ensures again { W.can_look watch.new }
     ensures stays { W.stays watch.old watch.new }
-    ensures looked { HasLooked W.looks W.sightings result (length stubs.now / rows_a_look) watch.old watch.new }
+    ensures looked { HasLooked W.looks W.sightings W.stays result (length stubs.now / rows_a_look) watch.old watch.new }
     ensures rows { IfOk result (λ rows. rows ≡ map (row_of id (path_at state.now.world id) (text_at state.now.world id)) stubs.now) }
     ensures early { IfErr result EndsEarly }
 {

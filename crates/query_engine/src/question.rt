@@ -29,7 +29,7 @@ pub fn ask<W: Watch>(
     requires { W.can_look watch.old }
     ensures again { W.can_look watch.new }
     ensures stays { W.stays watch.old watch.new }
-    ensures looked { HasLooked W.looks W.sightings result (looks_for (reply state.now.world query.now)) watch.old watch.new }
+    ensures looked { HasLooked W.looks W.sightings W.stays result (looks_for (reply state.now.world query.now)) watch.old watch.new }
     ensures first_look { counted (W.looks watch.old) ≤ W.looks watch.new }
     ensures answer { IfOk result (λ answer. reply state.now.world query.now ≡ Ok answer) }
     ensures refused { IfErr result (IsRefusalOf (reply state.now.world query.now)) }
@@ -57,7 +57,7 @@ fn answer<W: Watch>(
     requires { W.can_look watch.old }
     ensures again { W.can_look watch.new }
     ensures stays { W.stays watch.old watch.new }
-    ensures looked { HasLooked W.looks W.sightings result (later_looks (reply state.now.world query.now)) watch.old watch.new }
+    ensures looked { HasLooked W.looks W.sightings W.stays result (later_looks (reply state.now.world query.now)) watch.old watch.new }
     ensures answer { IfOk result (λ answer. reply state.now.world query.now ≡ Ok answer) }
     ensures refused { IfErr result (IsRefusalOf (reply state.now.world query.now)) }
 {

@@ -23,7 +23,7 @@ pub(crate) fn stub_rows<W: Watch>(
     requires ahead { AreAhead state.now.world None found }
     ensures again { W.can_look watch.new }
     ensures stays { W.stays watch.old watch.new }
-    ensures looked { HasLooked W.looks W.sightings result (length found.entry / rows_a_look) watch.old watch.new }
+    ensures looked { HasLooked W.looks W.sightings W.stays result (length found.entry / rows_a_look) watch.old watch.new }
     ensures rows { IfOk result (λ rows. rows ≡ map (row_found state.now.world) found.entry) }
     ensures early { IfErr result EndsEarly }
 {

@@ -1,6 +1,7 @@
 //! Questions about the shared workspace.
-ghost use Rattle.std.specs.Prelude.{◌≡◌, ◌<◌, IfOk, IfErr};
+ghost use Rattle.std.specs.Prelude.{◌≡◌, ◌<◌, IfOk, IfErr, OnOk};
 ghost use Rattle.action_lock.specs.Advances.{Advances};
+ghost use Rattle.action_lock.specs.Reads.{HasChecked};
 ghost use Rattle.ide_calls.specs.Replied.{HasReplied};
 ghost use Rattle.ide_calls.specs.SoftRefusal.{IsSoftlyRefused};
 ghost use Rattle.index_workers.specs.Passes.{ide_view, IsSameIdePass};
@@ -36,7 +37,7 @@ impl SharedIde {
     }
 
     /// Answers a question as `ask` does, but gives way to writes: an attempt that sees that one waits ends, and after
-    /// `attempts` of them the call ends too. It may wait for ever.
+    /// `attempts` of them the call ends too. An answer comes from a read that looked whether one waits. It may wait for ever.
     pub fn soft_ask<R: Wait, G: Gate>(
         &self,
         rt: &R,
@@ -52,6 +53,7 @@ impl SharedIde {
         ensures advances { Advances (ide_view pass.old) (ide_view pass.new) }
         ensures mine { (ide_view pass.new).mine ≡ (ide_view pass.old).mine }
         ensures ok { IfOk result (HasReplied (ide_view pass.old) (ide_view pass.new) query.now) }
+        ensures looked { OnOk result (HasChecked (ide_view pass.old) (ide_view pass.new)) }
         ensures cancelled { IfErr result (IsSoftlyRefused (ide_view pass.old) (ide_view pass.new) attempts) }
         ensures hints { pass.new.queue ≡ pass.old.queue }
     {

@@ -25,10 +25,10 @@ row-requires-clause-inside g c =
     (from_next _ _ c.args.stubs.now c.loop-stub.stub-index c.stub-item.result c.loop-stub-test.true c.stub-item.is c.loop-stub.invariant.ahead).1
 
 pub returns-in_err-row-clause-looked : goal.returns-in_err-row-clause-looked
-returns-in_err-row-clause-looked g c = looked_wanting _ _ _ _ c.from_residual.result _ _ c.from_residual.ensures.1 (made_short _ _ _ _ _ _ _ _ c.loop-stub.invariant.rows)
+returns-in_err-row-clause-looked g c = looked_wanting _ _ _ _ _ c.from_residual.result _ _ c.from_residual.ensures.1 (made_short _ _ _ _ _ _ _ _ c.loop-stub.invariant.rows)
 
 pub returns-in_err-push-clause-looked : goal.returns-in_err-push-clause-looked
-returns-in_err-push-clause-looked g c = looked_wanting _ _ _ _ c.from_residual-in_err-push.result _ _ c.from_residual-in_err-push.ensures.1 (made_short _ _ _ _ _ _ _ _ c.loop-stub.invariant.rows)
+returns-in_err-push-clause-looked g c = looked_wanting _ _ _ _ _ c.from_residual-in_err-push.result _ _ c.from_residual-in_err-push.ensures.1 (made_short _ _ _ _ _ _ _ _ c.loop-stub.invariant.rows)
 
 pub loop-stub-preserved : goal.loop-stub-preserved
 loop-stub-preserved g c = record {
@@ -43,8 +43,8 @@ loop-stub-preserved g c = record {
 }
 
 pub returns-in_err-look_after-clause-looked : goal.returns-in_err-look_after-clause-looked
-returns-in_err-look_after-clause-looked g c = looked_as _ _ Row _ _ c.from_residual-in_err-look_after.result _ _ _ c.from_residual-in_err-look_after.ensures.1
-    (made_stopped _ _ _ _ Row c.loop-stub.rows c.push.new.self c.in_ok-row.field-0 c.stub-item.result _ _ c.len.result _ _ c.loop-stub.watch c.look_after.new.watch
+returns-in_err-look_after-clause-looked g c = looked_as _ _ _ Row _ _ c.from_residual-in_err-look_after.result _ _ _ c.from_residual-in_err-look_after.ensures.1
+    (made_stopped _ _ _ _ g.W.Watch.stays g.met.W.Watch.stays_on Row c.loop-stub.rows c.push.new.self c.in_ok-row.field-0 c.stub-item.result _ _ c.len.result _ _ c.loop-stub.watch c.look_after.new.watch
     (next_left c.args.stubs.now c.loop-stub.stub-index c.stub-item.result c.loop-stub-test.true c.stub-item.is) c.in_ok-push.ensures.ok
     (made_of c.args.state.now.world _ c.args.id c.stub-item.result c.loop-stub.file c.in_ok-row.field-0 c.loop-stub.invariant.file c.in_ok-row.ensures.row) c.len.ensures
-    c.in_err-look_after.ensures.early c.loop-stub.invariant.rows c.in_err-look_after.ensures.looked)
+    c.in_err-look_after.ensures.early c.loop-stub.invariant.stays c.loop-stub.invariant.rows c.in_err-look_after.ensures.looked)

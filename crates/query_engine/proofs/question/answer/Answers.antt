@@ -14,7 +14,7 @@ use Rattle.query_engine.proofs.question.answer.Goals as goal
 
 pub returns-in_err-ready-in-Class-clause-looked : goal.returns-in_err-ready-in-Class-clause-looked
 returns-in_err-ready-in-Class-clause-looked g c =
-    dumb_looked (lowest_unready c.args.state.now.world) (Rows (of_world (rows_in (is_class c.in-Class.name)) c.args.state.now.world)) _ (ap (reply c.args.state.now.world) c.in-Class.is) _ _ c.args.watch.now _ c.in_err-ready-in-Class.ensures.dumb c.from_residual.result c.from_residual.ensures.1
+    dumb_looked (lowest_unready c.args.state.now.world) (Rows (of_world (rows_in (is_class c.in-Class.name)) c.args.state.now.world)) _ (ap (reply c.args.state.now.world) c.in-Class.is) _ _ _ c.args.watch.now _ c.in_err-ready-in-Class.ensures.dumb c.from_residual.result c.from_residual.ensures.1
 
 pub returns-in_err-ready-in-Class-clause-refused : goal.returns-in_err-ready-in-Class-clause-refused
 returns-in_err-ready-in-Class-clause-refused g c =
@@ -27,7 +27,7 @@ stub_rows-requires-clause-ahead g c =
 
 pub returns-in_err-rows-in-Class-clause-looked : goal.returns-in_err-rows-in-Class-clause-looked
 returns-in_err-rows-in-Class-clause-looked g c =
-    looked_told _ _ RowList _ _ _ c.from_residual-in_err-rows-in-Class.result _ _ _
+    looked_told _ _ _ RowList _ _ _ c.from_residual-in_err-rows-in-Class.result _ _ _
     (rows_looks (row_found c.args.state.now.world) _ _ _ c.type_rows.ensures (stub_rows_found (is_class c.in-Class.name) c.args.state.now.world) (lowest_unready c.args.state.now.world) c.in_ok-ready-in-Class.ensures.smart _ (ap (reply c.args.state.now.world) c.in-Class.is))
     c.from_residual-in_err-rows-in-Class.ensures.1 c.in_err-rows-in-Class.ensures.looked
 
@@ -44,7 +44,7 @@ returns-in_ok-rows-in-Class-clause-answer g c =
 
 pub returns-in_err-ready-in-Supers-clause-looked : goal.returns-in_err-ready-in-Supers-clause-looked
 returns-in_err-ready-in-Supers-clause-looked g c =
-    dumb_looked (lowest_unready c.args.state.now.world) (Rows (of_world (rows_in (has_super c.in-Supers.name)) c.args.state.now.world)) _ (ap (reply c.args.state.now.world) c.in-Supers.is) _ _ c.args.watch.now _ c.in_err-ready-in-Supers.ensures.dumb c.from_residual-in_err-ready-in-Supers.result c.from_residual-in_err-ready-in-Supers.ensures.1
+    dumb_looked (lowest_unready c.args.state.now.world) (Rows (of_world (rows_in (has_super c.in-Supers.name)) c.args.state.now.world)) _ (ap (reply c.args.state.now.world) c.in-Supers.is) _ _ _ c.args.watch.now _ c.in_err-ready-in-Supers.ensures.dumb c.from_residual-in_err-ready-in-Supers.result c.from_residual-in_err-ready-in-Supers.ensures.1
 
 pub returns-in_err-ready-in-Supers-clause-refused : goal.returns-in_err-ready-in-Supers-clause-refused
 returns-in_err-ready-in-Supers-clause-refused g c =
@@ -57,7 +57,7 @@ stub_rows-requires-in-Supers-clause-ahead g c =
 
 pub returns-in_err-rows-in-Supers-clause-looked : goal.returns-in_err-rows-in-Supers-clause-looked
 returns-in_err-rows-in-Supers-clause-looked g c =
-    looked_told _ _ RowList _ _ _ c.from_residual-in_err-rows-in-Supers.result _ _ _
+    looked_told _ _ _ RowList _ _ _ c.from_residual-in_err-rows-in-Supers.result _ _ _
     (rows_looks (row_found c.args.state.now.world) _ _ _ c.super_rows.ensures (stub_rows_found (has_super c.in-Supers.name) c.args.state.now.world) (lowest_unready c.args.state.now.world) c.in_ok-ready-in-Supers.ensures.smart _ (ap (reply c.args.state.now.world) c.in-Supers.is))
     c.from_residual-in_err-rows-in-Supers.ensures.1 c.in_err-rows-in-Supers.ensures.looked
 
@@ -74,7 +74,7 @@ returns-in_ok-rows-in-Supers-clause-answer g c =
 
 pub returns-in_err-ready-in-Method-clause-looked : goal.returns-in_err-ready-in-Method-clause-looked
 returns-in_err-ready-in-Method-clause-looked g c =
-    dumb_looked (lowest_unready c.args.state.now.world) (Rows (of_world (rows_in (is_method c.in-Method.name)) c.args.state.now.world)) _ (ap (reply c.args.state.now.world) c.in-Method.is) _ _ c.args.watch.now _ c.in_err-ready-in-Method.ensures.dumb c.from_residual-in_err-ready-in-Method.result c.from_residual-in_err-ready-in-Method.ensures.1
+    dumb_looked (lowest_unready c.args.state.now.world) (Rows (of_world (rows_in (is_method c.in-Method.name)) c.args.state.now.world)) _ (ap (reply c.args.state.now.world) c.in-Method.is) _ _ _ c.args.watch.now _ c.in_err-ready-in-Method.ensures.dumb c.from_residual-in_err-ready-in-Method.result c.from_residual-in_err-ready-in-Method.ensures.1
 
 pub returns-in_err-ready-in-Method-clause-refused : goal.returns-in_err-ready-in-Method-clause-refused
 returns-in_err-ready-in-Method-clause-refused g c =
@@ -87,7 +87,7 @@ stub_rows-requires-in-Method-clause-ahead g c =
 
 pub returns-in_err-rows-in-Method-clause-looked : goal.returns-in_err-rows-in-Method-clause-looked
 returns-in_err-rows-in-Method-clause-looked g c =
-    looked_told _ _ RowList _ _ _ c.from_residual-in_err-rows-in-Method.result _ _ _
+    looked_told _ _ _ RowList _ _ _ c.from_residual-in_err-rows-in-Method.result _ _ _
     (rows_looks (row_found c.args.state.now.world) _ _ _ c.method_rows.ensures (stub_rows_found (is_method c.in-Method.name) c.args.state.now.world) (lowest_unready c.args.state.now.world) c.in_ok-ready-in-Method.ensures.smart _ (ap (reply c.args.state.now.world) c.in-Method.is))
     c.from_residual-in_err-rows-in-Method.ensures.1 c.in_err-rows-in-Method.ensures.looked
 
@@ -104,7 +104,7 @@ returns-in_ok-rows-in-Method-clause-answer g c =
 
 pub returns-in_err-ready-in-Word-clause-looked : goal.returns-in_err-ready-in-Word-clause-looked
 returns-in_err-ready-in-Word-clause-looked g c =
-    dumb_looked (lowest_unready c.args.state.now.world) (Words (of_world (word_in c.in-Word.name) c.args.state.now.world)) _ (ap (reply c.args.state.now.world) c.in-Word.is) _ _ c.args.watch.now _ c.in_err-ready-in-Word.ensures.dumb c.from_residual-in_err-ready-in-Word.result c.from_residual-in_err-ready-in-Word.ensures.1
+    dumb_looked (lowest_unready c.args.state.now.world) (Words (of_world (word_in c.in-Word.name) c.args.state.now.world)) _ (ap (reply c.args.state.now.world) c.in-Word.is) _ _ _ c.args.watch.now _ c.in_err-ready-in-Word.ensures.dumb c.from_residual-in_err-ready-in-Word.result c.from_residual-in_err-ready-in-Word.ensures.1
 
 pub returns-in_err-ready-in-Word-clause-refused : goal.returns-in_err-ready-in-Word-clause-refused
 returns-in_err-ready-in-Word-clause-refused g c =
@@ -116,7 +116,7 @@ word_rows-requires-in-Word-clause-live g c =
 
 pub returns-in_err-rows-in-Word-clause-looked : goal.returns-in_err-rows-in-Word-clause-looked
 returns-in_err-rows-in-Word-clause-looked g c =
-    looked_told _ _ WordRows _ _ _ c.from_residual-in_err-rows-in-Word.result _ _ _
+    looked_told _ _ _ WordRows _ _ _ c.from_residual-in_err-rows-in-Word.result _ _ _
     (words_looks (word_found c.args.state.now.world) _ _ _ c.word_rows.ensures (word_rows_found c.in-Word.name c.args.state.now.world) (lowest_unready c.args.state.now.world) c.in_ok-ready-in-Word.ensures.smart _ (ap (reply c.args.state.now.world) c.in-Word.is))
     c.from_residual-in_err-rows-in-Word.ensures.1 c.in_err-rows-in-Word.ensures.looked
 

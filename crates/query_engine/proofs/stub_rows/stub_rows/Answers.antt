@@ -28,10 +28,10 @@ row-requires-clause-inside g c =
     (ahead_stands c.args.state.now.world c.loop-id.before _ c.in-Some.stub.now _ _ c.continued-file.result c.in-Some.ensures.steps c.loop-id.invariant.ahead c.continued-file.ensures.file c.continued-file.ensures.listed).1
 
 pub returns-in_err-row-clause-looked : goal.returns-in_err-row-clause-looked
-returns-in_err-row-clause-looked g c = looked_wanting _ _ _ _ c.from_residual.result _ _ c.from_residual.ensures.1 (made_short _ _ _ _ _ _ _ _ c.loop-id.invariant.rows)
+returns-in_err-row-clause-looked g c = looked_wanting _ _ _ _ _ c.from_residual.result _ _ c.from_residual.ensures.1 (made_short _ _ _ _ _ _ _ _ c.loop-id.invariant.rows)
 
 pub returns-in_err-push-clause-looked : goal.returns-in_err-push-clause-looked
-returns-in_err-push-clause-looked g c = looked_wanting _ _ _ _ c.from_residual-in_err-push.result _ _ c.from_residual-in_err-push.ensures.1 (made_short _ _ _ _ _ _ _ _ c.loop-id.invariant.rows)
+returns-in_err-push-clause-looked g c = looked_wanting _ _ _ _ _ c.from_residual-in_err-push.result _ _ c.from_residual-in_err-push.ensures.1 (made_short _ _ _ _ _ _ _ _ c.loop-id.invariant.rows)
 
 pub loop-id-preserved : goal.loop-id-preserved
 loop-id-preserved g c = record {
@@ -46,7 +46,7 @@ loop-id-preserved g c = record {
 }
 
 pub returns-in_err-look_after-clause-looked : goal.returns-in_err-look_after-clause-looked
-returns-in_err-look_after-clause-looked g c = looked_as _ _ Row _ _ c.from_residual-in_err-look_after.result _ _ _ c.from_residual-in_err-look_after.ensures.1
-    (made_stopped _ _ _ _ Row c.loop-id.rows c.push.new.self c.in_ok-row.field-0 (c.in-Some.id, c.in-Some.stub.now) c.loop-id.id-iterator c.next.new.self c.len.result _ _ c.loop-id.watch c.look_after.new.watch
+returns-in_err-look_after-clause-looked g c = looked_as _ _ _ Row _ _ c.from_residual-in_err-look_after.result _ _ _ c.from_residual-in_err-look_after.ensures.1
+    (made_stopped _ _ _ _ g.W.Watch.stays g.met.W.Watch.stays_on Row c.loop-id.rows c.push.new.self c.in_ok-row.field-0 (c.in-Some.id, c.in-Some.stub.now) c.loop-id.id-iterator c.next.new.self c.len.result _ _ c.loop-id.watch c.look_after.new.watch
     c.in-Some.ensures.steps c.in_ok-push.ensures.ok (row_made c.args.state.now.world _ _ c.in-Some.stub.now c.continued-file.result _ c.continued-file.ensures.file c.in_ok-row.ensures.row) c.len.ensures
-    c.in_err-look_after.ensures.early c.loop-id.invariant.rows c.in_err-look_after.ensures.looked)
+    c.in_err-look_after.ensures.early c.loop-id.invariant.stays c.loop-id.invariant.rows c.in_err-look_after.ensures.looked)

@@ -16,7 +16,7 @@ loop-file-init g c = record {
 }
 
 pub returns-in_err-copy-clause-looked : goal.returns-in_err-copy-clause-looked
-returns-in_err-copy-clause-looked g c = looked_wanting _ _ _ _ c.from_residual.result _ _ c.from_residual.ensures.1 (made_short _ _ _ _ _ _ _ _ c.loop-file.invariant.rows)
+returns-in_err-copy-clause-looked g c = looked_wanting _ _ _ _ _ c.from_residual.result _ _ c.from_residual.ensures.1 (made_short _ _ _ _ _ _ _ _ c.loop-file.invariant.rows)
 
 pub loop-file-preserved : goal.loop-file-preserved
 loop-file-preserved g c = record {
@@ -29,6 +29,6 @@ loop-file-preserved g c = record {
 }
 
 pub returns-in_err-look_after-clause-looked : goal.returns-in_err-look_after-clause-looked
-returns-in_err-look_after-clause-looked g c = looked_as _ _ WordRow _ _ c.from_residual-in_err-look_after.result _ _ _ c.from_residual-in_err-look_after.ensures.1
-    (made_stopped _ _ _ _ WordRow c.loop-file.rows c.push.new.self _ (c.in-Some.file, c.in-Some.mask) c.loop-file.file-iterator c.next.new.self c.len.result _ _ c.loop-file.watch c.look_after.new.watch
-    c.in-Some.ensures.steps c.in_ok-push.ensures.ok (word_row_made c.args.state.now.world _ _ _ _ c.in-Some-path.ensures c.in_ok-copy.ensures) c.len.ensures c.in_err-look_after.ensures.early c.loop-file.invariant.rows c.in_err-look_after.ensures.looked)
+returns-in_err-look_after-clause-looked g c = looked_as _ _ _ WordRow _ _ c.from_residual-in_err-look_after.result _ _ _ c.from_residual-in_err-look_after.ensures.1
+    (made_stopped _ _ _ _ g.W.Watch.stays g.met.W.Watch.stays_on WordRow c.loop-file.rows c.push.new.self _ (c.in-Some.file, c.in-Some.mask) c.loop-file.file-iterator c.next.new.self c.len.result _ _ c.loop-file.watch c.look_after.new.watch
+    c.in-Some.ensures.steps c.in_ok-push.ensures.ok (word_row_made c.args.state.now.world _ _ _ _ c.in-Some-path.ensures c.in_ok-copy.ensures) c.len.ensures c.in_err-look_after.ensures.early c.loop-file.invariant.stays c.loop-file.invariant.rows c.in_err-look_after.ensures.looked)
