@@ -16,6 +16,13 @@ pub enum Point {
 
 /// Is told each point, and may hold the thread there for a while.
 pub trait Gate {
+    ghost use Rattle.std.specs.Prelude.{Bool};
+    ghost use Rattle.action_lock.specs.declared.gate.Point.{Point};
+
+    // What it may answer at a point. A gate that says nothing of this may answer anything.
+    ghost may_say: { Self → Point → Bool → Type 0 } = { λ gate point answer. Unit {0} };
+
     /// Its answer counts at `Idle` alone: whether the worker is to go on.
-    fn at(&self, point: Point) -> bool;
+    fn at(&self, point: Point) -> bool
+        ensures { may_say self.now point result };
 }

@@ -1,13 +1,12 @@
 -- How a change, or a group of changes, is answered.
-use Rattle.std.specs.Prelude.{ℕ, ◌≡◌, List, [], ◌∷◌, length, Some, None, true, false}
+use Rattle.std.specs.Prelude.{ℕ, ◌≡◌, List, [], ◌∷◌, ◌++◌, length, Option, Some, None, false}
 use Rattle.action_lock.specs.declared.view.View.{View}
 use Rattle.nonblocking_read.specs.Soft.{HasOnlyRead}
 use Rattle.write_history.specs.declared.change.Change.{Change}
 use Rattle.write_history.specs.declared.entry.Entry.{Entry}
 use Rattle.write_history.specs.declared.refusal.Refusal.{Refusal}
-use Rattle.write_history.specs.World.{file_of, is_unready}
 use Rattle.write_history.specs.Fold.{fold, list_refusal}
-use Rattle.ide_world.specs.Ready.{is_want_of_memory}
+use Rattle.ide_world.specs.Ready.{hinted, is_want_of_memory}
 use Rattle.ide_calls.specs.Made.{HasMade, HasFound}
 use Rattle.ide_calls.specs.Settle.{entry_of}
 use Rattle.ide_calls.specs.declared.change_refusal.ChangeRefusal.{ChangeRefusal}
@@ -25,9 +24,14 @@ pub record HasAccepted (v w : View Entry) (line : ℕ) (changes : List Change) (
   pub made : HasMade v w before (entry_of seat line changes ∷ [])
   pub is_at : at ≡ length w.seen
 
--- the file with this id is unready after the history that is now seen
-abbrev pub IsUnready : View Entry → ℕ → Type 0
-IsUnready w id = is_unready (file_of (fold w.seen) id) ≡ true
+-- The last entry that is now seen made these changes, and this is the file that is to be indexed after them: the first of the changed files
+-- that they left unready, if one is
+pub record HasLeft (w : View Entry) (changes : List Change) (unready : Option ℕ) : Type 0 where
+  pub before : List Entry
+  pub entry : Entry
+  pub made : entry.changes ≡ changes
+  pub seen : w.seen ≡ before ++ entry ∷ []
+  pub is_first : unready ≡ hinted (fold before) changes
 
 -- After the history that is now seen the change at this place of the list is the first that is refused, for this reason. Nothing was made
 pub record HasRefused (v w : View Entry) (changes : List Change) (at place : ℕ) (why : Refusal) : Type 0 where

@@ -1,10 +1,11 @@
 //! Changes go in: under an intent of their own they are made ready on what a read finds, and written behind it.
-ghost use Rattle.std.specs.Prelude.{◌≡◌, ◌∷◌, [], true, Some, IfOk, IfErr, IfSome, OnErr};
+ghost use Rattle.std.specs.Prelude.{◌≡◌, ◌≤◌, ◌∷◌, [], true, length, Some, IfOk, IfErr, OnOk, OnErr};
 ghost use Rattle.std.specs.List.{list_all};
 ghost use Rattle.action_lock.specs.Advances.{Advances};
 ghost use Rattle.action_lock.specs.Passes.{view_of, IsSamePass, IsPassOf, Intends};
+ghost use Rattle.write_history.specs.Effect.{max_entries};
 ghost use Rattle.ide_world.specs.Ready.{is_edit};
-ghost use Rattle.ide_calls.specs.Change.{HasAccepted, IsUnready, IsChangeRefused, IsGroupRefused};
+ghost use Rattle.ide_calls.specs.Change.{HasAccepted, HasLeft, IsChangeRefused, IsGroupRefused};
 
 use crate::accepted::Accepted;
 use crate::change_refusal::ChangeRefusal;
@@ -32,7 +33,8 @@ pub fn change<R: Wait>(
     ensures advances { Advances (view_of pass.old) (view_of pass.new) }
     ensures mine { OnErr result ((view_of pass.new).mine ≡ (view_of pass.old).mine) }
     ensures accepted { IfOk result (λ done. HasAccepted (view_of pass.old) (view_of pass.new) line (change ∷ []) done.at) }
-    ensures unready { IfOk result (λ done. IfSome done.unready (IsUnready (view_of pass.new))) }
+    ensures few { OnOk result (length (view_of pass.new).mine ≤ max_entries) }
+    ensures unready { IfOk result (λ done. HasLeft (view_of pass.new) (change ∷ []) done.unready) }
     ensures refused { IfErr result (IsChangeRefused (view_of pass.old) (view_of pass.new) change) }
 {
     match change_group(rt, alloc, lock, pass, line, Changes::one(change)) {
@@ -60,7 +62,8 @@ pub fn change_group<R: Wait>(
     ensures advances { Advances (view_of pass.old) (view_of pass.new) }
     ensures mine { OnErr result ((view_of pass.new).mine ≡ (view_of pass.old).mine) }
     ensures accepted { IfOk result (λ done. HasAccepted (view_of pass.old) (view_of pass.new) line changes done.at) }
-    ensures unready { IfOk result (λ done. IfSome done.unready (IsUnready (view_of pass.new))) }
+    ensures few { OnOk result (length (view_of pass.new).mine ≤ max_entries) }
+    ensures unready { IfOk result (λ done. HasLeft (view_of pass.new) changes done.unready) }
     ensures refused { IfErr result (IsGroupRefused (view_of pass.old) (view_of pass.new) changes) }
 {
     let seat = pass.number();
@@ -90,7 +93,8 @@ fn put_in<R: Wait>(
     ensures advances { Advances (view_of pass.old) (view_of pass.new) }
     ensures mine { OnErr result ((view_of pass.new).mine ≡ (view_of pass.old).mine) }
     ensures accepted { IfOk result (λ done. HasAccepted (view_of pass.old) (view_of pass.new) entry.line entry.changes done.at) }
-    ensures unready { IfOk result (λ done. IfSome done.unready (IsUnready (view_of pass.new))) }
+    ensures few { OnOk result (length (view_of pass.new).mine ≤ max_entries) }
+    ensures unready { IfOk result (λ done. HasLeft (view_of pass.new) entry.changes done.unready) }
     ensures refused { IfErr result (IsGroupRefused (view_of pass.old) (view_of pass.new) entry.changes) }
 {
     histories_go_on();

@@ -1,12 +1,10 @@
 //! The workspace under the lock: its state, and the history that led to it.
-ghost use Rattle.std.specs.Prelude.{◌≡◌, ◌≤◌, ◌∷◌, ◌++◌, [], length, true, IfOk, IfSome, OnOk, OnErr};
+ghost use Rattle.std.specs.Prelude.{◌≡◌, ◌≤◌, ◌∷◌, ◌++◌, [], length, IfOk, OnOk, OnErr};
 ghost use Rattle.std.proofs.Common.{sym, ◌∙◌};
-ghost use Rattle.write_history.specs.World.{file_of, is_unready};
 ghost use Rattle.write_history.specs.Effect.{max_entries};
 ghost use Rattle.write_history.specs.Fold.{fold, IsLegal};
-ghost use Rattle.ide_world.specs.Ready.{IsReadyFor, Makes};
+ghost use Rattle.ide_world.specs.Ready.{IsReadyFor, Makes, hinted};
 
-use crate::changed::first_unready;
 use crate::kept::Kept;
 use crate::share::IdeShare;
 use action_lock::Home;
@@ -80,15 +78,14 @@ impl IdeHome {
         ensures ok { OnOk result (self.new ≡ self.old ++ entry ∷ []) }
         ensures legal { IsLegal self.new }
         ensures bounded { length self.new ≤ max_entries }
-        ensures unready { IfOk result (λ file. IfSome file (λ id. is_unready (file_of (fold self.new) id) ≡ true)) }
+        ensures unready { IfOk result (λ file. file ≡ hinted (fold self.old) entry.changes) }
         ensures err { OnErr result (self.new ≡ self.old) }
     {
         histories_go_on();
         self.history.reserve()?;
         let kept = Arc::make_mut(&mut self.kept)?;
         reserve(&mut kept.state, &ready)?;
-        install(&mut kept.state, ready);
-        let unready = first_unready(&kept.state, entry.changes.as_slice());
+        let unready = install(&mut kept.state, ready);
         self.history.push(entry);
         Ok(unready)
     }

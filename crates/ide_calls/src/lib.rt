@@ -6,7 +6,6 @@ mod accepted;
 mod answering;
 mod asking;
 mod change_refusal;
-mod changed;
 mod changing;
 mod choice;
 mod entries;

@@ -1,8 +1,8 @@
 //! An entry goes in under an intent.
-ghost use Rattle.std.specs.Prelude.{◌≡◌, true, Some, IfOk, IfSome, OnOk, OnErr};
-ghost use Rattle.write_history.specs.World.{file_of, is_unready};
+ghost use Rattle.std.specs.Prelude.{◌≡◌, ◌≤◌, true, Some, length, IfOk, OnOk, OnErr};
+ghost use Rattle.write_history.specs.Effect.{max_entries};
 ghost use Rattle.write_history.specs.Fold.{fold, IsLegal};
-ghost use Rattle.ide_world.specs.Ready.{IsReadyFor, Makes};
+ghost use Rattle.ide_world.specs.Ready.{IsReadyFor, Makes, hinted};
 ghost use Rattle.action_lock.specs.Advances.{Advances};
 ghost use Rattle.action_lock.specs.Passes.{view_of, IsSamePass, Intends};
 ghost use Rattle.action_lock.specs.Steps.{finished};
@@ -13,6 +13,7 @@ use ide_world::Ready;
 use std::alloc::AllocError;
 use std::sync::Wait;
 use write_history::Entry;
+use write_history::laws::histories_go_on;
 
 /// Puts a prepared entry in, under an intent that has read what it was prepared on. The intent stays. Where there is no
 /// memory nothing is written. The answer is the first of the changed files that is unready now. It may wait for ever.
@@ -34,9 +35,11 @@ pub fn write_entry<R: Wait>(
     ensures legal { IsLegal (view_of pass.new).seen }
     ensures advances { Advances (view_of pass.old) (view_of pass.new) }
     ensures ok { OnOk result (view_of pass.new ≡ finished entry (view_of pass.old)) }
-    ensures unready { IfOk result (λ file. IfSome file (λ id. is_unready (file_of (fold (view_of pass.new).seen) id) ≡ true)) }
+    ensures few { OnOk result (length (view_of pass.new).mine ≤ max_entries) }
+    ensures unready { IfOk result (λ file. file ≡ hinted (fold (view_of pass.old).seen) entry.changes) }
     ensures err { OnErr result (view_of pass.new ≡ view_of pass.old) }
 {
+    histories_go_on();
     pass.write(rt, lock);
     match pass.home_mut(lock).accept(ready, entry) {
         Ok(unready) => {

@@ -1,22 +1,22 @@
 -- A list of changes, made one after another on a draft.
-use Rattle.std.proofs.Common.{ℕ, suc, ◌≡◌, ◌+◌, ◌<◌, ◌≤◌, Bool, true, false, List, [], ◌∷◌, ◌++◌, length, get_or, drop, add-one, refl, ap, sym, ◌∙◌, subst, arith, Some, None}
+use Rattle.std.proofs.Common.{ℕ, suc, ◌≡◌, ◌+◌, ◌<◌, ◌≤◌, Bool, true, false, List, [], ◌∷◌, ◌++◌, length, get_or, drop, add-one, append_assoc, append-nil, refl, ap, sym, ◌∙◌, subst, arith, Some, None}
 use Rattle.std.specs.Prelude.{◌&&◌, Result, Ok, Err, OnOk, Option, option_map}
 use Rattle.std.proofs.lemmas.Bool.{leb-false}
 use Rattle.write_history.specs.declared.change.Change.{Change}
 use Rattle.write_history.specs.declared.refusal.Refusal.{Refusal}
 use Rattle.write_history.specs.declared.refusal.Refusal.TheVariants.{NoSuchFile, PathTaken, BadPath, NotOpen, AlreadyOpen, BadRange, Unsaved, Uncommitted, Conflict, FilesFull, DocsFull, TextFull, Stale, HistoryFull, OutOfMemory}
 use Rattle.write_history.specs.World.{World}
-use Rattle.write_history.specs.Effect.{Reason, reasons, history_full, refusal_of, max_entries}
+use Rattle.write_history.specs.Effect.{Reason, put_of, reasons, history_full, refusal_of, max_entries}
 use Rattle.write_history.specs.Fold.{effect_of, effects_of, ListRefusal, one_later, refusal_or, list_refusal}
 use Rattle.write_history.proofs.PutLemmas.{NoneStands, accepted_reasons}
 use Rattle.ide_world.specs.declared.step.Step.{Step}
 use Rattle.ide_world.specs.Step.{after_steps}
 use Rattle.ide_world.specs.Lawful.{AreLawful, AreWide, inserted_by_all}
-use Rattle.ide_world.specs.Ready.{Makes, IsReadyFor, IsRefusalOf, IsListRefusalOf, is_want_of_memory, is_edit}
+use Rattle.ide_world.specs.Ready.{changed_ids, ids_of, Makes, IsReadyFor, IsRefusalOf, IsListRefusalOf, is_want_of_memory, is_edit}
 use Rattle.ide_world.specs.Drafted.{Drafted, IsDraft, IsExtended, world_now, inserted_by_change, inserted_by_changes}
 use Rattle.ide_world.specs.Builds.{Builds}
 use Rattle.ide_world.proofs.WalkLemmas.{entries_after_steps, after_steps-push, inserted-push, pushed}
-use Rattle.std.proofs.lemmas.List.{length-append}
+use Rattle.std.proofs.lemmas.List.{length-append, map-append}
 use Rattle.std.proofs.Math.Seq.{drop-cons}
 use Rattle.std.specs.List.{list_all}
 
@@ -29,6 +29,7 @@ pub record IsSoFar (w : World) (changes : List Change) (i : ℕ) (rest : List Ch
   pub base : d.base ≡ w
   pub refusal : list_refusal w changes ≡ option_map (later_by i) (list_refusal (world_now d) rest)
   pub effect : effects_of (world_now d) rest ≡ effects_of w changes
+  pub ids : ids_of d.steps ++ changed_ids (world_now d) rest ≡ changed_ids w changes
   pub count : length d.steps ≡ i
   pub width : d.wide ≡ inserted_by_changes changes
   pub inserted : inserted_by_all d.steps + inserted_by_changes rest ≡ inserted_by_changes changes
@@ -49,6 +50,7 @@ starts w changes d base steps wide =
       base = base;
       refusal = later_by-zero (list_refusal w changes) ∙ sym (ap (λ x. option_map (later_by 0) (list_refusal x changes)) world);
       effect = ap (λ x. effects_of x changes) world;
+      ids = ap (λ ss. ids_of ss ++ changed_ids (world_now d) changes) steps ∙ ap (λ x. changed_ids x changes) world;
       count = ap length steps;
       width = wide;
       inserted = ap (λ ss. inserted_by_all ss + inserted_by_changes changes) steps ∙ omega arith;
@@ -73,6 +75,10 @@ turns w changes i change rest d new h accepted e = record {
   refusal = h.refusal ∙ ap (option_map (later_by i)) (accepted_first (refusal_of (world_now d) change) (list_refusal (effect_of (world_now d) change) rest) accepted)
       ∙ later_by-suc i (list_refusal (effect_of (world_now d) change) rest) ∙ sym (ap (λ x. option_map (later_by (i + 1)) (list_refusal x rest)) e.effect);
   effect = ap (λ x. effects_of x rest) e.effect ∙ h.effect;
+  ids = ap (λ x. ids_of new.steps ++ changed_ids x rest) e.effect
+      ∙ ap (λ l. l ++ changed_ids (effect_of (world_now d) change) rest) e.ids
+      ∙ append_assoc (ids_of d.steps) ((put_of (world_now d) change).id ∷ []) (changed_ids (effect_of (world_now d) change) rest)
+      ∙ h.ids;
   count = let a = e.count in let b = h.count in omega arith;
   width = e.room ∙ h.width;
   inserted = let a = e.inserted in let b = h.inserted in omega arith;
@@ -115,7 +121,7 @@ finished w changes i d h draft some =
       wide = let P : ℕ → Type 0 = λ n. AreWide n d.steps in subst P (let a = h.width in let b = h.inserted in omega arith) draft.wide;
     } in (
       record { lawful = let P : World → Type 0 = λ x. AreLawful x d.steps in subst P h.base each; entries = h.entries some },
-      record { accepted = h.refusal; effect = sym (ap (λ x. after_steps x d.steps) h.base) ∙ h.effect },
+      record { accepted = h.refusal; effect = sym (ap (λ x. after_steps x d.steps) h.base) ∙ h.effect; ids = sym (append-nil (ids_of d.steps)) ∙ h.ids },
     )
 
 -- a single change
@@ -136,6 +142,7 @@ extended d new change step draft few builds same =
       base = refl;
       room = refl;
       effect = after_steps-push d.base d.steps step ∙ builds.effect;
+      ids = map-append (λ (s : Step). s.id) d.steps (step ∷ []) ∙ ap (λ id. ids_of d.steps ++ id ∷ []) builds.same_id;
       count = length-append d.steps (step ∷ []);
       inserted = inserted-push d.steps step ∙ ap (λ n. inserted_by_all d.steps + n) builds.inserted;
     })

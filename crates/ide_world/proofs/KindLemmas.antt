@@ -67,6 +67,10 @@ document_is w path id row doc h =
     let of_file : Option File → Option Document = λ o. option_and_then (λ f. f.document) o in
     ap of_id h.at_path ∙ ap of_file h.live
 
+-- the file at the path is the one that a change of the path is about
+named : (w : World) (path : List ℕ) (id : ℕ) (row : FileRow) (doc : Option Document) → IsFileAt w path id row doc → id ≡ unwrap_or (id_at w path) 0
+named w path id row doc h = sym (ap (λ (o : Option ℕ). unwrap_or o 0) h.at_path)
+
 -- a sound file at a later stamp
 later : (next more : ℕ) (f : File) → IsSoundLive next f → IsSoundLive (next + more) f
 later next more f h = record {
@@ -117,6 +121,7 @@ create_builds w wide path text id stamp accepted e f =
     let r = accepted_reasons w (Create path text) accepted in
     subst P (sym e) (subst Q (sym f) (record {
       effect = create_effect w path text none;
+      same_id = refl;
       lawful = create_lawful w path text none (leb-false max_files (length w.files) r.1.1.0) r.1.0;
       room = tt;
       inserted = refl;
@@ -131,6 +136,7 @@ pub delete_builds : (w : World) (wide : ℕ) (path : List ℕ) (id : ℕ) (row :
     → Builds w wide (Delete path) (delete_step id)
 delete_builds w wide path id row doc sound h = record {
   effect = edit_effect w path row doc (delete_step id) 0 (λ f. None) h refl refl;
+  same_id = named w path id row doc h;
   lawful = edit_lawful w path row doc (delete_step id) h tt tt (λ e. refl) tt (λ held k. (refl, refl));
   room = tt;
   inserted = refl;
@@ -152,6 +158,7 @@ insert_builds w wide path id at text row (Some d) sound h accepted =
     let s = sound_at w path id row (Some d) sound h in
     record {
       effect = edit_effect w path row (Some d) (insert_step id at text) 0 (λ f. Some (edited (inserted at text) f)) h refl refl;
+      same_id = named w path id row (Some d) h;
       lawful = edit_lawful w path row (Some d) (insert_step id at text) h tt
           (record {
             inside = ltb-false (length d.text) at (sym (ap (λ o. nat_lt (document_len o) at) e) ∙ r.1.1.0);
@@ -187,6 +194,7 @@ erase_builds w wide path id from to row (Some d) sound h accepted =
     let both : (nat_lt (length d.text) to || nat_lt to from) ≡ false = sym (ap (λ o. nat_lt (document_len o) to || nat_lt to from) e) ∙ r.1.1.0 in
     record {
       effect = edit_effect w path row (Some d) (erase_step id from to) 0 (λ f. Some (edited (erased from to) f)) h refl refl;
+      same_id = named w path id row (Some d) h;
       lawful = edit_lawful w path row (Some d) (erase_step id from to) h tt
           (record {
             ordered = ltb-false to from (or_right (nat_lt (length d.text) to) (nat_lt to from) both);
@@ -221,6 +229,7 @@ open_builds w wide path id row None new index sound h accepted e room i =
     let R : IndexEdit → Type 0 = λ x. (held : Indexed) → HoldsIndex (Some (file_with None row)) held → HoldsIndex (Some (file_with (Some (opened row.content)) row)) (edited_index x held) in
     record {
       effect = edit_effect w path row None step 0 (λ f. Some (with_document (Some (opened f.content)) f)) h (ap to e) refl;
+      same_id = named w path id row None h;
       lawful = edit_lawful w path row None step h tt refl (λ n. absurd (some_none row n))
           (subst P (sym e) (record { stamp = let l = s.stamp in omega arith; indexed = IfSome_then row.indexed s.indexed (λ x l. omega arith); saved = λ t. refl }))
           (subst Q (sym e) (subst R (sym i) (λ held k. index_opened (is_java row.path) row held k)));
@@ -247,6 +256,7 @@ commit_builds w wide path id row (Some d) text index sound h t i =
     let R : IndexEdit → Type 0 = λ x. (held : Indexed) → HoldsIndex (Some (file_with (Some d) row)) held → HoldsIndex (Some (file_with (Some (committed d)) row)) (edited_index x held) in
     record {
       effect = edit_effect w path row (Some d) step 0 (λ f. Some (edited committed f)) h refl refl;
+      same_id = named w path id row (Some d) h;
       lawful = edit_lawful w path row (Some d) step h tt same (λ n. absurd (some_none row n))
           (record { stamp = let l = s.stamp in omega arith; indexed = IfSome_then row.indexed s.indexed (λ x l. omega arith); saved = s.saved })
           (subst R (sym is) (λ held k. index_committed (is_java row.path) row d held k));
@@ -269,6 +279,7 @@ save_builds w wide path id row (Some d) text stamp sound h t n =
     let Q : List ℕ → Type 0 = λ l. Builds w wide (Save path) (save_step id row l w.next_stamp) in
     subst P (sym n) (subst Q (sym same) (record {
       effect = edit_effect w path row (Some d) (save_step id row d.text w.next_stamp) 1 (λ f. Some (saved w.next_stamp f)) h refl refl;
+      same_id = named w path id row (Some d) h;
       lawful = edit_lawful w path row (Some d) (save_step id row d.text w.next_stamp) h (kept_path w path id row (Some d) sound h) tt (λ e. absurd (some_none {A = FileRow} (record { path = row.path; content = d.text; stamp = w.next_stamp; indexed = row.indexed }) e))
           (record { stamp = omega arith; indexed = IfSome_then row.indexed s.indexed (λ x l. omega arith); saved = λ e. refl })
           (λ held k. index_kept (is_java row.path) (file_with (Some d) row) (saved w.next_stamp (file_with (Some d) row)) held refl (λ i. absurd (not_yet w.next_stamp row.indexed s.indexed i)) k);
@@ -301,6 +312,7 @@ close_builds w wide path id row (Some d) index sound h accepted i =
     let R : IndexEdit → Type 0 = λ x. (held : Indexed) → HoldsIndex (Some (file_with (Some d) row)) held → HoldsIndex (Some (closed (file_with (Some d) row))) (edited_index x held) in
     record {
       effect = edit_effect w path row (Some d) (close_step id row index) 0 (λ f. Some (closed f)) h refl refl;
+      same_id = named w path id row (Some d) h;
       lawful = edit_lawful w path row (Some d) (close_step id row index) h (kept_path w path id row (Some d) sound h) tt (λ n. refl)
           (record { stamp = let l = s.stamp in omega arith; indexed = let l = s.stamp in omega arith; saved = tt })
           (subst R (sym i) (λ held k. index_closed (is_java row.path) row d held same k));
@@ -322,6 +334,7 @@ write_closed_builds w wide path id row None text stamp sound h t n =
     let P : ℕ → Type 0 = λ k. Builds w wide (Write path text) (write_step id row text k doc_edit.Keep) in
     subst P (sym n) (record {
       effect = edit_effect w path row None step 1 (λ f. Some (rewritten text w.next_stamp f)) h refl refl;
+      same_id = named w path id row None h;
       lawful = edit_lawful w path row None step h (kept_path w path id row None sound h) tt (λ e. refl)
           (record { stamp = omega arith; indexed = IfSome_then row.indexed s.indexed (λ x l. omega arith); saved = tt })
           (λ held k. index_kept (is_java row.path) (file_with None row) (rewritten text w.next_stamp (file_with None row)) held refl (λ i. absurd (not_yet w.next_stamp row.indexed s.indexed i)) k);
@@ -341,6 +354,7 @@ write_open_builds w wide path id row (Some d) text stamp new sound h t n e room 
     let S : List ℕ → Type 0 = λ l. IsSoundFile (w.next_stamp + 1) (to l) in
     subst P (sym n) (record {
       effect = edit_effect w path row (Some d) step 1 (λ f. Some (rewritten text w.next_stamp f)) h (ap to same) refl;
+      same_id = named w path id row (Some d) h;
       lawful = edit_lawful w path row (Some d) step h (kept_path w path id row (Some d) sound h) (refl, e ∙ ap opened (sym same)) (λ x. absurd (some_none {A = FileRow} (record { path = row.path; content = text; stamp = w.next_stamp; indexed = row.indexed }) x))
           (subst S (sym same) (record { stamp = omega arith; indexed = IfSome_then row.indexed s.indexed (λ x l. omega arith); saved = λ x. refl }))
           (λ held k. index_kept (is_java row.path) (file_with (Some d) row) (record { path = row.path; content = text; stamp = w.next_stamp; indexed = row.indexed; document = Some (replaced new.document.text d) }) held refl (λ i. absurd (not_yet w.next_stamp row.indexed s.indexed i)) k);
@@ -381,6 +395,7 @@ intake_builds w wide id stamp row doc text index sound live accepted of_world i 
     let R : IndexEdit → Type 0 = λ x. (held : Indexed) → HoldsIndex (Some f) held → HoldsIndex (Some (taken_in row.stamp f)) (edited_index x held) in
     subst P (sym e) (record {
       effect = ap (λ o. after_put w (to o)) live ∙ sym (ap (λ o. after_put w (back o)) live);
+      same_id = refl;
       lawful = edit_lawful w row.path row doc (intake_step id row row.stamp index) h (kept_path w row.path id row doc sound h) tt (λ x. absurd (some_none {A = FileRow} (record { path = row.path; content = row.content; stamp = row.stamp; indexed = Some row.stamp }) x))
           (record { stamp = let l = s.stamp in omega arith; indexed = let l = s.stamp in omega arith; saved = s.saved })
           (subst R (sym i) (λ held k. index_taken (is_java row.path) f held text content k));
@@ -417,6 +432,7 @@ move_builds w wide path to id row doc stamp index sound h accepted n i =
     let R : IndexEdit → Type 0 = λ x. (held : Indexed) → HoldsIndex (Some f) held → HoldsIndex (Some g) (edited_index x held) in
     subst P (sym n) (record {
       effect = edit_effect w path row doc step 1 (λ f. Some (moved to w.next_stamp f)) h refl refl;
+      same_id = named w path id row doc h;
       lawful = edit_lawful w path row doc step h (λ other file live same. absurd (none_at_free w to other file r.1.1.0 live same)) tt (λ x. absurd (some_none {A = FileRow} (record { path = to; content = row.content; stamp = w.next_stamp; indexed = row.indexed }) x))
           (record { stamp = omega arith; indexed = IfSome_then row.indexed s.indexed (λ x l. omega arith); saved = s.saved })
           (subst R (sym i) (λ held k. index_moved (is_java row.path) (is_java to) f g held refl (not_yet w.next_stamp row.indexed s.indexed) k));

@@ -3,6 +3,7 @@ use Rattle.std.specs.Prelude.{ℕ, ◌≡◌, Bool, true, false, List, Option, S
 use Rattle.vfs_core.specs.declared.row.FileRow.{FileRow}
 use Rattle.write_history.specs.declared.change.Change.{Change}
 use Rattle.write_history.specs.World.{World, file_of, id_at}
+use Rattle.write_history.specs.Effect.{put_of}
 use Rattle.write_history.specs.Fold.{effect_of}
 use Rattle.ide_world.specs.declared.step.Step.{Step}
 use Rattle.ide_world.specs.declared.step.RowEdit.TheVariants as row_edit
@@ -20,9 +21,10 @@ pub record IsLiveAt (world : World) (path : List ℕ) (id : ℕ) (row : FileRow)
   pub at_path : id_at world path ≡ Some id
   pub live : row_part (file_of world id) ≡ Some row
 
--- the step does what the change does, and may be carried out; a document that it brings is wide enough
+-- the step does what the change does, to the same file, and may be carried out; a document that it brings is wide enough
 pub record Builds (world : World) (wide : ℕ) (change : Change) (step : Step) : Type 0 where
   pub effect : after_step world step ≡ effect_of world change
+  pub same_id : step.id ≡ (put_of world change).id
   pub lawful : IsLawfulStep world step
   pub room : IsWide wide step.doc
   pub inserted : inserted_by step.doc ≡ inserted_by_change change

@@ -1,13 +1,14 @@
 -- A draft: a world, and the steps that were made from it so far.
-use Rattle.std.specs.Prelude.{ℕ, ◌≡◌, ◌≤◌, ◌+◌, ◌*◌, List, [], ◌∷◌, length}
+use Rattle.std.specs.Prelude.{ℕ, ◌≡◌, ◌≤◌, ◌+◌, ◌*◌, List, [], ◌∷◌, ◌++◌, length}
 use Rattle.write_history.specs.declared.change.Change.{Change}
 use Rattle.write_history.specs.declared.change.Change.TheVariants.{Create, Write, Delete, OpenDoc, Insert, Erase, Commit, Save, CloseDoc, Intake, Move}
 use Rattle.write_history.specs.World.{World, count_of, is_open}
-use Rattle.write_history.specs.Effect.{max_files, max_entries}
+use Rattle.write_history.specs.Effect.{put_of, max_files, max_entries}
 use Rattle.write_history.specs.Fold.{effect_of}
 use Rattle.ide_world.specs.declared.step.Step.{Step}
 use Rattle.ide_world.specs.Step.{after_steps}
 use Rattle.ide_world.specs.Sound.{AreSoundFiles, IsSoundWorld}
+use Rattle.ide_world.specs.Ready.{ids_of}
 use Rattle.ide_world.specs.Lawful.{AreLawfulFrom, AreWide, max_steps, inserted_by_all}
 use Rattle.ide_world.specs.declared.draft.Draft.TheInside.{Inside}
 
@@ -70,5 +71,6 @@ pub record IsExtended (old new : Drafted) (change : Change) : Type 0 where
   pub base : new.base ≡ old.base
   pub room : new.wide ≡ old.wide
   pub effect : world_now new ≡ effect_of (world_now old) change
+  pub ids : ids_of new.steps ≡ ids_of old.steps ++ (put_of (world_now old) change).id ∷ []
   pub count : length new.steps ≡ length old.steps + 1
   pub inserted : inserted_by_all new.steps ≡ inserted_by_all old.steps + inserted_by_change change

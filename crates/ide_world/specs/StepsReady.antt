@@ -1,9 +1,10 @@
 -- When steps can be carried out one after another.
-use Rattle.std.specs.Prelude.{ℕ, ◌≤◌, ◌+◌, ◌*◌, List, length}
+use Rattle.std.specs.Prelude.{ℕ, ◌≤◌, ◌+◌, ◌*◌, List, length, map}
 use Rattle.ide_world.specs.declared.step.Step.{Step}
 use Rattle.ide_world.specs.Lawful.{AreLawfulFrom, AreWide, inserted_by_all}
 use Rattle.ide_world.specs.Room.{HasRoomIn}
 use Rattle.ide_world.specs.Held.{Held}
+use Rattle.ide_world.specs.declared.apply.Gone.{Gone}
 
 -- the steps are lawful, there is room for all that they bring, and each may draw a stamp
 pub record IsReady (held : Held) (steps : List Step) : Type 0 where
@@ -14,3 +15,7 @@ pub record IsReady (held : Held) (steps : List Step) : Type 0 where
   pub wide : AreWide spare steps
   pub few : inserted_by_all steps ≤ spare
   pub stamps : held.world.next_stamp + length steps ≤ 64 * held.world.entries + 1
+
+-- the ids of the files of which something went
+abbrev pub ids_of_gone : List Gone → List ℕ
+ids_of_gone gone = map (λ g. g.id) gone

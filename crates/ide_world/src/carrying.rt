@@ -1,18 +1,19 @@
 //! Carrying steps out: the one door by which files, documents and index data change, in step with one another.
-ghost use Rattle.std.specs.Prelude.{◌≡◌, ◌≤◌, ◌<◌, ◌+◌, ◌*◌, ℕ, true, false, List, length, is_some, IsSome, IfSome, ◌==◌, if◌then◌else◌, [], vec_len};
+ghost use Rattle.std.specs.Prelude.{◌≡◌, ◌≤◌, ◌<◌, ◌+◌, ◌*◌, ℕ, true, false, List, length, is_some, IsSome, IfSome, ◌==◌, if◌then◌else◌, [], ◌++◌, vec_len};
 ghost use Rattle.std.specs.Vec.{vec_capacity};
 ghost use Rattle.vfs_core.specs.Held.{row_of, HasRowRoom, KeepsRoom as KeepsFileRoom};
 ghost use Rattle.document_buf.specs.Held.{document_of, room_of};
-ghost use Rattle.write_history.specs.World.{is_unready};
+ghost use Rattle.write_history.specs.World.{file_of, is_unready};
 ghost use Rattle.write_history.specs.Effect.{max_entries};
 ghost use Rattle.write_history.specs.Fold.{counted};
 ghost use Rattle.ide_world.specs.RowEdits.{put_row};
 ghost use Rattle.ide_world.specs.DocEdits.{IsWide};
 ghost use Rattle.ide_world.specs.Step.{joined, drawn_by, after_step, after_steps};
+ghost use Rattle.ide_world.specs.Ready.{first_unready, ids_of};
 ghost use Rattle.ide_world.specs.Lawful.{AreLawful, IsLawfulStep};
 ghost use Rattle.list_laws.specs.Rows.{one_if};
 ghost use Rattle.ide_world.specs.Held.{HasRoom};
-ghost use Rattle.ide_world.specs.StepsReady.{IsReady};
+ghost use Rattle.ide_world.specs.StepsReady.{IsReady, ids_of_gone};
 ghost use Rattle.ide_world.specs.Room.{HasStepRoom, inserted_into, KeepsRoom};
 
 use crate::apply::{Gone, apply_document, apply_index, apply_row};
@@ -58,6 +59,7 @@ impl State {
         requires rows { HasRowRoom self.old.room.files (one_if (is_some (put_row step.row))) }
         requires chars { IsSome (document_of self.old.room.docs step.id) → inserted_into step.id step ≤ room_of self.old.room.docs step.id }
         requires stamps { self.old.world.next_stamp + 1 ≤ 64 * self.old.world.entries + 1 }
+        ensures id { result.id ≡ step.id }
         ensures world { self.new.world ≡ after_step self.old.world step }
         ensures keeps { KeepsRoom self.old.room self.new.room }
         ensures rows { (count : ℕ) → HasRowRoom self.old.room.files (one_if (is_some (put_row step.row)) + count) → HasRowRoom self.new.room.files count }
@@ -78,7 +80,8 @@ impl State {
     fn carry_out_all(&mut self, steps: Vec<Step>, gone: &mut Vec<Gone>)
         requires ready { IsReady self.old steps.items }
         requires place { vec_len gone.old + vec_len steps ≤ vec_capacity gone.old }
-        ensures { self.new.world ≡ after_steps self.old.world steps.items }
+        ensures world { self.new.world ≡ after_steps self.old.world steps.items }
+        ensures ids { ids_of_gone gone.new.items ≡ ids_of_gone gone.old.items ++ ids_of steps.items }
     {
         for step in steps {
             let taken = self.carry_out(step);
@@ -120,16 +123,40 @@ impl State {
         self.entries += 1;
     }
 
-    /// Carries out the steps of an entry. It takes no memory.
-    pub fn install(&mut self, steps: Steps)
+    /// Whether a file is live and unready.
+    fn is_unready(&self, id: u32) -> bool
+        ensures { result ≡ is_unready (file_of self.now.world id) }
+    {
+        is_unready_file(&self.files, &self.docs, id)
+    }
+
+    /// The first of the files of which something went that is unready, if one is.
+    fn first_unready(&self, gone: &[Gone]) -> Option<u32>
+        ensures { result ≡ first_unready self.now.world (ids_of_gone gone.now) }
+    {
+        let mut left = gone;
+        while let Some((taken, rest)) = left.split_first() {
+            if self.is_unready(taken.id) {
+                return Some(taken.id);
+            }
+            left = rest;
+        }
+        None
+    }
+
+    /// Carries out the steps of an entry. The answer is the first of their files that is unready now, if one is. It takes
+    /// no memory.
+    pub fn install(&mut self, steps: Steps) -> Option<u32>
         requires lawful { AreLawful self.old.world steps }
         requires room { HasRoom self.old steps }
         requires entries { self.old.world.entries < max_entries }
-        ensures { self.new.world ≡ counted (after_steps self.old.world steps) }
+        ensures world { self.new.world ≡ counted (after_steps self.old.world steps) }
+        ensures unready { result ≡ first_unready self.new.world (ids_of steps) }
     {
         self.count_entry();
         let Steps { steps, mut gone } = steps;
         self.carry_out_all(steps, &mut gone);
         self.sweep_all(&gone);
+        self.first_unready(&gone)
     }
 }

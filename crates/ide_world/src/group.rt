@@ -9,7 +9,7 @@ ghost use Rattle.write_history.specs.Changes.{AreFew};
 ghost use Rattle.write_history.specs.Effect.{refusal_of, max_entries};
 ghost use Rattle.write_history.specs.Fold.{list_refusal, after_list};
 ghost use Rattle.ide_world.specs.Held.{HasRoom};
-ghost use Rattle.ide_world.specs.Ready.{Makes, IsReadyFor, is_edit, IsRefusalOf, IsListRefusalOf};
+ghost use Rattle.ide_world.specs.Ready.{Makes, hinted, IsReadyFor, is_edit, IsRefusalOf, IsListRefusalOf};
 ghost use Rattle.ide_world.specs.Task.{IsOfWorld};
 ghost use Rattle.ide_world.specs.Drafted.{world_now, inserted_by_change, inserted_by_changes, IsExtended};
 ghost use Rattle.ide_world.specs.Builds.{Builds};
@@ -124,14 +124,15 @@ pub fn reserve(state: &mut State, ready: &Ready) -> Result<(), AllocError>
     state.reserve(&ready.steps)
 }
 
-/// Puts the changes in. It takes no memory.
-pub fn install(state: &mut State, ready: Ready)
+/// Puts the changes in. The answer is the first of the changed files that is unready now, if one is. It takes no memory.
+pub fn install(state: &mut State, ready: Ready) -> Option<u32>
     requires ready { IsReadyFor state.old.world ready }
     requires room { HasRoom state.old ready }
-    ensures { (changes : List Change) → Makes state.old.world ready changes → state.new.world ≡ after_list state.old.world changes }
+    ensures world { (changes : List Change) → Makes state.old.world ready changes → state.new.world ≡ after_list state.old.world changes }
+    ensures unready { (changes : List Change) → Makes state.old.world ready changes → result ≡ hinted state.old.world changes }
 {
     let Ready { steps } = ready;
-    state.install(steps);
+    state.install(steps)
 }
 
 /// Makes one change more of a draft, or gives the first reason to refuse it.

@@ -1,12 +1,25 @@
 -- A pass that goes on is the same pass, and has only taken hints.
-use Rattle.std.proofs.Common.{◌≡◌, [], ◌∷◌, refl, ap, sym, ◌∙◌, subst, Some, None}
-use Rattle.std.specs.Prelude.{Option}
-use Rattle.list_laws.proofs.FrontLemmas.{front_self, front_trans}
+use Rattle.std.proofs.Common.{◌≡◌, ◌≤◌, [], ◌∷◌, length, refl, ap, sym, ◌∙◌, subst, arith, Some, None}
+use Rattle.std.specs.Prelude.{List, Option, IfSome, IfNone}
+use Rattle.job_queue.specs.Fifo.{Held}
+use Rattle.job_queue.specs.Rule.{Stood}
+use Rattle.job_queue.specs.Views.{taking}
+use Rattle.list_laws.specs.Fronts.{IsFront}
+use Rattle.list_laws.proofs.FrontLemmas.{front_self, front_trans, front_length}
+use Rattle.action_lock.specs.declared.view.View.{View}
+use Rattle.write_history.specs.declared.entry.Entry.{Entry}
 use Rattle.job_queue.specs.declared.hint.Hint.{Hint}
 use Rattle.job_queue.specs.declared.view.QueueView.{QueueView}
 use Rattle.index_workers.specs.declared.pass.IdePass.{IdePass}
-use Rattle.index_workers.specs.Hints.{after_take, HasOnlyTaken}
-use Rattle.index_workers.specs.Passes.{IsSameIdePass}
+use Rattle.index_workers.specs.Hints.{HasTaken, HasOnlyTaken}
+use Rattle.index_workers.specs.Passes.{ide_view, IsIdePassOf, IsSameIdePass}
+use Rattle.job_queue.specs.declared.queue.JobQueue.{JobQueue}
+use Rattle.job_queue.specs.Passes.{queue_view, IsQueuePassOf}
+use Rattle.action_lock.specs.declared.lock.ActionLock.{ActionLock}
+use Rattle.action_lock.specs.Advances.{Advances}
+use Rattle.action_lock.specs.Passes.{IsPassOf}
+use Rattle.ide_calls.specs.declared.home.IdeHome.{IdeHome}
+use Rattle.ide_calls.specs.declared.share.IdeShare.{IdeShare}
 
 pub same_on : (p q r : IdePass) → IsSameIdePass p q → IsSameIdePass q r → IsSameIdePass p r
 same_on p q r a b = record {
@@ -20,9 +33,9 @@ same_on p q r a b = record {
 pub none_taken : (q : QueueView) → HasOnlyTaken q q
 none_taken q = record { same = refl; took = front_self q.took }
 
-one_taken : (q : QueueView) (hint : Option Hint) → HasOnlyTaken q (after_take hint q)
-one_taken q None = none_taken q
-one_taken q (Some hint) = record { same = refl; took = (hint ∷ [], refl) }
+pub one_taken : (q r : QueueView) (hint : Option Hint) → HasTaken hint q r → HasOnlyTaken q r
+one_taken q r None takes = subst (HasOnlyTaken q) (sym takes.0) (none_taken q)
+one_taken q r (Some hint) takes = subst (HasOnlyTaken q) (sym takes.0) (record { same = refl; took = (hint ∷ [], refl) })
 
 taken_on : (q r s : QueueView) → HasOnlyTaken q r → HasOnlyTaken r s → HasOnlyTaken q s
 taken_on q r s a b = record {
@@ -30,6 +43,31 @@ taken_on q r s a b = record {
   took = front_trans q.took r.took s.took a.took b.took;
 }
 
+-- what `take` answers
+pub has_taken : (q r : QueueView) (hint : Option Hint) → IfSome hint (λ h. (r ≡ taking h q) × ((rest : List Hint) × Stood q (h ∷ rest)))
+    → IfNone hint ((r ≡ q) × Held 0 (Stood q)) → HasTaken hint q r
+has_taken q r (Some hint) some none = some
+has_taken q r None some none = none
+
 -- after one more step
-pub only_taken : (q r s : QueueView) (hint : Option Hint) → HasOnlyTaken q r → s ≡ after_take hint r → HasOnlyTaken q s
-only_taken q r s hint a is = taken_on q r s a (subst (HasOnlyTaken r) (sym is) (one_taken r hint))
+pub only_taken : (q r s : QueueView) (hint : Option Hint) → HasOnlyTaken q r → HasTaken hint r s → HasOnlyTaken q s
+only_taken q r s hint a takes = taken_on q r s a (one_taken r s hint takes)
+
+-- a pass that made entries, and put no hint, has put no more hints than entries
+pub few_still : (v w : View Entry) (q r : QueueView) → length q.put ≤ length v.mine → IsFront v.mine w.mine → r.put ≡ q.put → length r.put ≤ length w.mine
+few_still v w q r few front same =
+    let longer = front_length v.mine w.mine front in
+    let equal = ap length same in
+    omega arith
+
+-- a pass that has gone on with the lock and put no hint is one of the two still
+pub rests_on : (l : ActionLock IdeHome Entry IdeShare) (j : JobQueue) (p p' : IdePass) → IsIdePassOf l j p → IsPassOf l p'.lock → IsQueuePassOf j p'.queue
+    → Advances (ide_view p) (ide_view p') → HasOnlyTaken (queue_view p.queue) (queue_view p'.queue) → IsIdePassOf l j p'
+rests_on l j p p' old rests queued advances taken = record {
+  rests = rests;
+  queued = queued;
+  number = ap (λ (q : QueueView). q.number) taken.same ∙ old.number ∙ sym advances.number;
+  drawn = ap (λ (q : QueueView). q.drawn) taken.same ∙ old.drawn ∙ sym advances.drawn;
+  ended = ap (λ (q : QueueView). length q.ended) taken.same ∙ old.ended ∙ sym (ap length advances.ended);
+  few = few_still (ide_view p) (ide_view p') (queue_view p.queue) (queue_view p'.queue) old.few advances.mine (ap (λ (q : QueueView). q.put) taken.same);
+}

@@ -13,6 +13,8 @@ use Rattle.write_history.specs.declared.change.Change.TheVariants.{Intake}
 use Rattle.write_history.specs.declared.entry.Entry.{Entry}
 use Rattle.write_history.specs.Fold.{IsLegal}
 use Rattle.write_history.proofs.FoldLemmas.{IsLegal-split}
+use Rattle.job_queue.specs.declared.hint.Hint.{Hint}
+use Rattle.job_queue.specs.declared.view.QueueView.{QueueView}
 use Rattle.ide_calls.specs.Made.{HasMade}
 use Rattle.ide_calls.specs.Settle.{entry_of}
 use Rattle.ide_calls.specs.declared.step.Step.{Step}
@@ -20,8 +22,10 @@ use Rattle.ide_calls.specs.declared.step.Step.TheVariants.{Idle, Gone, Stale, Re
 use Rattle.ide_calls.specs.Step.{HasStepped, HasTried}
 use Rattle.index_workers.specs.declared.worked.End.{End}
 use Rattle.index_workers.specs.declared.worked.End.TheVariants as end
-use Rattle.index_workers.specs.Work.{Done, Leads, taken_by, GoesOn, IsEndOf, EndsWith, EndsBy, IsAtEnd, IsIntakeBy}
-use Rattle.index_workers.specs.Work.{StandsIn, HasGone, HasGoneOn, HasWorked, max_turns}
+use Rattle.index_workers.specs.Hints.{HasTaken, file_of_hint}
+use Rattle.index_workers.specs.declared.worked.Worked.{Worked}
+use Rattle.index_workers.specs.Work.{Done, Leads, taken_by, Sayings, any_answer, GoesOn, IsEndOf, WentOn, EndsWith, EndsBy, IsAtEnd, IsIntakeBy}
+use Rattle.index_workers.specs.Work.{StandsIn, HasGone, HasGoneOn, HasWorked, HasWorkedSo, HasWorkedInPart, max_turns}
 use Rattle.index_workers.proofs.ReadyLemmas.{not_unready}
 
 -- ---- lists
@@ -37,9 +41,14 @@ stands_on earlier later e front at = record {
 all_stand : (earlier later : List Entry) (es : List Entry) → IsFront earlier later → All (StandsIn earlier) es → All (StandsIn later) es
 all_stand earlier later es front all = All-weaken (StandsIn earlier) (StandsIn later) es (λ e at. stands_on earlier later e front at) all
 
-leads_more : (v w : View Entry) (steps : List Done) (d : Done) → Leads v steps w → HasStepped d.hint w d.after d.answer → Leads v (steps ++ d ∷ []) d.after
-leads_more v w [] d same stepped = (subst (λ (x : View Entry). HasStepped d.hint x d.after d.answer) same stepped, refl)
-leads_more v w (c ∷ cs) d leads stepped = (leads.0, leads_more c.after w cs d leads.1 stepped)
+leads_more : (v w : View Entry) (q r : QueueView) (steps : List Done) (d : Done) → Leads v q steps w r → HasTaken d.hint r d.queue
+    → HasStepped (file_of_hint d.hint) w d.after d.answer → Leads v q (steps ++ d ∷ []) d.after d.queue
+leads_more v w q r [] d same takes stepped = (
+  subst (λ (x : QueueView). HasTaken d.hint x d.queue) same.1 takes,
+  subst (λ (x : View Entry). HasStepped (file_of_hint d.hint) x d.after d.answer) same.0 stepped,
+  (refl, refl),
+)
+leads_more v w q r (c ∷ cs) d leads takes stepped = (leads.0, leads.1, leads_more c.after w c.queue r cs d leads.2 takes stepped)
 
 -- ---- one step
 
@@ -98,22 +107,23 @@ made_by seat v w hint (Taken place) number t = inr (one_made seat v w hint place
 -- ---- the run
 
 -- a run with one step more, and its entries
-record GoneFurther (seat : ℕ) (v u : View Entry) (steps : List Done) (own : List Entry) (taken : ℕ) : Type 0 where
+record GoneFurther (seat : ℕ) (v u : View Entry) (q s : QueueView) (steps : List Done) (own : List Entry) (taken : ℕ) : Type 0 where
   all : List Entry
   count : length all ≡ length own + taken
-  gone : HasGone seat v u steps all
+  gone : HasGone seat v u q s steps all
 
-gone_further : (seat : ℕ) (v w u : View Entry) (steps : List Done) (own : List Entry) (hint : Option ℕ) (answer : Step) → HasGone seat v w steps own
-    → HasStepped hint w u answer → GoneFurther seat v u (steps ++ record { hint = hint; answer = answer; after = u } ∷ []) own (taken_by answer)
-gone_further seat v w u steps own hint answer gone stepped =
-    let d : Done = record { hint = hint; answer = answer; after = u } in
+gone_further : (seat : ℕ) (v w u : View Entry) (q r s : QueueView) (steps : List Done) (own : List Entry) (hint : Option Hint) (answer : Step)
+    → HasGone seat v w q r steps own → HasTaken hint r s → HasStepped (file_of_hint hint) w u answer
+    → GoneFurther seat v u q s (steps ++ record { hint = hint; answer = answer; after = u; queue = s } ∷ []) own (taken_by answer)
+gone_further seat v w u q r s steps own hint answer gone takes stepped =
+    let d : Done = record { hint = hint; answer = answer; after = u; queue = s } in
     let number : w.number ≡ Some seat = gone.advances.number ∙ gone.number in
     ⊎_elim
     (λ (made : MadeNone w u answer). record {
       all = own;
       count = let c = made.count in omega arith;
       gone = record {
-        leads = leads_more v w steps d gone.leads stepped;
+        leads = leads_more v w q r steps d gone.leads takes stepped;
         number = gone.number;
         advances = advances_on v w u gone.advances made.advances;
         mine = made.mine ∙ gone.mine;
@@ -126,7 +136,7 @@ gone_further seat v w u steps own hint answer gone stepped =
       all = own ++ made.entry ∷ [];
       count = let c = made.count in omega (arith, length-append own (made.entry ∷ []));
       gone = record {
-        leads = leads_more v w steps d gone.leads stepped;
+        leads = leads_more v w q r steps d gone.leads takes stepped;
         number = gone.number;
         advances = advances_on v w u gone.advances made.advances;
         mine = made.mine ∙ ap (λ (l : List Entry). l ++ made.entry ∷ []) gone.mine ∙ append_assoc v.mine own (made.entry ∷ []);
@@ -138,15 +148,15 @@ gone_further seat v w u steps own hint answer gone stepped =
             (λ k e l same. made.new (get_or own k e) (gone.stand k e l) (sym same));
       };
     })
-    (made_by seat w u hint answer number stepped)
+    (made_by seat w u (file_of_hint hint) answer number stepped)
 
 -- before the first step
-pub not_yet : (seat : ℕ) (v : View Entry) → v.number ≡ Some seat → HasGoneOn seat 0 0 v v
-not_yet seat v number = record {
+pub not_yet : (said : Sayings) (seat : ℕ) (v : View Entry) (q : QueueView) → v.number ≡ Some seat → HasGoneOn said seat 0 0 v v q q
+not_yet said seat v q number = record {
   steps = [];
   own = [];
   gone = record {
-    leads = refl;
+    leads = (refl, refl);
     number = number;
     advances = advances_not v;
     mine = sym (append-nil v.mine);
@@ -168,12 +178,13 @@ taken_few (Refused len) = omega arith
 taken_few (Taken place) = omega arith
 
 -- after a step with which the worker goes on
-pub goes_on : (seat turns taken : ℕ) (v w u : View Entry) (hint : Option ℕ) (answer : Step) → HasGoneOn seat turns taken v w
-    → HasStepped hint w u answer → GoesOn answer → HasGoneOn seat (turns + 1) (taken + taken_by answer) v u
-goes_on seat turns taken v w u hint answer on stepped going =
-    let d : Done = record { hint = hint; answer = answer; after = u } in
-    let further = gone_further seat v w u on.steps on.own hint answer on.gone stepped in
-    let Going : Done → Type 0 = λ e. GoesOn e.answer in
+pub goes_on : (said : Sayings) (seat turns taken : ℕ) (v w u : View Entry) (q r s : QueueView) (hint : Option Hint) (answer : Step)
+    → HasGoneOn said seat turns taken v w q r → HasTaken hint r s → HasStepped (file_of_hint hint) w u answer → GoesOn said seat answer
+    → HasGoneOn said seat (turns + 1) (taken + taken_by answer) v u q s
+goes_on said seat turns taken v w u q r s hint answer on takes stepped going =
+    let d : Done = record { hint = hint; answer = answer; after = u; queue = s } in
+    let further = gone_further seat v w u q r s on.steps on.own hint answer on.gone takes stepped in
+    let Going : Done → Type 0 = λ e. GoesOn said seat e.answer in
     record {
       steps = on.steps ++ d ∷ [];
       own = further.all;
@@ -184,41 +195,43 @@ goes_on seat turns taken v w u hint answer on stepped going =
       few = omega (arith, on.few, taken_few answer);
     }
 
-ends_by : (end : End) (steps : List Done) → EndsWith end steps → (answer : Step) → IsEndOf answer end → EndsBy end steps
-ends_by (end.Idle len) steps ends answer is = ends
-ends_by (end.Refused len) steps ends answer is = ends
-ends_by end.Turns steps ends answer is = absurd is
+ends_by : (said : Sayings) (seat : ℕ) (end : End) (steps : List Done) → EndsWith said seat end steps → (answer : Step) → IsEndOf said seat answer end
+    → EndsBy said seat end steps
+ends_by said seat (end.Idle len) steps ends answer is = ends
+ends_by said seat (end.Refused len) steps ends answer is = ends
+ends_by said seat end.Turns steps ends answer is = absurd is
 
-at_end : (v w : View Entry) (hint : Option ℕ) (answer : Step) (why : End) → HasStepped hint v w answer → IsEndOf answer why → IsAtEnd why w
-at_end v w hint answer (end.Idle len) stepped is =
-    let idle : HasStepped hint v w (Idle len) = subst (HasStepped hint v w) is stepped in (idle.whole, idle.smart)
-at_end v w hint answer (end.Refused len) stepped is =
+at_end : (said : Sayings) (seat : ℕ) (v w : View Entry) (hint : Option ℕ) (answer : Step) (why : End) → HasStepped hint v w answer
+    → IsEndOf said seat answer why → IsAtEnd why w
+at_end said seat v w hint answer (end.Idle len) stepped is =
+    let idle : HasStepped hint v w (Idle len) = subst (HasStepped hint v w) is.0 stepped in (idle.whole, idle.smart)
+at_end said seat v w hint answer (end.Refused len) stepped is =
     let t : HasStepped hint v w (Refused len) = subst (HasStepped hint v w) is stepped in
     let seen : w.seen ≡ t.last = t.made.seen ∙ ap (λ (l : List Entry). t.last ++ l) t.answer.2 ∙ append-nil t.last in
     (t.answer.0 ∙ sym (ap length seen), t.answer.1)
-at_end v w hint answer end.Turns stepped is = absurd is
+at_end said seat v w hint answer end.Turns stepped is = absurd is
 
 -- after a step with which the worker ends
-pub ends : (seat turns taken : ℕ) (v w u : View Entry) (hint : Option ℕ) (answer : Step) (why : End) → HasGoneOn seat turns taken v w
-    → HasStepped hint w u answer → IsEndOf answer why
-    → HasWorked v u (record { seat = seat; turns = turns + 1; taken = taken + taken_by answer; end = why })
-ends seat turns taken v w u hint answer why on stepped is =
-    let d : Done = record { hint = hint; answer = answer; after = u } in
-    let further = gone_further seat v w u on.steps on.own hint answer on.gone stepped in
+pub ends : (said : Sayings) (seat turns taken : ℕ) (v w u : View Entry) (q r s : QueueView) (hint : Option Hint) (answer : Step) (why : End)
+    → HasGoneOn said seat turns taken v w q r → HasTaken hint r s → HasStepped (file_of_hint hint) w u answer → IsEndOf said seat answer why
+    → HasWorked said v u q s (record { seat = seat; turns = turns + 1; taken = taken + taken_by answer; end = why })
+ends said seat turns taken v w u q r s hint answer why on takes stepped is =
+    let d : Done = record { hint = hint; answer = answer; after = u; queue = s } in
+    let further = gone_further seat v w u q r s on.steps on.own hint answer on.gone takes stepped in
     record {
       steps = on.steps ++ d ∷ [];
       own = further.all;
       gone = further.gone;
       turns = omega (arith, length-append on.steps (d ∷ []), on.turns_are);
       taken = omega (arith, further.count, on.taken_are);
-      ends = ends_by why (on.steps ++ d ∷ []) (record { before = on.steps; last = d; are = refl; ends = is; going = on.going }) answer is;
-      at_end = at_end w u hint answer why stepped is;
+      ends = ends_by said seat why (on.steps ++ d ∷ []) (record { before = on.steps; last = d; are = refl; ends = is; going = on.going }) answer is;
+      at_end = at_end said seat w u (file_of_hint hint) answer why stepped is;
     }
 
 -- after all steps
-pub all_turns : (seat taken : ℕ) (v w : View Entry) → HasGoneOn seat max_turns taken v w
-    → HasWorked v w (record { seat = seat; turns = max_turns; taken = taken; end = end.Turns })
-all_turns seat taken v w on = record {
+pub all_turns : (said : Sayings) (seat taken : ℕ) (v w : View Entry) (q r : QueueView) → HasGoneOn said seat max_turns taken v w q r
+    → HasWorked said v w q r (record { seat = seat; turns = max_turns; taken = taken; end = end.Turns })
+all_turns said seat taken v w q r on = record {
   steps = on.steps;
   own = on.own;
   gone = on.gone;
@@ -226,4 +239,55 @@ all_turns seat taken v w on = record {
   taken = on.taken_are;
   ends = (on.turns_are, on.going);
   at_end = tt;
+}
+
+-- after a step for which memory was wanting
+pub cut_short : (said : Sayings) (seat turns taken : ℕ) (v w u : View Entry) (q r s : QueueView) (hint : Option Hint)
+    → HasGoneOn said seat turns taken v w q r → HasTaken hint r s → Advances w u → u.mine ≡ w.mine → HasWorkedInPart said v u q s
+cut_short said seat turns taken v w u q r s hint on takes advances mine = record {
+  seat = seat;
+  turns = turns;
+  taken = taken;
+  between = w;
+  middle = r;
+  so_far = on;
+  hint = (hint, takes);
+  advances = advances;
+  mine = mine;
+}
+
+-- ---- a run, whatever the gate may say
+
+whatever_goes : (said : Sayings) (seat : ℕ) (answer : Step) → GoesOn said seat answer → GoesOn any_answer seat answer
+whatever_goes said seat (Idle len) goes = tt
+whatever_goes said seat (Gone id) goes = tt
+whatever_goes said seat (Stale id made present) goes = tt
+whatever_goes said seat (Refused len) goes = absurd goes
+whatever_goes said seat (Taken place) goes = tt
+
+whatever_went : (said : Sayings) (seat : ℕ) (steps : List Done) → WentOn said seat steps → WentOn any_answer seat steps
+whatever_went said seat steps all =
+    All-weaken (λ (d : Done). GoesOn said seat d.answer) (λ (d : Done). GoesOn any_answer seat d.answer) steps (λ d. whatever_goes said seat d.answer) all
+
+whatever_ends : (said : Sayings) (seat : ℕ) (why : End) (steps : List Done) → EndsBy said seat why steps → EndsBy any_answer seat why steps
+whatever_ends said seat (end.Idle len) steps h =
+    record { before = h.before; last = h.last; are = h.are; ends = (h.ends.0, tt); going = whatever_went said seat h.before h.going }
+whatever_ends said seat (end.Refused len) steps h =
+    record { before = h.before; last = h.last; are = h.are; ends = h.ends; going = whatever_went said seat h.before h.going }
+whatever_ends said seat end.Turns steps h = (h.0, whatever_went said seat steps h.1)
+
+-- what a worker did is what it did with whatever gate
+pub whatever_said : (said : Sayings) (v w : View Entry) (q r : QueueView) (worked : Worked) → HasWorked said v w q r worked → HasWorkedSo v w worked
+whatever_said said v w q r worked done = record {
+  before = q;
+  after = r;
+  done = record {
+    steps = done.steps;
+    own = done.own;
+    gone = done.gone;
+    turns = done.turns;
+    taken = done.taken;
+    ends = whatever_ends said worked.seat worked.end done.steps done.ends;
+    at_end = done.at_end;
+  };
 }

@@ -1,24 +1,28 @@
 -- What calls make of the hints that a pass put and took.
-use Rattle.std.specs.Prelude.{ℕ, ◌≡◌, ◌⊎◌, Option, Some, None, option_map}
+use Rattle.std.specs.Prelude.{ℕ, ◌≡◌, ◌⊎◌, List, ◌∷◌, Option, Some, None, option_map}
+use Rattle.job_queue.specs.Fifo.{Held}
 use Rattle.list_laws.specs.Fronts.{IsFront}
 use Rattle.job_queue.specs.declared.hint.Hint.{Hint}
 use Rattle.job_queue.specs.declared.view.QueueView.{QueueView}
+use Rattle.job_queue.specs.Rule.{Stood}
 use Rattle.job_queue.specs.Views.{next_hint, putting, taking}
 
 -- the file of a hint, if there is one
 abbrev pub file_of_hint : Option Hint → Option ℕ
 file_of_hint hint = option_map (λ (h : Hint). h.file) hint
 
--- the view after a hint was taken, or none was there
-abbrev pub after_take : Option Hint → QueueView → QueueView
-after_take (Some hint) q = taking hint q
-after_take None q = q
+-- the oldest hint was taken; or none was, since the queue was empty at a moment of the call
+abbrev pub HasTaken : Option Hint → QueueView → QueueView → Type 0
+HasTaken (Some hint) q r = (r ≡ taking hint q) × ((rest : List Hint) × Stood q (hint ∷ rest))
+HasTaken None q r = (r ≡ q) × Held 0 (Stood q)
 
 -- nothing was put, and some hints were taken, or none
 pub record HasOnlyTaken (q r : QueueView) : Type 0 where
   pub same : r ≡ record q { took = r.took }
   pub took : IsFront q.took r.took
 
--- a hint of the file was put, or found no room
+-- a hint of the file was put; or none was, since the queue held 1,024 at a moment of the call
 abbrev pub HasHinted : ℕ → QueueView → QueueView → Type 0
-HasHinted file q r = (r ≡ q) ⊎ ((n : ℕ) × (q.number ≡ Some n) × (r ≡ putting (next_hint n file q) q))
+HasHinted file q r =
+    ((r ≡ q) × Held 1024 (Stood q))
+    ⊎ ((n : ℕ) × (q.number ≡ Some n) × (r ≡ putting (next_hint n file q) q))

@@ -1,5 +1,5 @@
 -- What contracts see of a pass of a shared workspace.
-use Rattle.std.specs.Prelude.{◌≡◌, length}
+use Rattle.std.specs.Prelude.{◌≡◌, ◌≤◌, length}
 use Rattle.action_lock.specs.declared.lock.ActionLock.{ActionLock}
 use Rattle.action_lock.specs.declared.view.View.{View}
 use Rattle.action_lock.specs.Passes.{view_of, IsSamePass, IsPassOf}
@@ -19,10 +19,11 @@ pub record IsSameIdePass (p q : IdePass) : Type 0 where
   pub of_lock : IsSamePass p.lock q.lock
   pub of_queue : IsSameQueuePass p.queue q.queue
 
--- the pass is one of this lock and this queue, at rest, and known to both by the same number
+-- the pass is one of this lock and this queue, at rest, and known to both by the same number; it has put no more hints than it made entries
 pub record IsIdePassOf (l : ActionLock IdeHome Entry IdeShare) (j : JobQueue) (p : IdePass) : Type 0 where
   pub rests : IsPassOf l p.lock
   pub queued : IsQueuePassOf j p.queue
   pub number : (queue_view p.queue).number ≡ (view_of p.lock).number
   pub drawn : (queue_view p.queue).drawn ≡ (view_of p.lock).drawn
   pub ended : length (queue_view p.queue).ended ≡ length (view_of p.lock).ended
+  pub few : length (queue_view p.queue).put ≤ length (view_of p.lock).mine

@@ -1,5 +1,7 @@
 -- What a worker does.
-use Rattle.std.specs.Prelude.{ℕ, ◌≡◌, ◌≢◌, ◌≤◌, List, [], ◌∷◌, ◌++◌, length, Option, Some, None, All, AllPairs, ⊤}
+use Rattle.std.specs.Prelude.{ℕ, ◌≡◌, ◌≢◌, ◌≤◌, Bool, true, false, List, [], ◌∷◌, ◌++◌, length, Option, Some, None, All, AllPairs, ⊤}
+use Rattle.action_lock.specs.declared.gate.Point.{Point}
+use Rattle.action_lock.specs.declared.gate.Point.TheVariants as point
 use Rattle.action_lock.specs.declared.view.View.{View}
 use Rattle.action_lock.specs.Advances.{Advances}
 use Rattle.write_history.specs.declared.change.Change.TheVariants.{Intake}
@@ -11,6 +13,9 @@ use Rattle.ide_calls.specs.Settle.{entry_of}
 use Rattle.ide_calls.specs.declared.step.Step.{Step}
 use Rattle.ide_calls.specs.declared.step.Step.TheVariants as step
 use Rattle.ide_calls.specs.Step.{HasStepped}
+use Rattle.job_queue.specs.declared.hint.Hint.{Hint}
+use Rattle.job_queue.specs.declared.view.QueueView.{QueueView}
+use Rattle.index_workers.specs.Hints.{HasTaken, file_of_hint}
 use Rattle.index_workers.specs.declared.worked.End.{End}
 use Rattle.index_workers.specs.declared.worked.End.TheVariants.{Idle, Refused, Turns}
 use Rattle.index_workers.specs.declared.worked.Worked.{Worked}
@@ -19,16 +24,20 @@ use Rattle.index_workers.specs.declared.worked.Worked.{Worked}
 abbrev pub max_turns : ℕ
 max_turns = 131072
 
--- one step: the hinted file, the answer, and the view after it
+-- one step: the hint that it took, the answer, and what the pass's views are after it
 pub record Done : Type 0 where
-  pub hint : Option ℕ
+  pub hint : Option Hint
   pub answer : Step
   pub after : View Entry
+  pub queue : QueueView
 
--- these steps lead from one view to another
-abbrev pub Leads : View Entry → List Done → View Entry → Type 0
-Leads v [] w = w ≡ v
-Leads v (d ∷ ds) w = HasStepped d.hint v d.after d.answer × Leads d.after ds w
+-- these steps lead from one view to another, and of the queue too: each took a hint, if one was there, and looked at that file first
+abbrev pub Leads : View Entry → QueueView → List Done → View Entry → QueueView → Type 0
+Leads v q [] w r = (w ≡ v) × (r ≡ q)
+Leads v q (d ∷ ds) w r =
+    HasTaken d.hint q d.queue
+    × HasStepped (file_of_hint d.hint) v d.after d.answer
+    × Leads d.after d.queue ds w r
 
 -- how many entries a step made
 abbrev pub taken_by : Step → ℕ
@@ -38,33 +47,46 @@ taken_by (step.Stale id made present) = 0
 taken_by (step.Refused len) = 0
 taken_by (step.Taken place) = 1
 
--- a worker goes on after any answer but a refusal
-abbrev pub GoesOn : Step → Type 0
-GoesOn (step.Idle len) = ⊤
-GoesOn (step.Gone id) = ⊤
-GoesOn (step.Stale id made present) = ⊤
-GoesOn (step.Refused len) = ⊥
-GoesOn (step.Taken place) = ⊤
+-- what a gate may answer at a point
+abbrev pub Sayings : Type 1
+Sayings = Point → Bool → Type 0
 
--- a worker ends so with this answer
-abbrev pub IsEndOf : Step → End → Type 0
-IsEndOf answer (Idle len) = answer ≡ step.Idle len
-IsEndOf answer (Refused len) = answer ≡ step.Refused len
-IsEndOf answer Turns = ⊥
+-- a gate may answer anything
+abbrev pub any_answer : Sayings
+any_answer point answer = ⊤
 
--- the steps end with one by which a worker ends so, and it went on after all others
-pub record EndsWith (end : End) (steps : List Done) : Type 0 where
+-- the worker with this number goes on after this answer: never after a refusal, and where nothing was to be done only where the gate may
+-- tell it to
+abbrev pub GoesOn : Sayings → ℕ → Step → Type 0
+GoesOn said seat (step.Idle len) = said (point.Idle seat) true
+GoesOn said seat (step.Gone id) = ⊤
+GoesOn said seat (step.Stale id made present) = ⊤
+GoesOn said seat (step.Refused len) = ⊥
+GoesOn said seat (step.Taken place) = ⊤
+
+-- the worker with this number ends so with this answer: where nothing was to be done only where the gate may tell it to
+abbrev pub IsEndOf : Sayings → ℕ → Step → End → Type 0
+IsEndOf said seat answer (Idle len) = (answer ≡ step.Idle len) × said (point.Idle seat) false
+IsEndOf said seat answer (Refused len) = answer ≡ step.Refused len
+IsEndOf said seat answer Turns = ⊥
+
+-- the worker went on after each of these steps
+abbrev pub WentOn : Sayings → ℕ → List Done → Type 0
+WentOn said seat steps = All (λ (d : Done). GoesOn said seat d.answer) steps
+
+-- the steps end with one by which the worker ends so, and it went on after all others
+pub record EndsWith (said : Sayings) (seat : ℕ) (end : End) (steps : List Done) : Type 0 where
   pub before : List Done
   pub last : Done
   pub are : steps ≡ before ++ last ∷ []
-  pub ends : IsEndOf last.answer end
-  pub going : All (λ (d : Done). GoesOn d.answer) before
+  pub ends : IsEndOf said seat last.answer end
+  pub going : WentOn said seat before
 
--- why a worker ended with these steps
-abbrev pub EndsBy : End → List Done → Type 0
-EndsBy (Idle len) steps = EndsWith (Idle len) steps
-EndsBy (Refused len) steps = EndsWith (Refused len) steps
-EndsBy Turns steps = (length steps ≡ max_turns) × All (λ (d : Done). GoesOn d.answer) steps
+-- why the worker ended with these steps
+abbrev pub EndsBy : Sayings → ℕ → End → List Done → Type 0
+EndsBy said seat (Idle len) steps = EndsWith said seat (Idle len) steps
+EndsBy said seat (Refused len) steps = EndsWith said seat (Refused len) steps
+EndsBy said seat Turns steps = (length steps ≡ max_turns) × WentOn said seat steps
 
 -- what holds of what a worker has seen when it ends so
 abbrev pub IsAtEnd : End → View Entry → Type 0
@@ -88,10 +110,10 @@ pub record StandsIn (history : List Entry) (e : Entry) : Type 0 where
   pub behind : List Entry
   pub are : history ≡ before ++ e ∷ behind
 
--- Steps of the worker with this number led from one view to another, and made these entries: each takes a file in, no two the same
+-- Steps of the worker with this number led from one view to another, of the lock and of the queue, and made these entries: each takes a file in, no two the same
 -- file at the same stamp
-pub record HasGone (seat : ℕ) (v w : View Entry) (steps : List Done) (own : List Entry) : Type 0 where
-  pub leads : Leads v steps w
+pub record HasGone (seat : ℕ) (v w : View Entry) (q r : QueueView) (steps : List Done) (own : List Entry) : Type 0 where
+  pub leads : Leads v q steps w r
   pub number : v.number ≡ Some seat
   pub advances : Advances v w
   pub mine : w.mine ≡ v.mine ++ own
@@ -100,31 +122,40 @@ pub record HasGone (seat : ℕ) (v w : View Entry) (steps : List Done) (own : Li
   pub apart : AreApart own
 
 -- so many steps were made, after each of which the worker went on, and so many entries
-pub record HasGoneOn (seat turns taken : ℕ) (v w : View Entry) : Type 0 where
+pub record HasGoneOn (said : Sayings) (seat turns taken : ℕ) (v w : View Entry) (q r : QueueView) : Type 0 where
   pub steps : List Done
   pub own : List Entry
-  pub gone : HasGone seat v w steps own
-  pub going : All (λ (d : Done). GoesOn d.answer) steps
+  pub gone : HasGone seat v w q r steps own
+  pub going : WentOn said seat steps
   pub turns_are : length steps ≡ turns
   pub taken_are : length own ≡ taken
   pub few : taken ≤ turns
 
--- What a worker did, as it tells
-pub record HasWorked (v w : View Entry) (worked : Worked) : Type 0 where
+-- What a worker did, as it tells, with a gate that may answer so
+pub record HasWorked (said : Sayings) (v w : View Entry) (q r : QueueView) (worked : Worked) : Type 0 where
   pub steps : List Done
   pub own : List Entry
-  pub gone : HasGone worked.seat v w steps own
+  pub gone : HasGone worked.seat v w q r steps own
   pub turns : length steps ≡ worked.turns
   pub taken : length own ≡ worked.taken
-  pub ends : EndsBy worked.end steps
+  pub ends : EndsBy said worked.seat worked.end steps
   pub at_end : IsAtEnd worked.end w
 
--- What a worker did for which memory was wanting: its steps so far stay, and after them it made nothing
-pub record HasWorkedInPart (v w : View Entry) : Type 0 where
+-- what a worker did, as it tells, whatever its gate says and whatever became of the queue
+pub record HasWorkedSo (v w : View Entry) (worked : Worked) : Type 0 where
+  pub before : QueueView
+  pub after : QueueView
+  pub done : HasWorked any_answer v w before after worked
+
+-- What a worker did for which memory was wanting: its steps so far stay, and the one after them took a hint, if one was there, and made
+-- nothing
+pub record HasWorkedInPart (said : Sayings) (v w : View Entry) (q r : QueueView) : Type 0 where
   pub seat : ℕ
   pub turns : ℕ
   pub taken : ℕ
   pub between : View Entry
-  pub so_far : HasGoneOn seat turns taken v between
+  pub middle : QueueView
+  pub so_far : HasGoneOn said seat turns taken v between q middle
+  pub hint : (hint : Option Hint) × HasTaken hint middle r
   pub advances : Advances between w
   pub mine : w.mine ≡ between.mine

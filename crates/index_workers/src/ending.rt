@@ -25,7 +25,7 @@ pub(crate) fn taken(step: &Step) -> u32
 
 /// Whether the worker ends with this step: where it is refused, and where nothing was to be done and the gate tells it so.
 pub(crate) fn end_of<G: Gate>(gate: &G, seat: u32, step: &Step) -> Option<End>
-    ensures { MatchOption result (GoesOn step.now) (IsEndOf step.now) }
+    ensures { MatchOption result (GoesOn (G.may_say gate.now) seat step.now) (IsEndOf (G.may_say gate.now) seat step.now) }
 {
     match *step {
         Step::Idle { at } => {

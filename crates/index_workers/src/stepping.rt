@@ -1,10 +1,10 @@
 //! One step of a worker.
-ghost use Rattle.std.specs.Prelude.{◌≡◌, IfOk, OnErr, Option, option_map};
+ghost use Rattle.std.specs.Prelude.{◌≡◌, IfOk, OnErr, Option};
 ghost use Rattle.action_lock.specs.Advances.{Advances};
 ghost use Rattle.job_queue.specs.declared.hint.Hint.{Hint};
 ghost use Rattle.job_queue.specs.Passes.{queue_view};
 ghost use Rattle.ide_calls.specs.Step.{HasStepped};
-ghost use Rattle.index_workers.specs.Hints.{after_take, file_of_hint};
+ghost use Rattle.index_workers.specs.Hints.{HasTaken, file_of_hint};
 ghost use Rattle.index_workers.specs.Passes.{ide_view, IsIdePassOf, IsSameIdePass};
 
 use crate::pass::IdePass;
@@ -27,7 +27,7 @@ pub fn index_step<R: Wait, G: Gate>(
     ensures pass { IsIdePassOf lock.now queue.now pass.new × IsSameIdePass pass.old pass.new }
     ensures advances { Advances (ide_view pass.old) (ide_view pass.new) }
     ensures step { (hint : Option Hint)
-        × (queue_view pass.new.queue ≡ after_take hint (queue_view pass.old.queue))
+        × HasTaken hint (queue_view pass.old.queue) (queue_view pass.new.queue)
         × IfOk result (HasStepped (file_of_hint hint) (ide_view pass.old) (ide_view pass.new)) }
     ensures err { OnErr result ((ide_view pass.new).mine ≡ (ide_view pass.old).mine) }
 {

@@ -33,8 +33,10 @@ pub fn worker<R: Wait, G: Gate>(
     ensures pass { IsIdePassOf lock.now queue.now pass.new × IsSameIdePass pass.old pass.new }
     ensures advances { Advances (ide_view pass.old) (ide_view pass.new) }
     ensures hints { HasOnlyTaken (queue_view pass.old.queue) (queue_view pass.new.queue) }
-    ensures ok { IfOk result (HasWorked (ide_view pass.old) (ide_view pass.new)) }
-    ensures err { OnErr result (HasWorkedInPart (ide_view pass.old) (ide_view pass.new)) }
+    ensures ok { IfOk result (
+        HasWorked (G.may_say gate.now) (ide_view pass.old) (ide_view pass.new) (queue_view pass.old.queue) (queue_view pass.new.queue)) }
+    ensures err { OnErr result (
+        HasWorkedInPart (G.may_say gate.now) (ide_view pass.old) (ide_view pass.new) (queue_view pass.old.queue) (queue_view pass.new.queue)) }
 {
     let seat = pass.number();
     let mut entries = 0;

@@ -9,5 +9,6 @@ invariant-loop-turn g l = record {
   rests : IsIdePassOf l.lock l.queue l.pass;
   same : IsSameIdePass l.initial.pass l.pass;
   hints : HasOnlyTaken (queue_view l.initial.pass.queue) (queue_view l.pass.queue);
-  on : HasGoneOn l.seat l.turn l.entries (ide_view l.initial.pass) (ide_view l.pass);
+  on : HasGoneOn (g.G.Gate.may_say l.gate) l.seat l.turn l.entries (ide_view l.initial.pass) (ide_view l.pass)
+      (queue_view l.initial.pass.queue) (queue_view l.pass.queue);
 }
