@@ -77,3 +77,22 @@ module _ {K V : Type 0} (eq : K → K → Bool) (laws : IsEquivalence eq) (rows 
       by last true false true true bound = refl
       by last false false true true bound = refl
       by last at false true false bound = absurd (false≢true (bound refl))
+
+  pub more_marked : (key : K) (there first at : Bool) → there ≡ (first || (has_key eq key (take i rows) && at))
+      → (there || (eq item.0 key && at)) ≡ (first || (has_key eq key (take (i + 1) rows) && at))
+  more_marked key there first at so =
+      ap (λ b. b || (eq item.0 key && at)) so
+      ∙ ap (λ b. (first || (has_key eq key (take i rows) && at)) || (b && at)) (laws.symm item.0 key)
+      ∙ by first at (has_key eq key (take i rows)) (eq key item.0)
+      ∙ ap (λ b. first || (b && at)) (sym (seen_more key))
+    where
+      by : (first at seen equal : Bool) → ((first || (seen && at)) || (equal && at)) ≡ (first || ((seen || equal) && at))
+      by true at seen equal = refl
+      by false true true equal = refl
+      by false true false equal = refl
+      by false false true equal = and_none equal
+        where
+          and_none : (b : Bool) → (b && false) ≡ false
+          and_none true = refl
+          and_none false = refl
+      by false false false equal = refl

@@ -22,5 +22,5 @@ pub returns-in-Some-clause-keeps_room : goal.returns-in-Some-clause-keeps_room
 returns-in-Some-clause-keeps_room g c = λ file given other has. record {
   known = c.take.ensures.stays file other (ap (λ table. is_known file table.files) c.self.view_is ∙ has.known);
   placed = λ key there. kept_placed g.I.Key.PartialEq.eq c.args.file c.self.inside.files c.take.new.self c.self.inside.postings c.take_out_all.new.postings _ _ key file
-    (c.take_out_all.ensures key file) other (ap (λ table. is_placed g.I.Key.PartialEq.eq table.room key file) c.self.view_is ∙ has.placed key there);
+      (c.take_out_all.ensures key file) other (ap (λ table. is_placed g.I.Key.PartialEq.eq table.room key file) c.self.view_is ∙ has.placed key there);
 }
