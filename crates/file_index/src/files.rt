@@ -5,7 +5,7 @@ ghost use Rattle.std.specs.List.Sorted.{IsStrictlySortedBy};
 ghost use Rattle.file_index.specs.KeyRows.{has_key, rows_with};
 ghost use Rattle.file_index.specs.Places.{has_id};
 ghost use Rattle.file_index.specs.Walk.{HasAllFiles, walked};
-ghost use Rattle.file_index.specs.Rows.{is_known, rows_of, rows_at, rows_in_file, with_rows, without_file};
+ghost use Rattle.file_index.specs.Rows.{is_known, rows_of, rows_at, rows_in_file, with_rows, without_file, IsKnownByRows};
 
 use crate::key_rows::copy_rows;
 use crate::{Indexer, KeyRows, Place, RowWalk};
@@ -133,6 +133,7 @@ impl<K: Ord, V: Place> Files<K, V> {
         ensures rows { rows_of self.new ≡ rows_of self.old }
         ensures each { (j : ℕ) → rows_in_file j self.new ≡ rows_in_file j self.old }
         ensures stays { (j : ℕ) → (j == file) ≡ false → is_known j self.old ≡ true → is_known j self.new ≡ true }
+        ensures forgotten { IsKnownByRows file self.new }
     {
         let _ = &self.rows;
         if self.has_none(file) {
@@ -156,6 +157,7 @@ impl<K: Ord, V: Place> Files<K, V> {
         ensures rows { rows_of self.new ≡ without_file file (rows_of self.old) }
         ensures each { (j : ℕ) → rows_in_file j self.new ≡ (if j == file then [] else rows_in_file j self.old) }
         ensures stays { (j : ℕ) → (j == file) ≡ false → is_known j self.old ≡ true → is_known j self.new ≡ true }
+        ensures forgotten { is_known file self.new ≡ false }
     {
         self.rows.remove(&file)
     }
