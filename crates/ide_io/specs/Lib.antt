@@ -1,4 +1,5 @@
 -- Words for what the outside world does: faults that are counted, and bytes that are known.
+pub mod Asks
 pub mod Ends
 pub mod Failing
 pub mod Fault

@@ -2,7 +2,7 @@
 
 ghost use Rattle.std.specs.Prelude.{◌≡◌, ◌≢◌, ◌<◌, ◌≤◌, Err, Some, IsErr, IsErrOf, IfOk, IfSome, OnOk, OnErr, length, vec_len, false, true};
 ghost use Rattle.std.specs.Io.{ReadsAtMost, WritesAtMost};
-ghost use Rattle.ide_io.specs.Failing.{faults_with};
+ghost use Rattle.ide_io.specs.Failing.{AsksUnlessListed, faults_with};
 ghost use Rattle.ide_io.specs.Fault.{HasFault};
 ghost use Rattle.ide_io.specs.Files.{max_file_len};
 ghost use Rattle.ide_io.specs.Known.{ReadTakes, ReadTells, WriteTakes};
@@ -88,6 +88,8 @@ impl<T: Tree> Tree for Failing<T> {
 
     ghost faults = { faults_with T.faults };
 
+    ghost asks = { AsksUnlessListed T.asks };
+
     fn read_file(&mut self, alloc: Global, path: &Name) -> Result<Vec<u8>, ReadFileError>
         ensures counted { self.new.plan ≡ plan_after self.old.plan }
         ensures listed { is_next_listed self.old.plan ≡ true
@@ -98,6 +100,7 @@ impl<T: Tree> Tree for Failing<T> {
         ensures bytes { IfOk result
             (λ v. IfSome (T.files self.old.inner) (λ at. at path.now ≡ Some v.items)) }
         ensures limit { IfOk result (λ v. vec_len v ≤ max_file_len) }
+        ensures asks { AsksUnlessListed T.asks self.old path.now self.new }
         ensures files { T.files self.new.inner ≡ T.files self.old.inner }
         ensures never_falls { faults_with T.faults self.old ≤ faults_with T.faults self.new }
         ensures no_fault { result ≢ Err ReadFileError.Failed

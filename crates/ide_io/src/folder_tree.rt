@@ -39,6 +39,8 @@ impl<R: Files> Tree for FolderTree<'_, R> {
 
     ghost faults = { λ tree. tree.faults };
 
+    ghost asks = { λ _ _ _. Unit {0} };
+
     fn read_file(&mut self, alloc: Global, path: &Name) -> Result<Vec<u8>, ReadFileError> {
         let path = path.to_string(alloc)?;
         match read_path(self.rt, alloc, path.as_str()) {

@@ -35,15 +35,17 @@ impl Tree for MemoryTree {
 
     ghost faults = { λ tree. tree.faults };
 
+    ghost asks = { λ old _ new. new.files ≡ old.files };
+
     fn read_file(&mut self, alloc: Global, path: &Name) -> Result<Vec<u8>, ReadFileError>
         ensures absent_or_long { IsErrOf result ReadFileError.Failed
             → IfSome (files_of self.old.files path.now) (λ bytes. max_file_len < length bytes) }
         ensures one_fault { IsErrOf result ReadFileError.Failed
             → self.new.faults ≡ next_count self.old.faults }
-        ensures kept { self.new.files ≡ self.old.files }
 
         ensures bytes { IfOk result (λ v. files_of self.old.files path.now ≡ Some v.items) }
         ensures limit { IfOk result (λ v. vec_len v ≤ max_file_len) }
+        ensures asks { self.new.files ≡ self.old.files }
         ensures files { Some (files_of self.new.files) ≡ Some (files_of self.old.files) }
         ensures never_falls { self.old.faults ≤ self.new.faults }
         ensures no_fault { result ≢ Err ReadFileError.Failed → self.new.faults ≡ self.old.faults }

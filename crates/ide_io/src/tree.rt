@@ -1,6 +1,6 @@
 //! Where files are read.
 
-ghost use Rattle.std.specs.Prelude.{◌≡◌, ◌≢◌, ◌≤◌, ℕ, Option, Some, Err, vec_len, IfOk, IfSome, IsErrOf};
+ghost use Rattle.std.specs.Prelude.{◌≡◌, ◌≢◌, ◌≤◌, ℕ, List, Option, Some, Err, vec_len, IfOk, IfSome, IsErrOf};
 ghost use Rattle.ide_io.specs.Fault.{HasFault};
 ghost use Rattle.ide_io.specs.Files.{Files, max_file_len};
 ghost use Rattle.ide_io.specs.declared.tree.ReadFileError.TheVariants as variant;
@@ -44,11 +44,16 @@ pub trait Tree {
     // How many faults the tree has met. The count stands still at 2^64 - 1.
     ghost faults: { Self → ℕ };
 
+    // From the first state, asking once for the file at this path leaves the second state. A caller
+    // over any tree can show it by a call of `read_file` alone, so it says which files were asked for.
+    ghost asks: { Self → List ℕ → Self → Type 0 };
+
     /// The bytes of the file at a path. An absent path is a fault, and so is a file of more than
     /// `MAX_FILE_LEN` bytes.
     fn read_file(&mut self, alloc: Global, path: &Name) -> Result<Vec<u8>, ReadFileError>
         ensures bytes { IfOk result (λ v. IfSome (files self.old) (λ at. at path.now ≡ Some v.items)) }
         ensures limit { IfOk result (λ v. vec_len v ≤ max_file_len) }
+        ensures asks { asks self.old path.now self.new }
         ensures files { files self.new ≡ files self.old }
         ensures never_falls { faults self.old ≤ faults self.new }
         ensures no_fault { result ≢ Err ReadFileError.Failed → faults self.new ≡ faults self.old }

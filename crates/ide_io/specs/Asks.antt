@@ -1,0 +1,18 @@
+-- Which files a tree was asked for, where `asks` says that asking once for the file at a path leads from one state to another.
+use Rattle.std.specs.Prelude.{◌≡◌, ℕ, ◌<◌, List, [], ◌∷◌, ◌++◌, length}
+
+-- the tree was asked for these files, each once in this order, and for no other
+abbrev pub AsksEach : {T : Type 0} → (T → List ℕ → T → Type 0) → T → List (List ℕ) → T → Type 0
+AsksEach asks old [] new = new ≡ old
+AsksEach {T} asks old (path ∷ paths) new = (between : T) × asks old path between × AsksEach asks between paths new
+
+-- the tree was asked for the first of these files, and not for the rest
+pub record AsksFront {T : Type 0} (asks : T → List ℕ → T → Type 0) (old : T) (paths : List (List ℕ)) (new : T) : Type 0 where
+  pub front : List (List ℕ)
+  pub rest : List (List ℕ)
+  pub paths_are : paths ≡ front ++ rest
+  pub asked : AsksEach asks old front new
+
+-- the tree was asked for the first of these files, at least for one
+abbrev pub AsksSome : {T : Type 0} → (T → List ℕ → T → Type 0) → T → List (List ℕ) → T → Type 0
+AsksSome asks old paths new = (some : AsksFront asks old paths new) × (0 < length some.front)
