@@ -8,7 +8,7 @@ ghost use Rattle.ide_calls.specs.Turn.{HasFoundLowest, HasTurned, GoesThrough, S
 
 use crate::laws::a_settle_goes_by_the_lowest;
 use crate::lowest::{Lowest, prepare_lowest};
-use crate::refusal::SettleRefusal;
+use crate::settle_refusal::SettleRefusal;
 use crate::{IdeHome, write_entry};
 use action_lock::{ActionLock, Pass};
 use std::alloc::{AllocError, Global};
