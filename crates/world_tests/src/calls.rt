@@ -1,44 +1,73 @@
-//! A workspace with one open document, and questions asked of it.
-ghost use Rattle.std.specs.Prelude.{◌≡◌, true, IfOk};
+//! Edits of a workspace, and questions asked of it.
+ghost use Rattle.std.specs.Prelude.{◌≡◌, ◌∷◌, [], true, IfOk};
+ghost use Rattle.list_laws.specs.Fronts.{IsFront};
+ghost use Rattle.write_history.specs.Fold.{fold};
 ghost use Rattle.ide_world.specs.Ready.{is_edit};
 
+use action_lock::Home;
+use ide_calls::{IdeHome, IdeShare};
 use ide_text::{Name, SharedText, Text};
-use ide_world::{State, install, prepare, reserve};
+use ide_world::{State, prepare};
 use queries::Query;
 use query_engine::{Answer, ask_unwatched};
 use std::alloc::{AllocError, Global};
-use write_history::Change;
+use write_history::{Change, Changes, Entry};
 
 /// One change to the file `A.java`.
 #[derive(Clone, Copy)]
 pub enum Edit {
     Create(&'static str),
+    Write(&'static str),
+    Delete,
     Open,
     Insert(u32, &'static str),
     Commit,
 }
 
 /// Makes these edits, one after another, and tells how many were accepted.
-pub fn changed(alloc: Global, state: &mut State, edits: &[Edit]) -> Result<u32, AllocError> {
+pub fn changed(alloc: Global, home: &mut IdeHome, edits: &[Edit]) -> Result<u32, AllocError>
+    ensures { IsFront home.old home.new }
+{
     let mut accepted = 0u32;
     for edit in edits {
-        if put(alloc, state, *edit)? {
+        if put(alloc, home, change_of(alloc, *edit)?)? {
             accepted = accepted.saturating_add(1);
         }
     }
     Ok(accepted)
 }
 
-/// Makes one edit, and tells whether it was accepted.
-fn put(alloc: Global, state: &mut State, edit: Edit) -> Result<bool, AllocError> {
-    let change = change_of(alloc, edit)?;
-    match prepare(alloc, state, &change) {
+/// Makes one change, and tells whether it was accepted.
+pub fn put(alloc: Global, home: &mut IdeHome, change: Change) -> Result<bool, AllocError>
+    requires { is_edit change ≡ true }
+    ensures { IsFront home.old home.new }
+{
+    let share = share_of(alloc, home)?;
+    match prepare(alloc, share.state(), &change) {
         Ok(ready) => {
-            reserve(state, &ready)?;
-            install(state, ready);
+            home.accept(ready, entry_of(change))?;
             Ok(true)
         }
         Err(_) => Ok(false),
+    }
+}
+
+/// A share of the workspace as it is now.
+pub fn share_of(alloc: Global, home: &IdeHome) -> Result<IdeShare, AllocError>
+    ensures { IfOk result (λ share. share ≡ fold home.now) }
+{
+    home.len();
+    home.share(alloc)
+}
+
+/// The entry of one change.
+pub fn entry_of(change: Change) -> Entry
+    ensures { result.changes ≡ change ∷ [] }
+{
+    Entry {
+        seat: 0,
+        line: 0,
+        changes: Changes::one(change),
     }
 }
 
@@ -52,6 +81,11 @@ fn change_of(alloc: Global, edit: Edit) -> Result<Change, AllocError>
             path,
             text: text_of(alloc, text)?,
         },
+        Edit::Write(text) => Change::Write {
+            path,
+            text: text_of(alloc, text)?,
+        },
+        Edit::Delete => Change::Delete { path },
         Edit::Open => Change::OpenDoc { path },
         Edit::Insert(at, text) => Change::Insert {
             path,
@@ -62,7 +96,8 @@ fn change_of(alloc: Global, edit: Edit) -> Result<Change, AllocError>
     })
 }
 
-fn text_of(alloc: Global, text: &str) -> Result<SharedText, AllocError> {
+/// The text that a string spells.
+pub fn text_of(alloc: Global, text: &str) -> Result<SharedText, AllocError> {
     match Text::from_utf8(alloc, text.as_bytes()) {
         Ok(text) => SharedText::new(alloc, text),
         Err(_) => Err(AllocError),

@@ -1,6 +1,6 @@
 use Rattle.std.proofs.Common.{IfSome, subst}
-use Rattle.late_tests.proofs.LateLemmas.{work_stays, IsWorkOf}
-use Rattle.late_tests.proofs.late.late_intake.Goals as goal
+use Rattle.world_tests.proofs.LateLemmas.{work_stays, IsWorkOf}
+use Rattle.world_tests.proofs.late.late_intake.Goals as goal
 
 pub taken_in-requires : goal.taken_in-requires
 taken_in-requires c =

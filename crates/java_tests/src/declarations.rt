@@ -196,70 +196,95 @@ fn shown(alloc: Global, text: &Text, list: &StubList) -> Result<String, Fail> {
     Ok(out)
 }
 
-#[test]
-fn listings_of_texts(rt: HostRuntime) -> Result<(), Fail> {
-    for case in &CASES {
-        let text = Text::from_utf8(rt.alloc(), case.text.as_bytes())?;
-        let list = listed(rt.alloc(), &text)?.copy()?;
-        let wanted = case.listing;
-        assert_eq!(rt; shown(rt.alloc(), &text, &list)?.as_str(), wanted);
-    }
-    Ok(())
-}
-
 /// The declarations of a text, from its tokens.
 fn listed(alloc: Global, text: &Text) -> Result<StubList, AllocError> {
     let tokens = tokens(alloc, text)?;
     stubs(alloc, text, &tokens)
 }
 
-/// A text many times over.
-fn repeated(alloc: Global, part: &str, times: u32) -> Result<Text, Fail> {
+/// What a text lists, as the table shows it.
+fn listing(alloc: Global, text: &str) -> Result<String, Fail> {
+    let text = Text::from_utf8(alloc, text.as_bytes())?;
+    shown(alloc, &text, &listed(alloc, &text)?.copy()?)
+}
+
+#[test]
+fn listings_of_texts(rt: HostRuntime) -> Result<(), Fail> {
+    for case in &CASES {
+        let shown = listing(rt.alloc(), case.text)?;
+        assert_eq!(rt; shown.as_str(), case.listing);
+    }
+    Ok(())
+}
+
+/// The declarations of a text that is another, many times over.
+fn listed_often(alloc: Global, part: &str, times: u32) -> Result<StubList, Fail> {
     let mut bytes = String::new(alloc);
     for _ in 0..times {
         bytes.push_str(part)?;
     }
-    Ok(Text::from_utf8(alloc, bytes.as_bytes())?)
+    let text = Text::from_utf8(alloc, bytes.as_bytes())?;
+    Ok(listed(alloc, &text)?)
 }
+
+/// Whether these are classes of one letter, each in the one before.
+fn are_nested(list: &StubList) -> bool {
+    for i in 0..list.len() {
+        let stub = list.at(i);
+        if u32::from(stub.depth) != i || stub.at != 6 + 8 * i || kind_word(stub) != "class" {
+            return false;
+        }
+    }
+    true
+}
+
+/// Whether the deepest listing has 65 classes, each in the one before.
+fn is_deepest(alloc: Global) -> Result<bool, Fail> {
+    let list = listed_often(alloc, "class A{", 70)?;
+    Ok(list.len() == 65 && are_nested(&list))
+}
+
+/// Texts that list nothing, the last one of the greatest size.
+static EMPTY: [(&str, u32); 5] = [
+    ("([", 16_384),
+    ("{[)", 16_384),
+    ("}", 16_384),
+    ("class", 16_384),
+    ("{", 1_048_576),
+];
 
 #[test]
 fn deep_texts(rt: HostRuntime) -> Result<(), Fail> {
-    for part in ["([", "{[)", "}", "class"] {
-        let text = repeated(rt.alloc(), part, 16_384)?;
-        assert!(rt; listed(rt.alloc(), &text)?.is_empty());
+    for (part, times) in &EMPTY {
+        assert!(rt;
+            listed_often(rt.alloc(), part, *times)?.is_empty(),
+            "{part}"
+        );
     }
-    let text = repeated(rt.alloc(), "class A{", 70)?;
-    let list = listed(rt.alloc(), &text)?;
-    assert_eq!(rt; list.len(), 65);
-    for i in 0..list.len() {
-        assert_eq!(rt; list.at(i).depth as u32, i);
-        assert_eq!(rt; list.at(i).at, 6 + 8 * i);
-        assert_eq!(rt; list.at(i).kind, StubKind::Class.code());
-    }
+    assert!(rt; is_deepest(rt.alloc())?);
     Ok(())
 }
 
-#[test]
-fn as_many_braces_as_a_text_may_have(rt: HostRuntime) -> Result<(), Fail> {
-    let text = repeated(rt.alloc(), "{", 1_048_576)?;
-    assert!(rt; listed(rt.alloc(), &text)?.is_empty());
-    Ok(())
+/// Whether the listing of an enum with a constant is these, and a copy of their names has the second one.
+fn are_copied(alloc: Global, made: &StubList) -> Result<bool, AllocError> {
+    if made.len() != 2 || made.is_empty() {
+        return Ok(false);
+    }
+    let mut names = Names::new(alloc);
+    names.push(made.at(0).name.copy()?)?;
+    names.push(made.at(1).name.copy()?)?;
+    let copied = names.copy()?;
+    let is_second = match copied.as_slice() {
+        [_, second] => second.same(&made.at(1).name),
+        _ => false,
+    };
+    Ok(is_second && copied.len() == 2 && made.at(0).is_type() && !made.at(1).is_type())
 }
 
 #[test]
 fn lists_of_stubs(rt: HostRuntime) -> Result<(), Fail> {
-    let text = Text::from_utf8(rt.alloc(), b"enum A { B }")?;
-    let made = listed(rt.alloc(), &text)?;
-    assert!(rt; made.len() == 2);
-    let mut names = Names::new(rt.alloc());
-    names.push(made.at(0).name.copy()?)?;
-    names.push(made.at(1).name.copy()?)?;
-    let copied = names.copy()?;
-    assert_eq!(rt; copied.len(), 2);
-    assert!(rt; copied.as_slice()[1].same(&made.at(1).name));
-    assert!(rt; made.at(0).is_type());
-    assert!(rt; !made.at(1).is_type());
-    assert!(rt; !made.is_empty());
+    let made = listed_often(rt.alloc(), "enum A { B }", 1)?;
+    assert!(rt; are_copied(rt.alloc(), &made)?);
     assert!(rt; StubList::new(rt.alloc()).is_empty());
     Ok(())
 }

@@ -1,5 +1,5 @@
 use Rattle.list_laws.specs.Fronts.{IsFront}
-use Rattle.late_tests.proofs.calls.changed.Given as goal
+use Rattle.world_tests.proofs.calls.changed.Given as goal
 
 -- the entries so far begin with those at the start
 abbrev pub invariant-loop-edit : goal.invariant-loop-edit

@@ -11,7 +11,7 @@ use std::alloc::{AllocError, Global};
 use write_history::{Change, Refusal};
 
 /// What became of index data.
-#[derive(Clone, Copy, Debug, PartialEq, Eq)]
+#[derive(Clone, Copy)]
 pub enum Late {
     /// No data were made: the file wasn't unready.
     Nothing,
@@ -19,20 +19,22 @@ pub enum Late {
     Refused(Refusal),
 }
 
-/// Edits of a workspace, before and after the index data of a file are made.
-#[derive(Clone, Copy)]
-pub struct Course {
-    pub earlier: &'static [Edit],
-    pub file: u32,
-    pub later: &'static [Edit],
-}
-
-/// What becomes of the index data of a file in a new workspace, and how many types are then named `A`.
-pub fn late_in_new(alloc: Global, course: Course) -> Result<(Late, Option<usize>), AllocError> {
-    let mut home = IdeHome::new(alloc)?;
-    let became = late_intake(alloc, &mut home, course.earlier, course.file, course.later)?;
-    let share = share_of(alloc, &home)?;
-    Ok((became, rows(alloc, share.state(), "A")?))
+/// What becomes of the index data of a file that are made between these edits, and how many types are then named `A`.
+pub fn tell(
+    alloc: Global,
+    home: &mut IdeHome,
+    earlier: &[Edit],
+    file: u32,
+    later: &[Edit],
+) -> Result<String, AllocError> {
+    let became = late_intake(alloc, home, earlier, file, later)?;
+    let share = share_of(alloc, home)?;
+    let types = rows(alloc, share.state(), "A")?;
+    match became {
+        Late::Nothing => format!(in alloc; "nothing, {types:?}"),
+        Late::Taken => format!(in alloc; "taken, {types:?}"),
+        Late::Refused(why) => format!(in alloc; "{why}, {types:?}"),
+    }
 }
 
 /// Makes the first edits, then the index data of a file, then the other edits, and then has the data taken in.

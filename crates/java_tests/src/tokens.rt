@@ -1,6 +1,6 @@
 //! Tables of texts with what they give.
-use ide_text::{Text, TextRefusal};
-use java_tokens::{is_identifier, is_word, tokens, words};
+use ide_text::Text;
+use java_tokens::{WordList, is_identifier, is_word, tokens, words};
 use std::alloc::Global;
 use std::test::Fail;
 
@@ -205,89 +205,116 @@ static CASES: [Case; 36] = [
     },
 ];
 
-fn text_of(alloc: Global, bytes: &str) -> Result<Text, TextRefusal> {
-    Text::from_utf8(alloc, bytes.as_bytes())
-}
-
-#[test]
-fn tokens_of_texts(rt: HostRuntime) -> Result<(), Fail> {
-    for case in &CASES {
-        let text = text_of(rt.alloc(), case.text)?;
-        let mut shown = String::new(rt.alloc());
-        for token in &tokens(rt.alloc(), &text)? {
-            let kind = token.kind;
-            let at = token.at;
-            let len = token.len;
-            write!(shown, "{kind} {at} {len}; ")?;
-        }
-        let wanted = case.tokens;
-        assert_eq!(rt; shown.as_str(), wanted);
+/// The tokens of a text, as the table shows them.
+fn shown_tokens(alloc: Global, text: &str) -> Result<String, Fail> {
+    let text = Text::from_utf8(alloc, text.as_bytes())?;
+    let mut shown = String::new(alloc);
+    for token in &tokens(alloc, &text)? {
+        let kind = token.kind;
+        let at = token.at;
+        let len = token.len;
+        write!(shown, "{kind} {at} {len}; ")?;
     }
-    Ok(())
+    Ok(shown)
 }
 
-#[test]
-fn words_of_texts(rt: HostRuntime) -> Result<(), Fail> {
-    for case in &CASES {
-        let text = text_of(rt.alloc(), case.text)?;
-        let cut = tokens(rt.alloc(), &text)?;
-        let list = words(rt.alloc(), &text, &cut)?.copy()?;
-        let mut shown = String::new(rt.alloc());
-        for (name, mask) in list.as_slice() {
-            assert_eq!(rt; list.mask_of(name), Some(*mask));
+/// The words of a text.
+fn listed(alloc: Global, text: &str) -> Result<WordList, Fail> {
+    let text = Text::from_utf8(alloc, text.as_bytes())?;
+    let cut = tokens(alloc, &text)?;
+    Ok(words(alloc, &text, &cut)?.copy()?)
+}
+
+/// Words as the table shows them, each found by its name.
+fn shown_words(alloc: Global, list: &WordList) -> Result<String, Fail> {
+    let mut shown = String::new(alloc);
+    for (name, mask) in list.as_slice() {
+        if list.mask_of(name) == Some(*mask) && !list.is_empty() {
             write!(shown, "{name} {mask}, ")?;
         }
-        assert_eq!(rt; list.is_empty(), list.len() == 0);
-        let wanted = case.words;
-        assert_eq!(rt; shown.as_str(), wanted);
+    }
+    Ok(shown)
+}
+
+#[test]
+fn tokens_and_words_of_texts(rt: HostRuntime) -> Result<(), Fail> {
+    for case in &CASES {
+        let tokens = shown_tokens(rt.alloc(), case.text)?;
+        assert_eq!(rt; tokens.as_str(), case.tokens);
+        let words = shown_words(rt.alloc(), &listed(rt.alloc(), case.text)?)?;
+        assert_eq!(rt; words.as_str(), case.words);
     }
     Ok(())
 }
 
-/// Enough words that the table in which they are found grows several times.
-#[test]
-fn many_words(rt: HostRuntime) -> Result<(), Fail> {
-    let mut made = String::new(rt.alloc());
+/// A text with a thousand words: enough that the table in which they are found grows several times.
+fn many_words(alloc: Global) -> Result<WordList, Fail> {
+    let mut made = String::new(alloc);
     for n in 0..500 {
         write!(made, "w{n} /* w{n} v{n} */ ")?;
     }
-    let text = text_of(rt.alloc(), made.as_str())?;
-    let cut = tokens(rt.alloc(), &text)?;
-    let list = words(rt.alloc(), &text, &cut)?;
-    assert_eq!(rt; list.len(), 1000);
+    listed(alloc, made.as_str())
+}
+
+/// Whether the words with a `w` stand in code and in comments, and the others in comments alone.
+fn are_masked(list: &WordList) -> bool {
     for (name, mask) in list.as_slice() {
-        let in_code = name.as_str().starts_with('w');
-        assert_eq!(rt; *mask, if in_code { 3 } else { 2 });
+        let wanted = if name.as_str().starts_with('w') { 3 } else { 2 };
+        if *mask != wanted {
+            return false;
+        }
     }
-    Ok(())
+    true
 }
 
 #[test]
+fn a_thousand_words(rt: HostRuntime) -> Result<(), Fail> {
+    let list = many_words(rt.alloc())?;
+    assert_eq!(rt; list.len(), 1000);
+    assert!(rt; are_masked(&list));
+    Ok(())
+}
+
+/// Words, and whether they are identifiers too.
+static WORDS: [(&str, bool); 19] = [
+    ("a", true),
+    ("Ab1", true),
+    ("$", true),
+    ("_a", true),
+    ("é", true),
+    ("var", true),
+    ("record", true),
+    ("yield", true),
+    ("sealed", true),
+    ("permits", true),
+    ("abstracts", true),
+    ("_", false),
+    ("class", false),
+    ("abstract", false),
+    ("goto", false),
+    ("true", false),
+    ("false", false),
+    ("null", false),
+    ("while", false),
+];
+
+/// Texts that are no words.
+static OTHERS: [&str; 8] = ["", " ", "1a", "a b", "a-", ".", "a.b", "-"];
+
+#[test]
 fn words_and_identifiers(rt: HostRuntime) {
-    for word in [
-        "a",
-        "Ab1",
-        "$",
-        "_a",
-        "é",
-        "var",
-        "record",
-        "yield",
-        "sealed",
-        "permits",
-        "abstracts",
-    ] {
-        assert!(rt; is_word(word));
-        assert!(rt; is_identifier(word));
+    for (word, is_name) in &WORDS {
+        assert_eq!(rt;
+            (is_word(word), is_identifier(word)),
+            (true, *is_name),
+            "{word}"
+        );
     }
-    for word in [
-        "_", "class", "abstract", "goto", "true", "false", "null", "while",
-    ] {
-        assert!(rt; is_word(word));
-        assert!(rt; !is_identifier(word));
-    }
-    for text in ["", " ", "1a", "a b", "a-", ".", "a.b", "-"] {
-        assert!(rt; !is_word(text));
-        assert!(rt; !is_identifier(text));
+    for text in &OTHERS {
+        assert_eq!(rt;
+            (is_word(text), is_identifier(text)),
+            (false, false),
+            "{text}"
+        );
     }
 }

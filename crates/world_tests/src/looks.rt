@@ -1,0 +1,106 @@
+//! How often a question looks while it is answered, and where it is stopped.
+use crate::calls::{put, share_of, text_of};
+use crate::late::late_intake;
+use action_lock::Watch;
+use ide_calls::IdeHome;
+use ide_text::Name;
+use ide_world::State;
+use queries::Query;
+use query_engine::{Answer, AskRefusal, NoWatch, ask};
+use std::alloc::{AllocError, Global};
+use write_history::Change;
+
+/// A watch that sees at its second look that the work is to end: its looks, and how many of them saw something: all but the first.
+#[derive(Clone, Copy, Drop)]
+struct SecondLook {
+    looks: u64,
+    sightings: u64,
+}
+
+impl Watch for SecondLook {
+    ghost use Rattle.std.specs.Prelude.{◌≤◌};
+    ghost use Rattle.std.proofs.Common.{le_refl, le_trans};
+
+    ghost looks = { λ watch. watch.looks };
+
+    ghost sightings = { λ watch. watch.sightings };
+
+    ghost can_look = { λ watch. Unit {0} };
+
+    ghost stays = { λ a b. a.looks ≤ b.looks };
+
+    ghost stays_itself = { λ a. le_refl a.looks };
+
+    ghost stays_on = { λ a b c p q. le_trans p q };
+
+    fn look(&mut self) -> bool {
+        self.looks = self.looks.saturating_add(1);
+        if self.looks < 2 {
+            return false;
+        }
+        self.sightings = self.sightings.saturating_add(1);
+        true
+    }
+}
+
+/// Adds files with so many classes `N` each, one after another, and tells after each how the question for them goes.
+pub fn tell(alloc: Global, home: &mut IdeHome, counts: &[u32]) -> Result<String, AllocError> {
+    let mut out = String::new(alloc);
+    let mut file = 0u32;
+    for count in counts {
+        file = file.saturating_add(1);
+        add(alloc, home, file, *count)?;
+        let share = share_of(alloc, home)?;
+        push_looks(alloc, share.state(), &mut out)?;
+    }
+    Ok(out)
+}
+
+/// Adds the file with this number, which is its id, and takes it in.
+fn add(alloc: Global, home: &mut IdeHome, file: u32, count: u32) -> Result<(), AllocError> {
+    let mut text = String::new(alloc);
+    for _ in 0..count {
+        text.push_str("class N {}\n")?;
+    }
+    let change = Change::Create {
+        path: Name::from(format!(in alloc; "{file}.java")?),
+        text: text_of(alloc, &text)?,
+    };
+    put(alloc, home, change)?;
+    late_intake(alloc, home, &[], file, &[])?;
+    Ok(())
+}
+
+/// Adds how often the question looks, and how many rows it gives, with a watch that sees nothing; and the same with one
+/// that stops it at its second look.
+fn push_looks(alloc: Global, state: &State, out: &mut String) -> Result<(), AllocError> {
+    let mut never = NoWatch::new();
+    let rows = class_rows(alloc, state, &mut never)?;
+    let looks = never.looks();
+    out.push_str(format!(in alloc; "{looks} looks, {rows:?}; ")?.as_str())?;
+    let mut second = SecondLook {
+        looks: 0,
+        sightings: 0,
+    };
+    let rows = class_rows(alloc, state, &mut second)?;
+    let looks = second.looks;
+    out.push_str(format!(in alloc; "{looks} looks, {rows:?}\n")?.as_str())
+}
+
+/// How many rows the types named `N` have, or nothing where the question is stopped.
+fn class_rows<W: Watch>(
+    alloc: Global,
+    state: &State,
+    watch: &mut W,
+) -> Result<Option<usize>, AllocError>
+    requires { W.can_look watch.old }
+{
+    let query = Query::Class {
+        name: Name::of(alloc, "N")?,
+    };
+    match ask(alloc, state, &query, watch) {
+        Ok(Answer::Rows { rows }) => Ok(Some(rows.len())),
+        Err(AskRefusal::Cancelled) => Ok(None),
+        _ => Err(AllocError),
+    }
+}
