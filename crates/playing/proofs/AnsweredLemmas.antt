@@ -1,5 +1,5 @@
 -- From what a call leaves of a pass's view to how the command of a line is answered.
-use Rattle.std.proofs.Common.{ℕ, ◌≡◌, ◌+◌, inl, inr, Bool, true, false, List, [], ◌∷◌, ◌++◌, length}
+use Rattle.std.proofs.Common.{ℕ, ◌≡◌, ◌+◌, inl, inr, Bool, true, false, ◌&&◌, List, [], ◌∷◌, ◌++◌, length}
 use Rattle.std.proofs.Common.{refl, ap, sym, ◌∙◌, subst, length-append, append-nil, Some, None, Option, Result, Ok, Err, IfOk}
 use Rattle.list_laws.proofs.FrontLemmas.{front_self}
 use Rattle.action_lock.specs.declared.view.View.{View}
@@ -31,7 +31,7 @@ use Rattle.transcripts.specs.declared.record.Answer.{Answer}
 use Rattle.transcripts.specs.declared.record.Answer.TheVariants.{Accepted, Refused, NotReady}
 use Rattle.transcripts.specs.Serial.{Step, told, step_unless, changes_step, change_step, create_of, load_step, step_of}
 use Rattle.transcripts.specs.Serial.{settle_answer, settle_step, answer_of, query_step}
-use Rattle.playing.specs.Answered.{IsAnswered, IsSoftlyAnswered, IsLineAnswered, reply_answer}
+use Rattle.playing.specs.Answered.{IsAnswered, IsSoftlyAnswered, IsLineAnswered, HasCheckedIf, is_soft, reply_answer}
 
 -- a view has one number
 pub same_seat : (a b : ℕ) (number : Option ℕ) → number ≡ Some a → number ≡ Some b → a ≡ b
@@ -204,16 +204,22 @@ done_as line load v w command answer is h =
     as_step (λ start seat. step_of load start seat line.number command) (λ start seat. step_of load start seat line.number line.command) v w answer
     (λ start seat. ap (step_of load start seat line.number) (sym is)) h
 
--- the command of a line was done
+-- the command tells whether its read had to look
+checked_as : (beside : Bool) (line : Line) (v w : View Entry) (command : Command) (b : Bool) → line.command ≡ command → (is_soft command && beside) ≡ b
+    → HasCheckedIf b v w → HasCheckedIf (is_soft line.command && beside) v w
+checked_as beside line v w command b is due h = subst (λ (x : Bool). HasCheckedIf x v w) (sym (ap (λ (x : Command). is_soft x && beside) is ∙ due)) h
+
+-- the command of a line was done, and no soft question beside others
 pub line_done : (beside : Bool) (line : Line) (load : Loaded) (v w : View Entry) (command : Command) {E : Type 0} (result : Result Answer E)
-    → line.command ≡ command → IfOk result (IsAnswered (λ start seat. step_of load start seat line.number command) v w)
+    → line.command ≡ command → (is_soft command && beside) ≡ false → IfOk result (IsAnswered (λ start seat. step_of load start seat line.number command) v w)
     → IfOk result (IsLineAnswered beside line load v w)
-line_done beside line load v w command (Ok answer) is h = inl (done_as line load v w command answer is h)
-line_done beside line load v w command (Err e) is h = tt
+line_done beside line load v w command (Ok answer) is hard h = inl (done_as line load v w command answer is h, checked_as beside line v w command false is hard tt)
+line_done beside line load v w command (Err e) is hard h = tt
 
 softly_as : (beside : Bool) (line : Line) (load : Loaded) (v w : View Entry) (attempts : ℕ) (query : Query) (answer : Answer) → beside ≡ true
     → line.command ≡ Soft attempts query → IsSoftlyAnswered attempts query v w answer → IsLineAnswered beside line load v w answer
-softly_as beside line load v w attempts query answer runs is (inl done) = inl (done_as line load v w (Soft attempts query) answer is done)
+softly_as beside line load v w attempts query answer runs is (inl (done, checked)) =
+    inl (done_as line load v w (Soft attempts query) answer is done, checked_as beside line v w (Soft attempts query) true is runs checked)
 softly_as beside line load v w attempts query answer runs is (inr cancelled) =
     inr (runs, record { attempts = attempts; query = query; soft = is; cancelled = cancelled })
 

@@ -1,12 +1,14 @@
 -- One turn of a section's loop.
-use Rattle.std.proofs.Common.{ℕ, ◌≡◌, ◌+◌, ◌<◌, ◌≤◌, inl, inr, Bool, true, List, [], ◌∷◌, ◌++◌, length}
+use Rattle.std.proofs.Common.{ℕ, ◌≡◌, ◌+◌, ◌<◌, ◌≤◌, ◌⊎◌, inl, inr, Bool, true, false, ◌&&◌, arith, List, [], ◌∷◌, ◌++◌, length}
 use Rattle.std.proofs.Common.{refl, ap, sym, ◌∙◌, subst, le_refl, le_trans, append_assoc, append-nil, Some, ⊎_elim, drop, get_or}
 use Rattle.std.proofs.lemmas.List.{drop_more, drop_all}
 use Rattle.list_laws.specs.Fronts.{IsFront}
+use Rattle.list_laws.specs.Rows.{one_if}
 use Rattle.list_laws.proofs.FrontLemmas.{front_length, front_trans}
 use Rattle.action_lock.specs.declared.view.View.{View}
 use Rattle.action_lock.specs.Advances.{Advances}
 use Rattle.action_lock.specs.Counts.{HasRisenBy}
+use Rattle.action_lock.specs.Views.{all_checks}
 use Rattle.write_history.specs.declared.entry.Entry.{Entry}
 use Rattle.script_lang.specs.declared.line.Line.{Line}
 use Rattle.transcripts.specs.declared.loaded.Loaded.{Loaded}
@@ -14,8 +16,8 @@ use Rattle.transcripts.specs.declared.record.Answer.{Answer}
 use Rattle.transcripts.specs.declared.record.Record.{Record}
 use Rattle.transcripts.specs.Serial.{step_of, first_load, later_loads}
 use Rattle.transcripts.specs.Fits.{Mark, Fits, SectionFits}
-use Rattle.playing.specs.Answered.{IsAnswered, IsGivenUpBy, IsLineAnswered, HasAnsweredLine}
-use Rattle.playing.specs.Done.{mark_of, HasAdded}
+use Rattle.playing.specs.Answered.{IsAnswered, IsGivenUpBy, IsLineAnswered, HasCheckedIf, HasAnsweredLine, is_soft}
+use Rattle.playing.specs.Done.{mark_of, is_reply, looks_owed, HasAdded}
 use Rattle.playing.proofs.AnsweredLemmas.{same_seat}
 
 -- the rest of a list from a place on begins with what stands there
@@ -87,10 +89,24 @@ moved : (beside : Bool) (seat : ℕ) (line : Line) (load : Loaded) (v w : View E
     → v.number ≡ Some seat → Advances v w → low.seen ≤ length v.seen → low.sights ≤ v.sights
     → IsLineAnswered beside line load v w answer → HasMoved beside seat line load v w low answer
 moved beside seat line load v w low answer number advances seen sights h = ⊎_elim
-    (λ (a : IsAnswered (λ start seat. step_of load start seat line.number line.command) v w answer).
-    moved_done beside seat line load v w low answer number advances seen sights a)
+    (λ (a : IsAnswered (λ start seat. step_of load start seat line.number line.command) v w answer × HasCheckedIf (is_soft line.command && beside) v w).
+    moved_done beside seat line load v w low answer number advances seen sights a.0)
     (λ (g : (beside ≡ true) × IsGivenUpBy line.command v w answer). moved_given_up beside seat line load v w low answer number advances seen sights g.0 g.1)
     h
+
+-- a look for an answer that had to look, and none for a question that was given up
+look_owed : (soft reply : Bool) (v w : View Entry) → Advances v w → HasCheckedIf soft v w ⊎ (reply ≡ false) → all_checks v + one_if (soft && reply) ≤ all_checks w
+look_owed true true v w advances (inl checked) = let before = checked.earlier in let some = checked.some in omega arith
+look_owed true true v w advances (inr none) = absurd (cc)
+look_owed true false v w advances h = let more = advances.checks in omega arith
+look_owed false reply v w advances h = let more = advances.checks in omega arith
+
+-- the looks for the answer to a line
+line_looked : (beside : Bool) (line : Line) (load : Loaded) (v w : View Entry) (answer : Answer) → Advances v w → IsLineAnswered beside line load v w answer
+    → all_checks v + one_if ((is_soft line.command && beside) && is_reply answer) ≤ all_checks w
+line_looked beside line load v w answer advances (inl (done, checked)) = look_owed (is_soft line.command && beside) (is_reply answer) v w advances (inl checked)
+line_looked beside line load v w answer advances (inr (runs, given_up)) =
+    look_owed (is_soft line.command && beside) (is_reply answer) v w advances (inr (ap is_reply given_up.cancelled.told))
 
 -- ---- the loop
 
@@ -105,6 +121,7 @@ pub record IsUnderWay (beside : Bool) (seat : ℕ) (lines : List Line) (loads : 
   mine : w.mine ≡ v.mine ++ own
   seen : mark.seen ≤ length w.seen
   sights : mark.sights ≤ w.sights
+  looked : (later : List Record) → all_checks v + looks_owed beside lines (records ++ later) ≤ all_checks w + looks_owed beside lines_left later
   fits : (history : List Entry) → IsFront w.seen history → (later : List Record) (own_later : List Entry) (high : Mark)
       → SectionFits beside history seat mark lines_left loads_left later own_later high
       → SectionFits beside history seat (mark_of v) lines loads (records ++ later) (own ++ own_later) high
@@ -120,6 +137,7 @@ section_begins beside seat lines loads v old = record {
   mine = sym (append-nil v.mine);
   seen = le_refl (length v.seen);
   sights = le_refl v.sights;
+  looked = λ later. le_refl (all_checks v + looks_owed beside lines later);
   fits = λ history front later own_later high h. h;
 }
 
@@ -140,6 +158,11 @@ section_goes_on beside seat lines loads v w u old new newer line lines_left load
       mine = m.mine ∙ ap (λ (l : List Entry). l ++ m.own) h.mine ∙ append_assoc v.mine h.own m.own;
       seen = m.seen;
       sights = m.sights;
+      looked = λ later.
+          subst (λ (l : List Record). all_checks v + looks_owed beside lines l ≤ all_checks u + looks_owed beside lines_left later)
+          (sym (append_assoc h.records (first ∷ []) later))
+          (let before = h.looked (first ∷ later) in
+          let now = line_looked beside line (first_load loads_left) w u a.answer advances a.answered in omega arith);
       fits = λ history front later own_later high rest.
           let all = h.fits history (front_trans w.seen u.seen history advances.seen front) (first ∷ later) (m.own ++ own_later) high record {
             answer = a.answer;
@@ -195,6 +218,7 @@ section_ends beside seat lines loads v w old new loads_left h = record {
         (subst (λ (l : List Entry). SectionFits beside history seat (mark_of v) lines loads (h.records ++ []) l h.mark) (append-nil h.own)
         (h.fits history front [] [] h.mark (refl, refl, refl)));
     seen = h.seen;
+    looked = subst (λ (l : List Record). all_checks v + looks_owed beside lines l ≤ all_checks w) (append-nil h.records) (let all = h.looked [] in omega arith);
   };
 }
 

@@ -1,7 +1,8 @@
 -- How the command of one line is answered.
-use Rattle.std.specs.Prelude.{ℕ, ◌≡◌, ◌⊎◌, Bool, true, List, [], ◌∷◌, ◌++◌, Some, None}
+use Rattle.std.specs.Prelude.{ℕ, ◌≡◌, ◌⊎◌, Bool, true, false, ◌&&◌, List, [], ◌∷◌, ◌++◌, Some, None}
 use Rattle.list_laws.specs.Fronts.{IsFront}
 use Rattle.action_lock.specs.declared.view.View.{View}
+use Rattle.action_lock.specs.Reads.{HasChecked}
 use Rattle.write_history.specs.declared.entry.Entry.{Entry}
 use Rattle.write_history.specs.declared.refusal.Refusal.TheVariants as why
 use Rattle.queries.specs.declared.query.Query.{Query}
@@ -10,7 +11,7 @@ use Rattle.ide_calls.specs.declared.reply.Reply.TheVariants as reply
 use Rattle.ide_calls.specs.Sighting.{Sighting}
 use Rattle.ide_calls.specs.SoftRefusal.{HasSighted}
 use Rattle.script_lang.specs.declared.command.Command.{Command}
-use Rattle.script_lang.specs.declared.command.Command.TheVariants.{Soft}
+use Rattle.script_lang.specs.declared.command.Command.TheVariants.{Change, Group, Load, Settle, Ask, Soft}
 use Rattle.script_lang.specs.declared.line.Line.{Line}
 use Rattle.transcripts.specs.declared.loaded.Loaded.{Loaded}
 use Rattle.transcripts.specs.declared.record.Answer.{Answer}
@@ -41,9 +42,24 @@ pub record IsCancelled (attempts : ℕ) (v w : View Entry) (answer : Answer) : T
   pub sights : HasSighted v w attempts sighted
   pub mine : w.mine ≡ v.mine
 
--- a soft question was answered, or given up
+-- a soft question was answered by a read that looked whether a write waits, or given up
 abbrev pub IsSoftlyAnswered : ℕ → Query → View Entry → View Entry → Answer → Type 0
-IsSoftlyAnswered attempts query v w answer = IsAnswered (λ start seat. query_step start query) v w answer ⊎ IsCancelled attempts v w answer
+IsSoftlyAnswered attempts query v w answer =
+    (IsAnswered (λ start seat. query_step start query) v w answer × HasChecked v w) ⊎ IsCancelled attempts v w answer
+
+-- a question that gives way to writes
+abbrev pub is_soft : Command → Bool
+is_soft (Change change) = false
+is_soft (Group changes) = false
+is_soft (Load path) = false
+is_soft Settle = false
+is_soft (Ask query) = false
+is_soft (Soft attempts query) = true
+
+-- the answer came from a read that looked whether a write waits, where it had to
+abbrev pub HasCheckedIf : Bool → View Entry → View Entry → Type 0
+HasCheckedIf true v w = HasChecked v w
+HasCheckedIf false v w = Unit {0}
 
 -- the soft question of a command was given up
 pub record IsGivenUpBy (command : Command) (v w : View Entry) (answer : Answer) : Type 0 where
@@ -52,10 +68,11 @@ pub record IsGivenUpBy (command : Command) (v w : View Entry) (answer : Answer) 
   pub soft : command ≡ Soft attempts query
   pub cancelled : IsCancelled attempts v w answer
 
--- the command of a line was done, or, only where another section runs beside, given up
+-- The command of a line was done, a soft question by a read that looked where another section runs beside; or, only there, it was given up
 abbrev pub IsLineAnswered : Bool → Line → Loaded → View Entry → View Entry → Answer → Type 0
 IsLineAnswered beside line load v w answer =
-    IsAnswered (λ start seat. step_of load start seat line.number line.command) v w answer ⊎ ((beside ≡ true) × IsGivenUpBy line.command v w answer)
+    (IsAnswered (λ start seat. step_of load start seat line.number line.command) v w answer × HasCheckedIf (is_soft line.command && beside) v w)
+    ⊎ ((beside ≡ true) × IsGivenUpBy line.command v w answer)
 
 -- the command of a line was answered, and its record added to others
 pub record HasAnsweredLine (beside : Bool) (seat : ℕ) (line : Line) (load : Loaded) (v w : View Entry) (old new : List Record) : Type 0 where

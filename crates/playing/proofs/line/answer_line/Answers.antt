@@ -1,4 +1,4 @@
-use Rattle.std.proofs.Common.{◌≡◌, true, ap, sym, subst, ◌∙◌}
+use Rattle.std.proofs.Common.{◌≡◌, true, refl, ap, sym, subst, ◌∙◌}
 use Rattle.std.specs.List.{list_all}
 use Rattle.ide_world.specs.Ready.{is_edit}
 use Rattle.script_lang.specs.declared.command.Command.TheVariants as command
@@ -13,24 +13,24 @@ do_group-requires-clause-edits g c =
 pub returns-in_ok-copy-in-Change-clause-answer : goal.returns-in_ok-copy-in-Change-clause-answer
 returns-in_ok-copy-in-Change-clause-answer g c =
     line_done c.args.beside c.args.line.now c.args.load.now _ _ (command.Change c.in_ok-copy-in-Change.field-0) _
-    (c.in-Change.is ∙ ap command.Change (sym c.in_ok-copy-in-Change.ensures)) c.do_change.ensures.answer
+    (c.in-Change.is ∙ ap command.Change (sym c.in_ok-copy-in-Change.ensures)) refl c.do_change.ensures.answer
 
 pub returns-in_ok-copy-in-Group-clause-answer : goal.returns-in_ok-copy-in-Group-clause-answer
 returns-in_ok-copy-in-Group-clause-answer g c =
     line_done c.args.beside c.args.line.now c.args.load.now _ _ (command.Group c.in_ok-copy-in-Group.field-0) _
-    (c.in-Group.is ∙ ap command.Group (sym c.in_ok-copy-in-Group.ensures)) c.do_group.ensures.answer
+    (c.in-Group.is ∙ ap command.Group (sym c.in_ok-copy-in-Group.ensures)) refl c.do_group.ensures.answer
 
 pub returns-in-Load-clause-answer : goal.returns-in-Load-clause-answer
 returns-in-Load-clause-answer g c =
-    line_done c.args.beside c.args.line.now c.args.load.now _ _ (command.Load c.in-Load.path) _ c.in-Load.is c.do_load.ensures.answer
+    line_done c.args.beside c.args.line.now c.args.load.now _ _ (command.Load c.in-Load.path) _ c.in-Load.is refl c.do_load.ensures.answer
 
 pub returns-in-Settle-clause-answer : goal.returns-in-Settle-clause-answer
 returns-in-Settle-clause-answer g c =
-    line_done c.args.beside c.args.line.now c.args.load.now _ _ command.Settle _ c.in-Settle.is c.do_settle.ensures.answer
+    line_done c.args.beside c.args.line.now c.args.load.now _ _ command.Settle _ c.in-Settle.is refl c.do_settle.ensures.answer
 
 pub returns-in-Ask-clause-answer : goal.returns-in-Ask-clause-answer
 returns-in-Ask-clause-answer g c =
-    line_done c.args.beside c.args.line.now c.args.load.now _ _ (command.Ask c.in-Ask.query) _ c.in-Ask.is c.do_ask.ensures.answer
+    line_done c.args.beside c.args.line.now c.args.load.now _ _ (command.Ask c.in-Ask.query) _ c.in-Ask.is refl c.do_ask.ensures.answer
 
 pub returns-in-Soft-clause-answer : goal.returns-in-Soft-clause-answer
 returns-in-Soft-clause-answer g c =
@@ -39,4 +39,4 @@ returns-in-Soft-clause-answer g c =
 
 pub returns-in-Soft-2-clause-answer : goal.returns-in-Soft-2-clause-answer
 returns-in-Soft-2-clause-answer g c =
-    line_done c.args.beside c.args.line.now c.args.load.now _ _ (command.Soft _ c.in-Soft-2.query) _ c.in-Soft-2.is c.do_ask-in-Soft-2.ensures.answer
+    line_done c.args.beside c.args.line.now c.args.load.now _ _ (command.Soft _ c.in-Soft-2.query) _ c.in-Soft-2.is c.if-beside.false c.do_ask-in-Soft-2.ensures.answer
