@@ -1,15 +1,14 @@
 //! Changes of the shared workspace.
-ghost use Rattle.std.specs.Prelude.{◌≡◌, ◌∷◌, [], true, IfOk, IfErr, OnErr};
+ghost use Rattle.std.specs.Prelude.{◌≡◌, ◌<◌, ◌≤◌, ◌∷◌, [], true, length, IfOk, IfErr, OnErr};
 ghost use Rattle.std.specs.List.{list_all};
 ghost use Rattle.action_lock.specs.Advances.{Advances};
-ghost use Rattle.write_history.specs.World.{file_of, is_unready};
-ghost use Rattle.write_history.specs.Fold.{fold};
+ghost use Rattle.write_history.specs.Effect.{max_entries};
 ghost use Rattle.ide_world.specs.Ready.{is_edit};
 ghost use Rattle.ide_calls.specs.Change.{HasAccepted, IsChangeRefused, IsGroupRefused};
 ghost use Rattle.job_queue.specs.Passes.{queue_view};
 ghost use Rattle.index_workers.specs.Passes.{ide_view, IsSameIdePass};
 ghost use Rattle.shared_ide.specs.Passes.{IsIdePassOf};
-ghost use Rattle.shared_ide.specs.Hints.{MayHint, HintsOf};
+ghost use Rattle.shared_ide.specs.Hints.{HintsFor, HintsOf};
 
 use crate::shared::SharedIde;
 use ide_calls::{ChangeRefusal, GroupChangeRefusal};
@@ -20,7 +19,7 @@ use write_history::{Change, Changes};
 
 impl SharedIde {
     /// Makes a change other than an intake, and answers with the number of entries of the history, of which its own is the
-    /// last. It offers a hint for the file that it left unready, if it did. It may wait for ever.
+    /// last. It offers a hint for the file if it left it unready. It may wait for ever.
     pub fn change<R: Wait>(
         &self,
         rt: &R,
@@ -36,7 +35,7 @@ impl SharedIde {
         ensures mine { OnErr result ((ide_view pass.new).mine ≡ (ide_view pass.old).mine) }
         ensures accepted { IfOk result (HasAccepted (ide_view pass.old) (ide_view pass.new) line (change ∷ [])) }
         ensures refused { IfErr result (IsChangeRefused (ide_view pass.old) (ide_view pass.new) change) }
-        ensures hints { HintsOf result (fold (ide_view pass.new).seen) (queue_view pass.old.queue) (queue_view pass.new.queue) }
+        ensures hints { HintsOf result (ide_view pass.new) (change ∷ []) (queue_view pass.old.queue) (queue_view pass.new.queue) }
     {
         let accepted = ide_calls::change(rt, alloc, &self.lock, &mut pass.lock, line, change)?;
         self.offer(rt, pass, accepted.unready);
@@ -60,7 +59,7 @@ impl SharedIde {
         ensures mine { OnErr result ((ide_view pass.new).mine ≡ (ide_view pass.old).mine) }
         ensures accepted { IfOk result (HasAccepted (ide_view pass.old) (ide_view pass.new) line changes) }
         ensures refused { IfErr result (IsGroupRefused (ide_view pass.old) (ide_view pass.new) changes) }
-        ensures hints { HintsOf result (fold (ide_view pass.new).seen) (queue_view pass.old.queue) (queue_view pass.new.queue) }
+        ensures hints { HintsOf result (ide_view pass.new) changes (queue_view pass.old.queue) (queue_view pass.new.queue) }
     {
         let accepted = ide_calls::change_group(
             rt,
@@ -74,12 +73,14 @@ impl SharedIde {
         Ok(accepted.at)
     }
 
-    // Offers a hint for a file, if there is one.
+    // Offers a hint for a file, if there is one, for the last of the pass's entries.
     fn offer<R: Wait>(&self, rt: &R, pass: &mut IdePass, file: Option<u32>)
-        requires { IsIdePassOf self.now pass.old }
+        requires pass { IsIdePassOf self.now pass.old }
+        requires owed { length (queue_view pass.old.queue).put < length (ide_view pass.old).mine }
+        requires few { length (ide_view pass.old).mine ≤ max_entries }
         ensures pass { IsIdePassOf self.now pass.new × IsSameIdePass pass.old pass.new }
         ensures lock { pass.new.lock ≡ pass.old.lock }
-        ensures hints { MayHint file (queue_view pass.old.queue) (queue_view pass.new.queue) }
+        ensures hints { HintsFor file (queue_view pass.old.queue) (queue_view pass.new.queue) }
     {
         if let Some(file) = file {
             hint(rt, &self.queue, pass, file);

@@ -5,7 +5,7 @@ ghost use Rattle.job_queue.specs.declared.hint.Hint.{Hint};
 ghost use Rattle.job_queue.specs.Passes.{queue_view};
 ghost use Rattle.ide_calls.specs.Settling.{IsSettled, HasStopped};
 ghost use Rattle.ide_calls.specs.Step.{HasStepped};
-ghost use Rattle.index_workers.specs.Hints.{after_take, file_of_hint, HasOnlyTaken};
+ghost use Rattle.index_workers.specs.Hints.{HasTaken, file_of_hint, HasOnlyTaken};
 ghost use Rattle.index_workers.specs.Passes.{ide_view, IsSameIdePass};
 ghost use Rattle.index_workers.specs.Work.{HasWorked, HasWorkedInPart};
 ghost use Rattle.shared_ide.specs.Passes.{IsIdePassOf};
@@ -49,7 +49,9 @@ impl SharedIde {
         requires { IsIdePassOf self.now pass.old }
         ensures pass { IsIdePassOf self.now pass.new × IsSameIdePass pass.old pass.new }
         ensures advances { Advances (ide_view pass.old) (ide_view pass.new) }
-        ensures step { (hint : Option Hint) × (queue_view pass.new.queue ≡ after_take hint (queue_view pass.old.queue)) × IfOk result (HasStepped (file_of_hint hint) (ide_view pass.old) (ide_view pass.new)) }
+        ensures step { (hint : Option Hint)
+            × HasTaken hint (queue_view pass.old.queue) (queue_view pass.new.queue)
+            × IfOk result (HasStepped (file_of_hint hint) (ide_view pass.old) (ide_view pass.new)) }
         ensures err { OnErr result ((ide_view pass.new).mine ≡ (ide_view pass.old).mine) }
     {
         index_workers::index_step(rt, alloc, &self.lock, &self.queue, pass, gate)
@@ -68,8 +70,10 @@ impl SharedIde {
         ensures pass { IsIdePassOf self.now pass.new × IsSameIdePass pass.old pass.new }
         ensures advances { Advances (ide_view pass.old) (ide_view pass.new) }
         ensures hints { HasOnlyTaken (queue_view pass.old.queue) (queue_view pass.new.queue) }
-        ensures ok { IfOk result (HasWorked (ide_view pass.old) (ide_view pass.new)) }
-        ensures err { OnErr result (HasWorkedInPart (ide_view pass.old) (ide_view pass.new)) }
+        ensures ok { IfOk result (HasWorked (G.may_say gate.now)
+            (ide_view pass.old) (ide_view pass.new) (queue_view pass.old.queue) (queue_view pass.new.queue)) }
+        ensures err { OnErr result (HasWorkedInPart (G.may_say gate.now)
+            (ide_view pass.old) (ide_view pass.new) (queue_view pass.old.queue) (queue_view pass.new.queue)) }
     {
         index_workers::worker(rt, alloc, &self.lock, &self.queue, pass, gate)
     }
