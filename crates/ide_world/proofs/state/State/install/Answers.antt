@@ -13,7 +13,7 @@ carry_out_all-requires-clause-ready c =
 
 pub returns-clause-world : goal.returns-clause-world
 returns-clause-world c =
-    c.sweep_all.ensures ∙ c.carry_out_all.ensures.world
+    c.sweep_all.ensures.world ∙ c.carry_out_all.ensures.world
     ∙ ap (after_steps c.count_entry.new.self.world) c.steps.view_is
     ∙ ap (λ w. after_steps w c.args.steps) c.count_entry.ensures.world
     ∙ after_steps-counted c.args.self.now.world c.args.steps
@@ -23,5 +23,5 @@ returns-clause-unready c =
     c.first_unready.ensures
     ∙ ap (first_unready c.sweep_all.new.self.world)
     (ap ids_of_gone c.deref-2.ensures.value ∙ c.carry_out_all.ensures.ids
-      ∙ ap (λ g. ids_of_gone g ++ ids_of c.steps.inside.steps.items) c.steps.invariant.0
-      ∙ ap ids_of c.steps.view_is)
+    ∙ ap (λ g. ids_of_gone g ++ ids_of c.steps.inside.steps.items) c.steps.invariant.0
+    ∙ ap ids_of c.steps.view_is)
