@@ -195,6 +195,7 @@ section_ends beside seat lines loads v w old new loads_left h = record {
         (subst (λ (l : List Entry). SectionFits beside history seat (mark_of v) lines loads (h.records ++ []) l h.mark) (append-nil h.own)
         (h.fits history front [] [] h.mark (refl, refl, refl)));
     seen = h.seen;
+    sights = h.sights;
   };
 }
 

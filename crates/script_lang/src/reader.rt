@@ -5,7 +5,7 @@ ghost use Rattle.script_lang.specs.Reading.{start, after, in_section, in_group, 
 use crate::content::Content;
 use crate::group::Group;
 use crate::line::Part;
-use crate::playing::Sections;
+use crate::sections::Sections;
 use crate::{Command, Line, ScriptRefusal, Section};
 use std::alloc::{AllocError, Global};
 use std::marker::Model;

@@ -8,7 +8,7 @@ ghost use Rattle.script_lang.specs.Parts.{Parts};
 
 use crate::content::content_of;
 use crate::reader::Reader;
-use crate::playing::Sections;
+use crate::sections::Sections;
 use crate::split::first_line;
 use crate::{Line, ScriptRefusal};
 use std::alloc::Global;
