@@ -86,7 +86,7 @@ fn run_play<R: Threads + Wait + Sync, S: Source, T: Tree, K: Sink>(
         Ok(script) => script,
         Err(status) => return status,
     };
-    let gate = LaneGate::new(rt, script.lanes() as u32);
+    let gate = LaneGate::new(rt, &script);
     match play(rt, alloc, &script, workers, tree, &gate) {
         Ok(played) => write_transcript(alloc, &played, out),
         Err(PlayRefusal::TreeFault) => Status::TreeFault,
@@ -164,7 +164,7 @@ fn play_demo<R: Threads + Wait + Sync>(
     a_demo_is_lawful();
     demo_runs_agree();
     let script = script_of_demo(alloc, seed, files, edits)?;
-    let gate = LaneGate::new(rt, script.lanes() as u32);
+    let gate = LaneGate::new(rt, &script);
     playing::play(rt, alloc, &script, &[], workers, &gate)
 }
 

@@ -16,7 +16,7 @@ use Rattle.index_workers.specs.declared.worked.End.{End}
 use Rattle.index_workers.specs.declared.worked.End.TheVariants.{Idle, Refused, Turns}
 use Rattle.index_workers.specs.declared.worked.Worked.{Worked}
 use Rattle.index_workers.specs.Passes.{ide_view}
-use Rattle.index_workers.specs.Work.{Done, EndsBy, IsAtEnd, IsIntakeBy, AreApart, HasWorked}
+use Rattle.index_workers.specs.Work.{Done, any_answer, EndsBy, IsAtEnd, IsIntakeBy, AreApart, HasWorkedSo}
 use Rattle.shared_ide.specs.declared.shared.SharedIde.{SharedIde}
 use Rattle.transcripts.specs.declared.record.Record.{Record}
 use Rattle.transcripts.specs.Fits.{Mark, mark_at, made_by, SectionFits, LanesFit, EndFits, WorkerFits, WorkersFit, run_beside}
@@ -74,19 +74,20 @@ lane_fits beside seen history middle place seat w lanes lane Worker o inside is 
 
 -- ---- one worker
 
-end_fits : (history seen : List Entry) (w : View Entry) (turns : ℕ) (end : End) (steps : List Done) → length steps ≡ turns → EndsBy end steps → IsAtEnd end w
+end_fits : (history seen : List Entry) (w : View Entry) (seat turns : ℕ) (end : End) (steps : List Done) → length steps ≡ turns
+    → EndsBy any_answer seat end steps → IsAtEnd end w
     → IsFront seen w.seen → IsFront w.seen history → length history ≤ max_entries → EndFits history (length seen) turns end
-end_fits history seen w turns (Idle len) steps count ends at_end before front bounded = record {
+end_fits history seen w seat turns (Idle len) steps count ends at_end before front bounded = record {
   start = w.seen;
   stands = front;
   whole = sym at_end.0;
   late = let long = front_length seen w.seen before in omega (arith, at_end.0);
   smart = at_end.1;
 }
-end_fits history seen w turns (Refused len) steps count ends at_end before front bounded =
+end_fits history seen w seat turns (Refused len) steps count ends at_end before front bounded =
     let long : length w.seen ≤ length history = front_length w.seen history front in
     (at_end.1, (let same : len ≡ length w.seen = at_end.0 in let full : len ≡ max_entries = at_end.1 in omega arith))
-end_fits history seen w turns Turns steps count ends at_end before front bounded = sym count ∙ ends.0
+end_fits history seen w seat turns Turns steps count ends at_end before front bounded = sym count ∙ ends.0
 
 -- what a worker tells fits, where the history isn't longer than may be
 record WorkerTells (seen history middle : List Entry) (seat : ℕ) (o : Outcome) : Type 0 where
@@ -95,9 +96,10 @@ record WorkerTells (seen history middle : List Entry) (seat : ℕ) (o : Outcome)
   no_record : records_of o ≡ []
   fits : length history ≤ max_entries → WorkerFits history (length seen) seat middle worked
 
-worker_done : (seen history middle : List Entry) (seat : ℕ) (w : View Entry) (worked : Worked) → HasWorked (fresh (Some seat) 0 seen) w worked
+worker_done : (seen history middle : List Entry) (seat : ℕ) (w : View Entry) (worked : Worked) → HasWorkedSo (fresh (Some seat) 0 seen) w worked
     → w.mine ≡ made_by seat middle → IsFront w.seen history → WorkerTells seen history middle seat (Indexed worked)
-worker_done seen history middle seat w worked done mine front =
+worker_done seen history middle seat w worked so mine front =
+    let done = so.done in
     let seat_is : worked.seat ≡ seat = same_some worked.seat seat (sym done.gone.number) in
     let own_is : done.own ≡ made_by seat middle = sym done.gone.mine ∙ mine in
     record {
@@ -109,7 +111,7 @@ worker_done seen history middle seat w worked done mine front =
         taken = sym (ap length own_is) ∙ done.taken;
         intakes = subst (λ (own : List Entry). All (IsIntakeBy seat) own) own_is (subst (λ (n : ℕ). All (IsIntakeBy n) done.own) seat_is done.gone.intakes);
         apart = subst AreApart own_is done.gone.apart;
-        ends = end_fits history seen w worked.turns worked.end done.steps done.turns done.ends done.at_end done.gone.advances.seen front bounded;
+        ends = end_fits history seen w worked.seat worked.turns worked.end done.steps done.turns done.ends done.at_end done.gone.advances.seen front bounded;
       };
     }
   where

@@ -219,6 +219,7 @@ section_ends beside seat lines loads v w old new loads_left h = record {
         (h.fits history front [] [] h.mark (refl, refl, refl)));
     seen = h.seen;
     looked = subst (λ (l : List Record). all_checks v + looks_owed beside lines l ≤ all_checks w) (append-nil h.records) (let all = h.looked [] in omega arith);
+    sights = h.sights;
   };
 }
 

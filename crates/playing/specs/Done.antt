@@ -38,7 +38,8 @@ looks_owed beside (line ∷ lines) [] = 0
 looks_owed beside (line ∷ lines) (r ∷ records) = one_if ((is_soft line.command && beside) && is_reply r.answer) + looks_owed beside lines records
 
 -- The pass with this number did the lines, of each of which this was read: it made some entries, and its records fit any history that begins
--- with all that it has seen. It looked at the gate in the reads that answered soft questions
+-- with all that it has seen. It looked at the gate in the reads that answered soft questions. Where the records end it had seen no more, and
+-- had found no more writes waiting, than it has now
 pub record HasDone (beside : Bool) (seat : ℕ) (lines : List Line) (loads : List Loaded) (v w : View Entry) (records : List Record) : Type 0 where
   pub own : List Entry
   pub high : Mark
@@ -46,6 +47,7 @@ pub record HasDone (beside : Bool) (seat : ℕ) (lines : List Line) (loads : Lis
   pub fits : (history : List Entry) → IsFront w.seen history → SectionFits beside history seat (mark_of v) lines loads records own high
   pub seen : high.seen ≤ length w.seen
   pub looked : all_checks v + looks_owed beside lines records ≤ all_checks w
+  pub sights : high.sights ≤ w.sights
 
 -- the records of a section were added to others
 pub record HasAdded (beside : Bool) (seat : ℕ) (lines : List Line) (loads : List Loaded) (v w : View Entry) (old new : List Record) : Type 0 where

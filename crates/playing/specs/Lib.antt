@@ -1,5 +1,7 @@
 -- What callers rest on: what was done of a section
 pub mod Done
+-- What the gate of a run may answer
+pub mod Gates
 -- Internal: how the command of one line is answered
 pub mod Answered
 -- Parts of a round: what each does, and what number 0 learns of it

@@ -12,7 +12,7 @@ use Rattle.script_lang.specs.declared.line.Line.{Line}
 use Rattle.script_lang.specs.Parts.{Parts}
 use Rattle.index_workers.specs.declared.worked.Worked.{Worked}
 use Rattle.index_workers.specs.Passes.{ide_view}
-use Rattle.index_workers.specs.Work.{HasWorked}
+use Rattle.index_workers.specs.Work.{HasWorkedSo}
 use Rattle.shared_ide.specs.declared.shared.SharedIde.{SharedIde}
 use Rattle.shared_ide.specs.Passes.{IsIdePassOf}
 use Rattle.transcripts.specs.declared.record.Record.{Record}
@@ -44,7 +44,7 @@ MayHaveDone beside seat lane v w (Indexed worked) = ⊥
 abbrev pub MayHaveWorked : View Entry → View Entry → Outcome → Type 0
 MayHaveWorked v w Nothing = Unit {0}
 MayHaveWorked v w (Answered records) = ⊥
-MayHaveWorked v w (Indexed worked) = HasWorked v w worked
+MayHaveWorked v w (Indexed worked) = HasWorkedSo v w worked
 
 -- the pass did the lane of this index, if that is told
 pub record HasDoneLane (lanes : List (List Line)) (beside : Bool) (index : ℕ) (v w : View Entry) (outcome : Outcome) : Type 0 where

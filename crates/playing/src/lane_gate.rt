@@ -1,5 +1,8 @@
 //! The gate of a run: workers go on until every lane has ended.
+ghost use Rattle.std.specs.Prelude.{◌≡◌, ◌<◌, true, length};
+
 use action_lock::{Gate, Point};
+use script_lang::Script;
 use std::sync::Wait;
 use std::sync::atomic::{AtomicU64, Ordering};
 use std::time::Duration;
@@ -17,11 +20,13 @@ pub struct LaneGate<'r, R> {
 }
 
 impl<'r, R: Wait> LaneGate<'r, R> {
-    /// The gate of a run with so many lanes, whose seats are the numbers from 1 on.
-    pub fn new(rt: &'r R, lanes: u32) -> LaneGate<'r, R> {
+    /// The gate of a run of a script, whose lanes have the numbers from 1 on as their seats.
+    pub fn new(rt: &'r R, script: &Script) -> LaneGate<'r, R>
+        ensures { result.lanes ≡ length script.now.lanes }
+    {
         LaneGate {
             rt,
-            lanes,
+            lanes: script.lanes() as u32,
             ended: AtomicU64::new(0),
         }
     }
@@ -35,7 +40,9 @@ impl<'r, R: Wait> LaneGate<'r, R> {
     }
 
     /// Whether a lane is still on the way. If so, it has slept for a while.
-    fn wait(&self) -> bool {
+    fn wait(&self) -> bool
+        ensures { result ≡ true → 0 < self.now.lanes }
+    {
         let ended = self.ended.load(Ordering::SeqCst);
         if self.lanes as u64 <= ended {
             return false;
@@ -47,6 +54,10 @@ impl<'r, R: Wait> LaneGate<'r, R> {
 }
 
 impl<R: Wait> Gate for LaneGate<'_, R> {
+    ghost use Rattle.playing.specs.Gates.{MaySay};
+
+    ghost may_say = { λ gate point answer. MaySay gate.lanes point answer };
+
     fn at(&self, point: Point) -> bool {
         match point {
             Point::Ended { seat } => {

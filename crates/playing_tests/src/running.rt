@@ -46,7 +46,7 @@ pub fn run<R: Threads + Wait + Sync>(
     loads: &[Loaded],
     workers: u32,
 ) -> Result<Played, AllocError> {
-    let gate = LaneGate::new(rt, script.lanes() as u32);
+    let gate = LaneGate::new(rt, script);
     play(rt, alloc, script, loads, workers.min(8), &gate)
 }
 

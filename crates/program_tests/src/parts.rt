@@ -18,7 +18,7 @@ fn parsed_played_and_printed(rt: HostRuntime) -> Result<(), Fail> {
     let script = parse(rt.alloc(), SCRIPT)?;
     assert_eq!(rt; script.prelude().len(), 3);
     let mut tree = two_files(rt.alloc())?;
-    let gate = LaneGate::new(&rt, script.lanes() as u32);
+    let gate = LaneGate::new(&rt, &script);
     let played = play(&rt, rt.alloc(), &script, 2, &mut tree, &gate)?;
     assert_eq!(rt; played.history.len(), 2);
     assert_eq!(rt; played.records.as_slice().len(), 3);
