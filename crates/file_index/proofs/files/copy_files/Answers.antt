@@ -1,8 +1,8 @@
-use Rattle.std.proofs.Common.{◌≡◌, [], ◌∷◌, cond, Some, None, map, refl, sym, ap, ◌∙◌, rules}
+use Rattle.std.proofs.Common.{◌≡◌, [], ◌∷◌, None, map, refl, sym, ap, ◌∙◌, rules}
 use Rattle.std.specs.Ordering.{nat_cmp, eq_by_cmp}
 use Rattle.std.specs.Map.{update_all, keys_of}
 use Rattle.std.specs.Map.Iter.{deref_pair}
-use Rattle.std.specs.BTreeMap.{get, is_at}
+use Rattle.std.specs.BTreeMap.{get}
 use Rattle.std.specs.Cmp.{nat_cmp_total, eq_by_cmp_equiv}
 use Rattle.std.proofs.lemmas.List.{map-append}
 use Rattle.std.proofs.lemmas.Map.{update_all_push}

@@ -1,6 +1,4 @@
-use Rattle.std.proofs.Common.{◌≡◌, true, false, ap, sym, subst, ◌∙◌, ◌&&◌, eqb}
-use Rattle.std.specs.Prelude.{not}
-use Rattle.file_index.specs.KeyRows.{has_key}
+use Rattle.std.proofs.Common.{ap, sym, ◌∙◌, eqb}
 use Rattle.file_index.specs.Places.{is_placed}
 use Rattle.file_index.specs.Rows.{rows_in_file}
 use Rattle.file_index.proofs.PlaceLemmas.{more_taken, more_kept}

@@ -1,8 +1,6 @@
-use Rattle.std.proofs.Common.{◌≡◌, [], false, true, ap, ◌∙◌, ◌&&◌, eqb}
-use Rattle.std.specs.Prelude.{not}
+use Rattle.std.proofs.Common.{[], ap, ◌∙◌}
 use Rattle.std.proofs.lemmas.Bool.{false≢true}
-use Rattle.file_index.specs.KeyRows.{has_key}
-use Rattle.file_index.specs.Rows.{Table, rows, rows_of, rows_in_file, is_known, without_file}
+use Rattle.file_index.specs.Rows.{rows, is_known, without_file}
 use Rattle.file_index.specs.Places.{is_placed}
 use Rattle.file_index.proofs.PlaceLemmas.{swapped_placed, removed_placed, kept_placed}
 use Rattle.file_index.proofs.inverted.Inverted.remove.Goals as goal
