@@ -1,4 +1,4 @@
-//! A piece of work for soft reads: it looks so many times, and then counts the notes.
+//! A piece of work for soft reads: it looks once and so many times more, and then counts the notes.
 ghost use Rattle.std.specs.Prelude.{◌≡◌, length};
 
 use crate::board::{Board, Note};
@@ -13,7 +13,7 @@ use std::sync::Arc;
 pub struct Count<'a> {
     /// Is entered when the work begins.
     pub room: &'a Room,
-    pub looks: u64,
+    pub more_looks: u64,
 }
 
 impl<'a> Work<Board> for Count<'a> {
@@ -28,7 +28,7 @@ impl<'a> Work<Board> for Count<'a> {
         watch: &mut W,
     ) -> Result<usize, Stopped> {
         self.room.enter();
-        if sees_within(watch, self.looks) {
+        if sees_within(watch, self.more_looks) {
             return Err(Stopped::Seen);
         }
         Ok(share.len())

@@ -128,7 +128,7 @@ fn a_write_stops_readers_until_it_ends(rt: HostRuntime) -> Result<(), Fail> {
     let room = Room::new(0);
     let mut work = Count {
         room: &room,
-        looks: 1,
+        more_looks: 0,
     };
     let refused = soft(&rt, alloc, &lock, &mut first, 2, &mut work, &NoGate {});
     assert!(rt; refused == Err(SoftRefusal::Cancelled { attempts: 2 }));
@@ -188,7 +188,7 @@ fn threads_wait_for_one_another(rt: HostRuntime) -> Result<(), Fail> {
     assert!(rt; stopped && first.sights() == 2);
     let mut work = Count {
         room: &room,
-        looks: 1,
+        more_looks: 0,
     };
     let counted = soft(&rt, alloc, &lock, &mut first, 1, &mut work, &NoGate {});
     assert!(rt; counted == Ok(2));

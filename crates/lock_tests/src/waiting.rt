@@ -88,7 +88,10 @@ pub fn is_cancelled<R: Wait>(
     requires { IsPassOf lock.now pass.old }
     ensures { IsPassOf lock.now pass.new × ((view_of pass.new).number ≡ (view_of pass.old).number) }
 {
-    let mut work = Count { room, looks: TURNS };
+    let mut work = Count {
+        room,
+        more_looks: TURNS,
+    };
     match soft(rt, alloc, lock, pass, 1, &mut work, &NoGate {}) {
         Ok(_) => false,
         Err(why) => why == SoftRefusal::Cancelled { attempts: 1 },
