@@ -14,5 +14,6 @@ pub record AsksFront {T : Type 0} (asks : T → List ℕ → T → Type 0) (old 
   pub asked : AsksEach asks old front new
 
 -- the tree was asked for the first of these files, at least for one
-abbrev pub AsksSome : {T : Type 0} → (T → List ℕ → T → Type 0) → T → List (List ℕ) → T → Type 0
-AsksSome asks old paths new = (some : AsksFront asks old paths new) × (0 < length some.front)
+pub record AsksSome {T : Type 0} (asks : T → List ℕ → T → Type 0) (old : T) (paths : List (List ℕ)) (new : T) : Type 0 where
+  pub first : AsksFront asks old paths new
+  pub some : 0 < length first.front

@@ -1,5 +1,6 @@
 -- Playing a script over a tree.
-use Rattle.std.specs.Prelude.{ℕ, ◌≡◌, Bool, false, List, [], length, All, Option}
+use Rattle.std.specs.Prelude.{ℕ, ◌≡◌, List, [], ◌∷◌, length, Option, if◌then◌else◌}
+use Rattle.std.specs.List.{flat_map}
 use Rattle.ide_io.specs.Files.{Files}
 use Rattle.write_history.specs.Path.{is_path}
 use Rattle.index_workers.specs.declared.worked.Worked.{Worked}
@@ -12,18 +13,18 @@ use Rattle.transcripts.specs.Loads.{AreLoadsOf}
 use Rattle.transcripts.specs.Serial.{Ended, run_of}
 use Rattle.transcripts.specs.Fits.{RunFits}
 
--- whether a command asks for a file of the tree: it is a load of a lawful path
-abbrev pub asks_file : Command → Bool
-asks_file (command.Load path) = is_path path
-asks_file (command.Change change) = false
-asks_file (command.Group changes) = false
-asks_file command.Settle = false
-asks_file (command.Ask query) = false
-asks_file (command.Soft attempts query) = false
+-- the paths for which a command asks the tree: that of a load, where it is lawful
+abbrev pub paths_asked : Command → List (List ℕ)
+paths_asked (command.Load path) = if is_path path then path ∷ [] else []
+paths_asked (command.Change change) = []
+paths_asked (command.Group changes) = []
+paths_asked command.Settle = []
+paths_asked (command.Ask query) = []
+paths_asked (command.Soft attempts query) = []
 
--- no line asks for a file of the tree
-abbrev pub AskNoFile : List Line → Type 0
-AskNoFile lines = All (λ line. asks_file line.command ≡ false) lines
+-- the paths for which lines ask the tree, in their order
+abbrev pub paths_of : List Line → List (List ℕ)
+paths_of lines = flat_map (λ (line : Line). paths_asked line.command) lines
 
 -- What a script leads to with so many workers, which tell this, and with what was read for its loads: where the tree tells its files, these
 -- are their bytes. Each record fits the one history; where there is no lane and no worker, it is what going through the script in order leads to

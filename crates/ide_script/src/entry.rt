@@ -1,16 +1,19 @@
 //! What `main` does once it has the real objects.
-ghost use Rattle.std.specs.Prelude.{◌≡◌, ◌≢◌, ◌<◌, [], map, string_bytes, vec_len, IfOk, OnOk, OnErr};
+ghost use Rattle.std.specs.Prelude.{◌≡◌, ◌≢◌, ◌<◌, [], map, string_bytes, vec_len, IfErr, IfOk, OnOk, OnErr};
+ghost use Rattle.std.specs.Process.{exit_status};
 ghost use Rattle.std.specs.Io.KnownBytes.{append_known};
+ghost use Rattle.command_line.specs.Request.{request_of};
 ghost use Rattle.ide_io.specs.Fault.{HasFault};
 ghost use Rattle.ide_io.specs.Known.{TakesAtMost};
 ghost use Rattle.script_lang.specs.Lines.{max_bytes};
 ghost use Rattle.ide_script.specs.Status.{number_of, fault_line};
-ghost use Rattle.ide_script.specs.Run.{EndsWith, TellsEndOnce, TellsStatus, given_words};
+ghost use Rattle.ide_script.specs.Run.{AsksNothing, EndsUnread, EndsWith, RunEnds, TellsEndOnce, TellsStatus, given_words};
 
 use crate::{Status, run_ide};
 use ide_io::{Failed, Sink, Source, Tree, write_all};
 use itoa::Buffer;
 use std::alloc::{AllocError, Global};
+use std::process::ExitCode;
 use std::sync::Wait;
 use std::thread::Threads;
 
@@ -25,16 +28,61 @@ pub fn run_main<R: Threads + Wait + Sync, S: Source, T: Tree, K: Sink, E: Sink>(
     out: &mut K,
     error: &mut E,
 ) -> u8
-    ensures ends { EndsWith S.left S.ends S.faults T.files T.faults K.taken K.faults E.taken E.faults script.old script.new tree.old tree.new out.old out.new error.old error.new
+    ensures ends { EndsWith S.Source T.Tree K.Sink E.Sink script.old script.new tree.old tree.new out.old out.new error.old error.new
         (given_words (map string_bytes words.items)) result }
     ensures within { result ≢ number_of Status.ScriptTooLong → TakesAtMost max_bytes (S.left script.old) (S.left script.new) }
     ensures end_once { TellsEndOnce (S.ends script.old) (S.ends script.new) }
+    ensures files { T.files tree.new ≡ T.files tree.old }
 {
-    let status = match with_name(alloc, words) {
+    let status = run_given(rt, alloc, words, script, tree, out);
+    finish(status, error)
+}
+
+/// Runs the program on the words that the system gave. It may wait for ever.
+fn run_given<R: Threads + Wait + Sync, S: Source, T: Tree, K: Sink>(
+    rt: &R,
+    alloc: Global,
+    words: Vec<String>,
+    script: &mut S,
+    tree: &mut T,
+    out: &mut K,
+) -> Status
+    ensures ends { RunEnds S.Source T.Tree K.Sink (request_of (given_words (map string_bytes words.items)))
+        script.old script.new tree.old tree.new out.old out.new result }
+    ensures within { result ≢ Status.ScriptTooLong → TakesAtMost max_bytes (S.left script.old) (S.left script.new) }
+    ensures end_once { TellsEndOnce (S.ends script.old) (S.ends script.new) }
+    ensures unread { AsksNothing (request_of (given_words (map string_bytes words.items))) → (script.new ≡ script.old) × (tree.new ≡ tree.old) }
+    ensures silent { result ≢ Status.Done → result ≢ Status.SinkFault → out.new ≡ out.old }
+    ensures files { T.files tree.new ≡ T.files tree.old }
+    ensures source_quiet { result ≢ Status.SourceFault → S.faults script.new ≡ S.faults script.old }
+    ensures tree_quiet { result ≢ Status.TreeFault → T.faults tree.new ≡ T.faults tree.old }
+    ensures sink_quiet { result ≢ Status.SinkFault → K.faults out.new ≡ K.faults out.old }
+{
+    match with_name(alloc, words) {
         Ok(words) => run_ide(rt, alloc, &words, script, tree, out),
         Err(_) => Status::OutOfMemory,
-    };
-    finish(status, error)
+    }
+}
+
+/// Runs the program on the words that the system gave, or says why it gave none, and gives the code with which the process
+/// ends. It may wait for ever.
+pub fn run_process<R: Threads + Wait + Sync, S: Source, T: Tree, K: Sink, E: Sink>(
+    rt: &R,
+    alloc: Global,
+    words: Result<Vec<String>, Status>,
+    script: &mut S,
+    tree: &mut T,
+    out: &mut K,
+    error: &mut E,
+) -> ExitCode
+    ensures given { IfOk words (λ words. EndsWith S.Source T.Tree K.Sink E.Sink script.old script.new tree.old tree.new out.old out.new error.old error.new
+        (given_words (map string_bytes words.items)) (exit_status result)) }
+    ensures refused { IfErr words (λ status. EndsUnread E.Sink script.old script.new tree.old tree.new out.old out.new error.old error.new status (exit_status result)) }
+{
+    ExitCode::from(match words {
+        Ok(words) => run_main(rt, alloc, words, script, tree, out, error),
+        Err(status) => finish(status, error),
+    })
 }
 
 /// The words that the system gave, or the program's name where it gave none.
@@ -53,7 +101,7 @@ fn with_name(alloc: Global, given: Vec<String>) -> Result<Vec<String>, AllocErro
 /// Writes the line of a status to `error`, and gives the number of the status.
 pub fn finish<E: Sink>(status: Status, error: &mut E) -> u8
     ensures number { result ≡ number_of status }
-    ensures line { TellsStatus E.taken E.faults error.old error.new status }
+    ensures line { TellsStatus E.Sink error.old error.new status }
 {
     let _ = write_line(status, error);
     status.number()

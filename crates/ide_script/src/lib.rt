@@ -9,7 +9,7 @@ mod run;
 mod status;
 mod system;
 
-pub use entry::{finish, run_main};
+pub use entry::{finish, run_main, run_process};
 pub use over_tree::play;
 pub use refusal::PlayRefusal;
 pub use run::run_ide;

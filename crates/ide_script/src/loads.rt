@@ -1,8 +1,9 @@
 //! Reading what the loads of a prelude ask for.
-ghost use Rattle.std.specs.Prelude.{◌≡◌, ◌≢◌, false, IfOk, Err};
+ghost use Rattle.std.specs.Prelude.{◌≡◌, ◌≢◌, IfOk, OnOk, Err};
+ghost use Rattle.ide_io.specs.Asks.{AsksEach, AsksFront, AsksSome};
 ghost use Rattle.ide_io.specs.Fault.{HasFault};
 ghost use Rattle.transcripts.specs.Loads.{AreLoadsOf, IsLoadOf, loaded_of};
-ghost use Rattle.ide_script.specs.Play.{asks_file, AskNoFile};
+ghost use Rattle.ide_script.specs.Play.{paths_asked, paths_of};
 
 use crate::PlayRefusal;
 use ide_io::{ReadFileError, Tree};
@@ -19,8 +20,11 @@ pub(crate) fn read_loads<T: Tree>(
     tree: &mut T,
 ) -> Result<Vec<Loaded>, PlayRefusal>
     ensures loads { IfOk result (λ loads. AreLoadsOf (T.files tree.old) lines.now loads.items) }
-    ensures unread { AskNoFile lines.now → tree.new ≡ tree.old }
+    ensures asks { AsksFront T.asks tree.old (paths_of lines.now) tree.new }
+    ensures asks_each { OnOk result (AsksEach T.asks tree.old (paths_of lines.now) tree.new) }
+    ensures asks_some { result ≡ Err PlayRefusal.TreeFault → AsksSome T.asks tree.old (paths_of lines.now) tree.new }
     ensures fault { result ≡ Err PlayRefusal.TreeFault → HasFault (T.faults tree.old) (T.faults tree.new) }
+    ensures files { T.files tree.new ≡ T.files tree.old }
     ensures quiet { result ≢ Err PlayRefusal.TreeFault → T.faults tree.new ≡ T.faults tree.old }
 {
     let mut loads = Vec::new(alloc);
@@ -34,9 +38,11 @@ pub(crate) fn read_loads<T: Tree>(
 /// Reads the file of a command, where it is a load of a lawful path.
 fn read_load<T: Tree>(alloc: Global, command: &Command, tree: &mut T) -> Result<Loaded, PlayRefusal>
     ensures load { IfOk result (λ load. IsLoadOf (T.files tree.old) command.now load) }
-    ensures files { T.files tree.new ≡ T.files tree.old }
-    ensures unread { asks_file command.now ≡ false → tree.new ≡ tree.old }
+    ensures asks { AsksFront T.asks tree.old (paths_asked command.now) tree.new }
+    ensures asks_each { OnOk result (AsksEach T.asks tree.old (paths_asked command.now) tree.new) }
+    ensures asks_some { result ≡ Err PlayRefusal.TreeFault → AsksSome T.asks tree.old (paths_asked command.now) tree.new }
     ensures fault { result ≡ Err PlayRefusal.TreeFault → HasFault (T.faults tree.old) (T.faults tree.new) }
+    ensures files { T.files tree.new ≡ T.files tree.old }
     ensures quiet { result ≢ Err PlayRefusal.TreeFault → T.faults tree.new ≡ T.faults tree.old }
 {
     match command {

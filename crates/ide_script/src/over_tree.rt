@@ -1,8 +1,9 @@
 //! Playing a script over a tree, from which its loads are read.
-ghost use Rattle.std.specs.Prelude.{◌≡◌, ◌≢◌, ◌≤◌, IfOk, Err};
+ghost use Rattle.std.specs.Prelude.{◌≡◌, ◌≢◌, ◌≤◌, IfOk, OnOk, Err};
 ghost use Rattle.command_line.specs.Request.{max_workers};
+ghost use Rattle.ide_io.specs.Asks.{AsksEach, AsksFront, AsksSome};
 ghost use Rattle.ide_io.specs.Fault.{HasFault};
-ghost use Rattle.ide_script.specs.Play.{Plays, AskNoFile};
+ghost use Rattle.ide_script.specs.Play.{Plays, paths_of};
 
 use crate::PlayRefusal;
 use crate::loads::read_loads;
@@ -29,8 +30,13 @@ pub fn play<R: Threads + Wait + Sync, T: Tree, G: Gate + Sync>(
     requires few { workers ≤ max_workers }
     ensures plays { IfOk result (λ played. Plays (T.files tree.old) script.now workers played.workers.items
         (record { history = played.history.entries; records = played.records; last = played.last })) }
-    ensures unread { AskNoFile script.now.prelude → tree.new ≡ tree.old }
+    // Which files the tree was asked for: the first of those that the loads ask for, each once, in their order and no other; all of
+    // them, or those up to the one at which it failed.
+    ensures asks { AsksFront T.asks tree.old (paths_of script.now.prelude) tree.new }
+    ensures asks_each { OnOk result (AsksEach T.asks tree.old (paths_of script.now.prelude) tree.new) }
+    ensures asks_some { result ≡ Err PlayRefusal.TreeFault → AsksSome T.asks tree.old (paths_of script.now.prelude) tree.new }
     ensures fault { result ≡ Err PlayRefusal.TreeFault → HasFault (T.faults tree.old) (T.faults tree.new) }
+    ensures files { T.files tree.new ≡ T.files tree.old }
     ensures quiet { result ≢ Err PlayRefusal.TreeFault → T.faults tree.new ≡ T.faults tree.old }
 {
     a_run_alone_is_serial();

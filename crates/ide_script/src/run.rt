@@ -6,7 +6,7 @@ ghost use Rattle.script_lang.specs.Grammar.{IsScript};
 ghost use Rattle.script_lang.specs.Lines.{max_bytes};
 ghost use Rattle.command_line.specs.Request.{request_of, IsInRange, max_workers, max_files, max_edits};
 ghost use Rattle.transcripts.specs.Transcript.{transcript_of, summary_of};
-ghost use Rattle.ide_script.specs.Run.{RunEnds, PlayEnds, DemoEnds, GivesScript, TellsEndOnce, ReadStops, WriteEnds, IsDemoSummary, AsksNothing};
+ghost use Rattle.ide_script.specs.Run.{RunEnds, PlayEnds, DemoEnds, GivesScript, TellsEndOnce, ReadStops, WriteEnds, PlaysDemo, AsksNothing};
 
 use crate::{PlayRefusal, Status, play};
 use command_line::{Request, WordsRefusal, request_of};
@@ -35,7 +35,7 @@ pub fn run_ide<R: Threads + Wait + Sync, S: Source, T: Tree, K: Sink>(
     requires { 0 < length words.now }
 
     // When each answer comes, by what the words ask for, and what was read and written then.
-    ensures ends { RunEnds S.left S.ends S.faults T.files T.faults K.taken K.faults (request_of (map string_bytes words.now))
+    ensures ends { RunEnds S.Source T.Tree K.Sink (request_of (map string_bytes words.now))
         script.old script.new tree.old tree.new out.old out.new result }
 
     // How much is read: at most one byte past the longest script, and nothing after the end; nothing unless the words ask for `play`.
@@ -45,6 +45,7 @@ pub fn run_ide<R: Threads + Wait + Sync, S: Source, T: Tree, K: Sink>(
 
     // What stays the same: nothing is written before the run is known to end so, and no fault is met but that which is told.
     ensures silent { result ≢ Status.Done → result ≢ Status.SinkFault → out.new ≡ out.old }
+    ensures files { T.files tree.new ≡ T.files tree.old }
     ensures source_quiet { result ≢ Status.SourceFault → S.faults script.new ≡ S.faults script.old }
     ensures tree_quiet { result ≢ Status.TreeFault → T.faults tree.new ≡ T.faults tree.old }
     ensures sink_quiet { result ≢ Status.SinkFault → K.faults out.new ≡ K.faults out.old }
@@ -74,10 +75,11 @@ fn run_play<R: Threads + Wait + Sync, S: Source, T: Tree, K: Sink>(
     out: &mut K,
 ) -> Status
     requires { workers ≤ max_workers }
-    ensures ends { PlayEnds S.left S.ends S.faults T.files T.faults K.taken K.faults workers source.old source.new tree.old tree.new out.old out.new result }
+    ensures ends { PlayEnds S.Source T.Tree K.Sink workers source.old source.new tree.old tree.new out.old out.new result }
     ensures within { result ≢ Status.ScriptTooLong → TakesAtMost max_bytes (S.left source.old) (S.left source.new) }
     ensures end_once { TellsEndOnce (S.ends source.old) (S.ends source.new) }
     ensures silent { result ≢ Status.Done → result ≢ Status.SinkFault → out.new ≡ out.old }
+    ensures files { T.files tree.new ≡ T.files tree.old }
     ensures source_quiet { result ≢ Status.SourceFault → S.faults source.new ≡ S.faults source.old }
     ensures tree_quiet { result ≢ Status.TreeFault → T.faults tree.new ≡ T.faults tree.old }
     ensures sink_quiet { result ≢ Status.SinkFault → K.faults out.new ≡ K.faults out.old }
@@ -96,8 +98,8 @@ fn run_play<R: Threads + Wait + Sync, S: Source, T: Tree, K: Sink>(
 
 /// The script that the source gives.
 fn read_script<S: Source>(alloc: Global, source: &mut S) -> Result<Script, Status>
-    ensures ok { IfOk result (λ script. GivesScript S.left S.ends source.old source.new script) }
-    ensures err { IfErr result (ReadStops S.left S.ends S.faults source.old source.new) }
+    ensures ok { IfOk result (λ script. GivesScript S.Source source.old source.new script) }
+    ensures err { IfErr result (ReadStops S.Source source.old source.new) }
     ensures within { result ≢ Err Status.ScriptTooLong → TakesAtMost max_bytes (S.left source.old) (S.left source.new) }
     ensures end_once { TellsEndOnce (S.ends source.old) (S.ends source.new) }
     ensures quiet { result ≢ Err Status.SourceFault → S.faults source.new ≡ S.faults source.old }
@@ -117,7 +119,7 @@ fn read_script<S: Source>(alloc: Global, source: &mut S) -> Result<Script, Statu
 
 /// Writes the transcript of a run.
 fn write_transcript<K: Sink>(alloc: Global, played: &Played, out: &mut K) -> Status
-    ensures ends { WriteEnds K.taken K.faults out.old out.new
+    ensures ends { WriteEnds K.Sink out.old out.new
         (transcript_of (record { history = played.now.history.entries; records = played.now.records; last = played.now.last })) result }
     ensures quiet { result ≢ Status.SinkFault → K.faults out.new ≡ K.faults out.old }
 {
@@ -138,7 +140,7 @@ fn run_demo<R: Threads + Wait + Sync, K: Sink>(
     out: &mut K,
 ) -> Status
     requires { IsInRange (Request.Demo seed files edits workers) }
-    ensures ends { DemoEnds K.taken K.faults seed files edits out.old out.new result }
+    ensures ends { DemoEnds K.Sink seed files edits workers out.old out.new result }
     ensures silent { result ≢ Status.Done → result ≢ Status.SinkFault → out.new ≡ out.old }
     ensures quiet { result ≢ Status.SinkFault → K.faults out.new ≡ K.faults out.old }
 {
@@ -158,8 +160,8 @@ fn play_demo<R: Threads + Wait + Sync>(
     workers: u32,
 ) -> Result<Played, AllocError>
     requires { IsInRange (Request.Demo seed files edits workers) }
-    ensures { IfOk result (λ played. IsDemoSummary seed files edits
-        (summary_of (record { history = played.history.entries; records = played.records; last = played.last }))) }
+    ensures { IfOk result (λ played. PlaysDemo seed files edits workers played.workers.items
+        (record { history = played.history.entries; records = played.records; last = played.last })) }
 {
     a_demo_is_lawful();
     demo_runs_agree();
@@ -186,7 +188,7 @@ fn script_of_demo(alloc: Global, seed: u32, files: u32, edits: u32) -> Result<Sc
 
 /// Writes the summary of a run.
 fn write_summary<K: Sink>(alloc: Global, played: &Played, out: &mut K) -> Status
-    ensures ends { WriteEnds K.taken K.faults out.old out.new
+    ensures ends { WriteEnds K.Sink out.old out.new
         (summary_of (record { history = played.now.history.entries; records = played.now.records; last = played.now.last })) result }
     ensures quiet { result ≢ Status.SinkFault → K.faults out.new ≡ K.faults out.old }
 {
@@ -198,7 +200,7 @@ fn write_summary<K: Sink>(alloc: Global, played: &Played, out: &mut K) -> Status
 
 /// Writes some bytes.
 fn write_bytes<K: Sink>(bytes: &[u8], out: &mut K) -> Status
-    ensures ends { WriteEnds K.taken K.faults out.old out.new bytes.now result }
+    ensures ends { WriteEnds K.Sink out.old out.new bytes.now result }
     ensures told { result ≢ Status.OutOfMemory }
     ensures quiet { result ≢ Status.SinkFault → K.faults out.new ≡ K.faults out.old }
 {

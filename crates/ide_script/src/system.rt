@@ -1,5 +1,9 @@
 //! The program over the command line, the standard streams and the current folder.
-use crate::{Status, finish, run_main};
+ghost use Rattle.std.specs.Prelude.{IfErr};
+ghost use Rattle.ide_script.specs.Run.{WordsEnd};
+
+use crate::Status;
+use crate::entry::run_process;
 use ide_io::{FolderTree, StderrSink, StdinSource, StdoutSink};
 use std::io::Stderr;
 use std::process::ExitCode;
@@ -14,24 +18,21 @@ pub fn start<R: AllocGlobal + Env + Files + Input + Print + Threads + Wait + Syn
     rt: &R,
     stderr: &Stderr,
 ) -> ExitCode {
-    let mut error = StderrSink::new(io::writer(stderr));
-    let number = match words(rt) {
-        Ok(words) => run_main(
-            rt,
-            rt.alloc(),
-            words,
-            &mut StdinSource::<R>::new(rt.reader()),
-            &mut FolderTree::new(rt),
-            &mut StdoutSink::new(io::writer(rt)),
-            &mut error,
-        ),
-        Err(status) => finish(status, &mut error),
-    };
-    ExitCode::from(number)
+    run_process(
+        rt,
+        rt.alloc(),
+        words(rt),
+        &mut StdinSource::<R>::new(rt.reader()),
+        &mut FolderTree::new(rt),
+        &mut StdoutSink::new(io::writer(rt)),
+        &mut StderrSink::new(io::writer(stderr)),
+    )
 }
 
 /// The words of the command line. A word that isn't UTF-8 is a faulty command line.
-fn words<R: AllocGlobal + Env>(rt: &R) -> Result<Vec<String>, Status> {
+fn words<R: AllocGlobal + Env>(rt: &R) -> Result<Vec<String>, Status>
+    ensures { IfErr result WordsEnd }
+{
     match env::args(rt) {
         Ok(given) => given.collect(rt.alloc()).map_err(|_| Status::OutOfMemory),
         Err(error) if error.kind() == io::ErrorKind::InvalidData => Err(Status::Usage),

@@ -1,14 +1,14 @@
 use Rattle.std.proofs.Common.{◌≡◌, ◌++◌, List, drop}
 use Rattle.transcripts.specs.declared.loaded.Loaded.{Loaded}
 use Rattle.transcripts.specs.Loads.{AreLoadsOf}
-use Rattle.ide_script.specs.Play.{AskNoFile}
+use Rattle.ide_script.proofs.LoadsLemmas.{HasAsked}
 use Rattle.ide_script.proofs.loads.read_loads.Given as goal
 
--- what was read so far and what is read for the rest are all, and no fault was met
+-- what was read so far and what is read for the rest are all; the tree was asked for the files of the lines so far, and no fault was met
 abbrev pub invariant-loop-line : goal.invariant-loop-line
 invariant-loop-line g l = record {
   files : g.T.Tree.files l.tree ≡ g.T.Tree.files l.fn.tree;
   quiet : g.T.Tree.faults l.tree ≡ g.T.Tree.faults l.fn.tree;
-  unread : AskNoFile l.lines → l.tree ≡ l.fn.tree;
+  asked : HasAsked g.T.Tree.asks l.fn.tree l.lines l.line-index l.tree;
   loads : (rest : List Loaded) → AreLoadsOf (g.T.Tree.files l.fn.tree) (drop l.line-index l.lines) rest → AreLoadsOf (g.T.Tree.files l.fn.tree) l.lines (l.loads.items ++ rest);
 }
