@@ -1,5 +1,5 @@
 -- What is left of a state's room as one thing after another is swept.
-use Rattle.std.proofs.Common.{◌≡◌, ℕ, ◌+◌, ◌<◌, ◌≤◌, List, [], ◌∷◌, length, get_or, drop, refl, sym, subst, zero, suc, arith}
+use Rattle.std.proofs.Common.{◌≡◌, ℕ, ◌+◌, ◌<◌, ◌≤◌, List, [], ◌∷◌, length, get_or, drop, refl, subst, zero, suc, arith}
 use Rattle.ide_world.specs.declared.apply.Gone.{Gone}
 use Rattle.ide_world.specs.Room.{Room}
 use Rattle.ide_world.specs.Sweep.{Sweeps, SweepsAll}

@@ -1,5 +1,5 @@
 -- What a state gives up of its room once steps were carried out.
-use Rattle.std.specs.Prelude.{◌≡◌, Bool, false, List, [], ◌∷◌, Option, None, IfSome}
+use Rattle.std.specs.Prelude.{◌≡◌, false, List, [], ◌∷◌, None, IfSome}
 use Rattle.vfs_core.specs.Held as files
 use Rattle.overlay_index.specs.Layers as layers
 use Rattle.ide_world.specs.declared.apply.Gone.{Gone}

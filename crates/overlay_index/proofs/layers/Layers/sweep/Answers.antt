@@ -1,4 +1,4 @@
-use Rattle.std.proofs.Common.{◌≡◌, ℕ, false, eqb, ap, ◌∙◌, subst}
+use Rattle.std.proofs.Common.{◌≡◌, ℕ, false, eqb, ◌∙◌, subst}
 use Rattle.overlay_index.specs.Parts.{Parts}
 use Rattle.overlay_index.specs.Layers.{Held, HasRoom, IsSwept, GivesUp, base_of, overlay_of}
 use Rattle.overlay_index.proofs.LayerLemmas as lemmas

@@ -1,6 +1,4 @@
-use Rattle.std.proofs.Common.{◌≡◌, ℕ, [], ◌∷◌, false, eqb, sym, subst, append-nil}
-use Rattle.std.specs.Str.{bytes_eq}
-use Rattle.file_index.specs.Rows as index
+use Rattle.std.proofs.Common.{◌≡◌, ℕ, [], ◌∷◌, false, eqb, subst, append-nil}
 use Rattle.overlay_index.specs.Parts.{Parts}
 use Rattle.overlay_index.specs.Layers.{Shown, HasTableRoom, GivesUp}
 use Rattle.overlay_index.proofs.LayerLemmas as lemmas
