@@ -16,6 +16,8 @@ module _ {H E : Type 0} (number_of : E → ℕ) (stands : H → List E → Type 
         keeps,
         tt,
         quiet number_of stands s r gate id v (checked found v) at refl refl refl
-            (renewed number_of r.history r.drawn (record v { checks = v.checks + 1 }) n has (counted_in number_of r.history r.drawn v n (v.checks + 1) has sound) v.phase v.intent v.current (v.looks + 1) v.held (sights_after v.sights found) found sound.asks (is_current number_of r.history r.drawn v sound) sound.entered),
+            (renewed number_of r.history r.drawn (record v { checks = v.checks + 1 }) n has
+            (counted_in number_of r.history r.drawn v n (v.checks + 1) has sound)
+            v.phase v.intent v.current (v.looks + 1) v.held (sights_after v.sights found) found sound.asks (is_current number_of r.history r.drawn v sound) sound.entered),
         refl,
       )

@@ -32,7 +32,8 @@ module _ {E : Type 0} (number_of : E → ℕ) (history : List E) (drawn : ℕ) w
   }
 
   -- one look more in a read
-  pub counted_in : (v : View E) (n checks : ℕ) → v.number ≡ Some n → IsSound number_of history drawn v → IsSound number_of history drawn (record v { checks = checks })
+  pub counted_in : (v : View E) (n checks : ℕ) → v.number ≡ Some n → IsSound number_of history drawn v
+      → IsSound number_of history drawn (record v { checks = checks })
   counted_in v n checks has sound = record {
     spent = λ none_there. absurd (some_number v.number n has none_there);
     counts = sound.counts;

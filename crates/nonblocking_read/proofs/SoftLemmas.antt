@@ -33,4 +33,10 @@ module _ {E : Type 0} where
 
   -- the last read, after some attempts
   pub last_on : (number_of : E → ℕ) (u v w : View E) → HasOnlyRead u v → HasReadLast number_of v w → HasReadLast number_of u w
-  last_on number_of u v w p q = record { earlier = q.earlier; reads = front_trans u.reads v.reads q.earlier p.advances.reads q.reads; last = q.last; own = q.own; checked = checked_on u v w p.advances q.checked }
+  last_on number_of u v w p q = record {
+    earlier = q.earlier;
+    reads = front_trans u.reads v.reads q.earlier p.advances.reads q.reads;
+    last = q.last;
+    own = q.own;
+    checked = checked_on u v w p.advances q.checked;
+  }

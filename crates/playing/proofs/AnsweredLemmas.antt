@@ -213,7 +213,8 @@ checked_as beside line v w command b is due h = subst (λ (x : Bool). HasChecked
 pub line_done : (beside : Bool) (line : Line) (load : Loaded) (v w : View Entry) (command : Command) {E : Type 0} (result : Result Answer E)
     → line.command ≡ command → (is_soft command && beside) ≡ false → IfOk result (IsAnswered (λ start seat. step_of load start seat line.number command) v w)
     → IfOk result (IsLineAnswered beside line load v w)
-line_done beside line load v w command (Ok answer) is hard h = inl (done_as line load v w command answer is h, checked_as beside line v w command false is hard tt)
+line_done beside line load v w command (Ok answer) is hard h =
+    inl (done_as line load v w command answer is h, checked_as beside line v w command false is hard tt)
 line_done beside line load v w command (Err e) is hard h = tt
 
 softly_as : (beside : Bool) (line : Line) (load : Loaded) (v w : View Entry) (attempts : ℕ) (query : Query) (answer : Answer) → beside ≡ true

@@ -95,7 +95,8 @@ moved beside seat line load v w low answer number advances seen sights h = ⊎_e
     h
 
 -- a look for an answer that had to look, and none for a question that was given up
-look_owed : (soft reply : Bool) (v w : View Entry) → Advances v w → HasCheckedIf soft v w ⊎ (reply ≡ false) → all_checks v + one_if (soft && reply) ≤ all_checks w
+look_owed : (soft reply : Bool) (v w : View Entry) → Advances v w → HasCheckedIf soft v w ⊎ (reply ≡ false)
+    → all_checks v + one_if (soft && reply) ≤ all_checks w
 look_owed true true v w advances (inl checked) = let before = checked.earlier in let some = checked.some in omega arith
 look_owed true true v w advances (inr none) = absurd (cc)
 look_owed true false v w advances h = let more = advances.checks in omega arith
@@ -218,7 +219,8 @@ section_ends beside seat lines loads v w old new loads_left h = record {
         (subst (λ (l : List Entry). SectionFits beside history seat (mark_of v) lines loads (h.records ++ []) l h.mark) (append-nil h.own)
         (h.fits history front [] [] h.mark (refl, refl, refl)));
     seen = h.seen;
-    looked = subst (λ (l : List Record). all_checks v + looks_owed beside lines l ≤ all_checks w) (append-nil h.records) (let all = h.looked [] in omega arith);
+    looked = subst (λ (l : List Record). all_checks v + looks_owed beside lines l ≤ all_checks w) (append-nil h.records)
+        (let all = h.looked [] in omega arith);
     sights = h.sights;
   };
 }

@@ -8,9 +8,9 @@ use Rattle.playing.proofs.asking.do_soft_ask.Goals as goal
 pub returns-in-Ok-clause-answer : goal.returns-in-Ok-clause-answer
 returns-in-Ok-clause-answer g c =
     inl (
-        subst (IsAnswered (λ start seat. query_step start c.args.query.now) (ide_view c.args.pass.now) (ide_view c.soft_ask.new.pass))
-            (sym c.answer_of.ensures) (replies _ _ c.args.query.now c.in-Ok.replied c.in-Ok.ensures.ok),
-        c.in-Ok.ensures.looked,
+      subst (IsAnswered (λ start seat. query_step start c.args.query.now) (ide_view c.args.pass.now) (ide_view c.soft_ask.new.pass))
+          (sym c.answer_of.ensures) (replies _ _ c.args.query.now c.in-Ok.replied c.in-Ok.ensures.ok),
+      c.in-Ok.ensures.looked,
     )
 
 pub returns-in-Err-Cancelled-clause-answer : goal.returns-in-Err-Cancelled-clause-answer

@@ -39,4 +39,5 @@ returns-in-Soft-clause-answer g c =
 
 pub returns-in-Soft-2-clause-answer : goal.returns-in-Soft-2-clause-answer
 returns-in-Soft-2-clause-answer g c =
-    line_done c.args.beside c.args.line.now c.args.load.now _ _ (command.Soft _ c.in-Soft-2.query) _ c.in-Soft-2.is c.if-beside.false c.do_ask-in-Soft-2.ensures.answer
+    line_done c.args.beside c.args.line.now c.args.load.now _ _ (command.Soft _ c.in-Soft-2.query) _
+    c.in-Soft-2.is c.if-beside.false c.do_ask-in-Soft-2.ensures.answer
