@@ -25,13 +25,17 @@ is printed):
 | what the headline says | where it stands |
 |---|---|
 | the one printed history | `transcript_of` prints `ended.history`; `RunFits.legal`: no entry is refused where it stands |
-| each accepted write stands in it once | `RunFits`: it is `opening`, `middle` and `closing`; a section's entries are its own list in `SectionFits`, piece by piece, and nothing else with its seat (`LanesFit`: `made_by`; `seats`; `workers`) |
+| each accepted write stands in it once | `RunFits`: it is `opening`, `middle` and `closing`; a section's entries are its own list in `SectionFits`, piece by piece, and nothing else with its seat (`LanesFit`: `made_by`; `seats`; `worked`) |
 | each printed reply is the one that indexing from scratch gives | `IsDone.step`: the answer is that of `step_of`, which for a question is `reply` of the world that the prefix makes, and `reply` lists the shown texts anew |
 | after a prefix of that history | `IsDone.stands`: `start`, and what the command made behind it, begin the history |
 | a prefix that holds all that its lane had seen | `IsDone.late` and the marks of `SectionFits`; a lane begins at the mark behind the prelude, the last section behind all others |
 | a settle leaves nothing unready | the law `a_settle_readies_all` on `settled` |
-| `cancelled` only where the lane's pass saw pending writes | `IsGivenUp`: its sights rose by at least as many as it was allowed attempts; `Fits`: only where another section runs beside |
-| what workers made | `WorkerFits`: intakes without a line, no two of the same file and stamp, as many as it tells; `EndFits` |
+| `cancelled` only where the lane's pass saw pending writes | `IsGivenUp`: the record's counts of sights rose by at least as many as it was allowed attempts; `Fits`: only where another section runs beside. That these counts are the pass's is `HasSighted` (of `soft_ask`), which alone makes a `Sighted` |
+| what workers made | `RunFits.worked` (`WorkerFits`): intakes without a line, no two of the same file and stamp, as many as it tells; `EndFits` |
+
+What the lock's proofs speak of stands in the sources of `action_lock` besides: `src/rule.rt` and `src/plays.rt` are statements
+(the rule that holds between any two atomic steps, and what each step tells the pass that takes it), to be read with
+`specs/Rule.antt` and `specs/Steps.antt`. A peek at a word is a plain load, outside the table of steps.
 """
 
 
