@@ -15,8 +15,29 @@ pub(crate) enum Step {
     Put(u32, &'static str),
 }
 
+/// Makes calls one after another, and tells how many could be made and left what they should, up to the first that didn't.
+pub(crate) fn perform_all(
+    alloc: Global,
+    files: &mut Files,
+    steps: &[(Step, &str)],
+) -> Result<usize, AllocError> {
+    let mut right = 0usize;
+    for (step, wanted) in steps {
+        if !perform(alloc, files, *step)? || !shows(alloc, files, wanted)? {
+            return Ok(right);
+        }
+        right = right.saturating_add(1);
+    }
+    Ok(right)
+}
+
+/// Whether just this is seen of the files.
+fn shows(alloc: Global, files: &Files, wanted: &str) -> Result<bool, AllocError> {
+    Ok(seen(alloc, files)?.as_str() == wanted)
+}
+
 /// Makes a call, and tells whether it could be made.
-pub(crate) fn perform(alloc: Global, files: &mut Files, step: Step) -> Result<bool, AllocError> {
+fn perform(alloc: Global, files: &mut Files, step: Step) -> Result<bool, AllocError> {
     match step {
         Step::Create(path, text) => {
             let made = create(files, Name::of(alloc, path)?, text_of(alloc, text)?)?;
@@ -40,7 +61,7 @@ pub(crate) fn perform(alloc: Global, files: &mut Files, step: Step) -> Result<bo
 
 /// The live files, each by its id, path, the number of its characters and its stamp, with a star where it is indexed
 /// at that stamp.
-pub(crate) fn seen(alloc: Global, files: &Files) -> Result<String, AllocError> {
+fn seen(alloc: Global, files: &Files) -> Result<String, AllocError> {
     let mut text = String::new(alloc);
     for id in 1..=files.made() as u32 {
         if let Some(row) = files.by_id(id) {
@@ -65,7 +86,16 @@ fn line_of(alloc: Global, id: u32, row: &FileRow) -> Result<String, AllocError> 
     )
 }
 
-/// The id of the live file at a path.
-pub(crate) fn found(alloc: Global, files: &Files, path: &str) -> Result<Option<u32>, AllocError> {
-    Ok(files.by_path(&Name::of(alloc, path)?))
+/// Whether each path has the live file with its id, or none.
+pub(crate) fn finds_all(
+    alloc: Global,
+    files: &Files,
+    paths: &[(&str, Option<u32>)],
+) -> Result<bool, AllocError> {
+    for (path, wanted) in paths {
+        if files.by_path(&Name::of(alloc, path)?) != *wanted {
+            return Ok(false);
+        }
+    }
+    Ok(true)
 }

@@ -1,19 +1,29 @@
 //! Tests of the lock and of soft reads, over a home value of their own.
 #![tactic(auto)]
 
-pub mod append;
+#[cfg(test)]
+mod append;
+#[cfg(test)]
 mod board;
-pub mod count;
-pub mod drawing;
-pub mod lanes;
-pub mod looking;
-pub mod nothing;
-pub mod reads;
-pub mod refusals;
-pub mod side_by_side;
+#[cfg(test)]
+mod count;
+#[cfg(test)]
+mod drawing;
+#[cfg(test)]
+mod lanes;
+#[cfg(test)]
+mod looking;
+#[cfg(test)]
+mod nothing;
+#[cfg(test)]
+mod reads;
+#[cfg(test)]
+mod refusals;
+#[cfg(test)]
+mod side_by_side;
 #[cfg(test)]
 mod tests;
-pub mod waiting;
-pub mod writes;
-
-pub use board::{Board, Note};
+#[cfg(test)]
+mod waiting;
+#[cfg(test)]
+mod writes;

@@ -1,13 +1,14 @@
 //! Calls on documents that look first whether they may be made, and say whether they were.
-ghost use Rattle.std.specs.Prelude.{◌≡◌, ◌<◌, IfOk};
-
 use document_buf::{Doc, Docs};
-use ide_text::{MAX_CHARS, SharedText, Text, TextRefusal};
+use ide_text::{MAX_CHARS, SharedText, Text};
 use std::alloc::{AllocError, Global};
 
-/// The text that a string spells.
-pub(crate) fn text_of(alloc: Global, text: &str) -> Result<Text, TextRefusal> {
-    Text::from_utf8(alloc, text.as_bytes())
+/// The text that a string spells. One that is none, or too long, counts as want of memory.
+pub(crate) fn text_of(alloc: Global, text: &str) -> Result<Text, AllocError> {
+    match Text::from_utf8(alloc, text.as_bytes()) {
+        Ok(text) => Ok(text),
+        Err(_) => Err(AllocError),
+    }
 }
 
 /// Opens a document with this content where none is open.
@@ -16,9 +17,10 @@ pub(crate) fn open(
     alloc: Global,
     id: u32,
     content: Text,
-) -> Result<bool, AllocError>
-    requires { 0 < id }
-{
+) -> Result<bool, AllocError> {
+    if id == 0 {
+        return Ok(false);
+    }
     docs.reserve(id, 0)?;
     let doc = Doc::open(alloc, &SharedText::new(alloc, content)?, 0)?;
     if docs.get(id).is_some() {
@@ -29,9 +31,10 @@ pub(crate) fn open(
 }
 
 /// Puts a piece in before an offset.
-pub(crate) fn put(docs: &mut Docs, id: u32, at: u32, piece: &Text) -> Result<bool, AllocError>
-    requires { 0 < id }
-{
+pub(crate) fn put(docs: &mut Docs, id: u32, at: u32, piece: &Text) -> Result<bool, AllocError> {
+    if id == 0 {
+        return Ok(false);
+    }
     docs.reserve(id, piece.len())?;
     match docs.get(id) {
         Some(doc) if at <= doc.len() && doc.len() + piece.len() <= MAX_CHARS as u32 => {}
@@ -100,19 +103,19 @@ pub(crate) fn shows(
     alloc: Global,
     id: u32,
     wanted: (&str, &str, bool),
-) -> Result<bool, TextRefusal> {
+) -> Result<bool, AllocError> {
     let text = text_of(alloc, wanted.0)?;
     let committed = text_of(alloc, wanted.1)?;
-    Ok(match docs.get(id) {
-        Some(doc) => match doc.text() {
-            Ok(own) => {
+    match docs.get(id) {
+        Some(doc) => {
+            let own = doc.text()?;
+            Ok(
                 own.is_same(&text)
                     && doc.committed().as_text().is_same(&committed)
                     && doc.saved() == wanted.2
-                    && doc.is_committed() == text.is_same(&committed)
-            }
-            Err(_) => return Err(TextRefusal::OutOfMemory),
-        },
-        None => false,
-    })
+                    && doc.is_committed() == text.is_same(&committed),
+            )
+        }
+        None => Ok(false),
+    }
 }
