@@ -25,7 +25,8 @@ module _ {K V : Type 0} (eq : K → K → Bool) (file : ℕ) (files changed : Li
 
   -- every file is still placed where one was taken out with its rows and from under their keys
   pub removed_placed : (own : List (K × V)) → ((j : ℕ) → rows_in_file j changed ≡ cond (eqb j file) [] (rows_in_file j files))
-      → ((key : K) (j : ℕ) → is_placed eq left key j ≡ (is_placed eq places key j && not (eqb j file && has_key eq key own && not (has_key eq key (rows_in_file file changed)))))
+      → ((key : K) (j : ℕ) → is_placed eq left key j
+      ≡ (is_placed eq places key j && not (eqb j file && has_key eq key own && not (has_key eq key (rows_in_file file changed)))))
       → AllPlaced eq files places → AllPlaced eq changed left
   removed_placed own each taken all j key has = by (eqb j file) refl (sym (ap (has_key eq key) (each j)) ∙ has)
     where
@@ -33,25 +34,31 @@ module _ {K V : Type 0} (eq : K → K → Bool) (file : ℕ) (files changed : Li
       by true same has = absurd (false≢true has)
       by false other has = kept_placed (has_key eq key own) (not (has_key eq key (rows_in_file file changed))) key j (taken key j) other (all j key has)
 
-module _ {K V : Type 0} (eq : K → K → Bool) (laws : IsEquivalence eq) (rows own : List (K × V)) (item : K × V) (i : ℕ) (within : i < length rows) (here : item ≡ get_or rows i item) where
+module _ {K V : Type 0} (eq : K → K → Bool) (laws : IsEquivalence eq) (rows own : List (K × V)) (item : K × V) (i : ℕ)
+    (within : i < length rows) (here : item ≡ get_or rows i item) where
   -- one row more, under whose key a file that has none goes, and one that has some stays
   seen_more : (key : K) → has_key eq key (take (i + 1) rows) ≡ (has_key eq key (take i rows) || eq key item.0)
-  seen_more key = list_any_more (λ (row : K × V). eq key row.0) rows i item within ∙ ap (λ (row : K × V). has_key eq key (take i rows) || eq key row.0) (sym here)
+  seen_more key =
+      list_any_more (λ (row : K × V). eq key row.0) rows i item within
+      ∙ ap (λ (row : K × V). has_key eq key (take i rows) || eq key row.0) (sym here)
 
   -- a file has rows under a key where it has some under an equal one
   has_equal : (key : K) → eq key item.0 ≡ true → (some : List (K × V)) → has_key eq key some ≡ has_key eq item.0 some
   has_equal key same [] = refl
-  has_equal key same (row ∷ rest) = ap (λ b. b || has_key eq key rest) (laws.congr key item.0 row.0 same) ∙ ap (λ b. eq item.0 row.0 || b) (has_equal key same rest)
+  has_equal key same (row ∷ rest) =
+      ap (λ b. b || has_key eq key rest) (laws.congr key item.0 row.0 same) ∙ ap (λ b. eq item.0 row.0 || b) (has_equal key same rest)
 
   pub more_taken : (key : K) (there last at : Bool) → there ≡ (last && not (at && has_key eq key (take i rows) && not (has_key eq key own)))
-      → has_key eq item.0 own ≡ false → (there && not (eq item.0 key && at)) ≡ (last && not (at && has_key eq key (take (i + 1) rows) && not (has_key eq key own)))
+      → has_key eq item.0 own ≡ false
+      → (there && not (eq item.0 key && at)) ≡ (last && not (at && has_key eq key (take (i + 1) rows) && not (has_key eq key own)))
   more_taken key there last at so none =
       ap (λ b. b && not (eq item.0 key && at)) so
       ∙ ap (λ b. last && not (at && has_key eq key (take i rows) && not (has_key eq key own)) && not (b && at)) (laws.symm item.0 key)
       ∙ by last at (has_key eq key (take i rows)) (eq key item.0) (has_key eq key own) (λ same. has_equal key same own ∙ none)
       ∙ ap (λ b. last && not (at && b && not (has_key eq key own))) (sym (seen_more key))
     where
-      by : (last at seen equal has : Bool) → (equal ≡ true → has ≡ false) → (last && not (at && seen && not has) && not (equal && at)) ≡ (last && not (at && (seen || equal) && not has))
+      by : (last at seen equal has : Bool) → (equal ≡ true → has ≡ false)
+          → (last && not (at && seen && not has) && not (equal && at)) ≡ (last && not (at && (seen || equal) && not has))
       by false at seen equal has bound = refl
       by true true true true true bound = absurd (false≢true (sym (bound refl)))
       by true true true true false bound = refl
@@ -71,7 +78,8 @@ module _ {K V : Type 0} (eq : K → K → Bool) (laws : IsEquivalence eq) (rows 
       ∙ by last at (has_key eq key (take i rows)) (eq key item.0) (has_key eq key own) (λ same. has_equal key same own ∙ some)
       ∙ ap (λ b. last && not (at && b && not (has_key eq key own))) (sym (seen_more key))
     where
-      by : (last at seen equal has : Bool) → (equal ≡ true → has ≡ true) → (last && not (at && seen && not has)) ≡ (last && not (at && (seen || equal) && not has))
+      by : (last at seen equal has : Bool) → (equal ≡ true → has ≡ true)
+          → (last && not (at && seen && not has)) ≡ (last && not (at && (seen || equal) && not has))
       by last at true equal has bound = refl
       by last at false false has bound = refl
       by last true false true true bound = refl

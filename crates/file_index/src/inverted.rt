@@ -3,7 +3,8 @@ ghost use Rattle.std.specs.Prelude.{◌≡◌, ℕ, List, [], Bool, if◌then◌
 ghost use Rattle.std.specs.Ordering.{nat_cmp};
 ghost use Rattle.std.specs.List.Sorted.{IsStrictlySortedBy};
 ghost use Rattle.file_index.specs.Walk.{HasAllFiles, walked};
-ghost use Rattle.file_index.specs.Rows.{rows, rows_in_file, with_rows, without_file, rows_at, is_known, HasRoom, KeepsRoom, KeepsRoomBut, GivesUp, IsKnownByRows};
+ghost use Rattle.file_index.specs.Rows.{rows, rows_in_file, with_rows, without_file, rows_at, is_known, IsKnownByRows};
+ghost use Rattle.file_index.specs.Rows.{HasRoom, KeepsRoom, KeepsRoomBut, GivesUp};
 ghost use Rattle.file_index.specs.KeyRows.{has_key};
 ghost use Rattle.file_index.specs.Places.{is_placed};
 

@@ -118,7 +118,8 @@ fn copy_entry<I: Indexer>(
     key: &I::Key,
     ids: &Ids,
 ) -> Result<(), AllocError>
-    ensures { OnOk result ((k : I.Key) → lookup (I.Key.eq k) files.new.entries ≡ (if I.Key.eq key.now k then Some ids.now else lookup (I.Key.eq k) files.old.entries)) }
+    ensures { OnOk result ((k : I.Key) → lookup (I.Key.eq k) files.new.entries
+        ≡ (if I.Key.eq key.now k then Some ids.now else lookup (I.Key.eq k) files.old.entries)) }
 {
     let key = indexer.copy_key(alloc, key)?;
     let ids = ids.copy()?;

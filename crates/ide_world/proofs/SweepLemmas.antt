@@ -10,7 +10,8 @@ pub swept_more : (gone : List Gone) (i : ℕ) (taken : Gone) → i < length gone
 swept_more [] i taken within here old mid new one rest = absurd (omega (arith, within))
 swept_more (first ∷ others) zero taken within here old mid new one rest = (mid, (subst (λ t. Sweeps t old mid) here one, rest))
 swept_more (first ∷ others) (suc i) taken within here old mid new one rest =
-    swept_more others i taken (omega (arith, within)) here old mid new one (let e : suc i + 1 ≡ suc (i + 1) = omega arith in subst (λ n. SweepsAll (drop n (first ∷ others)) mid new) e rest)
+    let e : suc i + 1 ≡ suc (i + 1) = omega arith in
+    swept_more others i taken (omega (arith, within)) here old mid new one (subst (λ n. SweepsAll (drop n (first ∷ others)) mid new) e rest)
 
 -- nothing is left to be swept
 pub swept_all : (gone : List Gone) (i : ℕ) (room : Room) → length gone ≤ i → SweepsAll (drop i gone) room room

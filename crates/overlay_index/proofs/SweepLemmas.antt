@@ -29,11 +29,14 @@ module _ {V : Type 0} (file : ℕ) where
   both_given : (first rest : List (List ℕ × V)) (old mid new : Table (List ℕ) V) → rows_in_file file mid.files ≡ rows_in_file file new.files
       → Gives first old mid → Gives rest mid new → Gives (first ++ rest) old new
   both_given first rest old mid new same one two key other =
+      let there = is_placed bytes_eq old.room key other in
+      let own = has_key bytes_eq key (rows_in_file file new.files) in
+      let later = has_key bytes_eq key rest in
       two key other
-      ∙ ap (λ b. b && not (eqb other file && has_key bytes_eq key rest && not (has_key bytes_eq key (rows_in_file file new.files)))) (one key other)
-      ∙ ap (λ l. is_placed bytes_eq old.room key other && not (eqb other file && has_key bytes_eq key first && not (has_key bytes_eq key l)) && not (eqb other file && has_key bytes_eq key rest && not (has_key bytes_eq key (rows_in_file file new.files)))) same
-      ∙ by (is_placed bytes_eq old.room key other) (eqb other file) (has_key bytes_eq key first) (has_key bytes_eq key rest) (has_key bytes_eq key (rows_in_file file new.files))
-      ∙ ap (λ b. is_placed bytes_eq old.room key other && not (eqb other file && b && not (has_key bytes_eq key (rows_in_file file new.files)))) (sym (list_any-append (λ (row : List ℕ × V). bytes_eq key row.0) first rest))
+      ∙ ap (λ b. b && not (eqb other file && later && not own)) (one key other)
+      ∙ ap (λ l. there && not (eqb other file && has_key bytes_eq key first && not (has_key bytes_eq key l)) && not (eqb other file && later && not own)) same
+      ∙ by there (eqb other file) (has_key bytes_eq key first) later own
+      ∙ ap (λ b. there && not (eqb other file && b && not own)) (sym (list_any-append (λ (row : List ℕ × V). bytes_eq key row.0) first rest))
     where
       by : (there here a b own : Bool) → (there && not (here && a && not own) && not (here && b && not own)) ≡ (there && not (here && (a || b) && not own))
       by false here a b own = refl

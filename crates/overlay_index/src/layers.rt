@@ -1,7 +1,8 @@
 //! Two layers of rows.
 ghost use Rattle.std.specs.Prelude.{◌≡◌, ◌==◌, ◌++◌, ◌∷◌, [], ℕ, true, false, is_some, Some, None, if◌then◌else◌, option_to_list, IfOk, OnOk};
 ghost use Rattle.overlay_index.specs.Parts.{Parts, no_parts};
-ghost use Rattle.overlay_index.specs.Layers.{base_of, overlay_of, shown_of, covered_of, parts_in, HasTableRoom, HasRoom, KeepsRoom, KeepsRoomBut, GivesUp, IsSwept, IsShownTo};
+ghost use Rattle.overlay_index.specs.Layers.{base_of, overlay_of, shown_of, covered_of, parts_in, IsShownTo};
+ghost use Rattle.overlay_index.specs.Layers.{HasTableRoom, HasRoom, KeepsRoom, KeepsRoomBut, GivesUp, IsSwept};
 ghost use Rattle.overlay_index.specs.Found.{values_of, found_to};
 
 use crate::data::FileData;

@@ -12,7 +12,9 @@ loop-key-preserved g c =
     let own = rows_in_file c.args.file c.args.files.now in
     λ k j. elim c.if-not-has_key.branch [
       | then-not-has_key w ↦ ap (λ places. is_placed eq places k j) w.postings-is ∙ w.take_out.ensures k j
-          ∙ more_taken eq g.met.K.Eq.laws rows own c.loop-key-item.result c.loop-key.key-index c.loop-key-test.true c.loop-key-item.is k _ _ (eqb j c.args.file) (c.loop-key.invariant k j) (sym c.has_key.ensures ∙ w.if-not-has_key.true)
+          ∙ more_taken eq g.met.K.Eq.laws rows own c.loop-key-item.result c.loop-key.key-index c.loop-key-test.true c.loop-key-item.is
+          k _ _ (eqb j c.args.file) (c.loop-key.invariant k j) (sym c.has_key.ensures ∙ w.if-not-has_key.true)
       | else-not-has_key w ↦ ap (λ places. is_placed eq places k j) w.postings-is
-          ∙ more_kept eq g.met.K.Eq.laws rows own c.loop-key-item.result c.loop-key.key-index c.loop-key-test.true c.loop-key-item.is k _ _ (eqb j c.args.file) (c.loop-key.invariant k j) (sym c.has_key.ensures ∙ w.if-not-has_key.false)
+          ∙ more_kept eq g.met.K.Eq.laws rows own c.loop-key-item.result c.loop-key.key-index c.loop-key-test.true c.loop-key-item.is
+          k _ _ (eqb j c.args.file) (c.loop-key.invariant k j) (sym c.has_key.ensures ∙ w.if-not-has_key.false)
     ]

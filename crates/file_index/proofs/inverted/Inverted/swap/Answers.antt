@@ -8,7 +8,8 @@ pub put-requires : goal.put-requires
 put-requires g c = ap (λ table. is_known c.args.file table.files) c.self.view_is ∙ c.requires.known
 
 pub invariant_of-self : goal.invariant_of-self
-invariant_of-self g c = swapped_placed g.I.Key.PartialEq.eq c.args.file c.self.inside.files c.put.new.self c.self.inside.postings [] c.args.new c.put.ensures.each c.self.invariant
+invariant_of-self g c = swapped_placed g.I.Key.PartialEq.eq
+    c.args.file c.self.inside.files c.put.new.self c.self.inside.postings [] c.args.new c.put.ensures.each c.self.invariant
     (λ key has. ap (λ table. is_placed g.I.Key.PartialEq.eq table.room key c.args.file) c.self.view_is ∙ c.requires.placed key has)
 
 pub returns-clause-old : goal.returns-clause-old

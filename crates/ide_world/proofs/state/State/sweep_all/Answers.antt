@@ -9,7 +9,8 @@ pub loop-taken-preserved : goal.loop-taken-preserved
 loop-taken-preserved c = record {
   world = c.sweep.ensures.world ∙ c.loop-taken.invariant.world;
   room = λ end rest. c.loop-taken.invariant.room end
-      (swept_more c.args.gone.now c.loop-taken.taken-index c.taken-item.result c.loop-taken-test.true c.taken-item.is c.loop-taken.self.room c.sweep.new.self.room end c.sweep.ensures.room rest);
+      (swept_more c.args.gone.now c.loop-taken.taken-index c.taken-item.result c.loop-taken-test.true c.taken-item.is
+      c.loop-taken.self.room c.sweep.new.self.room end c.sweep.ensures.room rest);
 }
 
 pub returns-clause-room : goal.returns-clause-room
