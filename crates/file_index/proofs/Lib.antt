@@ -3,3 +3,4 @@ pub mod KeyRowLemmas
 pub mod TableLemmas
 pub mod WalkLemmas
 pub mod SortLemmas
+pub mod PlaceLemmas

@@ -234,3 +234,23 @@ module _ {K V : Type 0} where
         by : (found : Option (List (K × V))) → is_some found ≡ false → unwrap_or found [] ≡ []
         by None e = refl
         by (Some rows) e = absurd (false≢true (sym e))
+
+  -- the rows of a file after some file was given others
+  pub put_at : (file j : ℕ) (new : List (K × V)) (found : Option (List (K × V)))
+      → unwrap_or (cond (is_at (nat_cmp file) j) (Some new) found) [] ≡ cond (eqb j file) new (unwrap_or found [])
+  put_at file j new found = ⊎_elim here (λ apart. ⊎_elim before after apart) (cases_order file j)
+    where
+      left : Ordering → List (K × V)
+      left o = unwrap_or (cond (is_eq o) (Some new) found) []
+
+      right : Bool → List (K × V)
+      right b = cond b new (unwrap_or found [])
+
+      here : file ≡ j → left (nat_cmp file j) ≡ right (eqb j file)
+      here same = ap left (cmp_same file j same) ∙ sym (ap right (eq-eqb j file (sym same)))
+
+      before : file < j → left (nat_cmp file j) ≡ right (eqb j file)
+      before less = ap left (cmp_less file j less) ∙ sym (ap right (ne_eqb j file (λ same. absurd (omega (arith, same, less)))))
+
+      after : j < file → left (nat_cmp file j) ≡ right (eqb j file)
+      after more = ap left (cmp_more file j more) ∙ sym (ap right (ne_eqb j file (λ same. absurd (omega (arith, same, more)))))

@@ -1,5 +1,5 @@
 -- The rows of all files.
-use Rattle.std.specs.Prelude.{ℕ, Bool, true, ◌≡◌, ◌==◌, false, not, nat_lt, List, [], ◌++◌, map, filter}
+use Rattle.std.specs.Prelude.{ℕ, Bool, true, ◌≡◌, ◌==◌, ◌&&◌, false, not, nat_lt, List, [], ◌++◌, length, map, filter}
 use Rattle.std.specs.Option.{unwrap_or, is_some}
 use Rattle.std.specs.List.{flat_map}
 use Rattle.std.specs.Ordering.{nat_cmp}
@@ -62,3 +62,13 @@ module _ {K V : Type 0} where
   -- what had room still has it
   abbrev pub KeepsRoom : (K → K → Bool) → Table K V → Table K V → Type 0
   KeepsRoom eq old new = (file : ℕ) (given : List (K × V)) → HasRoom eq old file given → HasRoom eq new file given
+
+  -- a file gave up its places under the keys of these rows: what was placed still is, but for this file under keys that
+  -- one of the rows has and none of the file's own
+  abbrev pub GivesUp : (K → K → Bool) → ℕ → List (K × V) → Table K V → Table K V → Type 0
+  GivesUp eq file given old new = (key : K) (other : ℕ) → is_placed eq new.room key other
+      ≡ (is_placed eq old.room key other && not (other == file && has_key eq key given && not (has_key eq key (rows_in_file file new.files))))
+
+  -- a file that is known has rows
+  abbrev pub IsKnownByRows : ℕ → List (ℕ × List (K × V)) → Type 0
+  IsKnownByRows file files = is_known file files ≡ not (length (rows_in_file file files) == 0)

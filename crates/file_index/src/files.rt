@@ -1,11 +1,13 @@
 //! The rows of each file.
-ghost use Rattle.std.specs.Prelude.{◌≡◌, ℕ, List, [], Bool, true, if◌then◌else◌, is_some, unwrap_or, OnOk, IfOk, ◌==◌, false, length};
+ghost use Rattle.std.specs.Prelude.{◌≡◌, ℕ, List, [], Bool, true, if◌then◌else◌, is_some, unwrap_or, OnOk, IfOk, ◌==◌, false, length, Some};
 ghost use Rattle.std.specs.Ordering.{nat_cmp};
 ghost use Rattle.std.specs.List.Sorted.{IsStrictlySortedBy};
+ghost use Rattle.std.specs.BTreeMap.{get, is_at};
+ghost use Rattle.std.specs.Map.{keys_of};
 ghost use Rattle.file_index.specs.KeyRows.{has_key, rows_with};
 ghost use Rattle.file_index.specs.Places.{has_id};
 ghost use Rattle.file_index.specs.Walk.{HasAllFiles, walked};
-ghost use Rattle.file_index.specs.Rows.{is_known, rows_of, rows_at, rows_in_file, with_rows, without_file};
+ghost use Rattle.file_index.specs.Rows.{is_known, rows_of, rows_at, rows_in_file, with_rows, without_file, IsKnownByRows};
 
 use crate::key_rows::copy_rows;
 use crate::{Indexer, KeyRows, Place, RowWalk};
@@ -133,6 +135,7 @@ impl<K: Ord, V: Place> Files<K, V> {
         ensures rows { rows_of self.new ≡ rows_of self.old }
         ensures each { (j : ℕ) → rows_in_file j self.new ≡ rows_in_file j self.old }
         ensures stays { (j : ℕ) → (j == file) ≡ false → is_known j self.old ≡ true → is_known j self.new ≡ true }
+        ensures forgotten { IsKnownByRows file self.new }
     {
         let _ = &self.rows;
         if self.has_none(file) {
@@ -156,6 +159,7 @@ impl<K: Ord, V: Place> Files<K, V> {
         ensures rows { rows_of self.new ≡ without_file file (rows_of self.old) }
         ensures each { (j : ℕ) → rows_in_file j self.new ≡ (if j == file then [] else rows_in_file j self.old) }
         ensures stays { (j : ℕ) → (j == file) ≡ false → is_known j self.old ≡ true → is_known j self.new ≡ true }
+        ensures forgotten { is_known file self.new ≡ false }
     {
         self.rows.remove(&file)
     }
@@ -171,7 +175,23 @@ pub(crate) fn copy_files<I: Indexer>(
 {
     let mut rows = BTreeMap::new(alloc);
     for (file, own) in &files.rows {
-        rows.insert(*file, copy_rows(alloc, indexer, own)?)?;
+        copy_file(alloc, indexer, &mut rows, *file, own)?;
     }
     Ok(Files { rows })
+}
+
+/// Puts a copy of a file's rows in.
+fn copy_file<I: Indexer>(
+    alloc: Global,
+    indexer: &I,
+    rows: &mut BTreeMap<u32, KeyRows<I::Key, I::Value>>,
+    file: u32,
+    own: &KeyRows<I::Key, I::Value>,
+) -> Result<(), AllocError>
+    ensures rows { OnOk result ((j : ℕ) → get nat_cmp rows.new j ≡ (if is_at (nat_cmp file) j then Some own.now else get nat_cmp rows.old j)) }
+    ensures ordered { OnOk result (IsStrictlySortedBy nat_cmp (keys_of rows.new.entries)) }
+{
+    let copy = copy_rows(alloc, indexer, own)?;
+    rows.insert(file, copy)?;
+    Ok(())
 }

@@ -36,8 +36,11 @@ pub trait Indexer: Copy + Drop {
 
     ghost rows_of: { Self.Input → List (Self.Key × Self.Value) };
 
+    ghost rows_version: { ℕ };
+
     /// The version of the rows: rows of another version are of no use.
-    fn version(&self) -> u8;
+    fn version(&self) -> u8
+        ensures { result ≡ rows_version };
 
     /// The rows of an input.
     fn rows(

@@ -1,9 +1,10 @@
 //! The rows of all files, and where to find those under a key.
-ghost use Rattle.std.specs.Prelude.{◌≡◌, ℕ, List, [], Bool, if◌then◌else◌, ◌&&◌, ◌||◌, not, ◌==◌, OnErr, OnOk, IfOk};
+ghost use Rattle.std.specs.Prelude.{◌≡◌, ℕ, List, [], Bool, if◌then◌else◌, ◌&&◌, ◌||◌, false, not, ◌==◌, OnErr, OnOk, IfOk};
 ghost use Rattle.std.specs.Ordering.{nat_cmp};
 ghost use Rattle.std.specs.List.Sorted.{IsStrictlySortedBy};
 ghost use Rattle.file_index.specs.Walk.{HasAllFiles, walked};
-ghost use Rattle.file_index.specs.Rows.{rows, rows_in_file, with_rows, without_file, rows_at, HasRoom, KeepsRoom, KeepsRoomBut};
+ghost use Rattle.file_index.specs.Rows.{rows, rows_in_file, with_rows, without_file, rows_at, is_known, IsKnownByRows};
+ghost use Rattle.file_index.specs.Rows.{HasRoom, KeepsRoom, KeepsRoomBut, GivesUp};
 ghost use Rattle.file_index.specs.KeyRows.{has_key};
 ghost use Rattle.file_index.specs.Places.{is_placed};
 
@@ -96,6 +97,7 @@ impl<I: Indexer> Inverted<I> {
         ensures swapped { rows self.new ≡ with_rows file new (rows self.old) }
         ensures each { (j : ℕ) → rows_in_file j self.new.files ≡ (if j == file then new else rows_in_file j self.old.files) }
         ensures keeps_room { KeepsRoom I.Key.eq self.old self.new }
+        ensures places { self.new.room ≡ self.old.room }
     {
         self.files.put(file, new)
     }
@@ -106,6 +108,7 @@ impl<I: Indexer> Inverted<I> {
         ensures withdrawn { rows self.new ≡ without_file file (rows self.old) }
         ensures each { (j : ℕ) → rows_in_file j self.new.files ≡ (if j == file then [] else rows_in_file j self.old.files) }
         ensures keeps_room { KeepsRoom I.Key.eq self.old self.new }
+        ensures places { self.new.room ≡ self.old.room }
     {
         self.files.clear(self.alloc, file)
     }
@@ -116,6 +119,7 @@ impl<I: Indexer> Inverted<I> {
         ensures replaced { rows self.new ≡ with_rows file new (rows self.old) }
         ensures keeps_room { KeepsRoomBut I.Key.eq file self.old self.new }
         ensures room { HasRoom I.Key.eq self.new file new }
+        ensures given_up { GivesUp I.Key.eq file (rows_in_file file self.old.files) self.old self.new }
     {
         let old = self.swap(file, new);
         self.release(file, &old);
@@ -125,6 +129,8 @@ impl<I: Indexer> Inverted<I> {
     pub fn remove(&mut self, file: u32)
         ensures removed { rows self.new ≡ without_file file (rows self.old) }
         ensures keeps_room { KeepsRoomBut I.Key.eq file self.old self.new }
+        ensures given_up { GivesUp I.Key.eq file (rows_in_file file self.old.files) self.old self.new }
+        ensures forgotten { is_known file self.new.files ≡ false }
     {
         if let Some(old) = self.files.take(file) {
             take_out_all(&mut self.postings, &self.files, file, &old);
@@ -136,6 +142,7 @@ impl<I: Indexer> Inverted<I> {
         ensures same { self.new.files ≡ self.old.files }
         ensures keeps_room { KeepsRoomBut I.Key.eq file self.old self.new }
         ensures room { HasRoom I.Key.eq self.old file (rows_in_file file self.old.files) → HasRoom I.Key.eq self.new file (rows_in_file file self.old.files) }
+        ensures given_up { GivesUp I.Key.eq file given.now self.old self.new }
     {
         take_out_all(&mut self.postings, &self.files, file, given);
     }
@@ -145,6 +152,8 @@ impl<I: Indexer> Inverted<I> {
         ensures same { rows self.new ≡ rows self.old }
         ensures each { (j : ℕ) → rows_in_file j self.new.files ≡ rows_in_file j self.old.files }
         ensures keeps_room { KeepsRoomBut I.Key.eq file self.old self.new }
+        ensures places { self.new.room ≡ self.old.room }
+        ensures forgotten { IsKnownByRows file self.new.files }
     {
         self.files.forget(file);
     }

@@ -1,5 +1,5 @@
 //! Which files may have rows under a key.
-ghost use Rattle.std.specs.Prelude.{◌≡◌, ℕ, [], Bool, false, ◌||◌, ◌&&◌, not, ◌==◌, OnErr, OnOk, IfOk};
+ghost use Rattle.std.specs.Prelude.{◌≡◌, ℕ, [], Bool, false, Some, if◌then◌else◌, ◌||◌, ◌&&◌, not, ◌==◌, OnErr, OnOk, IfOk};
 ghost use Rattle.std.specs.Ordering.{nat_cmp};
 ghost use Rattle.std.specs.Option.{is_some};
 ghost use Rattle.std.specs.Map.{lookup};
@@ -105,7 +105,24 @@ pub(crate) fn copy_postings<I: Indexer>(
 {
     let mut files = IndexMap::with_capacity(alloc, postings.files.len())?;
     for (key, ids) in &postings.files {
-        files.insert(indexer.copy_key(alloc, key)?, ids.copy()?)?;
+        copy_entry(alloc, indexer, &mut files, key, ids)?;
     }
     Ok(Postings { files })
+}
+
+/// Puts copies of a key and its ids in.
+fn copy_entry<I: Indexer>(
+    alloc: Global,
+    indexer: &I,
+    files: &mut IndexMap<I::Key, Ids>,
+    key: &I::Key,
+    ids: &Ids,
+) -> Result<(), AllocError>
+    ensures { OnOk result ((k : I.Key) → lookup (I.Key.eq k) files.new.entries
+        ≡ (if I.Key.eq key.now k then Some ids.now else lookup (I.Key.eq k) files.old.entries)) }
+{
+    let key = indexer.copy_key(alloc, key)?;
+    let ids = ids.copy()?;
+    files.insert(key, ids)?;
+    Ok(())
 }

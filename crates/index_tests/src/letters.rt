@@ -18,6 +18,8 @@ impl Indexer for Letters {
 
     ghost rows_of = { λ rows. rows };
 
+    ghost rows_version = { 1 };
+
     fn version(&self) -> u8 {
         1
     }

@@ -19,6 +19,8 @@ impl Indexer for WordMasks {
 
     ghost rows_of = { λ words. words };
 
+    ghost rows_version = { 1 };
+
     fn version(&self) -> u8 {
         1
     }

@@ -24,6 +24,8 @@ impl Indexer for MethodNames {
 
     ghost rows_of = { λ stubs. rows_by_name method_names stubs };
 
+    ghost rows_version = { 1 };
+
     fn version(&self) -> u8 {
         1
     }

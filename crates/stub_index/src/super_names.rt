@@ -23,6 +23,8 @@ impl Indexer for SuperNames {
 
     ghost rows_of = { λ stubs. rows_by_name super_names stubs };
 
+    ghost rows_version = { 1 };
+
     fn version(&self) -> u8 {
         1
     }

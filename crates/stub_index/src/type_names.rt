@@ -23,6 +23,8 @@ impl Indexer for TypeNames {
 
     ghost rows_of = { λ stubs. rows_by_name type_names stubs };
 
+    ghost rows_version = { 1 };
+
     fn version(&self) -> u8 {
         1
     }

@@ -1,8 +1,8 @@
-use Rattle.std.proofs.Common.{◌≡◌, [], ◌∷◌, cond, Some, None, map, refl, sym, ap, ◌∙◌, rules}
+use Rattle.std.proofs.Common.{◌≡◌, [], ◌∷◌, None, map, refl, sym, ap, ◌∙◌, rules}
 use Rattle.std.specs.Ordering.{nat_cmp, eq_by_cmp}
 use Rattle.std.specs.Map.{update_all, keys_of}
 use Rattle.std.specs.Map.Iter.{deref_pair}
-use Rattle.std.specs.BTreeMap.{get, is_at}
+use Rattle.std.specs.BTreeMap.{get}
 use Rattle.std.specs.Cmp.{nat_cmp_total, eq_by_cmp_equiv}
 use Rattle.std.proofs.lemmas.List.{map-append}
 use Rattle.std.proofs.lemmas.Map.{update_all_push}
@@ -12,24 +12,13 @@ use Rattle.std.proofs.lemmas.Map.Lookups.{btree_map_from_get, exact_unsigned}
 use Rattle.std.proofs.lemmas.Map.Made.{update_all_none}
 use Rattle.file_index.proofs.files.copy_files.Goals as goal
 
-pub loop-file-preserved-in_ok-insert : goal.loop-file-preserved-in_ok-insert
-loop-file-preserved-in_ok-insert g c = (
-  (λ q.
-      c.in_ok-insert.ensures.updates.0 q
-      ∙ ap (λ own. cond (is_at (nat_cmp c.in-Some.file.now) q) (Some own) (get nat_cmp c.loop-file.rows q)) c.in_ok-copy_rows.ensures
-      ∙ update_all_push (eq_by_cmp nat_cmp) (λ _. None) (get nat_cmp c.loop-file.rows) (map deref_pair c.loop-file.yielded) (c.in-Some.file.now, c.in-Some.own.now) q (c.loop-file.invariant.0 q)
-      ∙ ap (λ l. update_all (eq_by_cmp nat_cmp) (λ _. None) l q) (sym (map-append deref_pair c.loop-file.yielded ((c.in-Some.file, c.in-Some.own) ∷ [])))),
-  c.in_ok-insert.ensures.ordered,
-)
-
 pub loop-file-preserved : goal.loop-file-preserved
 loop-file-preserved g c = (
   (λ q.
-      c.in_ok-insert.ensures.updates.0 q
-      ∙ ap (λ own. cond (is_at (nat_cmp c.in-Some.file.now) q) (Some own) (get nat_cmp c.loop-file.rows q)) c.in_ok-copy_rows.ensures
+      c.in_ok-copy_file.ensures.rows q
       ∙ update_all_push (eq_by_cmp nat_cmp) (λ _. None) (get nat_cmp c.loop-file.rows) (map deref_pair c.loop-file.yielded) (c.in-Some.file.now, c.in-Some.own.now) q (c.loop-file.invariant.0 q)
       ∙ ap (λ l. update_all (eq_by_cmp nat_cmp) (λ _. None) l q) (sym (map-append deref_pair c.loop-file.yielded ((c.in-Some.file, c.in-Some.own) ∷ [])))),
-  c.in_ok-insert.ensures.ordered,
+  c.in_ok-copy_file.ensures.ordered,
 )
 
 pub returns : goal.returns

@@ -1,4 +1,4 @@
-use Rattle.std.proofs.Common.{◌≡◌, [], ◌∷◌, cond, Some, None, map, refl, sym, ap, ◌∙◌, rules}
+use Rattle.std.proofs.Common.{◌≡◌, [], ◌∷◌, None, map, refl, sym, ap, ◌∙◌, rules}
 use Rattle.std.specs.Map.{update_all, lookup}
 use Rattle.std.specs.Map.Iter.{deref_pair}
 use Rattle.std.specs.Option.{unwrap_or}
@@ -9,19 +9,9 @@ use Rattle.std.proofs.lemmas.Map.Made.{update_all_none}
 use Rattle.file_index.specs.Places.{has_id, is_placed}
 use Rattle.file_index.proofs.postings.copy_postings.Goals as goal
 
-pub loop-key-preserved-in_ok-insert : goal.loop-key-preserved-in_ok-insert
-loop-key-preserved-in_ok-insert g c = let eq = g.I.Key.PartialEq.eq in λ q.
-    c.in_ok-insert.ensures.updates.0 q
-    ∙ ap (λ key. cond (eq key q) (Some c.in_ok-copy.field-0) (lookup (eq q) c.loop-key.files.entries)) c.in_ok-copy_key.ensures
-    ∙ ap (λ ids. cond (eq c.in-Some.key.now q) (Some ids) (lookup (eq q) c.loop-key.files.entries)) c.in_ok-copy.ensures
-    ∙ update_all_push eq (λ _. None) (λ k. lookup (eq k) c.loop-key.files.entries) (map deref_pair c.loop-key.yielded) (c.in-Some.key.now, c.in-Some.ids.now) q (c.loop-key.invariant q)
-    ∙ ap (λ l. update_all eq (λ _. None) l q) (sym (map-append deref_pair c.loop-key.yielded ((c.in-Some.key, c.in-Some.ids) ∷ [])))
-
 pub loop-key-preserved : goal.loop-key-preserved
 loop-key-preserved g c = let eq = g.I.Key.PartialEq.eq in λ q.
-    c.in_ok-insert.ensures.updates.0 q
-    ∙ ap (λ key. cond (eq key q) (Some c.in_ok-copy.field-0) (lookup (eq q) c.loop-key.files.entries)) c.in_ok-copy_key.ensures
-    ∙ ap (λ ids. cond (eq c.in-Some.key.now q) (Some ids) (lookup (eq q) c.loop-key.files.entries)) c.in_ok-copy.ensures
+    c.in_ok-copy_entry.ensures q
     ∙ update_all_push eq (λ _. None) (λ k. lookup (eq k) c.loop-key.files.entries) (map deref_pair c.loop-key.yielded) (c.in-Some.key.now, c.in-Some.ids.now) q (c.loop-key.invariant q)
     ∙ ap (λ l. update_all eq (λ _. None) l q) (sym (map-append deref_pair c.loop-key.yielded ((c.in-Some.key, c.in-Some.ids) ∷ [])))
 
