@@ -1,2 +1,3 @@
 pub mod LayerLemmas
 pub mod FoundLemmas
+pub mod SweepLemmas

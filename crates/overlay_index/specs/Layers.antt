@@ -1,5 +1,6 @@
 -- Two layers of rows: for each file its base, and over that of some files an overlay, which hides it.
 use Rattle.std.specs.Prelude.{◌≡◌, ℕ, ◌<◌, Bool, true, false, ◌==◌, if◌then◌else◌, List, [], ◌∷◌, Option, Some, None}
+use Rattle.std.specs.List.{flat_map}
 use Rattle.std.specs.Option.{unwrap_or, is_some}
 use Rattle.std.specs.Ordering.{nat_cmp}
 use Rattle.std.specs.Str.{bytes_eq}
@@ -78,6 +79,33 @@ KeepsRoom old new = (file : ℕ) (parts : Parts) → HasRoom old file parts → 
 -- what had room still has it, but for one file
 abbrev pub KeepsRoomBut : ℕ → Held → Held → Type 0
 KeepsRoomBut changed old new = (file : ℕ) (parts : Parts) → (changed == file) ≡ false → HasRoom old file parts → HasRoom new file parts
+
+-- a file gave up its places in the tables under the keys of these rows, but for keys that its own rows have
+pub record GivesUp (file : ℕ) (gone : List Parts) (old new : Shown) : Type 0 where
+  pub types : index.GivesUp bytes_eq file (flat_map (λ (parts : Parts). parts.types) gone) old.types new.types
+  pub supers : index.GivesUp bytes_eq file (flat_map (λ (parts : Parts). parts.supers) gone) old.supers new.supers
+  pub methods : index.GivesUp bytes_eq file (flat_map (λ (parts : Parts). parts.methods) gone) old.methods new.methods
+  pub words : index.GivesUp bytes_eq file (flat_map (λ (parts : Parts). parts.words) gone) old.words new.words
+
+-- the same files stand under the same keys
+pub record KeepsPlaces (old new : Shown) : Type 0 where
+  pub types : new.types.room ≡ old.types.room
+  pub supers : new.supers.room ≡ old.supers.room
+  pub methods : new.methods.room ≡ old.methods.room
+  pub words : new.words.room ≡ old.words.room
+
+-- a table in which the file is known has rows of it
+pub record IsKnownByRows (file : ℕ) (shown : Shown) : Type 0 where
+  pub types : index.IsKnownByRows file shown.types.files
+  pub supers : index.IsKnownByRows file shown.supers.files
+  pub methods : index.IsKnownByRows file shown.methods.files
+  pub words : index.IsKnownByRows file shown.words.files
+
+-- a file has no place left but those that its rows need, once these rows went
+pub record IsSwept (file : ℕ) (gone : List Parts) (old new : Held) : Type 0 where
+  pub places : GivesUp file gone old.shown new.shown
+  pub known : IsKnownByRows file new.shown
+  pub hidden : has_place new.hidden file ≡ is_some (hidden_in new.hidden file)
 
 -- no file shows any row but those from 1 to the last
 pub record IsShownTo (held : Held) (last : ℕ) : Type 0 where

@@ -84,6 +84,7 @@ impl Hidden {
     pub(crate) fn sweep(&mut self, file: u32)
         ensures same { (other : ℕ) → hidden_in self.new other ≡ hidden_in self.old other }
         ensures keeps_place { (other : ℕ) → (other == file) ≡ false → has_place self.old other ≡ true → has_place self.new other ≡ true }
+        ensures swept { has_place self.new file ≡ is_some (hidden_in self.new file) }
     {
         if !self.has(file) {
             self.bases.remove(&file);

@@ -1,7 +1,8 @@
 //! Two layers of rows.
 ghost use Rattle.std.specs.Prelude.{◌≡◌, ◌==◌, ◌++◌, ◌∷◌, [], ℕ, true, false, is_some, Some, None, if◌then◌else◌, option_to_list, IfOk, OnOk};
 ghost use Rattle.overlay_index.specs.Parts.{Parts, no_parts};
-ghost use Rattle.overlay_index.specs.Layers.{base_of, overlay_of, shown_of, covered_of, parts_in, HasTableRoom, HasRoom, KeepsRoom, KeepsRoomBut, IsShownTo};
+ghost use Rattle.overlay_index.specs.Layers.{base_of, overlay_of, shown_of, covered_of, parts_in, IsShownTo};
+ghost use Rattle.overlay_index.specs.Layers.{HasTableRoom, HasRoom, KeepsRoom, KeepsRoomBut, GivesUp, IsSwept};
 ghost use Rattle.overlay_index.specs.Found.{values_of, found_to};
 
 use crate::data::FileData;
@@ -132,6 +133,7 @@ impl Layers {
         ensures base { (other : ℕ) → base_of self.new other ≡ base_of self.old other }
         ensures overlay { (other : ℕ) → overlay_of self.new other ≡ overlay_of self.old other }
         ensures keeps_room { KeepsRoomBut file self.old self.new }
+        ensures swept { IsSwept file gone.now self.old self.new }
     {
         release_any(&mut self.tables, file, &gone.shown);
         release_any(&mut self.tables, file, &gone.hidden);
@@ -184,6 +186,7 @@ impl Layers {
 fn release_any(tables: &mut Tables, file: u32, gone: &Option<FileData>)
     ensures same { (other : ℕ) → parts_in tables.new other ≡ parts_in tables.old other }
     ensures keeps_room { (other : ℕ) (given : Parts) → (other == file) ≡ false → HasTableRoom tables.old other given → HasTableRoom tables.new other given }
+    ensures given_up { GivesUp file (option_to_list gone.now) tables.old tables.new }
 {
     if let Some(parts) = gone {
         tables.release(file, parts);

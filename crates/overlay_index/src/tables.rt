@@ -1,7 +1,7 @@
 //! The tables of the rows that are shown.
-ghost use Rattle.std.specs.Prelude.{◌≡◌, ◌==◌, ℕ, false, if◌then◌else◌, IfOk, OnOk};
+ghost use Rattle.std.specs.Prelude.{◌≡◌, ◌==◌, ◌∷◌, [], ℕ, false, if◌then◌else◌, IfOk, OnOk};
 ghost use Rattle.overlay_index.specs.Parts.{Parts, no_parts};
-ghost use Rattle.overlay_index.specs.Layers.{parts_in, HasTableRoom, IsFilledTo};
+ghost use Rattle.overlay_index.specs.Layers.{parts_in, HasTableRoom, IsFilledTo, GivesUp, KeepsPlaces, IsKnownByRows};
 ghost use Rattle.overlay_index.specs.Found.{values_of, found_to};
 
 use crate::data::FileData;
@@ -94,6 +94,7 @@ impl Tables {
     pub(crate) fn release(&mut self, file: u32, parts: &FileData)
         ensures same { (other : ℕ) → parts_in self.new other ≡ parts_in self.old other }
         ensures keeps_room { (other : ℕ) (given : Parts) → (other == file) ≡ false → HasTableRoom self.old other given → HasTableRoom self.new other given }
+        ensures given_up { GivesUp file (parts.now ∷ []) self.old self.new }
     {
         self.types.release(file, &parts.types);
         self.supers.release(file, &parts.supers);
@@ -105,6 +106,8 @@ impl Tables {
     pub(crate) fn forget(&mut self, file: u32)
         ensures same { (other : ℕ) → parts_in self.new other ≡ parts_in self.old other }
         ensures keeps_room { (other : ℕ) (given : Parts) → (other == file) ≡ false → HasTableRoom self.old other given → HasTableRoom self.new other given }
+        ensures places { KeepsPlaces self.old self.new }
+        ensures forgotten { IsKnownByRows file self.new }
     {
         self.types.forget(file);
         self.supers.forget(file);
