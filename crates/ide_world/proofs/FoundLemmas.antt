@@ -1,4 +1,4 @@
--- What a name finds where no file is unready.
+-- What a name finds, and what it finds where no file is unready.
 use Rattle.std.proofs.Common.{◌≡◌, ℕ, zero, suc, ◌+◌, ◌<◌, ◌≤◌, Bool, true, false, cond, eqb, ltb, List, [], ◌∷◌, ◌++◌, length, get_or, Some, None, refl, sym, ap, subst, ◌∙◌, arith, ltb-true, ltb-false}
 use Rattle.std.specs.Prelude.{Option, is_some, option_map, unwrap_or, position, not, ◌&&◌}
 use Rattle.std.specs.List.{position_or_len}
@@ -17,7 +17,7 @@ use Rattle.list_laws.specs.Rows.{row_in}
 use Rattle.write_history.specs.World.{File, is_unready, shown_text}
 use Rattle.ide_world.specs.IndexEdits.{Indexed}
 use Rattle.ide_world.specs.Sound.{HoldsLive, HoldsIndex}
-use Rattle.ide_world.specs.Found.{found_at, found_from}
+use Rattle.ide_world.specs.Found.{found_at, found_from, shown_from}
 use Rattle.ide_world.specs.State.{indexed_in}
 
 past_all : (files : List (Option File)) (place : ℕ) → length files ≤ place → get_or files place None ≡ None
@@ -82,28 +82,74 @@ module _ {V : Type 0} (part : Parts → List (List ℕ × V)) (name : List ℕ) 
   one None held holds ready = bare held holds
   one (Some file) held holds ready = live file held (is_java file.path) refl holds ready
 
-  all_from : (look : ℕ → List V) (first : ℕ) (files : List (Option File)) → ((place : ℕ) → look (first + place) ≡ found_at read (get_or files place None))
-      → walk.found_from look first (length files) ≡ found_from read first files
-  all_from look first [] each = refl
-  all_from look first (file ∷ files) each =
-      let here : look first ≡ found_at read file = (let e : first ≡ first + 0 = omega arith in ap look e) ∙ each 0 in
+  -- an unready file is closed, so it has no overlay
+  no_overlay : (file : File) (held : Indexed) (java : Bool) → is_java file.path ≡ java → HoldsLive java file held
+      → is_unready (Some file) ≡ true → held.overlay ≡ None
+  no_overlay file held false is holds unready = holds.1
+  no_overlay file held true is holds unready = by file.document refl
+    where
+      by : (document : Option Document) → file.document ≡ document → held.overlay ≡ None
+      by None closed = holds.0 ∙ ap (option_map (λ (x : Document). parts_of x.committed)) closed
+      by (Some d) open' = absurd (false≢true (sym (ap (λ j. j && not (is_some file.document) && not (is_indexed_at file.stamp file.indexed)) is
+          ∙ ap (λ o. true && not (is_some o) && not (is_indexed_at file.stamp file.indexed)) open') ∙ unready))
+
+  -- what the shown parts of an unready file have under the name is what is kept of it
+  stale : (file : Option File) (held : Indexed) → HoldsIndex file held → is_unready file ≡ true
+      → walk.values_of name (part (unwrap_or held.overlay held.base)) ≡ walk.values_of name (part held.base)
+  stale None held holds unready = absurd (false≢true unready)
+  stale (Some file) held holds unready =
+      ap (λ o. walk.values_of name (part (unwrap_or o held.base))) (no_overlay file held (is_java file.path) refl holds unready)
+
+  -- what the shown parts of any file have under the name
+  either : (file : Option File) (held : Indexed) → HoldsIndex file held
+      → walk.values_of name (part (unwrap_or held.overlay held.base)) ≡ cond (is_unready file) (walk.values_of name (part held.base)) (found_at read file)
+  either file held holds = bool_cases (is_unready file)
+      (λ b. is_unready file ≡ b → walk.values_of name (part (unwrap_or held.overlay held.base)) ≡ cond b (walk.values_of name (part held.base)) (found_at read file))
+      (λ is e. stale file held holds e) (λ is e. one file held holds e) refl
+
+  all_from : (look kept : ℕ → List V) (first : ℕ) (files : List (Option File))
+      → ((place : ℕ) → look (first + place) ≡ cond (is_unready (get_or files place None)) (kept (first + place)) (found_at read (get_or files place None)))
+      → walk.found_from look first (length files) ≡ shown_from kept read first files
+  all_from look kept first [] each = refl
+  all_from look kept first (file ∷ files) each =
+      let here : look first ≡ cond (is_unready file) (kept first) (found_at read file) =
+      (let e : first ≡ first + 0 = omega arith in ap look e) ∙ each 0
+          ∙ (let e : first + 0 ≡ first = omega arith in ap (λ id. cond (is_unready file) (kept id) (found_at read file)) e) in
       let next : suc first ≡ first + 1 = omega arith in
       ap (λ vs. walk.with_id first vs ++ walk.found_from look (suc first) (length files)) here
-      ∙ ap (λ rest. walk.with_id first (found_at read file) ++ rest)
-      (all_from look (suc first) files (λ place. (let e : suc first + place ≡ first + suc place = omega arith in ap look e) ∙ each (suc place))
-      ∙ ap (λ i. found_from read i files) next)
+      ∙ ap (λ rest. walk.with_id first (cond (is_unready file) (kept first) (found_at read file)) ++ rest)
+      (all_from look kept (suc first) files (λ place. (let e : suc first + place ≡ first + suc place = omega arith in ap look e) ∙ each (suc place)
+      ∙ (let e : first + suc place ≡ suc first + place = omega arith in
+          ap (λ id. cond (is_unready (get_or files place None)) (kept id) (found_at read (get_or files place None))) e))
+      ∙ ap (λ i. shown_from kept read i files) next)
 
-  -- the walk gives what the world has
-  pub walk_found : (kept : layers.Held) (files : List (Option File))
+  -- the walk gives what the world shows
+  pub walk_shown : (kept : layers.Held) (files : List (Option File))
       → ((id : ℕ) → HoldsIndex (row_in files id) (indexed_in kept id))
-      → option_map suc (position is_unready files) ≡ None
-      → walk.found_to (λ id. walk.values_of name (part (layers.shown_of kept id))) (length files) ≡ found_from read 1 files
-  walk_found kept files holds none = all_from (λ id. walk.values_of name (part (layers.shown_of kept id))) 1 files each
+      → walk.found_to (λ id. walk.values_of name (part (layers.shown_of kept id))) (length files)
+          ≡ shown_from (λ id. walk.values_of name (part (layers.base_of kept id))) read 1 files
+  walk_shown kept files holds =
+      all_from (λ id. walk.values_of name (part (layers.shown_of kept id))) (λ id. walk.values_of name (part (layers.base_of kept id))) 1 files each
     where
-      each : (place : ℕ) → walk.values_of name (part (layers.shown_of kept (1 + place))) ≡ found_at read (get_or files place None)
+      each : (place : ℕ) → walk.values_of name (part (layers.shown_of kept (1 + place)))
+          ≡ cond (is_unready (get_or files place None)) (walk.values_of name (part (layers.base_of kept (1 + place)))) (found_at read (get_or files place None))
       each place =
           (let e : 1 + place ≡ suc place = omega arith in ap (λ id. walk.values_of name (part (layers.shown_of kept id))) e)
-          ∙ one (get_or files place None) (indexed_in kept (suc place)) (holds (suc place)) (ready_at files none place)
+          ∙ either (get_or files place None) (indexed_in kept (suc place)) (holds (suc place))
+          ∙ (let e : suc place ≡ 1 + place = omega arith in
+            ap (λ id. cond (is_unready (get_or files place None)) (walk.values_of name (part (layers.base_of kept id))) (found_at read (get_or files place None))) e)
+
+module _ {X : Type 0} (kept : ℕ → List X) (read : List ℕ → List X) where
+  ready_from : (first : ℕ) (files : List (Option File)) → ((place : ℕ) → is_unready (get_or files place None) ≡ false)
+      → shown_from kept read first files ≡ found_from read first files
+  ready_from first [] ready = refl
+  ready_from first (file ∷ files) ready =
+      ap (λ b. walk.with_id first (cond b (kept first) (found_at read file)) ++ shown_from kept read (first + 1) files) (ready 0)
+      ∙ ap (λ rest. walk.with_id first (found_at read file) ++ rest) (ready_from (first + 1) files (λ place. ready (suc place)))
+
+  -- where no file is unready, each gives what its shown text gives
+  pub ready_shown : (files : List (Option File)) → option_map suc (position is_unready files) ≡ None → shown_from kept read 1 files ≡ found_from read 1 files
+  ready_shown files none = ready_from 1 files (ready_at files none)
 
 bare_parts : (held : Indexed) → HoldsIndex None held → unwrap_or held.overlay held.base ≡ no_parts
 bare_parts held none = ap (λ o. unwrap_or o held.base) none.1 ∙ none.0

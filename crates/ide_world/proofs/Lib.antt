@@ -12,3 +12,4 @@ pub mod KindLemmas
 pub mod GroupLemmas
 pub mod TaskLemmas
 pub mod FirstLemmas
+pub mod SweepLemmas

@@ -5,7 +5,10 @@ use Rattle.dumb_mode.specs.Filter.{is_java}
 use Rattle.stub_tree.specs.declared.stub.Stub.{Stub}
 use Rattle.java_tokens.specs.Words.{words_of, mask_in}
 use Rattle.decl_parser.specs.Listing.{listing_of}
-use Rattle.write_history.specs.World.{World, File, shown_text}
+use Rattle.overlay_index.specs.Parts.{Parts}
+use Rattle.overlay_index.specs.Layers.{base_of}
+use Rattle.write_history.specs.World.{World, File, shown_text, is_unready}
+use Rattle.ide_world.specs.Held.{Held}
 
 -- the entries of a text's listing that fit
 abbrev pub stubs_in : (Stub → Bool) → List ℕ → List Stub
@@ -14,6 +17,10 @@ stubs_in fits text = filter fits (listing_of text)
 -- the mask of a word of a text, where it has the word
 abbrev pub masks_in : List ℕ → List ℕ → List ℕ
 masks_in name text = option_to_list (mask_in (words_of text) name)
+
+-- the index data of a file's content, as it was indexed last
+abbrev pub kept_of : Held → ℕ → Parts
+kept_of held id = base_of held.room.layers id
 
 module _ {X : Type 0} where
   -- what a live file gives: nothing where it isn't a Java file
@@ -32,3 +39,13 @@ module _ {X : Type 0} where
   -- what the live Java files of a world give, in order of their ids
   abbrev pub found : (List ℕ → List X) → World → List (ℕ × X)
   found read world = found_from read 1 world.files
+
+  -- what files give, each with its id, where the first of them has this id, and an unready one gives what is kept of it
+  abbrev pub shown_from : (ℕ → List X) → (List ℕ → List X) → ℕ → List (Option File) → List (ℕ × X)
+  shown_from kept read id [] = []
+  shown_from kept read id (file ∷ files) =
+      map (λ x. (id, x)) (if is_unready file then kept id else found_at read file) ++ shown_from kept read (id + 1) files
+
+  -- what a walk shows: of each file that isn't unready what its shown text gives, and of an unready one what is kept of it
+  abbrev pub shown : (ℕ → List X) → (List ℕ → List X) → World → List (ℕ × X)
+  shown kept read world = shown_from kept read 1 world.files

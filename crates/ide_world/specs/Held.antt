@@ -4,7 +4,7 @@ use Rattle.write_history.specs.World.{World}
 use Rattle.ide_world.specs.declared.step.Step.{Step}
 use Rattle.ide_world.specs.Room.{Room, HasRoomIn}
 
--- the world that a state stands for, and its room, of which `HasRoom` alone speaks
+-- the world that a state stands for, and its room; of this only `HasRoom` speaks, and the walks of the index data in it
 pub record Held : Type 0 where
   pub world : World
   pub room : Room

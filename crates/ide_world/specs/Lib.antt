@@ -24,6 +24,8 @@ pub mod Lawful
 pub mod Marks
 -- What steps need room for
 pub mod Room
+-- What steps give up of the room
+pub mod Sweep
 -- When steps can be carried out one after another
 pub mod StepsReady
 -- What ties the parts of a state together

@@ -21,7 +21,7 @@ use vfs_core::{FileRow, Files};
 pub(crate) struct Gone {
     pub(crate) id: u32,
     pub(crate) row: Option<FileRow>,
-    pub(crate) data: Option<GoneData>,
+    pub(crate) index: Option<GoneData>,
 }
 
 /// Carries out the edit of a row, and gives the row that went.

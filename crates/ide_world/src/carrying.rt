@@ -1,7 +1,9 @@
 //! Carrying steps out: the one door by which files, documents and index data change, in step with one another.
-ghost use Rattle.std.specs.Prelude.{◌≡◌, ◌≤◌, ◌<◌, ◌+◌, ◌*◌, ℕ, true, false, List, length, is_some, IsSome, IfSome, ◌==◌, if◌then◌else◌, [], vec_len};
+ghost use Rattle.std.specs.Prelude.{◌≡◌, ◌≤◌, ◌<◌, ◌+◌, ◌*◌, ℕ, true, false, List, length, is_some, None, IsSome, IfSome, ◌==◌, if◌then◌else◌, [], vec_len};
 ghost use Rattle.std.specs.Vec.{vec_capacity};
-ghost use Rattle.vfs_core.specs.Held.{row_of, HasRowRoom, KeepsRoom as KeepsFileRoom};
+ghost use Rattle.vfs_core.specs.Held.{row_of, id_at, HasRowRoom, HasPathRoom, KeepsRoom as KeepsFileRoom};
+ghost use Rattle.overlay_index.specs.Layers.{base_of, overlay_of, IsSwept};
+ghost use Rattle.ide_world.specs.Sweep.{Sweeps, SweepsAll};
 ghost use Rattle.document_buf.specs.Held.{document_of, room_of};
 ghost use Rattle.write_history.specs.World.{is_unready};
 ghost use Rattle.write_history.specs.Effect.{max_entries};
@@ -19,7 +21,8 @@ use crate::apply::{Gone, apply_document, apply_index, apply_row};
 use crate::{State, Step, Steps};
 use document_buf::Docs;
 use dumb_mode::{Mark, is_java};
-use vfs_core::Files;
+use overlay_index::{Gone as GoneData, Layers};
+use vfs_core::{FileRow, Files};
 
 /// Draws a stamp, where one is wanted.
 fn draw_if(files: &mut Files, draws: bool)
@@ -50,6 +53,28 @@ fn is_unready_file(files: &Files, docs: &Docs, id: u32) -> bool
     mark.is_unready()
 }
 
+/// Gives up the place of the path of a row that went, if one did, where no live file has it.
+fn sweep_path(files: &mut Files, gone: &Option<FileRow>)
+    ensures rows { files.new.rows ≡ files.old.rows }
+    ensures next { files.new.next_stamp ≡ files.old.next_stamp }
+    ensures swept { IfSome gone.now (λ row. id_at files.old row.path ≡ None → HasPathRoom files.new row.path → ⊥) }
+{
+    if let Some(row) = gone {
+        files.sweep(&row.path);
+    }
+}
+
+/// Gives up the places that a file has for index data that went, if any did, where it has no use for them.
+fn sweep_index(layers: &mut Layers, id: u32, gone: &Option<GoneData>)
+    ensures base { (other : ℕ) → base_of layers.new other ≡ base_of layers.old other }
+    ensures overlay { (other : ℕ) → overlay_of layers.new other ≡ overlay_of layers.old other }
+    ensures swept { IfSome gone.now (λ parts. IsSwept id parts layers.old layers.new) }
+{
+    if let Some(gone) = gone {
+        layers.sweep(id, gone);
+    }
+}
+
 impl State {
     /// Carries one step out. It takes no memory.
     fn carry_out(&mut self, step: Step) -> Gone
@@ -69,11 +94,12 @@ impl State {
         draw_if(&mut self.files, step.draws);
         let row = apply_row(&mut self.files, id, step.row);
         apply_document(&mut self.docs, id, step.doc);
-        let data = apply_index(&mut self.layers, id, step.index);
+        let index = apply_index(&mut self.layers, id, step.index);
         let is_unready = is_unready_file(&self.files, &self.docs, id);
         self.unready.set(id, is_unready);
-        Gone { id, row, data }
+        Gone { id, row, index }
     }
+
     /// Carries steps out, one after another, and keeps what they took out. It takes no memory.
     fn carry_out_all(&mut self, steps: Vec<Step>, gone: &mut Vec<Gone>)
         requires ready { IsReady self.old steps.items }
@@ -90,20 +116,18 @@ impl State {
 
     /// Gives up the room of what went, where nothing needs it now.
     fn sweep(&mut self, gone: &Gone)
-        ensures { self.new.world ≡ self.old.world }
+        ensures world { self.new.world ≡ self.old.world }
+        ensures room { Sweeps gone.now self.old.room self.new.room }
     {
-        if let Some(row) = &gone.row {
-            self.files.sweep(&row.path);
-        }
-        if let Some(data) = &gone.data {
-            self.layers.sweep(gone.id, data);
-        }
+        sweep_path(&mut self.files, &gone.row);
+        sweep_index(&mut self.layers, gone.id, &gone.index);
         self.unready.sweep(gone.id);
     }
 
     /// The same of all that went.
     fn sweep_all(&mut self, gone: &[Gone])
-        ensures { self.new.world ≡ self.old.world }
+        ensures world { self.new.world ≡ self.old.world }
+        ensures room { SweepsAll gone.now self.old.room self.new.room }
     {
         for taken in gone {
             self.sweep(taken);

@@ -1,8 +1,10 @@
-//! Walks over what a name finds, file by file in order of their ids. They take no memory.
+//! Walks over what a name finds, file by file in order of their ids. They take no memory. Of an unready file they find
+//! what its content had when it was indexed last.
 ghost use Rattle.std.specs.Prelude.{◌≡◌, None};
 ghost use Rattle.write_history.specs.World.{lowest_unready};
 ghost use Rattle.overlay_index.specs.Named.{is_type_named, names_super, is_method_named};
-ghost use Rattle.ide_world.specs.Found.{found, stubs_in, masks_in};
+ghost use Rattle.overlay_index.specs.Found.{values_of};
+ghost use Rattle.ide_world.specs.Found.{found, shown, kept_of, stubs_in, masks_in};
 
 use crate::State;
 use ide_text::Name;
@@ -15,8 +17,8 @@ use overlay_index::{StubWalk, WordWalk};
 impl State {
     /// The types with a name.
     pub fn type_rows<'a>(&'a self, name: &'a Name) -> StubWalk<'a>
-        requires { lowest_unready self.now.world ≡ None }
-        ensures { result ≡ found (stubs_in (is_type_named name.now)) self.now.world }
+        ensures shown { result ≡ shown (λ id. values_of name.now (kept_of self.now id).types) (stubs_in (is_type_named name.now)) self.now.world }
+        ensures ready { lowest_unready self.now.world ≡ None → result ≡ found (stubs_in (is_type_named name.now)) self.now.world }
     {
         a_name_finds_its_types();
         self.layers.type_rows(name)
@@ -24,8 +26,8 @@ impl State {
 
     /// The types that name a type as a super, each once.
     pub fn super_rows<'a>(&'a self, name: &'a Name) -> StubWalk<'a>
-        requires { lowest_unready self.now.world ≡ None }
-        ensures { result ≡ found (stubs_in (names_super name.now)) self.now.world }
+        ensures shown { result ≡ shown (λ id. values_of name.now (kept_of self.now id).supers) (stubs_in (names_super name.now)) self.now.world }
+        ensures ready { lowest_unready self.now.world ≡ None → result ≡ found (stubs_in (names_super name.now)) self.now.world }
     {
         a_name_finds_its_subtypes();
         self.layers.super_rows(name)
@@ -33,8 +35,8 @@ impl State {
 
     /// The methods with a name.
     pub fn method_rows<'a>(&'a self, name: &'a Name) -> StubWalk<'a>
-        requires { lowest_unready self.now.world ≡ None }
-        ensures { result ≡ found (stubs_in (is_method_named name.now)) self.now.world }
+        ensures shown { result ≡ shown (λ id. values_of name.now (kept_of self.now id).methods) (stubs_in (is_method_named name.now)) self.now.world }
+        ensures ready { lowest_unready self.now.world ≡ None → result ≡ found (stubs_in (is_method_named name.now)) self.now.world }
     {
         a_name_finds_its_methods();
         self.layers.method_rows(name)
@@ -42,8 +44,8 @@ impl State {
 
     /// The files that have a word, each with the word's mask in it.
     pub fn word_rows<'a>(&'a self, name: &'a Name) -> WordWalk<'a>
-        requires { lowest_unready self.now.world ≡ None }
-        ensures { result ≡ found (masks_in name.now) self.now.world }
+        ensures shown { result ≡ shown (λ id. values_of name.now (kept_of self.now id).words) (masks_in name.now) self.now.world }
+        ensures ready { lowest_unready self.now.world ≡ None → result ≡ found (masks_in name.now) self.now.world }
     {
         a_word_finds_its_mask();
         self.layers.word_rows(name)

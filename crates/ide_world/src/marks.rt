@@ -90,6 +90,8 @@ impl Marks {
     pub(crate) fn sweep(&mut self, id: u32)
         ensures each { (other : ℕ) → is_on self.new other ≡ is_on self.old other }
         ensures count { self.new.count ≡ self.old.count }
+        ensures swept { is_on self.old id ≡ false → has_mark self.new id ≡ false }
+        ensures keeps { (other : ℕ) → (other == id) ≡ false → has_mark self.new other ≡ has_mark self.old other }
     {
         if let Some(on) = self.ids.get(&id)
             && !*on

@@ -22,24 +22,24 @@ returns-in_err-ready-in-Class-clause-refused g c =
 
 pub stub_rows-requires-clause-ahead : goal.stub_rows-requires-clause-ahead
 stub_rows-requires-clause-ahead g c =
-    subst (AreAhead c.args.state.now.world None) (sym c.type_rows.ensures)
+    subst (AreAhead c.args.state.now.world None) (sym (c.type_rows.ensures.ready c.in_ok-ready-in-Class.ensures.smart))
     (ahead_found c.listings_are_lawful.ensures c.names_are_identifiers.ensures (is_class c.in-Class.name) c.args.state.now.world)
 
 pub returns-in_err-rows-in-Class-clause-looked : goal.returns-in_err-rows-in-Class-clause-looked
 returns-in_err-rows-in-Class-clause-looked g c =
     looked_told _ _ RowList _ _ _ c.from_residual-in_err-rows-in-Class.result _ _ _
-    (rows_looks (row_found c.args.state.now.world) _ _ _ c.type_rows.ensures (stub_rows_found (is_class c.in-Class.name) c.args.state.now.world) (lowest_unready c.args.state.now.world) c.in_ok-ready-in-Class.ensures.smart _ (ap (reply c.args.state.now.world) c.in-Class.is))
+    (rows_looks (row_found c.args.state.now.world) _ _ _ (c.type_rows.ensures.ready c.in_ok-ready-in-Class.ensures.smart) (stub_rows_found (is_class c.in-Class.name) c.args.state.now.world) (lowest_unready c.args.state.now.world) c.in_ok-ready-in-Class.ensures.smart _ (ap (reply c.args.state.now.world) c.in-Class.is))
     c.from_residual-in_err-rows-in-Class.ensures.1 c.in_err-rows-in-Class.ensures.looked
 
 pub returns-in_ok-rows-in-Class-clause-looked : goal.returns-in_ok-rows-in-Class-clause-looked
 returns-in_ok-rows-in-Class-clause-looked g c =
     subst (λ (n : ℕ). LooksThrough g.W.Watch.looks g.W.Watch.sightings n c.args.watch.now c.stub_rows.new.watch)
-    (rows_looks (row_found c.args.state.now.world) _ _ _ c.type_rows.ensures (stub_rows_found (is_class c.in-Class.name) c.args.state.now.world) (lowest_unready c.args.state.now.world) c.in_ok-ready-in-Class.ensures.smart _ (ap (reply c.args.state.now.world) c.in-Class.is))
+    (rows_looks (row_found c.args.state.now.world) _ _ _ (c.type_rows.ensures.ready c.in_ok-ready-in-Class.ensures.smart) (stub_rows_found (is_class c.in-Class.name) c.args.state.now.world) (lowest_unready c.args.state.now.world) c.in_ok-ready-in-Class.ensures.smart _ (ap (reply c.args.state.now.world) c.in-Class.is))
     c.in_ok-rows-in-Class.ensures.looked
 
 pub returns-in_ok-rows-in-Class-clause-answer : goal.returns-in_ok-rows-in-Class-clause-answer
 returns-in_ok-rows-in-Class-clause-answer g c =
-    rows_told (row_found c.args.state.now.world) _ _ _ c.type_rows.ensures (stub_rows_found (is_class c.in-Class.name) c.args.state.now.world) (lowest_unready c.args.state.now.world) c.in_ok-ready-in-Class.ensures.smart _ (ap (reply c.args.state.now.world) c.in-Class.is)
+    rows_told (row_found c.args.state.now.world) _ _ _ (c.type_rows.ensures.ready c.in_ok-ready-in-Class.ensures.smart) (stub_rows_found (is_class c.in-Class.name) c.args.state.now.world) (lowest_unready c.args.state.now.world) c.in_ok-ready-in-Class.ensures.smart _ (ap (reply c.args.state.now.world) c.in-Class.is)
     c.in_ok-rows-in-Class.rows c.in_ok-rows-in-Class.ensures.rows
 
 pub returns-in_err-ready-in-Supers-clause-looked : goal.returns-in_err-ready-in-Supers-clause-looked
@@ -52,24 +52,24 @@ returns-in_err-ready-in-Supers-clause-refused g c =
 
 pub stub_rows-requires-in-Supers-clause-ahead : goal.stub_rows-requires-in-Supers-clause-ahead
 stub_rows-requires-in-Supers-clause-ahead g c =
-    subst (AreAhead c.args.state.now.world None) (sym c.super_rows.ensures)
+    subst (AreAhead c.args.state.now.world None) (sym (c.super_rows.ensures.ready c.in_ok-ready-in-Supers.ensures.smart))
     (ahead_found c.listings_are_lawful.ensures c.names_are_identifiers.ensures (has_super c.in-Supers.name) c.args.state.now.world)
 
 pub returns-in_err-rows-in-Supers-clause-looked : goal.returns-in_err-rows-in-Supers-clause-looked
 returns-in_err-rows-in-Supers-clause-looked g c =
     looked_told _ _ RowList _ _ _ c.from_residual-in_err-rows-in-Supers.result _ _ _
-    (rows_looks (row_found c.args.state.now.world) _ _ _ c.super_rows.ensures (stub_rows_found (has_super c.in-Supers.name) c.args.state.now.world) (lowest_unready c.args.state.now.world) c.in_ok-ready-in-Supers.ensures.smart _ (ap (reply c.args.state.now.world) c.in-Supers.is))
+    (rows_looks (row_found c.args.state.now.world) _ _ _ (c.super_rows.ensures.ready c.in_ok-ready-in-Supers.ensures.smart) (stub_rows_found (has_super c.in-Supers.name) c.args.state.now.world) (lowest_unready c.args.state.now.world) c.in_ok-ready-in-Supers.ensures.smart _ (ap (reply c.args.state.now.world) c.in-Supers.is))
     c.from_residual-in_err-rows-in-Supers.ensures.1 c.in_err-rows-in-Supers.ensures.looked
 
 pub returns-in_ok-rows-in-Supers-clause-looked : goal.returns-in_ok-rows-in-Supers-clause-looked
 returns-in_ok-rows-in-Supers-clause-looked g c =
     subst (λ (n : ℕ). LooksThrough g.W.Watch.looks g.W.Watch.sightings n c.args.watch.now c.stub_rows-in-Supers.new.watch)
-    (rows_looks (row_found c.args.state.now.world) _ _ _ c.super_rows.ensures (stub_rows_found (has_super c.in-Supers.name) c.args.state.now.world) (lowest_unready c.args.state.now.world) c.in_ok-ready-in-Supers.ensures.smart _ (ap (reply c.args.state.now.world) c.in-Supers.is))
+    (rows_looks (row_found c.args.state.now.world) _ _ _ (c.super_rows.ensures.ready c.in_ok-ready-in-Supers.ensures.smart) (stub_rows_found (has_super c.in-Supers.name) c.args.state.now.world) (lowest_unready c.args.state.now.world) c.in_ok-ready-in-Supers.ensures.smart _ (ap (reply c.args.state.now.world) c.in-Supers.is))
     c.in_ok-rows-in-Supers.ensures.looked
 
 pub returns-in_ok-rows-in-Supers-clause-answer : goal.returns-in_ok-rows-in-Supers-clause-answer
 returns-in_ok-rows-in-Supers-clause-answer g c =
-    rows_told (row_found c.args.state.now.world) _ _ _ c.super_rows.ensures (stub_rows_found (has_super c.in-Supers.name) c.args.state.now.world) (lowest_unready c.args.state.now.world) c.in_ok-ready-in-Supers.ensures.smart _ (ap (reply c.args.state.now.world) c.in-Supers.is)
+    rows_told (row_found c.args.state.now.world) _ _ _ (c.super_rows.ensures.ready c.in_ok-ready-in-Supers.ensures.smart) (stub_rows_found (has_super c.in-Supers.name) c.args.state.now.world) (lowest_unready c.args.state.now.world) c.in_ok-ready-in-Supers.ensures.smart _ (ap (reply c.args.state.now.world) c.in-Supers.is)
     c.in_ok-rows-in-Supers.rows c.in_ok-rows-in-Supers.ensures.rows
 
 pub returns-in_err-ready-in-Method-clause-looked : goal.returns-in_err-ready-in-Method-clause-looked
@@ -82,24 +82,24 @@ returns-in_err-ready-in-Method-clause-refused g c =
 
 pub stub_rows-requires-in-Method-clause-ahead : goal.stub_rows-requires-in-Method-clause-ahead
 stub_rows-requires-in-Method-clause-ahead g c =
-    subst (AreAhead c.args.state.now.world None) (sym c.method_rows.ensures)
+    subst (AreAhead c.args.state.now.world None) (sym (c.method_rows.ensures.ready c.in_ok-ready-in-Method.ensures.smart))
     (ahead_found c.listings_are_lawful.ensures c.names_are_identifiers.ensures (is_method c.in-Method.name) c.args.state.now.world)
 
 pub returns-in_err-rows-in-Method-clause-looked : goal.returns-in_err-rows-in-Method-clause-looked
 returns-in_err-rows-in-Method-clause-looked g c =
     looked_told _ _ RowList _ _ _ c.from_residual-in_err-rows-in-Method.result _ _ _
-    (rows_looks (row_found c.args.state.now.world) _ _ _ c.method_rows.ensures (stub_rows_found (is_method c.in-Method.name) c.args.state.now.world) (lowest_unready c.args.state.now.world) c.in_ok-ready-in-Method.ensures.smart _ (ap (reply c.args.state.now.world) c.in-Method.is))
+    (rows_looks (row_found c.args.state.now.world) _ _ _ (c.method_rows.ensures.ready c.in_ok-ready-in-Method.ensures.smart) (stub_rows_found (is_method c.in-Method.name) c.args.state.now.world) (lowest_unready c.args.state.now.world) c.in_ok-ready-in-Method.ensures.smart _ (ap (reply c.args.state.now.world) c.in-Method.is))
     c.from_residual-in_err-rows-in-Method.ensures.1 c.in_err-rows-in-Method.ensures.looked
 
 pub returns-in_ok-rows-in-Method-clause-looked : goal.returns-in_ok-rows-in-Method-clause-looked
 returns-in_ok-rows-in-Method-clause-looked g c =
     subst (λ (n : ℕ). LooksThrough g.W.Watch.looks g.W.Watch.sightings n c.args.watch.now c.stub_rows-in-Method.new.watch)
-    (rows_looks (row_found c.args.state.now.world) _ _ _ c.method_rows.ensures (stub_rows_found (is_method c.in-Method.name) c.args.state.now.world) (lowest_unready c.args.state.now.world) c.in_ok-ready-in-Method.ensures.smart _ (ap (reply c.args.state.now.world) c.in-Method.is))
+    (rows_looks (row_found c.args.state.now.world) _ _ _ (c.method_rows.ensures.ready c.in_ok-ready-in-Method.ensures.smart) (stub_rows_found (is_method c.in-Method.name) c.args.state.now.world) (lowest_unready c.args.state.now.world) c.in_ok-ready-in-Method.ensures.smart _ (ap (reply c.args.state.now.world) c.in-Method.is))
     c.in_ok-rows-in-Method.ensures.looked
 
 pub returns-in_ok-rows-in-Method-clause-answer : goal.returns-in_ok-rows-in-Method-clause-answer
 returns-in_ok-rows-in-Method-clause-answer g c =
-    rows_told (row_found c.args.state.now.world) _ _ _ c.method_rows.ensures (stub_rows_found (is_method c.in-Method.name) c.args.state.now.world) (lowest_unready c.args.state.now.world) c.in_ok-ready-in-Method.ensures.smart _ (ap (reply c.args.state.now.world) c.in-Method.is)
+    rows_told (row_found c.args.state.now.world) _ _ _ (c.method_rows.ensures.ready c.in_ok-ready-in-Method.ensures.smart) (stub_rows_found (is_method c.in-Method.name) c.args.state.now.world) (lowest_unready c.args.state.now.world) c.in_ok-ready-in-Method.ensures.smart _ (ap (reply c.args.state.now.world) c.in-Method.is)
     c.in_ok-rows-in-Method.rows c.in_ok-rows-in-Method.ensures.rows
 
 pub returns-in_err-ready-in-Word-clause-looked : goal.returns-in_err-ready-in-Word-clause-looked
@@ -112,21 +112,21 @@ returns-in_err-ready-in-Word-clause-refused g c =
 
 pub word_rows-requires-in-Word-clause-live : goal.word_rows-requires-in-Word-clause-live
 word_rows-requires-in-Word-clause-live g c =
-    subst (AreLive c.args.state.now.world) (sym c.word_rows.ensures) (live_found (masks_in c.in-Word.name) c.args.state.now.world)
+    subst (AreLive c.args.state.now.world) (sym (c.word_rows.ensures.ready c.in_ok-ready-in-Word.ensures.smart)) (live_found (masks_in c.in-Word.name) c.args.state.now.world)
 
 pub returns-in_err-rows-in-Word-clause-looked : goal.returns-in_err-rows-in-Word-clause-looked
 returns-in_err-rows-in-Word-clause-looked g c =
     looked_told _ _ WordRows _ _ _ c.from_residual-in_err-rows-in-Word.result _ _ _
-    (words_looks (word_found c.args.state.now.world) _ _ _ c.word_rows.ensures (word_rows_found c.in-Word.name c.args.state.now.world) (lowest_unready c.args.state.now.world) c.in_ok-ready-in-Word.ensures.smart _ (ap (reply c.args.state.now.world) c.in-Word.is))
+    (words_looks (word_found c.args.state.now.world) _ _ _ (c.word_rows.ensures.ready c.in_ok-ready-in-Word.ensures.smart) (word_rows_found c.in-Word.name c.args.state.now.world) (lowest_unready c.args.state.now.world) c.in_ok-ready-in-Word.ensures.smart _ (ap (reply c.args.state.now.world) c.in-Word.is))
     c.from_residual-in_err-rows-in-Word.ensures.1 c.in_err-rows-in-Word.ensures.looked
 
 pub returns-in_ok-rows-in-Word-clause-looked : goal.returns-in_ok-rows-in-Word-clause-looked
 returns-in_ok-rows-in-Word-clause-looked g c =
     subst (λ (n : ℕ). LooksThrough g.W.Watch.looks g.W.Watch.sightings n c.args.watch.now c.word_rows-in-Word.new.watch)
-    (words_looks (word_found c.args.state.now.world) _ _ _ c.word_rows.ensures (word_rows_found c.in-Word.name c.args.state.now.world) (lowest_unready c.args.state.now.world) c.in_ok-ready-in-Word.ensures.smart _ (ap (reply c.args.state.now.world) c.in-Word.is))
+    (words_looks (word_found c.args.state.now.world) _ _ _ (c.word_rows.ensures.ready c.in_ok-ready-in-Word.ensures.smart) (word_rows_found c.in-Word.name c.args.state.now.world) (lowest_unready c.args.state.now.world) c.in_ok-ready-in-Word.ensures.smart _ (ap (reply c.args.state.now.world) c.in-Word.is))
     c.in_ok-rows-in-Word.ensures.looked
 
 pub returns-in_ok-rows-in-Word-clause-answer : goal.returns-in_ok-rows-in-Word-clause-answer
 returns-in_ok-rows-in-Word-clause-answer g c =
-    words_told (word_found c.args.state.now.world) _ _ _ c.word_rows.ensures (word_rows_found c.in-Word.name c.args.state.now.world) (lowest_unready c.args.state.now.world) c.in_ok-ready-in-Word.ensures.smart _ (ap (reply c.args.state.now.world) c.in-Word.is)
+    words_told (word_found c.args.state.now.world) _ _ _ (c.word_rows.ensures.ready c.in_ok-ready-in-Word.ensures.smart) (word_rows_found c.in-Word.name c.args.state.now.world) (lowest_unready c.args.state.now.world) c.in_ok-ready-in-Word.ensures.smart _ (ap (reply c.args.state.now.world) c.in-Word.is)
     c.in_ok-rows-in-Word.rows c.in_ok-rows-in-Word.ensures.rows

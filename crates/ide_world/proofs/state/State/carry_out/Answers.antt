@@ -56,11 +56,11 @@ invariant_of-self c =
     let lawful = subst (λ s. IsLawfulStep s.world c.args.step) (sym c.self.view_is) c.requires.lawful in
     let stamps = subst (λ s. s.world.next_stamp + 1 ≤ 64 * s.world.entries + 1) (sym c.self.view_is) c.requires.stamps in
     kept_after i.files i.docs i.layers i.unready i.entries c.args.step c.self.invariant lawful
-    c.apply_row-row.new.files c.apply_document.new.docs c.apply_index-data.new.layers c.set.new.self
-    (carried_out i.files c.draw_if.new.files c.apply_row-row.new.files i.docs c.apply_document.new.docs i.layers c.apply_index-data.new.layers i.unready c.set.new.self
+    c.apply_row-row.new.files c.apply_document.new.docs c.apply_index-index.new.layers c.set.new.self
+    (carried_out i.files c.draw_if.new.files c.apply_row-row.new.files i.docs c.apply_document.new.docs i.layers c.apply_index-index.new.layers i.unready c.set.new.self
     c.args.step c.is_unready_file-is_unready.result
     c.draw_if.ensures.rows c.draw_if.ensures.next c.apply_row-row.ensures.rows c.apply_row-row.ensures.made c.apply_row-row.ensures.next
-    c.apply_document.ensures.documents c.apply_document.ensures.open c.apply_index-data.ensures.base c.apply_index-data.ensures.overlay
+    c.apply_document.ensures.documents c.apply_document.ensures.open c.apply_index-index.ensures.base c.apply_index-index.ensures.overlay
     c.is_unready_file-is_unready.ensures c.set.ensures.each c.set.ensures.count)
     stamps
 
@@ -70,11 +70,11 @@ returns-clause-world c =
     let lawful = subst (λ s. IsLawfulStep s.world c.args.step) (sym c.self.view_is) c.requires.lawful in
     let stamps = subst (λ s. s.world.next_stamp + 1 ≤ 64 * s.world.entries + 1) (sym c.self.view_is) c.requires.stamps in
     world_after i.files i.docs i.layers i.unready i.entries c.args.step c.self.invariant lawful
-    c.apply_row-row.new.files c.apply_document.new.docs c.apply_index-data.new.layers c.set.new.self
-    (carried_out i.files c.draw_if.new.files c.apply_row-row.new.files i.docs c.apply_document.new.docs i.layers c.apply_index-data.new.layers i.unready c.set.new.self
+    c.apply_row-row.new.files c.apply_document.new.docs c.apply_index-index.new.layers c.set.new.self
+    (carried_out i.files c.draw_if.new.files c.apply_row-row.new.files i.docs c.apply_document.new.docs i.layers c.apply_index-index.new.layers i.unready c.set.new.self
     c.args.step c.is_unready_file-is_unready.result
     c.draw_if.ensures.rows c.draw_if.ensures.next c.apply_row-row.ensures.rows c.apply_row-row.ensures.made c.apply_row-row.ensures.next
-    c.apply_document.ensures.documents c.apply_document.ensures.open c.apply_index-data.ensures.base c.apply_index-data.ensures.overlay
+    c.apply_document.ensures.documents c.apply_document.ensures.open c.apply_index-index.ensures.base c.apply_index-index.ensures.overlay
     c.is_unready_file-is_unready.ensures c.set.ensures.each c.set.ensures.count)
     stamps
     ∙ ap (λ s. after_step s.world c.args.step) c.self.view_is
@@ -95,10 +95,10 @@ returns-clause-chars c = λ id n wide room open'.
 
 pub returns-clause-keeps : goal.returns-clause-keeps
 returns-clause-keeps c =
-    let new : Room = record { files = c.apply_row-row.new.files; docs = c.apply_document.new.docs; layers = c.apply_index-data.new.layers; marks = c.set.new.self } in
+    let new : Room = record { files = c.apply_row-row.new.files; docs = c.apply_document.new.docs; layers = c.apply_index-index.new.layers; marks = c.set.new.self } in
     subst (λ s. KeepsRoom s.room new) c.self.view_is record {
       paths = λ path had. c.apply_row-row.ensures.keeps.paths path (c.draw_if.ensures.keeps.paths path had);
       places = c.apply_document.ensures.places;
-      parts = c.apply_index-data.ensures.keeps;
+      parts = c.apply_index-index.ensures.keeps;
       marks = λ id had. c.set.ensures.keeps id ∙ had;
     }

@@ -12,7 +12,7 @@ carry_out_all-requires-clause-ready c =
 
 pub returns : goal.returns
 returns c =
-    c.sweep_all.ensures ∙ c.carry_out_all.ensures
+    c.sweep_all.ensures.world ∙ c.carry_out_all.ensures
     ∙ ap (after_steps c.count_entry.new.self.world) c.steps.view_is
     ∙ ap (λ w. after_steps w c.args.steps) c.count_entry.ensures.world
     ∙ after_steps-counted c.args.self.now.world c.args.steps

@@ -1,18 +1,26 @@
-use Rattle.std.proofs.Common.{length, refl, subst, sym, ap, ◌∙◌, None, ◌≡◌}
+use Rattle.std.proofs.Common.{length, refl, ap, ◌∙◌}
 use Rattle.document_buf.specs.Held.{document_of}
 use Rattle.overlay_index.specs.Parts.{Parts}
+use Rattle.overlay_index.specs.Found.{values_of}
 use Rattle.overlay_index.specs.Named.{is_method_named}
-use Rattle.write_history.specs.World.{lowest_unready}
-use Rattle.ide_world.specs.Found.{found, stubs_in}
+use Rattle.ide_world.specs.Held.{Held}
+use Rattle.ide_world.specs.Found.{shown, kept_of, stubs_in}
 use Rattle.ide_world.specs.State.{files_from}
-use Rattle.ide_world.proofs.FoundLemmas.{walk_found, shown_to}
+use Rattle.ide_world.proofs.FoundLemmas.{walk_shown, ready_shown, shown_to}
 use Rattle.ide_world.proofs.state.State.method_rows.Goals as goal
 
-pub returns : goal.returns
-returns c =
+pub returns-clause-shown : goal.returns-clause-shown
+returns-clause-shown c =
     let i = c.self.inside in
+    let name = c.args.name.now in
     let files = files_from (document_of i.docs) 1 i.files.rows in
-    let ready = subst (λ s. lowest_unready s.world ≡ None) (sym c.self.view_is) c.requires in
     c.method_rows.ensures (length files) (shown_to i.layers files c.self.invariant.index)
-    ∙ walk_found (λ (p : Parts). p.methods) c.args.name.now (stubs_in (is_method_named c.args.name.now)) refl (λ text. c.a_name_finds_its_methods.ensures text c.args.name.now) i.layers files c.self.invariant.index ready
-    ∙ ap (λ s. found (stubs_in (is_method_named c.args.name.now)) s.world) c.self.view_is
+    ∙ walk_shown (λ (p : Parts). p.methods) name (stubs_in (is_method_named name)) refl
+      (λ text. c.a_name_finds_its_methods.ensures text name) i.layers files c.self.invariant.index
+    ∙ ap (λ (s : Held). shown (λ id. values_of name (kept_of s id).methods) (stubs_in (is_method_named name)) s.world) c.self.view_is
+
+pub returns-clause-ready : goal.returns-clause-ready
+returns-clause-ready c = λ none.
+    let name = c.args.name.now in
+    returns-clause-shown c
+    ∙ ready_shown (λ id. values_of name (kept_of c.args.self.now id).methods) (stubs_in (is_method_named name)) c.args.self.now.world.files none
