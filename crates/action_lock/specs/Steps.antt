@@ -31,7 +31,16 @@ module _ {E : Type 0} where
   -- the look found neither, and has taken the turn and the home value, which stands for what is now seen
   abbrev pub entering : ℕ → List E → View E → View E
   entering found seen v =
-      record v { phase = Entering; looks = v.looks + 1; checks = 0; earlier_checks = all_checks v; last = found; seen = seen; reads = v.reads ++ length seen ∷ []; current = v.intent }
+      record v {
+        phase = Entering;
+        looks = v.looks + 1;
+        checks = 0;
+        earlier_checks = all_checks v;
+        last = found;
+        seen = seen;
+        reads = v.reads ++ length seen ∷ [];
+        current = v.intent;
+      }
 
   -- only the phase changed
   abbrev pub with_phase : Phase → View E → View E
