@@ -41,27 +41,20 @@ fn damaged_bytes(rt: HostRuntime) -> Result<(), Fail> {
     Ok(())
 }
 
-#[test]
-fn cut_and_trailing_bytes(rt: HostRuntime) -> Result<(), Fail> {
-    let one = ONE.as_slice();
-    let (cut, _) = one.split_at(19);
-    let (before_last, _) = one.split_at(16);
-    for (bytes, wanted) in [
-        (one, 100),
-        (cut, 16),
-        (before_last, 16),
-        (MORE.as_slice(), 20),
-        (DEEP.as_slice(), 21),
-    ] {
-        assert_eq!(rt; place_in(rt.alloc(), bytes)?, wanted);
-    }
-    Ok(())
+/// The first bytes of `ONE`, so many.
+fn front(count: usize) -> &'static [u8] {
+    let (front, _) = ONE.split_at(count.min(20));
+    front
 }
 
 #[test]
-fn both_ways(rt: HostRuntime) -> Result<(), Fail> {
+fn whole_cut_and_trailing_bytes(rt: HostRuntime) -> Result<(), Fail> {
     assert!(rt; is_kept(rt.alloc(), &[1, 0, 0, 0, 0])?);
     assert!(rt; is_kept(rt.alloc(), &ONE)?);
     assert!(rt; is_kept(rt.alloc(), &THREE)?);
+    assert_eq!(rt; place_in(rt.alloc(), front(19))?, 16);
+    assert_eq!(rt; place_in(rt.alloc(), front(16))?, 16);
+    assert_eq!(rt; place_in(rt.alloc(), &MORE)?, 20);
+    assert_eq!(rt; place_in(rt.alloc(), &DEEP)?, 21);
     Ok(())
 }

@@ -23,9 +23,14 @@ pub enum Step {
 /// Goes through steps from empty layers on, and tells how many were as they say, up to the first that isn't.
 pub fn run(alloc: Global, steps: &[Step]) -> Result<usize, AllocError> {
     let mut layers = Layers::new(alloc);
+    run_in(alloc, &mut layers, steps)
+}
+
+/// The same in layers that are there.
+fn run_in(alloc: Global, layers: &mut Layers, steps: &[Step]) -> Result<usize, AllocError> {
     let mut right = 0usize;
     for step in steps {
-        if !perform(alloc, &mut layers, *step)? {
+        if !perform(alloc, layers, *step)? {
             return Ok(right);
         }
         right = right.saturating_add(1);
@@ -94,21 +99,29 @@ fn found(alloc: Global, layers: &Layers, name: &str) -> Result<String, AllocErro
     let name = Name::of(alloc, name)?;
     let mut out = String::new(alloc);
     for (file, stub) in layers.type_rows(&name) {
-        let at = stub.at;
-        out.push_str(format!(in alloc; " t{file}:{at}")?.as_str())?;
+        push_row(alloc, &mut out, "t", file, stub.at)?;
     }
     for (file, stub) in layers.super_rows(&name) {
-        let at = stub.at;
-        out.push_str(format!(in alloc; " s{file}:{at}")?.as_str())?;
+        push_row(alloc, &mut out, "s", file, stub.at)?;
     }
     for (file, stub) in layers.method_rows(&name) {
-        let at = stub.at;
-        out.push_str(format!(in alloc; " m{file}:{at}")?.as_str())?;
+        push_row(alloc, &mut out, "m", file, stub.at)?;
     }
     for (file, mask) in layers.word_rows(&name) {
-        out.push_str(format!(in alloc; " w{file}:{mask}")?.as_str())?;
+        push_row(alloc, &mut out, "w", file, u32::from(mask))?;
     }
     Ok(out)
+}
+
+/// Adds what a walk gives: its mark, the file, and an offset or a mask.
+fn push_row(
+    alloc: Global,
+    out: &mut String,
+    kind: &str,
+    file: u32,
+    value: u32,
+) -> Result<(), AllocError> {
+    out.push_str(format!(in alloc; " {kind}{file}:{value}")?.as_str())
 }
 
 /// Whether just this is found.

@@ -7,7 +7,7 @@ use std::collections::BTreeMap;
 
 /// An index whose inputs are rows themselves.
 #[derive(Clone, Copy, Drop)]
-pub(crate) struct Letters;
+pub struct Letters;
 
 impl Indexer for Letters {
     type Input = KeyRows<char, u8>;
@@ -41,11 +41,50 @@ impl Indexer for Letters {
     }
 }
 
-/// Rows of letters and numbers.
-pub(crate) fn rows_of(
+/// A call on an index, or what stands under a letter of it.
+#[derive(Clone, Copy)]
+pub enum Step {
+    /// A file has these rows.
+    Put(u32, &'static [(char, u8)]),
+    /// File 3 has these rows, for which room was made before file 7 was taken out.
+    PutAfterRemoval(&'static [(char, u8)]),
+    /// Room is made for rows of a file, and given up.
+    MakeAndRelease(u32, &'static [(char, u8)]),
+    /// Just these files and numbers stand under a letter, in this order.
+    Shows(char, &'static [(u32, u8)]),
+}
+
+/// Goes through steps, and tells how many were as they say, up to the first that isn't.
+pub fn run(
     alloc: Global,
-    pairs: &[(char, u8)],
-) -> Result<KeyRows<char, u8>, AllocError> {
+    index: &mut Inverted<Letters>,
+    steps: &[Step],
+) -> Result<usize, AllocError> {
+    let mut right = 0usize;
+    for step in steps {
+        if !perform(alloc, index, *step)? {
+            return Ok(right);
+        }
+        right = right.saturating_add(1);
+    }
+    Ok(right)
+}
+
+/// Does one step, and tells whether it is as it says.
+fn perform(alloc: Global, index: &mut Inverted<Letters>, step: Step) -> Result<bool, AllocError> {
+    match step {
+        Step::Put(file, pairs) => put(index, file, rows_of(alloc, pairs)?)?,
+        Step::PutAfterRemoval(pairs) => put_after_a_removal(index, rows_of(alloc, pairs)?)?,
+        Step::MakeAndRelease(file, pairs) => {
+            make_and_release(index, file, &rows_of(alloc, pairs)?)?
+        }
+        Step::Shows(letter, wanted) => return Ok(shows(index, letter, wanted)),
+    }
+    Ok(true)
+}
+
+/// Rows of letters and numbers.
+fn rows_of(alloc: Global, pairs: &[(char, u8)]) -> Result<KeyRows<char, u8>, AllocError> {
     let mut map = BTreeMap::new(alloc);
     for (letter, number) in pairs {
         map.insert(*letter, *number)?;
@@ -54,7 +93,7 @@ pub(crate) fn rows_of(
 }
 
 /// Gives a file rows.
-pub(crate) fn put(
+fn put(
     index: &mut Inverted<Letters>,
     file: u32,
     rows: KeyRows<char, u8>,
@@ -65,7 +104,7 @@ pub(crate) fn put(
 }
 
 /// Gives file 3 rows, for which room was made before file 7 was taken out.
-pub(crate) fn put_after_a_removal(
+fn put_after_a_removal(
     index: &mut Inverted<Letters>,
     rows: KeyRows<char, u8>,
 ) -> Result<(), AllocError> {
@@ -76,7 +115,7 @@ pub(crate) fn put_after_a_removal(
 }
 
 /// Makes room for rows of a file, and gives it up.
-pub(crate) fn make_and_release(
+fn make_and_release(
     index: &mut Inverted<Letters>,
     file: u32,
     rows: &KeyRows<char, u8>,
@@ -87,7 +126,7 @@ pub(crate) fn make_and_release(
 }
 
 /// Whether just these files and numbers stand under a letter, in this order.
-pub(crate) fn shows(index: &Inverted<Letters>, letter: char, wanted: &[(u32, u8)]) -> bool {
+fn shows(index: &Inverted<Letters>, letter: char, wanted: &[(u32, u8)]) -> bool {
     let mut left = wanted;
     for (file, number) in index.rows(&letter) {
         match left {

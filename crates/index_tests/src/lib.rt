@@ -3,10 +3,13 @@
 
 #[cfg(test)]
 mod bytes;
+#[cfg(test)]
 mod layer_calls;
 #[cfg(test)]
 mod layer_rows;
+#[cfg(test)]
 mod letters;
+#[cfg(test)]
 mod places;
 #[cfg(test)]
 mod rows;

@@ -3,6 +3,7 @@
 
 #[cfg(test)]
 mod scripts;
+#[cfg(test)]
 mod tables;
 #[cfg(test)]
 mod words;
