@@ -1,6 +1,0 @@
-use Rattle.shared_ide.specs.Passes.{IsIdePassOf, ide_view}
-use Rattle.shared_tests.specs.Passes.{HasKept}
-use Rattle.shared_tests.proofs.lanes.do_all.Given as goal
-
-abbrev pub invariant-loop-action : goal.invariant-loop-action
-invariant-loop-action g l = record { pass : IsIdePassOf l.ide l.pass; kept : HasKept (ide_view l.initial.pass) (ide_view l.pass) }

@@ -1,0 +1,38 @@
+//! Tests with threads: calls on the shared workspace by two passes, scripts whose lanes and workers are held where they
+//! are to meet, and the program; what comes out is compared whole, or judged by making the history again.
+#![tactic(auto)]
+
+#[cfg(test)]
+mod commands;
+#[cfg(test)]
+mod crossing;
+#[cfg(test)]
+mod drawn;
+#[cfg(test)]
+mod judging;
+#[cfg(test)]
+mod lanes;
+#[cfg(test)]
+mod parts;
+#[cfg(test)]
+mod passes;
+#[cfg(test)]
+mod program;
+#[cfg(test)]
+mod replaying;
+#[cfg(test)]
+mod running;
+#[cfg(test)]
+mod same;
+#[cfg(test)]
+mod scenes;
+#[cfg(test)]
+mod sharing;
+#[cfg(test)]
+mod stage;
+#[cfg(test)]
+mod tests;
+#[cfg(test)]
+mod told;
+#[cfg(test)]
+mod walk;
