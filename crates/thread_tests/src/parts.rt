@@ -34,7 +34,7 @@ fn played_by_two<R: Threads + Wait + Sync>(
     script: &Script,
 ) -> Result<Played, PlayRefusal> {
     let mut tree = two_files(alloc)?;
-    let gate = LaneGate::new(rt, script.lanes() as u32);
+    let gate = LaneGate::new(rt, script);
     play(rt, alloc, script, 2, &mut tree, &gate)
 }
 
