@@ -95,13 +95,15 @@ fn push_numbered(
     text: &str,
     number: u64,
 ) -> Result<(), AllocError> {
-    let mut left = text;
-    while let Some((piece, later)) = left.split_once("@") {
+    let mut is_first = true;
+    for piece in text.split("@") {
+        if !is_first {
+            push_marked(script, &format!(in alloc; "{number}")?)?;
+        }
+        is_first = false;
         push_marked(script, piece)?;
-        push_marked(script, &format!(in alloc; "{number}")?)?;
-        left = later;
     }
-    push_marked(script, left)
+    Ok(())
 }
 
 /// Adds the bytes of a text, with those that its marks stand for.
