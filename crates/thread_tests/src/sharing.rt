@@ -25,6 +25,22 @@ pub struct Sharing {
     pub said: &'static [&'static str],
 }
 
+/// What a pass does beside the other one, and what it is answered.
+#[derive(Drop)]
+struct Part {
+    actions: &'static [Action],
+    said: Result<String, AllocError>,
+}
+
+impl Part {
+    fn new(actions: &'static [Action]) -> Part {
+        Part {
+            actions,
+            said: Err(AllocError),
+        }
+    }
+}
+
 /// What a run leaves.
 #[derive(Drop)]
 pub struct Shared {
@@ -77,10 +93,12 @@ fn play<R: Threads + Wait + Sync>(
 {
     let before = do_all(rt, alloc, ide, first, scene.before, stage);
     let mut lane = split(ide, first);
-    let (one, two) = do_both(rt, alloc, ide, first, &mut lane, scene, stage);
+    let mut one = Part::new(scene.one);
+    let mut two = Part::new(scene.two);
+    do_both(rt, alloc, ide, first, &mut one, &mut lane, &mut two, stage);
     meet(ide, lane, first);
     let after = do_all(rt, alloc, ide, first, scene.after, stage);
-    joined(before?, one?, two?, after?)
+    joined(before?, one.said?, two.said?, after?)
 }
 
 /// The answers as one text.
@@ -127,10 +145,11 @@ fn do_both<R: Threads + Wait + Sync>(
     alloc: Global,
     ide: &SharedIde,
     first: &mut IdePass,
+    one: &mut Part,
     lane: &mut IdePass,
-    scene: &Sharing,
+    two: &mut Part,
     stage: &Stage,
-) -> (Result<String, AllocError>, Result<String, AllocError>)
+)
     requires first { IsIdePassOf ide.now first.old }
     requires lane { IsLane ide.now lane.old }
     ensures first { HasActed ide.now first.old first.new }
@@ -138,9 +157,9 @@ fn do_both<R: Threads + Wait + Sync>(
 {
     join_mut(
         rt,
-        &mut || do_first(rt, alloc, ide, first, scene.one, stage),
-        &mut || do_lane(rt, alloc, ide, lane, scene.two, stage),
-    )
+        &mut || do_first(rt, alloc, ide, first, one, stage),
+        &mut || do_lane(rt, alloc, ide, lane, two, stage),
+    );
 }
 
 /// What the first pass does beside a lane.
@@ -149,13 +168,13 @@ fn do_first<R: Wait>(
     alloc: Global,
     ide: &SharedIde,
     first: &mut IdePass,
-    actions: &[Action],
+    part: &mut Part,
     stage: &Stage,
-) -> Result<String, AllocError>
+)
     requires { IsIdePassOf ide.now first.old }
     ensures { HasActed ide.now first.old first.new }
 {
-    do_all(rt, alloc, ide, first, actions, stage)
+    part.said = do_all(rt, alloc, ide, first, part.actions, stage);
 }
 
 /// What a lane does.
@@ -164,13 +183,13 @@ fn do_lane<R: Wait>(
     alloc: Global,
     ide: &SharedIde,
     lane: &mut IdePass,
-    actions: &[Action],
+    part: &mut Part,
     stage: &Stage,
-) -> Result<String, AllocError>
+)
     requires { IsLane ide.now lane.old }
     ensures { IsLane ide.now lane.new }
 {
-    do_all(rt, alloc, ide, lane, actions, stage)
+    part.said = do_all(rt, alloc, ide, lane, part.actions, stage);
 }
 
 pub static SHARINGS: [Sharing; 4] = [
