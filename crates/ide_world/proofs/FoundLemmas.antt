@@ -114,20 +114,20 @@ module _ {V : Type 0} (part : Parts → List (List ℕ × V)) (name : List ℕ) 
   all_from look kept first (file ∷ files) each =
       let here : look first ≡ cond (is_unready file) (kept first) (found_at read file) =
       (let e : first ≡ first + 0 = omega arith in ap look e) ∙ each 0
-          ∙ (let e : first + 0 ≡ first = omega arith in ap (λ id. cond (is_unready file) (kept id) (found_at read file)) e) in
+      ∙ (let e : first + 0 ≡ first = omega arith in ap (λ id. cond (is_unready file) (kept id) (found_at read file)) e) in
       let next : suc first ≡ first + 1 = omega arith in
       ap (λ vs. walk.with_id first vs ++ walk.found_from look (suc first) (length files)) here
       ∙ ap (λ rest. walk.with_id first (cond (is_unready file) (kept first) (found_at read file)) ++ rest)
       (all_from look kept (suc first) files (λ place. (let e : suc first + place ≡ first + suc place = omega arith in ap look e) ∙ each (suc place)
       ∙ (let e : first + suc place ≡ suc first + place = omega arith in
-          ap (λ id. cond (is_unready (get_or files place None)) (kept id) (found_at read (get_or files place None))) e))
+      ap (λ id. cond (is_unready (get_or files place None)) (kept id) (found_at read (get_or files place None))) e))
       ∙ ap (λ i. shown_from kept read i files) next)
 
   -- the walk gives what the world shows
   pub walk_shown : (kept : layers.Held) (files : List (Option File))
       → ((id : ℕ) → HoldsIndex (row_in files id) (indexed_in kept id))
       → walk.found_to (λ id. walk.values_of name (part (layers.shown_of kept id))) (length files)
-          ≡ shown_from (λ id. walk.values_of name (part (layers.base_of kept id))) read 1 files
+      ≡ shown_from (λ id. walk.values_of name (part (layers.base_of kept id))) read 1 files
   walk_shown kept files holds =
       all_from (λ id. walk.values_of name (part (layers.shown_of kept id))) (λ id. walk.values_of name (part (layers.base_of kept id))) 1 files each
     where
@@ -137,7 +137,7 @@ module _ {V : Type 0} (part : Parts → List (List ℕ × V)) (name : List ℕ) 
           (let e : 1 + place ≡ suc place = omega arith in ap (λ id. walk.values_of name (part (layers.shown_of kept id))) e)
           ∙ either (get_or files place None) (indexed_in kept (suc place)) (holds (suc place))
           ∙ (let e : suc place ≡ 1 + place = omega arith in
-            ap (λ id. cond (is_unready (get_or files place None)) (walk.values_of name (part (layers.base_of kept id))) (found_at read (get_or files place None))) e)
+          ap (λ id. cond (is_unready (get_or files place None)) (walk.values_of name (part (layers.base_of kept id))) (found_at read (get_or files place None))) e)
 
 module _ {X : Type 0} (kept : ℕ → List X) (read : List ℕ → List X) where
   ready_from : (first : ℕ) (files : List (Option File)) → ((place : ℕ) → is_unready (get_or files place None) ≡ false)

@@ -16,7 +16,7 @@ returns-clause-shown c =
     let files = files_from (document_of i.docs) 1 i.files.rows in
     c.super_rows.ensures (length files) (shown_to i.layers files c.self.invariant.index)
     ∙ walk_shown (λ (p : Parts). p.supers) name (stubs_in (names_super name)) refl
-      (λ text. c.a_name_finds_its_subtypes.ensures text name) i.layers files c.self.invariant.index
+    (λ text. c.a_name_finds_its_subtypes.ensures text name) i.layers files c.self.invariant.index
     ∙ ap (λ (s : Held). shown (λ id. values_of name (kept_of s id).supers) (stubs_in (names_super name)) s.world) c.self.view_is
 
 pub returns-clause-ready : goal.returns-clause-ready

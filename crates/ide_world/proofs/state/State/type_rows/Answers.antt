@@ -16,7 +16,7 @@ returns-clause-shown c =
     let files = files_from (document_of i.docs) 1 i.files.rows in
     c.type_rows.ensures (length files) (shown_to i.layers files c.self.invariant.index)
     ∙ walk_shown (λ (p : Parts). p.types) name (stubs_in (is_type_named name)) refl
-      (λ text. c.a_name_finds_its_types.ensures text name) i.layers files c.self.invariant.index
+    (λ text. c.a_name_finds_its_types.ensures text name) i.layers files c.self.invariant.index
     ∙ ap (λ (s : Held). shown (λ id. values_of name (kept_of s id).types) (stubs_in (is_type_named name)) s.world) c.self.view_is
 
 pub returns-clause-ready : goal.returns-clause-ready

@@ -15,7 +15,7 @@ returns-clause-shown c =
     let files = files_from (document_of i.docs) 1 i.files.rows in
     c.word_rows.ensures (length files) (shown_to i.layers files c.self.invariant.index)
     ∙ walk_shown (λ (p : Parts). p.words) name (masks_in name) refl
-      (λ text. c.a_word_finds_its_mask.ensures text name) i.layers files c.self.invariant.index
+    (λ text. c.a_word_finds_its_mask.ensures text name) i.layers files c.self.invariant.index
     ∙ ap (λ (s : Held). shown (λ id. values_of name (kept_of s id).words) (masks_in name) s.world) c.self.view_is
 
 pub returns-clause-ready : goal.returns-clause-ready
