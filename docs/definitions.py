@@ -33,9 +33,10 @@ is printed):
 | `cancelled` only where the lane's pass saw pending writes | `IsGivenUp`: the record's counts of sights rose by at least as many as it was allowed attempts; `Fits`: only where another section runs beside. That these counts are the pass's is `HasSighted` (of `soft_ask`), which alone makes a `Sighted` |
 | what workers made | `RunFits.worked` (`WorkerFits`): intakes without a line, no two of the same file and stamp, as many as it tells; `EndFits` |
 
-What the lock's proofs speak of stands in the sources of `action_lock` besides: `src/rule.rt` and `src/plays.rt` are statements
-(the rule that holds between any two atomic steps, and what each step tells the pass that takes it), to be read with
-`specs/Rule.antt` and `specs/Steps.antt`. A peek at a word is a plain load, outside the table of steps.
+What the proofs over threads speak of stands in sources besides: `src/rule.rt` and `src/plays.rt` of `action_lock`, and
+`src/rule.rt` of `job_queue`, are statements (the rule that holds between any two atomic steps, and what each step tells the
+pass that takes it), to be read with `specs/Rule.antt` and `specs/Steps.antt`. The peeks by which a waiting call looks before
+it tries again are plain loads outside the table of steps; no clause rests on them.
 """
 
 
