@@ -8,8 +8,9 @@
                                             sources back, and says whether the check refused it and by what
 
 Each is a file docs/wrong-bodies/CRATE/NAME.edit in the form of a must-fail edit: a line 'file: PATH', then pairs of lines
-'old: TEXT' and 'new: TEXT'; a line 'refused: CLAUSE' tells what refused it when it was last tried. The ones that
-show what no other shows stand in crates/CRATE/must-fail, and `rt ci` tries them.
+'old: TEXT' and 'new: TEXT'. The ones that show what no other shows stand in crates/CRATE/must-fail, and `rt ci` tries
+them. docs/wrong-bodies/refused.txt has a line 'CRATE/NAME: what was left unproved' for each that was tried since this
+table stands; add to it what a try prints.
 """
 import pathlib
 import re
@@ -19,12 +20,15 @@ import sys
 TOP = pathlib.Path(__file__).resolve().parent.parent
 EDITS = TOP / "docs/wrong-bodies"
 TABLE = TOP / "docs/WRONG-BODIES.md"
+REFUSED = EDITS / "refused.txt"
 HEAD = """# Wrong bodies
 
 Bodies that a proof refuses, one a row: what each function would do wrong, and the clause or condition that refuses it.
 Made by `docs/wrong_bodies.py` from `docs/wrong-bodies/` and `crates/*/must-fail/`. Those marked *gate* are tried by each
 `rt ci`: they show what no other shows. The others were all refused when they were last tried; somebody who changes
-such a function tries them again: `docs/wrong_bodies.py CRATE/NAME`.
+such a function tries them again: `docs/wrong_bodies.py CRATE/NAME`. *Refused by* names the goal that the check left
+unproved, as it prints it (`returns-..-clause-NAME` is the clause NAME where the function returns); it stands for those
+that were tried since this table was begun.
 
 """
 FUNCTION = re.compile(r"\bfn (\w+)")
@@ -37,7 +41,7 @@ class Edit:
         self.path, self.in_gate = path, in_gate
         self.crate = path.parent.parent.name if in_gate else path.parent.name
         self.name = path.stem
-        self.refused, self.pairs, file, old = "", [], None, None
+        self.pairs, file, old = [], None, None
         for line in path.read_text().splitlines():
             word, _, text = line.partition(": ")
             if word == "file":
@@ -46,8 +50,6 @@ class Edit:
                 old = text
             elif line.startswith("new:"):
                 self.pairs.append((file, old, line[len("new:") :].removeprefix(" ")))
-            elif word == "refused":
-                self.refused = text
 
     def applied(self):
         """The texts of the files that the edit changes, by path, or why it can't be applied."""
@@ -77,13 +79,14 @@ def edits():
 
 def table():
     rows = [HEAD]
+    refused = dict(line.split(": ", 1) for line in REFUSED.read_text().splitlines())
     crate = None
     for it in edits():
         if it.crate != crate:
             crate = it.crate
             rows.append(f"\n## {crate}\n\n| function | wrong body | refused by |\n|---|---|---|\n")
         words = it.name.replace("_", " ") + (" (*gate*)" if it.in_gate else "")
-        rows.append(f"| {it.function()} | {words} | {it.refused} |\n")
+        rows.append(f"| {it.function()} | {words} | {refused.get(f'{it.crate}/{it.name}', '')} |\n")
     return "".join(rows)
 
 
