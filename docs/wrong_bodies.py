@@ -28,7 +28,7 @@ Made by `docs/wrong_bodies.py` from `docs/wrong-bodies/` and `crates/*/must-fail
 `rt ci`: they show what no other shows. The others were all refused when they were last tried; somebody who changes
 such a function tries them again: `docs/wrong_bodies.py CRATE/NAME`. *Refused by* names the goal that the check left
 unproved, as it prints it (`returns-..-clause-NAME` is the clause NAME where the function returns); it stands for those
-that were tried since this table was begun.
+that were tried since this table was begun. `ide_script/tree_is_probed_before_the_script` was refused by its proof's text alone.
 
 """
 FUNCTION = re.compile(r"\bfn (\w+)")
