@@ -1,1 +1,2 @@
 pub mod NamedLemmas
+mod MentionLemmas

@@ -3,9 +3,9 @@ use Rattle.std.proofs.Common.{◌≡◌, ℕ, ◌<◌, Bool, true, false, ◌&&�
 use Rattle.std.specs.Ordering.{nat_cmp, ordering_then}
 use Rattle.std.specs.declared.cmp.Ordering.TheVariants.{Less}
 use Rattle.std.specs.Cmp.{tied_itself}
-use Rattle.std.specs.Cmp.Lexicographic.{slice_cmp, nat_list_eq_equiv, nat_list_cmp_total, texts_ties, bytes_decides}
+use Rattle.std.specs.Cmp.Lexicographic.{slice_cmp, nat_list_cmp_total, texts_ties, bytes_decides}
 use Rattle.std.specs.Str.{bytes_eq}
-use Rattle.std.specs.List.{AllByRecursion, list_any}
+use Rattle.std.specs.List.{AllByRecursion}
 use Rattle.std.specs.List.Sorted.{IsStrictlySortedBy}
 use Rattle.std.proofs.lemmas.List.Elements.{filter-append}
 use Rattle.file_index.specs.KeyRows.{AreInOrder, rows_with, row_cmp, values_with}
@@ -159,8 +159,3 @@ module _ (rows new all : List (List ℕ × Stub)) (left rest : List (List ℕ)) 
   -- and any other gives one
   pub for_last : has_name name rest ≡ false → new ≡ rows ++ only name s → new ++ rows_under (distinct_names rest) s ≡ all
   for_last e grown = ap (λ l. l ++ rows_under (distinct_names rest) s) grown ∙ append_assoc rows (only name s) (rows_under (distinct_names rest) s) ∙ subst so_far_at e now_at
-
--- the test of a slice's `contains` is that of `has_name`
-pub has_name_from : (name : List ℕ) (names : List (List ℕ)) → list_any (λ other. bytes_eq other name) names ≡ has_name name names
-has_name_from name [] = refl
-has_name_from name (n ∷ ns) = ap (λ b. b || list_any (λ other. bytes_eq other name) ns) (nat_list_eq_equiv.symm n name) ∙ ap (λ b. bytes_eq name n || b) (has_name_from name ns)

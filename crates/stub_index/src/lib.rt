@@ -1,6 +1,7 @@
 //! Three indexes over the declarations of a text: its types by their names and by their supers, and its methods.
 #![tactic(auto)]
 
+mod last_mentions;
 pub mod laws;
 mod method_names;
 mod shared_stub;

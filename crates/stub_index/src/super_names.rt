@@ -2,6 +2,7 @@
 ghost use Rattle.std.specs.Prelude.{◌≡◌, ◌++◌, IfOk, OnOk};
 ghost use Rattle.stub_index.specs.Named.{super_names, distinct_names, rows_named, rows_under};
 
+use crate::last_mentions::{is_last, last_mentions};
 use crate::shared_stub::SharedStub;
 use crate::shared_stubs::SharedStubs;
 use file_index::{Indexer, KeyRows};
@@ -63,7 +64,7 @@ fn named_by_supers(
     Ok(rows)
 }
 
-/// Adds a stub under each of these names, once under each.
+/// Adds a stub under each of these names, once under each. The time goes by their number and its logarithm.
 fn add_under(
     rows: &mut Vec<(Name, SharedStub)>,
     names: &[Name],
@@ -71,9 +72,10 @@ fn add_under(
 ) -> Result<(), AllocError>
     ensures { OnOk result (rows.new.items ≡ rows.old.items ++ rows_under (distinct_names names.now) stub.now) }
 {
+    let mentions = last_mentions(*rows.allocator(), names)?;
     let mut left = names;
     while let Some((name, rest)) = left.split_first() {
-        if !rest.contains(name) {
+        if is_last(&mentions, name, rest.len()) {
             rows.push((name.copy()?, stub.share()?))?;
         }
         left = rest;

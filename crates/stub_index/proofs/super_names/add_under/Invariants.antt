@@ -1,10 +1,16 @@
-use Rattle.std.proofs.Common.{◌≡◌, ◌++◌, length}
-use Rattle.stub_index.specs.Named.{distinct_names, rows_under}
+use Rattle.std.proofs.Common.{◌≡◌, ℕ, true, List, ◌++◌, length}
+use Rattle.std.specs.Ordering.{nat_cmp}
+use Rattle.std.specs.Cmp.Lexicographic.{slice_cmp}
+use Rattle.std.specs.BTreeMap.{get_by}
+use Rattle.stub_index.specs.Mentions.{behind_last}
+use Rattle.stub_index.specs.Named.{has_name, distinct_names, rows_under}
 use Rattle.stub_index.proofs.super_names.add_under.Given as goal
 
--- the rows so far and those of the names that are left are all
+-- the rows so far and those of the names that are left are all, and these are found where they are mentioned last
 abbrev pub invariant-loop-name : goal.invariant-loop-name
-invariant-loop-name l = l.rows.items ++ rows_under (distinct_names l.left) l.stub ≡ l.initial.rows.items ++ rows_under (distinct_names l.names) l.stub
+invariant-loop-name l =
+    (l.rows.items ++ rows_under (distinct_names l.left) l.stub ≡ l.initial.rows.items ++ rows_under (distinct_names l.names) l.stub)
+    × ((name : List ℕ) → has_name name l.left ≡ true → get_by (λ k. slice_cmp nat_cmp name k.now) l.mentions ≡ behind_last name l.left)
 
 abbrev pub decreases-loop-name : goal.decreases-loop-name
 decreases-loop-name l = length l.left
