@@ -18,6 +18,9 @@ use crate::word_list::WordList;
 use ide_text::Text;
 use std::alloc::{AllocError, Global};
 
+/// The most words for which room is made before any is met; for more, room is made as they come.
+const FIRST_ROOM: usize = 256;
+
 /// The words of a text, of which the tokens are at hand: its identifiers, and the words in its comments and strings.
 /// Each occurrence is looked up once, by hash, and the distinct words are sorted at the end.
 pub fn words(alloc: Global, text: &Text, tokens: &[Token]) -> Result<WordList, AllocError>
@@ -38,7 +41,7 @@ fn masks_of(alloc: Global, text: &Text, tokens: &[Token]) -> Result<Masks, Alloc
     ensures { IfOk result (λ masks. masks ≡ words_of text.now) }
 {
     // Of eight tokens about one is a word that wasn't met before.
-    let mut masks = Masks::with_room(alloc, tokens.len() / 8)?;
+    let mut masks = Masks::with_room(alloc, (tokens.len() / 8).min(FIRST_ROOM))?;
     for token in tokens {
         add_token(&mut masks, text, token)?;
     }
