@@ -150,6 +150,18 @@ words_at-next String cs c ds next =
     ∙ marked-runs String (take (run_len cs) cs) (runs_after_escaped (c ∷ ds))
     ∙ ap (λ words. marked String (words_among (take (run_len cs) cs ∷ [])) ++ marked String words) (words_in-escaped c ds)
 
+-- what is no part of a word adds no word
+pub passed : (place : Place) (at next c : ℕ) (piece : List ℕ) → drop at piece ≡ c ∷ drop (suc at) piece → continues_word c ≡ false → next ≡ at + gap_at place c
+    → words_at place (drop next piece) ≡ words_at place (drop at piece)
+passed place at next c piece stands ends behind =
+    let cs = drop at piece in
+    let none : run_len cs ≡ 0 = ap run_len stands ∙ run_len-ends c (drop (suc at) piece) ends in
+    let rest : drop (gap_at place c) (c ∷ drop (suc at) piece) ≡ drop next piece =
+    ap (drop (gap_at place c)) (sym stands) ∙ drop-drop (gap_at place c) at piece ∙ ap (λ k. drop k piece) (sym behind) in
+    sym (words_at-next place cs c (drop (suc at) piece) (ap (λ n. drop n cs) none ∙ stands)
+    ∙ ap (λ n. marked place (words_among (take n cs ∷ [])) ++ words_at place (drop (gap_at place c) (c ∷ drop (suc at) piece))) none
+    ∙ ap (words_at place) rest)
+
 -- the words of a run
 abbrev words_of_run : Place → List ℕ → List WordRow
 words_of_run place run = marked place (words_among (run ∷ []))

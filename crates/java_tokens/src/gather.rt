@@ -5,7 +5,7 @@ ghost use Rattle.java_tokens.specs.Chars.{continues_word};
 ghost use Rattle.java_tokens.specs.Tokens.{tokens_of};
 ghost use Rattle.java_tokens.specs.Words.{AreInOrder, HasMasksOf, bit_of, gap_at, words_among, words_at, marked, occurrences_at, occurrences_of, with_occurrence, words_of};
 
-use crate::chars::Class;
+use crate::chars::{Class, continues_word};
 use crate::identifier::is_identifier_at;
 use crate::kind::Kind;
 use crate::masks::Masks;
@@ -73,13 +73,29 @@ fn add_words(masks: &mut Masks, piece: &Piece, place: Place) -> Result<(), Alloc
 {
     let mut at = 0;
     loop {
-        let end = run_end(piece, at, Class::Word);
-        add_run(masks, piece, at, end, place)?;
+        let start = run_start(piece, at, place);
+        let end = run_end(piece, start, Class::Word);
+        add_run(masks, piece, start, end, place)?;
         let Some(c) = piece.get(end) else {
             return Ok(());
         };
         at = end + gap_at(place, c);
     }
+}
+
+/// Where the first run of what may go on in a word begins, from a place on. What parts runs is passed by in one loop.
+fn run_start(piece: &Piece, from: u32, place: Place) -> u32
+    ensures same { words_at place (drop result piece.now) ≡ words_at place (drop from piece.now) }
+    ensures forward { from ≤ result }
+{
+    let mut at = from;
+    while let Some(c) = piece.get(at) {
+        if continues_word(c) {
+            break;
+        }
+        at += gap_at(place, c);
+    }
+    at
 }
 
 /// How many characters part a run from the next, `c` the first of them.

@@ -59,6 +59,14 @@ impl WordList {
         &self.rows
     }
 
+    /// The names with their masks, given away.
+    pub fn into_vec(self) -> Vec<(Name, u8)>
+        ensures rows { result.items ≡ self }
+        ensures in_order { AreInOrder self }
+    {
+        self.rows
+    }
+
     /// The mask of a name, if it is among the words. The time is the logarithm of their number.
     pub fn mask_of(&self, name: &Name) -> Option<u8>
         ensures { result ≡ mask_in self.now name.now }
