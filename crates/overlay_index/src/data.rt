@@ -2,7 +2,7 @@
 ghost use Rattle.std.specs.Prelude.{◌≡◌, IfOk};
 ghost use Rattle.overlay_index.specs.Parts.{no_parts, parts_of};
 
-use crate::word_masks::WordMasks;
+use crate::word_masks::{WordMasks, rows_of_words};
 use decl_parser::stubs;
 use file_index::{Indexer, KeyRows, copy_rows};
 use ide_text::{Name, Text};
@@ -66,6 +66,6 @@ pub fn data_of(alloc: Global, text: &Text) -> Result<FileData, AllocError>
         types: TypeNames.rows(alloc, &stubs)?,
         supers: SuperNames.rows(alloc, &stubs)?,
         methods: MethodNames.rows(alloc, &stubs)?,
-        words: WordMasks.rows(alloc, &words(alloc, text, &tokens)?)?,
+        words: rows_of_words(words(alloc, text, &tokens)?),
     })
 }

@@ -38,6 +38,13 @@ impl Indexer for WordMasks {
     }
 }
 
+/// The rows of words that are given away: the same as `rows` makes of words that stay.
+pub(crate) fn rows_of_words(words: WordList) -> KeyRows<Name, u8>
+    ensures { result ≡ words }
+{
+    KeyRows::from_ordered(words.into_vec())
+}
+
 /// The same words once more.
 fn copy_words(alloc: Global, words: &[(Name, u8)]) -> Result<Vec<(Name, u8)>, AllocError>
     ensures { IfOk result (λ copy. copy.items ≡ words.now) }

@@ -11,5 +11,5 @@ returns c =
     let types = c.in_ok-rows.ensures ∙ ap (rows_by_name type_names) listed in
     let supers = c.in_ok-rows-2.ensures ∙ ap (rows_by_name super_names) listed in
     let methods = c.in_ok-rows-3.ensures ∙ ap (rows_by_name method_names) listed in
-    let words = c.in_ok-rows-4.ensures ∙ c.in_ok-words.ensures.value in
+    let words = c.rows_of_words.ensures ∙ c.in_ok-words.ensures.value in
     λ i. record { types = types i; supers = supers i; methods = methods i; words = words i }
