@@ -7,3 +7,4 @@ pub mod MaskLemmas
 pub mod GatherLemmas
 pub mod AsciiWords
 pub mod IdentifierLemmas
+pub mod FrontLemmas

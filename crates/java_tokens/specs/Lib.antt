@@ -6,5 +6,7 @@ pub mod Identifier
 pub mod Words
 -- Internal: the names that the code gives to some of these classes.
 pub mod Class
+-- Internal: the fronts of names, by which they are sorted.
+pub mod Front
 -- What they cite from below: texts.
 pub use Rattle.ide_text.specs.Text

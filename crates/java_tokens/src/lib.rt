@@ -2,6 +2,7 @@
 #![tactic(auto)]
 
 mod chars;
+mod fronted;
 mod gather;
 mod identifier;
 mod kind;

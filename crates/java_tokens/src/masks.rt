@@ -6,6 +6,7 @@ ghost use Rattle.std.specs.Str.{bytes_eq};
 ghost use Rattle.indexmap.specs.IndexMap.{IsUnique};
 ghost use Rattle.java_tokens.specs.Words.{bit_of, in_order_of, with_occurrence};
 
+use crate::fronted::Fronted;
 use crate::piece::Piece;
 use crate::place::Place;
 use ide_text::Name;
@@ -68,7 +69,7 @@ impl Masks {
     {
         let mut rows = all_rows(alloc, self.rows)?;
         put_in_order(&mut rows);
-        Ok(rows)
+        plain_rows(alloc, rows)
     }
 }
 
@@ -87,20 +88,31 @@ fn add_name(rows: &mut IndexMap<Name, u8>, name: &Name, place: Place) -> Result<
 }
 
 /// The rows of a map, in its order.
-fn all_rows(alloc: Global, map: IndexMap<Name, u8>) -> Result<Vec<(Name, u8)>, AllocError>
+fn all_rows(alloc: Global, map: IndexMap<Name, u8>) -> Result<Vec<Fronted>, AllocError>
     ensures { IfOk result (λ rows. rows.items ≡ map.entries) }
 {
     let mut rows = Vec::with_capacity(alloc, map.len())?;
     for row in map {
-        rows.push(row)?;
+        rows.push(Fronted::of(row))?;
     }
     Ok(rows)
 }
 
 /// Puts rows, each with a name of its own, in the order of their names.
-fn put_in_order(rows: &mut Vec<(Name, u8)>)
+fn put_in_order(rows: &mut Vec<Fronted>)
     requires { IsDistinct bytes_eq (keys_of rows.old.items) }
     ensures { rows.new.items ≡ in_order_of rows.old.items }
 {
-    rows.sort_unstable_by(|a, b| a.0.cmp(&b.0));
+    rows.sort_unstable_by(|a, b| a.order(b));
+}
+
+/// The rows without their fronts.
+fn plain_rows(alloc: Global, fronted: Vec<Fronted>) -> Result<Vec<(Name, u8)>, AllocError>
+    ensures { IfOk result (λ rows. rows.items ≡ fronted.items) }
+{
+    let mut rows = Vec::with_capacity(alloc, fronted.len())?;
+    for row in fronted {
+        rows.push(row.into_row())?;
+    }
+    Ok(rows)
 }

@@ -1,0 +1,16 @@
+use Rattle.std.proofs.Common.{ap, ◌∙◌}
+use Rattle.java_tokens.specs.Front.{front_of, weights}
+use Rattle.java_tokens.proofs.FrontLemmas.{front_fits, front-encodes}
+use Rattle.java_tokens.proofs.fronted.front_of_name.Goals as goal
+
+pub front_of-requires : goal.front_of-requires
+unfolding weights
+front_of-requires c = front_fits c.as_bytes.result.now
+
+-- the front of its UTF-8
+pub returns : goal.returns
+unfolding weights
+returns c =
+    c.front_of.ensures
+    ∙ ap (front_of weights) (c.as_bytes.ensures.value ∙ c.as_str.ensures.utf8)
+    ∙ front-encodes weights c.args.name.now
