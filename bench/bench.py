@@ -8,6 +8,7 @@
     bench/bench.py limits     a history, files and documents at their limits, at a half and at all of them
     bench/bench.py demo       `ide demo` with 5,000 and 10,000 files
     bench/bench.py one        one file of 1,000,000 characters, of ordinary code and of hostile texts
+    bench/bench.py wide       one file, half and whole: a type of 100,000 supers, and 1,000,000 marks without a word
     bench/bench.py creates one --beside OLD
                               the same of another built program too, in turn, with the ratios of this one to it
 
@@ -130,8 +131,17 @@ def one(size=1_000_000):
         rows(name, script)
 
 
+def wide(supers=100_000, marks=1_000_000):
+    print("one file, half and whole: the supers of one type, and marks without a word")
+    for n in (supers // 2, supers):
+        script = f'create A.java "class A implements {", ".join(f"I{i}" for i in range(n))} {{}}"\nsettle\nsupers I7\n'
+        rows(f"{n} supers", script)
+    for n in (marks // 2, marks):
+        rows(f"{n} marks", f'create A.java "{";" * n}"\nsettle\nword a\n')
+
+
 def main():
-    measures = {"creates": creates, "edits": edits, "one": one, "limits": limits, "demo": demo}
+    measures = {"creates": creates, "edits": edits, "one": one, "wide": wide, "limits": limits, "demo": demo}
     words = sys.argv[1:]
     if "--beside" in words:
         words, BESIDE[:] = words[: words.index("--beside")], words[words.index("--beside") + 1 :]
