@@ -41,15 +41,15 @@ read_once number_of v u w waited left advances legal =
     }
 
 -- what a look found in the world of the history that was read
-pub looked_by : (hint : Option ℕ) (v w : View Entry) (seen : List Entry) (world : World) (look : Result Look AllocError) → HasReadOnce v w
+pub looked_by : (seat : ℕ) (hint : Option ℕ) (v w : View Entry) (seen : List Entry) (world : World) (look : Result Look AllocError) → HasReadOnce v w
     → w.seen ≡ seen → world ≡ fold seen → ((entries : List Entry) → (fold entries).entries ≡ length entries)
-    → IfOk look (IsLook world hint) → IfOk look (HasLooked hint v w)
-looked_by hint v w seen world look read same is counts = IfOk-weaker look (IsLook world hint) (HasLooked hint v w) (λ found so.
+    → IfOk look (IsLook world seat hint) → IfOk look (HasLooked seat hint v w)
+looked_by seat hint v w seen world look read same is counts = IfOk-weaker look (IsLook world seat hint) (HasLooked seat hint v w) (λ found so.
     let of_history : world ≡ fold w.seen = is ∙ ap fold (sym same) in
     record {
       read = read;
       whole = so.whole ∙ ap (λ (x : World). x.entries) of_history ∙ counts w.seen;
-      choice = subst (λ (x : World). IsChoice x hint found.job) of_history so.choice;
+      choice = subst (λ (x : World). IsChoice x seat hint found.job) of_history so.choice;
     })
 
 -- the law that work taken after a part of a legal history is still of the world after all of it

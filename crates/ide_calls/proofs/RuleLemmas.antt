@@ -1,5 +1,5 @@
 -- The rules never give want of memory as a reason.
-use Rattle.std.proofs.Common.{◌≡◌, Bool, true, false, List, [], ◌∷◌, ◌++◌, refl, sym, ap, ◌∙◌, Option, Some, None, Result, Err, cond}
+use Rattle.std.proofs.Common.{◌≡◌, Bool, true, false, List, [], ◌∷◌, ◌++◌, refl, sym, ap, ◌∙◌, Option, Some, None, cond}
 use Rattle.std.specs.List.{list_all}
 use Rattle.std.specs.Prelude.{not, ◌&&◌}
 use Rattle.write_history.specs.declared.change.Change.{Change}

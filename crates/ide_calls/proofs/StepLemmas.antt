@@ -2,6 +2,7 @@
 use Rattle.std.proofs.Common.{◌≡◌, ℕ, ◌+◌, true, List, [], ◌∷◌, ◌++◌, length, sym, ap, ◌∙◌, subst, append_assoc, Some, None, Option, Result, IfOk}
 use Rattle.std.specs.Prelude.{option_map, if◌then◌else◌}
 use Rattle.std.specs.declared.alloc.AllocError.{AllocError}
+use Rattle.std.proofs.lemmas.Option.{same_Some}
 use Rattle.std.proofs.lemmas.Result.{IfOk-weaker}
 use Rattle.list_laws.proofs.BoolLemmas.{bool_cases}
 use Rattle.action_lock.specs.declared.view.View.{View}
@@ -22,7 +23,7 @@ use Rattle.ide_calls.specs.declared.step.Step.{Step as Answer}
 use Rattle.ide_calls.specs.declared.step.Step.TheVariants.{Idle, Gone, Stale, Refused, Taken}
 use Rattle.ide_calls.specs.declared.judge.Judged.TheVariants.{Prepared}
 use Rattle.ide_calls.specs.declared.first_look.Look.{Look}
-use Rattle.ide_calls.specs.Choice.{IsWork, IsChoice, task_of_job}
+use Rattle.ide_calls.specs.Choice.{file_to_index, IsWork, IsChoice, task_of_job}
 use Rattle.ide_calls.specs.Step.{HasTried, HasStepped}
 use Rattle.ide_calls.specs.Reads.{HasReadOnce}
 use Rattle.ide_calls.specs.Intake.{HasLooked, HasJudged, HasAnswered, IsAnsweredBy}
@@ -71,14 +72,16 @@ has_task (Some file) id task found =
     found
 
 -- the first read, and what was answered of the file that was taken up
-tried : (hint : Option ℕ) (task : Task) (v u w : View Entry) (step : Answer) → HasReadOnce v u → IsWork (fold u.seen) hint task
-    → Advances v w → IsAnsweredBy task.file task.stamp u w step → HasTried hint v w step
-tried hint task v u w step read work advances by =
+tried : (seat : ℕ) (hint : Option ℕ) (task : Task) (v u w : View Entry) (step : Answer) → v.number ≡ Some seat → HasReadOnce v u
+    → IsWork (fold u.seen) seat hint task → Advances v w → IsAnsweredBy task.file task.stamp u w step → HasTried hint v w step
+tried seat hint task v u w step number read work advances by =
     let given = by.answered in
+    let by_number : v.number ≡ Some by.seat = sym read.learned.advances.number ∙ by.number in
+    let same_seat : seat ≡ by.seat = same_Some seat by.seat (sym number ∙ by_number) in
     let has = has_task (file_of (fold u.seen) task.file) task.file task work.task_of_file in
     record {
       seat = by.seat;
-      number = sym read.learned.advances.number ∙ by.number;
+      number = by_number;
       file = task.file;
       stamp = task.stamp;
       first = u.seen;
@@ -89,7 +92,7 @@ tried hint task v u w step read work advances by =
       reads = given.reads
           ∙ ap (λ (l : List ℕ). l ++ length given.last ∷ []) read.reads
           ∙ append_assoc v.reads (length u.seen ∷ []) (length given.last ∷ []);
-      chosen = work.chosen;
+      chosen = subst (λ s. file_to_index (fold u.seen) s hint ≡ Some task.file) same_seat work.chosen;
       unready = has.unready;
       stamped = has.stamped;
       made = made_later v u w given.last given.own read.learned advances given.made;
@@ -104,17 +107,17 @@ stepped_by hint v w (Refused len) by = by
 stepped_by hint v w (Taken place) by = by
 
 -- the work of the job that was chosen
-chosen_work : (world : World) (hint : Option ℕ) (choice : Option Job) (job : Job) → choice ≡ Some job
-    → IsChoice world hint choice → IsWork world hint (task_of_job job)
-chosen_work world hint choice job is chosen = subst (IsChoice world hint) is chosen
+chosen_work : (world : World) (seat : ℕ) (hint : Option ℕ) (choice : Option Job) (job : Job) → choice ≡ Some job
+    → IsChoice world seat hint choice → IsWork world seat hint (task_of_job job)
+chosen_work world seat hint choice job is chosen = subst (IsChoice world seat hint) is chosen
 
 -- a step that took a file up
-pub stepped : (hint : Option ℕ) (look : Look) (job : Job) (file stamp : ℕ) (v u w : View Entry) (answer : Result Answer AllocError)
-    → HasLooked hint v u look → look.job ≡ Some job → Advances v w → file ≡ job.file → stamp ≡ job.stamp
+pub stepped : (seat : ℕ) (hint : Option ℕ) (look : Look) (job : Job) (file stamp : ℕ) (v u w : View Entry) (answer : Result Answer AllocError)
+    → v.number ≡ Some seat → HasLooked seat hint v u look → look.job ≡ Some job → Advances v w → file ≡ job.file → stamp ≡ job.stamp
     → IfOk answer (IsAnsweredBy file stamp u w) → IfOk answer (HasStepped hint v w)
-stepped hint look job file stamp v u w answer looked is advances same_file same_stamp =
+stepped seat hint look job file stamp v u w answer number looked is advances same_file same_stamp =
     IfOk-weaker answer (IsAnsweredBy file stamp u w) (HasStepped hint v w) (λ step by.
-    let work = chosen_work (fold u.seen) hint look.job job is looked.choice in
+    let work = chosen_work (fold u.seen) seat hint look.job job is looked.choice in
     let of_stamp = subst (λ s. IsAnsweredBy file s u w step) same_stamp by in
     let of_file = subst (λ f. IsAnsweredBy f job.stamp u w step) same_file of_stamp in
-    stepped_by hint v w step (tried hint (task_of_job job) v u w step looked.read work advances of_file))
+    stepped_by hint v w step (tried seat hint (task_of_job job) v u w step number looked.read work advances of_file))

@@ -20,15 +20,15 @@ use Rattle.ide_calls.specs.Step.{IsLiveAt, IsAnswer}
 use Rattle.ide_calls.specs.Reads.{HasReadOnce}
 
 -- how many entries led to a world, and the job of the file that is to be indexed in it
-pub record IsLook (world : World) (hint : Option ℕ) (look : Look) : Type 0 where
+pub record IsLook (world : World) (seat : ℕ) (hint : Option ℕ) (look : Look) : Type 0 where
   pub whole : look.at ≡ world.entries
-  pub choice : IsChoice world hint look.job
+  pub choice : IsChoice world seat hint look.job
 
--- the first read of a step
-pub record HasLooked (hint : Option ℕ) (v w : View Entry) (look : Look) : Type 0 where
+-- the first read of a step of the pass with this number
+pub record HasLooked (seat : ℕ) (hint : Option ℕ) (v w : View Entry) (look : Look) : Type 0 where
   pub read : HasReadOnce v w
   pub whole : look.at ≡ length w.seen
-  pub choice : IsChoice (fold w.seen) hint look.job
+  pub choice : IsChoice (fold w.seen) seat hint look.job
 
 -- the work for which data were made
 abbrev pub task_of_made : Made → Task

@@ -1,5 +1,5 @@
 -- Changes that are ready to go in, or refused.
-use Rattle.std.specs.Prelude.{ℕ, ◌≡◌, List, [], ◌∷◌, length, true, false, Some, None}
+use Rattle.std.specs.Prelude.{◌≡◌, List, [], ◌∷◌, true, false, Some, None}
 use Rattle.action_lock.specs.declared.view.View.{View}
 use Rattle.write_history.specs.declared.change.Change.{Change}
 use Rattle.write_history.specs.declared.entry.Entry.{Entry}

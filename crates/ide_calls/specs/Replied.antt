@@ -1,5 +1,5 @@
 -- How a question is answered.
-use Rattle.std.specs.Prelude.{ℕ, ◌≡◌, List, Result, Ok, Err, length}
+use Rattle.std.specs.Prelude.{◌≡◌, Result, Ok, Err, length}
 use Rattle.action_lock.specs.declared.view.View.{View}
 use Rattle.write_history.specs.declared.entry.Entry.{Entry}
 use Rattle.write_history.specs.World.{World}

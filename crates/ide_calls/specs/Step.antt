@@ -50,7 +50,7 @@ pub record HasTried (hint : Option ℕ) (v w : View Entry) (step : Step) : Type 
   pub known : IsFront v.seen first
   pub longer : IsFront first last
   pub reads : w.reads ≡ v.reads ++ length first ∷ length last ∷ []
-  pub chosen : file_to_index (fold first) hint ≡ Some file
+  pub chosen : file_to_index (fold first) seat hint ≡ Some file
   pub unready : is_unready (file_of (fold first) file) ≡ true
   pub stamped : stamp_of (file_of (fold first) file) ≡ stamp
   pub made : HasMade v w last own

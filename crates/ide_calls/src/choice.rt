@@ -1,23 +1,26 @@
 //! Which file is indexed next, and its job.
 ghost use Rattle.std.specs.Prelude.{◌≡◌, IfOk, option_map};
 ghost use Rattle.std.specs.Option.{option_and_then};
-ghost use Rattle.write_history.specs.World.{lowest_unready};
 ghost use Rattle.ide_world.specs.Task.{task_with_id};
 ghost use Rattle.ide_calls.specs.Choice.{IsChoice, task_of_job};
 
+use crate::place::place_in;
 use ide_world::{Job, State, job};
 use std::alloc::AllocError;
-use write_history::laws::unready_files_have_an_order;
 
-/// The job of the hinted file where it is unready, else of the unready file with the lowest id. None where no file is unready.
-pub(crate) fn find_work(state: &State, hint: Option<u32>) -> Result<Option<Job>, AllocError>
-    ensures { IfOk result (IsChoice state.now.world hint) }
+/// The job of the hinted file where it is unready, else of the first unready one from the place on where the worker with this
+/// number begins to look. None where no file is unready.
+pub(crate) fn find_work(
+    state: &State,
+    seat: u32,
+    hint: Option<u32>,
+) -> Result<Option<Job>, AllocError>
+    ensures { IfOk result (IsChoice state.now.world seat hint) }
 {
-    unready_files_have_an_order();
     if let Some(found) = job_of(state, hint)? {
         return Ok(Some(found));
     }
-    job_of(state, state.lowest_unready())
+    job_of(state, state.first_unready_from(place_in(state, seat)))
 }
 
 /// The job of a file, where one is named and it is unready.

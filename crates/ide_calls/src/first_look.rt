@@ -20,35 +20,35 @@ pub(crate) struct Look {
     pub(crate) job: Option<Job>,
 }
 
-/// Reads, without the intent, and looks for a file to index.
+/// Reads, without the intent, and looks for a file to index by the pass, whose number is `seat`.
 pub(crate) fn first_look<R: Wait, G: Gate>(
     rt: &R,
     alloc: Global,
     lock: &ActionLock<IdeHome>,
     pass: &mut Pass<IdeHome>,
+    seat: u32,
     hint: Option<u32>,
     gate: &G,
 ) -> Result<Look, AllocError>
     requires { IsPassOf lock.now pass.old }
     ensures pass { IsPassOf lock.now pass.new × IsSamePass pass.old pass.new }
     ensures learned { HasOnlyLearned (view_of pass.old) (view_of pass.new) }
-    ensures ok { IfOk result (HasLooked hint (view_of pass.old) (view_of pass.new)) }
+    ensures ok { IfOk result (HasLooked seat hint (view_of pass.old) (view_of pass.new)) }
 {
     histories_go_on();
-    let seat = pass.number();
     let reading = pass.read(rt, alloc, lock)?;
-    let found = look_at(reading.share().state(), hint);
+    let found = look_at(reading.share().state(), seat, hint);
     gate.at(Point::Reading { seat });
     reading.leave();
     found
 }
 
 /// What there is to do in a state.
-fn look_at(state: &State, hint: Option<u32>) -> Result<Look, AllocError>
-    ensures { IfOk result (IsLook state.now.world hint) }
+fn look_at(state: &State, seat: u32, hint: Option<u32>) -> Result<Look, AllocError>
+    ensures { IfOk result (IsLook state.now.world seat hint) }
 {
     Ok(Look {
         at: entries(state),
-        job: find_work(state, hint)?,
+        job: find_work(state, seat, hint)?,
     })
 }

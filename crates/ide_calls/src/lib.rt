@@ -17,6 +17,7 @@ mod judge;
 mod kept;
 pub mod laws;
 mod lowest;
+mod place;
 mod planning;
 mod question;
 mod replied;

@@ -13,8 +13,8 @@ use ide_world::make;
 use std::alloc::{AllocError, Global};
 use std::sync::Wait;
 
-/// Takes up the hinted file where it is unready, else the unready file with the lowest id: makes its index data outside
-/// the lock, and takes them in where the file is still at the same stamp. The gate is told `Reading` while the first read
+/// Takes up the hinted file where it is unready, else the first unready one from a place that goes by the pass's number and the
+/// length of the history, so that passes seldom take up the same one: makes its index data outside the lock, and takes them in where the file is still at the same stamp. The gate is told `Reading` while the first read
 /// is still held, and `Made` before the intent is asked for. It may wait for ever.
 pub fn index_step<R: Wait, G: Gate>(
     rt: &R,
@@ -31,7 +31,7 @@ pub fn index_step<R: Wait, G: Gate>(
     ensures err { OnErr result ((view_of pass.new).mine ≡ (view_of pass.old).mine) }
 {
     let seat = pass.number();
-    let Look { at, job } = first_look(rt, alloc, lock, pass, hint, gate)?;
+    let Look { at, job } = first_look(rt, alloc, lock, pass, seat, hint, gate)?;
     let Some(job) = job else {
         return Ok(Step::Idle { at });
     };

@@ -2,6 +2,7 @@ pub mod MarkLemmas
 pub mod WorldLemmas
 pub mod RoomLemmas
 pub mod ReaderLemmas
+pub mod UnreadyLemmas
 pub mod FoundLemmas
 pub mod StepLemmas
 pub mod EditLemmas

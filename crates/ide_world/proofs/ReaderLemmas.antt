@@ -60,22 +60,23 @@ past_all [] place past = refl
 past_all (file ∷ files) zero past = absurd (omega (arith, past))
 past_all (file ∷ files) (suc place) past = past_all files place (omega (arith, past))
 
+-- an unready file is among the files
+pub unready_inside : (files : List (Option File)) (place : ℕ) → is_unready (get_or files place None) ≡ true → place < length files
+unready_inside files place on = bool_cases (ltb place (length files)) (λ b. (ltb place (length files) ≡ b) → place < length files)
+    (λ within e. ltb-true place (length files) within)
+    (λ past e. absurd (false≢true (sym (ap is_unready (past_all files place (ltb-false place (length files) past))) ∙ on)))
+    refl
+
 -- the lowest unready file, where marks say which are unready
 pub lowest_is : (files : List (Option File)) (id : ℕ) → is_unready (row_in files id) ≡ true
     → ((other : ℕ) → other < id → is_unready (row_in files other) ≡ false)
     → Some id ≡ option_map suc (position is_unready files)
 lowest_is files zero on before = absurd (false≢true on)
 lowest_is files (suc place) on before =
-    let within : place < length files = inside in
+    let within : place < length files = unready_inside files place on in
     let first : position_or_len is_unready files ≡ place = position_or_len_is is_unready files place None (omega (arith, within))
     (λ k below. before (suc k) (omega (arith, below))) (λ _. on) in
     ap (option_map suc) (sym (ap (λ p. place_or_none p (length files)) first ∙ cond-true (ltb place (length files)) (Some place) None (lt-ltb place (length files) within)))
-  where
-    inside : place < length files
-    inside = bool_cases (ltb place (length files)) (λ b. (ltb place (length files) ≡ b) → place < length files)
-        (λ within e. ltb-true place (length files) within)
-        (λ past e. absurd (false≢true (sym (ap is_unready (past_all files place (ltb-false place (length files) past))) ∙ on)))
-        refl
 
 pub lowest_none : (files : List (Option File)) → ((id : ℕ) → is_unready (row_in files id) ≡ false)
     → None ≡ option_map suc (position is_unready files)
@@ -83,8 +84,8 @@ lowest_none files none = ap (option_map suc) (sym (none_first is_unready files N
 
 -- the lowest id that is on is the lowest unready file's
 pub lowest_result : (marks : Marks) (files : List (Option File)) (lowest : Option ℕ) → IfSome lowest (λ id. is_on marks id ≡ true)
-    → IfSome lowest (λ id. (other : ℕ) → other < id → is_on marks other ≡ false) → IfNone lowest ((id : ℕ) → is_on marks id ≡ false)
+    → IfSome lowest (λ id. (other : ℕ) → 0 ≤ other → other < id → is_on marks other ≡ false) → IfNone lowest ((id : ℕ) → 0 ≤ id → is_on marks id ≡ false)
     → ((id : ℕ) → is_on marks id ≡ is_unready (row_in files id)) → lowest ≡ option_map suc (position is_unready files)
-lowest_result marks files None on before none each = lowest_none files (λ id. sym (each id) ∙ none id)
+lowest_result marks files None on before none each = lowest_none files (λ id. sym (each id) ∙ none id (omega arith))
 lowest_result marks files (Some id) on before none each =
-    lowest_is files id (sym (each id) ∙ on) (λ other below. sym (each other) ∙ before other below)
+    lowest_is files id (sym (each id) ∙ on) (λ other below. sym (each other) ∙ before other (omega arith) below)

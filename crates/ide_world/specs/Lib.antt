@@ -3,6 +3,8 @@
 pub mod Ready
 -- The work of indexing a file
 pub mod Task
+-- Which unready file is found first
+pub mod Unready
 -- What contracts see of a state
 pub mod Held
 -- What the walks of a state find

@@ -41,13 +41,14 @@ impl Marks {
         self.count
     }
 
-    /// The lowest id that is on. Those that are off before it are of changes that found no memory.
-    pub(crate) fn lowest(&self) -> Option<u32>
+    /// The lowest id that is on and isn't below `from`. Those that are off before it are of changes that found no memory.
+    pub(crate) fn lowest_from(&self, from: u32) -> Option<u32>
         ensures on { IfSome result (λ id. is_on self.now id ≡ true) }
-        ensures first { IfSome result (λ id. (other : ℕ) → other < id → is_on self.now other ≡ false) }
-        ensures none { IfNone result ((id : ℕ) → is_on self.now id ≡ false) }
+        ensures within { IfSome result (λ id. from ≤ id) }
+        ensures first { IfSome result (λ id. (other : ℕ) → from ≤ other → other < id → is_on self.now other ≡ false) }
+        ensures none { IfNone result ((id : ℕ) → from ≤ id → is_on self.now id ≡ false) }
     {
-        let (id, _) = self.ids.iter().find(|(_, on)| **on)?;
+        let (id, _) = self.ids.range(from..).find(|(_, on)| **on)?;
         Some(*id)
     }
 

@@ -1,10 +1,11 @@
 //! The state of a workspace.
-ghost use Rattle.std.specs.Prelude.{◌≡◌, ◌<◌, ℕ, List, length, OnOk, IfOk, option_map, is_some};
+ghost use Rattle.std.specs.Prelude.{◌≡◌, ◌<◌, ℕ, List, length, true, OnOk, IfOk, IfSome, IfNone, None, option_map, is_some};
 ghost use Rattle.std.specs.Option.{option_copied};
 ghost use Rattle.write_history.specs.World.{empty_world, file_of, id_at, is_open, is_unready, lowest_unready, count_of};
 ghost use Rattle.write_history.specs.Effect.{max_entries};
 ghost use Rattle.write_history.specs.Fold.{counted};
 ghost use Rattle.ide_world.specs.Step.{row_part, document_part, after_steps};
+ghost use Rattle.ide_world.specs.Unready.{first_unready_from};
 ghost use Rattle.ide_world.specs.Sound.{IsSoundWorld};
 ghost use Rattle.ide_world.specs.Lawful.{AreLawful};
 ghost use Rattle.ide_world.specs.Held.{HasRoom};
@@ -102,7 +103,17 @@ impl State {
     pub fn lowest_unready(&self) -> Option<u32>
         ensures { result ≡ lowest_unready self.now.world }
     {
-        self.unready.lowest()
+        self.unready.lowest_from(0)
+    }
+
+    /// The unready file with the lowest id that isn't below `from`, else the unready file with the lowest id. It takes as long.
+    pub fn first_unready_from(&self, from: u32) -> Option<u32>
+        ensures value { result ≡ first_unready_from self.now.world from }
+        ensures unready { IfSome result (λ id. is_unready (file_of self.now.world id) ≡ true) }
+        ensures none { IfNone result (lowest_unready self.now.world ≡ None) }
+    {
+        let found = self.unready.lowest_from(from);
+        found.or(self.unready.lowest_from(0))
     }
 
     /// The row of a live file. Constant time.

@@ -14,7 +14,8 @@ use job_queue::JobQueue;
 use std::alloc::{AllocError, Global};
 use std::sync::Wait;
 
-/// Takes a hint, if there is one, and does a step of indexing: of the hinted file if it is unready, else of the unready file with the lowest id.
+/// Takes a hint, if there is one, and does a step of indexing: of the hinted file if it is unready, else of the first unready one
+/// from a place of its own on.
 pub fn index_step<R: Wait, G: Gate>(
     rt: &R,
     alloc: Global,

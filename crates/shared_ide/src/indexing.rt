@@ -37,8 +37,8 @@ impl SharedIde {
         ide_calls::settle(rt, alloc, &self.lock, &mut pass.lock, line)
     }
 
-    /// Takes a hint, if there is one, and does a step of indexing: of the hinted file if it is unready, else of the unready
-    /// file with the lowest id. It may wait for ever.
+    /// Takes a hint, if there is one, and does a step of indexing: of the hinted file if it is unready, else of the first
+    /// unready one from a place of its own on. It may wait for ever.
     pub fn index_step<R: Wait, G: Gate>(
         &self,
         rt: &R,

@@ -8,7 +8,7 @@ use Rattle.ide_calls.proofs.first_look.first_look.Goals as goal
 pub returns-clause-ok : goal.returns-clause-ok
 returns-clause-ok g c =
     let read = c.in_ok-reading.ensures.ok in
-    let h = looked_by c.args.hint _ _ _ c.state.result.now.world c.look_at-found.result
+    let h = looked_by c.args.seat c.args.hint _ _ _ c.state.result.now.world c.look_at-found.result
     (read_once _ _ _ _ read.3 c.leave.ensures.view (advances_on _ _ _ read.4 c.leave.ensures.advances) c.share.ensures.stands.1)
     (ap (λ (x : View Entry). x.seen) c.leave.ensures.view) (c.state.ensures ∙ c.share.ensures.stands.0)
     c.histories_go_on.ensures.entries c.look_at-found.ensures in
