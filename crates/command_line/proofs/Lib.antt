@@ -1,3 +1,4 @@
 pub mod NumberLemmas
 pub mod RequestLemmas
 mod OnLiterals
+pub mod GrammarLemmas

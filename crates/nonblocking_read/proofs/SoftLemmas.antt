@@ -1,10 +1,14 @@
 -- Attempts, one after another.
-use Rattle.std.proofs.Common.{ℕ, ◌+◌, ◌≤◌, ◌↔◌, inl, inr, ◌∙◌, ⊎_elim, refl, arith, le_trans}
+use Rattle.std.proofs.Common.{◌≡◌, ◌⊎◌, ℕ, ◌+◌, ◌≤◌, ◌↔◌, inl, inr, ◌∙◌, ⊎_elim, refl, sym, subst, arith, le_trans}
 use Rattle.action_lock.specs.declared.view.View.{View}
 use Rattle.action_lock.specs.Advances.{Advances}
 use Rattle.action_lock.specs.Counts.{HasRisen, HasRisenBy}
 use Rattle.action_lock.specs.Reads.{HasChecked}
 use Rattle.action_lock.proofs.AdvanceLemmas.{advances_not, advances_on}
+use Rattle.nonblocking_read.specs.declared.attempt.Miss.{Miss}
+use Rattle.nonblocking_read.specs.declared.attempt.Miss.TheVariants.{Seen}
+use Rattle.nonblocking_read.specs.declared.soft_read.SoftRefusal.{SoftRefusal}
+use Rattle.nonblocking_read.specs.declared.soft_read.SoftRefusal.TheVariants.{Cancelled}
 use Rattle.nonblocking_read.specs.Soft.{HasOnlyRead, HasReadLast}
 use Rattle.list_laws.proofs.FrontLemmas.{front_trans}
 
@@ -15,6 +19,17 @@ risen_more n a b c p q up = ⊎_elim (λ more. ⊎_elim (λ one. inl (omega arit
 -- none more
 pub risen_still : (n a b c : ℕ) → HasRisenBy n a b → b ≤ c → HasRisenBy n a c
 risen_still n a b c p up = ⊎_elim (λ more. inl (omega arith)) (λ most. inr (omega arith)) p
+
+-- one that missed: it saw the mark and is counted, or it isn't counted
+pub risen_after : (n m a b c : ℕ) (miss : Miss) → (m ≡ n) ⊎ ((miss ≡ Seen) × (m ≡ n + 1)) → HasRisenBy n a b → (miss ≡ Seen → HasRisen b c) → b ≤ c → HasRisenBy m a c
+risen_after n m a b c miss count p q up =
+    ⊎_elim (λ same. subst (λ k. HasRisenBy k a c) (sym same) (risen_still n a b c p up)) (λ more. subst (λ k. HasRisenBy k a c) (sym more.1) (risen_more n a b c p (q more.0) up)) count
+
+-- where no more may follow, as many as were allowed saw the mark
+pub cancelled_after : (n attempts a b c : ℕ) (miss : Miss) (refusal : SoftRefusal) → ((k : ℕ) → refusal ≡ Cancelled k → (k ≡ attempts) × (miss ≡ Seen) × (n + 1 ≡ attempts))
+    → HasRisenBy n a b → (miss ≡ Seen → HasRisen b c) → b ≤ c → (k : ℕ) → refusal ≡ Cancelled k → (k ≡ attempts) × HasRisenBy attempts a c
+cancelled_after n attempts a b c miss refusal told p q up k is = let last = told k is in
+    (last.0, subst (λ by. HasRisenBy by a c) last.2 (risen_more n a b c p (q last.1) up))
 
 -- a meaning that stays the same twice stays the same
 pub same_meaning : {A B : Type 0} (P Q R : A → B → Type 0) → ((a : A) (b : B) → P a b ↔ Q a b) → ((a : A) (b : B) → Q a b ↔ R a b) → (a : A) (b : B) → P a b ↔ R a b

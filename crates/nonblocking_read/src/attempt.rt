@@ -1,11 +1,13 @@
 //! One attempt of a soft read.
-ghost use Rattle.std.specs.Prelude.{◌≡◌, ◌↔◌, List, IfOk, IfErr};
+ghost use Rattle.std.specs.Prelude.{◌≡◌, ◌<◌, ◌↔◌, ℕ, List, Ok, Err, IfOk, IfErr};
 ghost use Rattle.action_lock.specs.Counts.{HasRisen};
 ghost use Rattle.action_lock.specs.Passes.{view_of, IsSamePass, IsPassOf};
+ghost use Rattle.action_lock.specs.Readings.{IsReading, IsSameRead, loan_of, pass_of};
+ghost use Rattle.action_lock.specs.Reads.{HasLooked};
 ghost use Rattle.nonblocking_read.specs.Soft.{HasOnlyRead, HasReadLast};
 
 use crate::work::{Stopped, Work};
-use action_lock::{ActionLock, Gate, Home, Pass, Point, ReadRefusal};
+use action_lock::{ActionLock, Gate, Home, Pass, Point, ReadRefusal, Reading};
 use std::alloc::Global;
 
 /// Why an attempt gave no answer.
@@ -35,21 +37,63 @@ pub(crate) fn attempt<H: Home, K: Work<H>, G: Gate>(
     let seat = pass.number();
     match pass.try_read(alloc, lock) {
         Ok(mut reading) => {
-            let share = reading.apart();
-            let made = work.run(alloc, &share, &mut reading);
-            reading.together(share);
-            if made.is_ok() {
-                gate.at(Point::Reading { seat });
-            }
+            let made = work_in(alloc, seat, &mut reading, work, gate);
             reading.leave();
-            match made {
-                Ok(out) => Ok(out),
-                Err(Stopped::Seen) => Err(Miss::Seen),
-                Err(Stopped::OutOfMemory) => Err(Miss::OutOfMemory),
-            }
+            made
         }
-        Err(ReadRefusal::Pending { word: _ }) => Err(Miss::Seen),
-        Err(ReadRefusal::Turn { word: _ }) => Err(Miss::Turn),
-        Err(ReadRefusal::OutOfMemory) => Err(Miss::OutOfMemory),
+        Err(refusal) => Err(miss_of(refusal)),
+    }
+}
+
+/// Works on the share of an open read, which keeps it.
+fn work_in<'a, H: Home, K: Work<H>, G: Gate>(
+    alloc: Global,
+    seat: u32,
+    reading: &mut Reading<'a, H>,
+    work: &mut K,
+    gate: &G,
+) -> Result<K::Out, Miss>
+    requires { IsReading reading.old }
+    ensures same_reference { loan_of reading.new ≡ loan_of reading.old }
+    ensures same { IsReading reading.new × IsSameRead reading.old reading.new }
+    ensures view { HasLooked (view_of (pass_of reading.old)) (view_of (pass_of reading.new)) }
+    ensures meaning { (out : K.Out) (entries : List H.Entry) → K.fits work.old out entries ↔ K.fits work.new out entries }
+    ensures ok { IfOk result (λ out. K.fits work.old out (view_of (pass_of reading.new)).seen × (0 < (view_of (pass_of reading.new)).checks)) }
+    ensures seen { IfErr result (λ miss. miss ≡ Miss.Seen → HasRisen (view_of (pass_of reading.old)).sights (view_of (pass_of reading.new)).sights) }
+{
+    let share = reading.apart();
+    let made = work.run(alloc, &share, reading);
+    reading.together(share);
+    tell(gate, seat, &made);
+    outcome(made)
+}
+
+/// Tells the gate that the read is open where the work has its answer.
+fn tell<T, G: Gate>(gate: &G, seat: u32, made: &Result<T, Stopped>) {
+    if made.is_ok() {
+        gate.at(Point::Reading { seat });
+    }
+}
+
+/// What an attempt gives whose work gave this.
+fn outcome<T>(made: Result<T, Stopped>) -> Result<T, Miss>
+    ensures ok { IfOk result (λ out. made ≡ Ok out) }
+    ensures seen { IfErr result (λ miss. miss ≡ Miss.Seen → made ≡ Err Stopped.Seen) }
+{
+    match made {
+        Ok(out) => Ok(out),
+        Err(Stopped::Seen) => Err(Miss::Seen),
+        Err(Stopped::OutOfMemory) => Err(Miss::OutOfMemory),
+    }
+}
+
+/// Why an attempt gives no answer whose read was refused.
+fn miss_of(refusal: ReadRefusal) -> Miss
+    ensures seen { result ≡ Miss.Seen → (word : ℕ) × (refusal ≡ ReadRefusal.Pending word) }
+{
+    match refusal {
+        ReadRefusal::Pending { word: _ } => Miss::Seen,
+        ReadRefusal::Turn { word: _ } => Miss::Turn,
+        ReadRefusal::OutOfMemory => Miss::OutOfMemory,
     }
 }

@@ -1,5 +1,5 @@
 //! The soft read: attempts until one gives an answer, or too many saw that a write waits.
-ghost use Rattle.std.specs.Prelude.{◌≡◌, ◌<◌, ◌↔◌, ℕ, List, IfOk, IfErr};
+ghost use Rattle.std.specs.Prelude.{◌≡◌, ◌+◌, ◌<◌, ◌↔◌, ◌⊎◌, ℕ, List, IfOk, IfErr};
 ghost use Rattle.action_lock.specs.Counts.{HasRisenBy};
 ghost use Rattle.action_lock.specs.Passes.{view_of, IsSamePass, IsPassOf};
 ghost use Rattle.nonblocking_read.specs.Soft.{HasOnlyRead, HasReadLast};
@@ -41,16 +41,30 @@ pub fn soft<R: Wait, H: Home, K: Work<H>, G: Gate>(
     for _ in rt.forever() {
         match attempt(alloc, lock, pass, work, gate) {
             Ok(out) => return Ok(out),
-            Err(Miss::OutOfMemory) => return Err(SoftRefusal::OutOfMemory),
-            Err(Miss::Turn) => lock.pause(),
-            Err(Miss::Seen) => {
-                spent += 1;
-                if spent == attempts {
-                    return Err(SoftRefusal::Cancelled { attempts });
-                }
+            Err(miss) => {
+                spent = spent_after(miss, spent, attempts)?;
                 lock.pause();
             }
         }
     }
     unreachable!()
+}
+
+/// How many attempts saw that a write waits, this one that missed among them; or the refusal, where no more may follow.
+fn spent_after(miss: Miss, spent: u32, attempts: u32) -> Result<u32, SoftRefusal>
+    requires { spent < attempts }
+    ensures ok { IfOk result (λ now. (now < attempts) × ((now ≡ spent) ⊎ ((miss ≡ Miss.Seen) × (now ≡ spent + 1)))) }
+    ensures cancelled { IfErr result (λ refusal. (n : ℕ) → refusal ≡ SoftRefusal.Cancelled n → (n ≡ attempts) × (miss ≡ Miss.Seen) × (spent + 1 ≡ attempts)) }
+{
+    match miss {
+        Miss::OutOfMemory => Err(SoftRefusal::OutOfMemory),
+        Miss::Turn => Ok(spent),
+        Miss::Seen => {
+            if spent + 1 == attempts {
+                Err(SoftRefusal::Cancelled { attempts })
+            } else {
+                Ok(spent + 1)
+            }
+        }
+    }
 }

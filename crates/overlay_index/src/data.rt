@@ -1,12 +1,15 @@
 //! The rows of one text.
 ghost use Rattle.std.specs.Prelude.{◌≡◌, IfOk};
+ghost use Rattle.java_tokens.specs.Tokens.{tokens_of};
+ghost use Rattle.java_tokens.specs.Words.{words_of};
+ghost use Rattle.decl_parser.specs.Listing.{listing_of};
 ghost use Rattle.overlay_index.specs.Parts.{no_parts, parts_of};
 
-use crate::word_masks::{WordMasks, rows_of_words};
+use crate::word_masks::rows_of_words;
 use decl_parser::stubs;
 use file_index::{Indexer, KeyRows, copy_rows};
 use ide_text::{Name, Text};
-use java_tokens::{tokens, words};
+use java_tokens::{Token, tokens, words};
 use std::alloc::{AllocError, Global};
 use std::marker::Model;
 use stub_index::{MethodNames, SharedStub, SharedStubs, SuperNames, TypeNames};
@@ -61,11 +64,41 @@ pub fn data_of(alloc: Global, text: &Text) -> Result<FileData, AllocError>
     ensures { IfOk result (λ made. made ≡ parts_of text.now) }
 {
     let tokens = tokens(alloc, text)?;
-    let stubs = SharedStubs::of(alloc, stubs(alloc, text, &tokens)?)?;
+    data_by(alloc, text, &tokens)
+}
+
+/// The rows of a text that is cut into these tokens.
+fn data_by(alloc: Global, text: &Text, tokens: &[Token]) -> Result<FileData, AllocError>
+    requires { tokens.now ≡ tokens_of text.now }
+    ensures { IfOk result (λ made. made ≡ parts_of text.now) }
+{
+    let stubs = SharedStubs::of(alloc, stubs(alloc, text, tokens)?)?;
+    rows_of(alloc, text, tokens, &stubs)
+}
+
+/// The rows of a text that is cut into these tokens and lists these stubs.
+fn rows_of(
+    alloc: Global,
+    text: &Text,
+    tokens: &[Token],
+    stubs: &SharedStubs,
+) -> Result<FileData, AllocError>
+    requires tokens { tokens.now ≡ tokens_of text.now }
+    requires stubs { stubs.now ≡ listing_of text.now }
+    ensures { IfOk result (λ made. made ≡ parts_of text.now) }
+{
     Ok(FileData {
-        types: TypeNames.rows(alloc, &stubs)?,
-        supers: SuperNames.rows(alloc, &stubs)?,
-        methods: MethodNames.rows(alloc, &stubs)?,
-        words: rows_of_words(words(alloc, text, &tokens)?),
+        types: TypeNames.rows(alloc, stubs)?,
+        supers: SuperNames.rows(alloc, stubs)?,
+        methods: MethodNames.rows(alloc, stubs)?,
+        words: word_rows(alloc, text, tokens)?,
     })
+}
+
+/// The words of a text that is cut into these tokens, as rows.
+fn word_rows(alloc: Global, text: &Text, tokens: &[Token]) -> Result<KeyRows<Name, u8>, AllocError>
+    requires { tokens.now ≡ tokens_of text.now }
+    ensures { IfOk result (λ rows. rows ≡ words_of text.now) }
+{
+    Ok(rows_of_words(words(alloc, text, tokens)?))
 }

@@ -1,5 +1,7 @@
 //! The bases of files that have an overlay.
 ghost use Rattle.std.specs.Prelude.{◌≡◌, ◌==◌, ℕ, true, false, is_some, Some, None, if◌then◌else◌, IfOk, OnOk, IsSome};
+ghost use Rattle.std.specs.Ordering.{nat_cmp};
+ghost use Rattle.std.specs.BTreeMap.{get, is_at};
 ghost use Rattle.overlay_index.specs.Layers.{hidden_in, has_place};
 
 use crate::data::FileData;
@@ -98,10 +100,23 @@ impl Hidden {
         let _ = self.bases.len();
         let mut bases = BTreeMap::new(alloc);
         for (file, base) in &self.bases {
-            bases.insert(*file, copy_base(alloc, base)?)?;
+            put_copy(alloc, &mut bases, *file, base)?;
         }
         Ok(Hidden { bases })
     }
+}
+
+/// Puts a copy of a base, or of none, in under a file.
+fn put_copy(
+    alloc: Global,
+    bases: &mut BTreeMap<u32, Option<FileData>>,
+    file: u32,
+    base: &Option<FileData>,
+) -> Result<(), AllocError>
+    ensures { OnOk result ((other : ℕ) → get nat_cmp bases.new other ≡ (if is_at (nat_cmp file) other then Some base.now else get nat_cmp bases.old other)) }
+{
+    bases.insert(file, copy_base(alloc, base)?)?;
+    Ok(())
 }
 
 /// The same base once more, or none.

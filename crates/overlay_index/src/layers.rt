@@ -5,6 +5,7 @@ ghost use Rattle.overlay_index.specs.Layers.{base_of, overlay_of, shown_of, cove
 ghost use Rattle.overlay_index.specs.Layers.{HasTableRoom, HasRoom, KeepsRoom, KeepsRoomBut, GivesUp, IsSwept};
 ghost use Rattle.overlay_index.specs.Found.{values_of, found_to};
 
+use crate::beside::beside;
 use crate::data::FileData;
 use crate::found::{StubWalk, WordWalk};
 use crate::gone::Gone;
@@ -174,10 +175,12 @@ impl Layers {
         ensures base { IfOk result (λ copy. (other : ℕ) → base_of copy other ≡ base_of self.now other) }
         ensures overlay { IfOk result (λ copy. (other : ℕ) → overlay_of copy other ≡ overlay_of self.now other) }
     {
+        let tables = self.tables.copy()?;
+        let (tables, hidden) = beside(tables, self.hidden.copy(self.alloc))?;
         Ok(Layers {
             alloc: self.alloc,
-            tables: self.tables.copy()?,
-            hidden: self.hidden.copy(self.alloc)?,
+            tables,
+            hidden,
         })
     }
 }

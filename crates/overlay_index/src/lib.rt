@@ -1,6 +1,7 @@
 //! The rows of all files under four kinds of keys, in two layers: bases, and overlays that hide them.
 #![tactic(auto)]
 
+mod beside;
 mod data;
 mod found;
 mod gone;

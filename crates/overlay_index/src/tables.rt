@@ -4,6 +4,7 @@ ghost use Rattle.overlay_index.specs.Parts.{Parts, no_parts};
 ghost use Rattle.overlay_index.specs.Layers.{parts_in, HasTableRoom, IsFilledTo, GivesUp, KeepsPlaces, IsKnownByRows};
 ghost use Rattle.overlay_index.specs.Found.{values_of, found_to};
 
+use crate::beside::beside;
 use crate::data::FileData;
 use crate::found::{StubWalk, WordWalk};
 use crate::word_masks::WordMasks;
@@ -147,11 +148,15 @@ impl Tables {
     pub(crate) fn copy(&self) -> Result<Tables, AllocError>
         ensures { IfOk result (λ copy. (other : ℕ) → parts_in copy other ≡ parts_in self.now other) }
     {
+        let made = self.types.copy()?;
+        let made = beside(made, self.supers.copy())?;
+        let made = beside(made, self.methods.copy())?;
+        let (((types, supers), methods), words) = beside(made, self.words.copy())?;
         Ok(Tables {
-            types: self.types.copy()?,
-            supers: self.supers.copy()?,
-            methods: self.methods.copy()?,
-            words: self.words.copy()?,
+            types,
+            supers,
+            methods,
+            words,
         })
     }
 }

@@ -1,34 +1,55 @@
-use Rattle.std.proofs.Common.{rules, refl, arith}
-use Rattle.nonblocking_read.proofs.SoftLemmas.{risen_more, risen_still, only_on, last_on, same_meaning}
+use Rattle.std.proofs.Common.{rules, refl, inl, arith}
+use Rattle.nonblocking_read.proofs.SoftLemmas.{risen_after, cancelled_after, only_not, only_on, last_on, same_meaning}
 use Rattle.nonblocking_read.proofs.soft_read.soft.Goals as goal
+
+pub loop-init : goal.loop-init
+loop-init g c = record {
+  can = tt;
+  ends = tt;
+  pass = c.requires.pass;
+  same = record { table = refl; seat = refl };
+  view = only_not _;
+  less = c.requires.some;
+  risen = inl (omega arith);
+  meaning = λ out entries. (λ fits. fits, λ fits. fits);
+}
+
+pub returns-in-Ok-clause-pass : goal.returns-in-Ok-clause-pass
+returns-in-Ok-clause-pass g c = (c.attempt.ensures.pass.0, search rules)
+
+pub returns-in-Ok-clause-view : goal.returns-in-Ok-clause-view
+returns-in-Ok-clause-view g c = only_on _ _ _ c.loop.invariant.view c.attempt.ensures.view
+
+pub returns-in-Ok-clause-meaning : goal.returns-in-Ok-clause-meaning
+returns-in-Ok-clause-meaning g c = same_meaning _ _ _ c.loop.invariant.meaning c.attempt.ensures.meaning
 
 pub returns-in-Ok-clause-ok : goal.returns-in-Ok-clause-ok
 returns-in-Ok-clause-ok g c = let told = c.in-Ok.ensures.ok in
     ((c.loop.invariant.meaning c.in-Ok.out _).1 told.0, last_on _ _ _ _ c.loop.invariant.view told.1)
 
-pub loop-preserved-in-Err-Turn : goal.loop-preserved-in-Err-Turn
-loop-preserved-in-Err-Turn g c = record {
-  can = tt;
-  ends = tt;
-  pass = c.attempt.ensures.pass.0;
-  same = search rules;
-  view = only_on _ _ _ c.loop.invariant.view c.attempt.ensures.view;
-  less = c.loop.invariant.less;
-  risen = risen_still _ _ _ _ c.loop.invariant.risen c.attempt.ensures.view.advances.sights;
-  meaning = same_meaning _ _ _ c.loop.invariant.meaning c.attempt.ensures.meaning;
-}
+pub returns-in_err-spent-in-Err-clause-pass : goal.returns-in_err-spent-in-Err-clause-pass
+returns-in_err-spent-in-Err-clause-pass g c = (c.attempt.ensures.pass.0, search rules)
 
-pub returns-then-spent-attempts-clause-view : goal.returns-then-spent-attempts-clause-view
-returns-then-spent-attempts-clause-view g c = only_on _ _ _ c.loop.invariant.view c.attempt.ensures.view
+pub returns-in_err-spent-in-Err-clause-view : goal.returns-in_err-spent-in-Err-clause-view
+returns-in_err-spent-in-Err-clause-view g c = only_on _ _ _ c.loop.invariant.view c.attempt.ensures.view
+
+pub returns-in_err-spent-in-Err-clause-meaning : goal.returns-in_err-spent-in-Err-clause-meaning
+returns-in_err-spent-in-Err-clause-meaning g c = same_meaning _ _ _ c.loop.invariant.meaning c.attempt.ensures.meaning
+
+pub returns-in_err-spent-in-Err-clause-cancelled : goal.returns-in_err-spent-in-Err-clause-cancelled
+returns-in_err-spent-in-Err-clause-cancelled g c =
+    let told = cancelled_after _ _ _ _ _ c.in-Err.miss _ c.in_err-spent-in-Err.ensures.cancelled c.loop.invariant.risen c.in-Err.ensures.seen c.attempt.ensures.view.advances.sights in
+    search (rules, told)
 
 pub loop-preserved : goal.loop-preserved
-loop-preserved g c = record {
-  can = tt;
-  ends = tt;
-  pass = c.attempt.ensures.pass.0;
-  same = search rules;
-  view = only_on _ _ _ c.loop.invariant.view c.attempt.ensures.view;
-  less = (let before = c.loop.invariant.less in let apart = c.if-spent-attempts.false in omega arith);
-  risen = risen_more _ _ _ _ c.loop.invariant.risen (rw c.in-Err-Seen.field-0-is at c.in-Err-Seen.ensures.seen refl) c.attempt.ensures.view.advances.sights;
-  meaning = same_meaning _ _ _ c.loop.invariant.meaning c.attempt.ensures.meaning;
-}
+loop-preserved g c = let told = c.in_ok-spent-in-Err.ensures.ok in
+    record {
+      can = tt;
+      ends = tt;
+      pass = c.attempt.ensures.pass.0;
+      same = search rules;
+      view = only_on _ _ _ c.loop.invariant.view c.attempt.ensures.view;
+      less = told.0;
+      risen = risen_after _ _ _ _ _ c.in-Err.miss told.1 c.loop.invariant.risen c.in-Err.ensures.seen c.attempt.ensures.view.advances.sights;
+      meaning = same_meaning _ _ _ c.loop.invariant.meaning c.attempt.ensures.meaning;
+    }

@@ -1,9 +1,9 @@
-use Rattle.std.proofs.Common.{◌≡◌, [], ◌∷◌, cond, Some, None, map, refl, sym, ap, ◌∙◌, rules}
+use Rattle.std.proofs.Common.{◌≡◌, [], ◌∷◌, None, map, refl, sym, ap, ◌∙◌, rules}
 use Rattle.std.specs.Option.{unwrap_or}
 use Rattle.std.specs.Ordering.{nat_cmp, eq_by_cmp}
 use Rattle.std.specs.Map.{update_all, keys_of}
 use Rattle.std.specs.Map.Iter.{deref_pair}
-use Rattle.std.specs.BTreeMap.{get, is_at}
+use Rattle.std.specs.BTreeMap.{get}
 use Rattle.std.specs.Cmp.{nat_cmp_total, eq_by_cmp_equiv}
 use Rattle.std.proofs.lemmas.List.{map-append}
 use Rattle.std.proofs.lemmas.Map.{update_all_push}
@@ -13,17 +13,9 @@ use Rattle.std.proofs.lemmas.Map.Made.{update_all_none}
 use Rattle.overlay_index.specs.Layers.{hidden_in}
 use Rattle.overlay_index.proofs.hidden.Hidden.copy.Goals as goal
 
-pub loop-file-preserved-in_ok-insert : goal.loop-file-preserved-in_ok-insert
-loop-file-preserved-in_ok-insert c = λ q.
-    c.in_ok-insert.ensures.updates.0 q
-    ∙ ap (λ base. cond (is_at (nat_cmp c.in-Some.file.now) q) (Some base) (get nat_cmp c.loop-file.bases q)) c.in_ok-copy_base.ensures
-    ∙ update_all_push (eq_by_cmp nat_cmp) (λ _. None) (get nat_cmp c.loop-file.bases) (map deref_pair c.loop-file.yielded) (c.in-Some.file.now, c.in-Some.base.now) q (c.loop-file.invariant q)
-    ∙ ap (λ l. update_all (eq_by_cmp nat_cmp) (λ _. None) l q) (sym (map-append deref_pair c.loop-file.yielded ((c.in-Some.file, c.in-Some.base) ∷ [])))
-
 pub loop-file-preserved : goal.loop-file-preserved
 loop-file-preserved c = λ q.
-    c.in_ok-insert.ensures.updates.0 q
-    ∙ ap (λ base. cond (is_at (nat_cmp c.in-Some.file.now) q) (Some base) (get nat_cmp c.loop-file.bases q)) c.in_ok-copy_base.ensures
+    c.in_ok-put_copy.ensures q
     ∙ update_all_push (eq_by_cmp nat_cmp) (λ _. None) (get nat_cmp c.loop-file.bases) (map deref_pair c.loop-file.yielded) (c.in-Some.file.now, c.in-Some.base.now) q (c.loop-file.invariant q)
     ∙ ap (λ l. update_all (eq_by_cmp nat_cmp) (λ _. None) l q) (sym (map-append deref_pair c.loop-file.yielded ((c.in-Some.file, c.in-Some.base) ∷ [])))
 
