@@ -1,14 +1,14 @@
 -- A script whose lanes write different files: every run has the summary of the run on one thread.
-use Rattle.demo_runs.proofs.Words.{ℕ, zero, suc, ◌≡◌, ◌≢◌, ◌⊎◌, inl, inr, ⊎_elim, ◌+◌, ◌<◌, ◌≤◌, true, false, List, [], ◌∷◌, ◌++◌, length}
-use Rattle.demo_runs.proofs.Words.{map, refl, ap, sym, ◌∙◌, subst, arith, append_assoc, length-append, Some, None, ◌==◌, Option, option_map}
-use Rattle.demo_runs.proofs.Words.{AllPairs, AllByRecursion, flat_map, cases_order, append_cancel_left, length-map, recursion_from_All}
-use Rattle.demo_runs.proofs.Words.{front_shorter, front_length, Write, Entry, World, File, next_id, max_entries, list_refusal, fold, IsLegal}
-use Rattle.demo_runs.proofs.Words.{Line, Parts, Worked, IsIntakeBy, Done, Ended, done_from, lanes_from, before_last, last_from, run_of}
-use Rattle.demo_runs.proofs.Words.{mark_at, SectionFits, WorkerFits, WorkersFit, made_by, IsSeatOf, RunFits, summary_text, summary_of}
+use Rattle.demo_runs.proofs.Words.{ℕ, zero, suc, ◌≡◌, ◌≢◌, ◌⊎◌, inl, inr, ⊎_elim, ◌+◌, ◌<◌, ◌≤◌, true, false, List, [], ◌∷◌, ◌++◌, length, map, refl, ap}
+use Rattle.demo_runs.proofs.Words.{sym, ◌∙◌, subst, arith, append_assoc, length-append, Some, None, ◌==◌, Option, option_map, AllPairs, AllByRecursion}
+use Rattle.demo_runs.proofs.Words.{flat_map, cases_order, append_cancel_left, length-map, recursion_from_All, front_shorter, front_length, Write, Entry}
+use Rattle.demo_runs.proofs.Words.{World, File, next_id, max_entries, list_refusal, fold, IsLegal, Line, Parts, Worked, IsIntakeBy, Done, Ended}
+use Rattle.demo_runs.proofs.Words.{done_from, lanes_from, before_last, last_from, run_of, mark_at, SectionFits, WorkerFits, WorkersFit, made_by, IsSeatOf}
+use Rattle.demo_runs.proofs.Words.{RunFits, summary_text, summary_of}
 use Rattle.demo_runs.specs.Apart.{Edit, create_line, write_line, ask_line, settle_line, IsAmong, WritesApart}
 use Rattle.demo_runs.specs.Alike.{bare_at, IsLive, IsEdit, writes, takes, acted, acts}
 use Rattle.demo_runs.proofs.LawLemmas.{Laws}
-use Rattle.demo_runs.proofs.ListLemmas.{all_weaker, all_map, all_both, all_front, all_append, all_filter, IsIn, AreDistinct, no_more, by_seats, count_next, count_none, seats_bound}
+use Rattle.demo_runs.proofs.ListLemmas.{all_weaker, all_both, all_front, all_append, all_filter, IsIn, AreDistinct, no_more, by_seats, count_to, count_next, count_none, seats_bound}
 use Rattle.demo_runs.proofs.StepLemmas.{goes_on, stays_all, live_on}
 use Rattle.demo_runs.proofs.PreludeLemmas.{HasMade, begun_empty, prelude_makes}
 use Rattle.demo_runs.proofs.LaneLemmas.{write_entry, write_accepted, IsWriteBy, IsAccepted, IsLane, section_made, writes_edit, lane_goes_in}
@@ -76,6 +76,9 @@ module _ (laws : Laws) (script : Parts) (apart : WritesApart script) where
     begun = subst (λ (h : List Entry). HasMade (IsAmong apart.creations) [] h (0 + length apart.creations)) (ap (λ (d : Done). d.history) opened)
         (prelude_makes laws apart.creations [] [] 0 begun_empty (omega (arith, apart.few_files)) apart.lawful)
 
+    few_begun : (length opening ≤ 10000) × (next_id (fold opening) ≤ 10001)
+    few_begun = (omega (arith, begun.begun.few, apart.few_files), omega (arith, begun.begun.ids, apart.few_files))
+
     are_live : (edits : List Edit) → AllByRecursion (λ (edit : Edit). IsAmong apart.creations edit.path) edits → AreLive opening edits
     are_live edits among = all_weaker (λ (edit : Edit). IsAmong apart.creations edit.path) (λ (edit : Edit). IsLive (fold opening) edit.path)
         (λ edit is. begun.live edit.path (inr is)) edits among
@@ -106,14 +109,15 @@ module _ (laws : Laws) (script : Parts) (apart : WritesApart script) where
     by_seat P one two others (suc (suc zero)) from to = two
     by_seat P one two others (suc (suc (suc n))) from to = others (suc (suc (suc n))) (omega arith) to
 
+    of_lane : (seat : ℕ) → seat ≤ 2 → AllByRecursion (IsWriteBy seat) (made_by seat middle) → AllByRecursion IsEdit (made_by seat middle)
+    of_lane seat lane are = all_weaker (IsWriteBy seat) IsEdit (λ entry by. writes (subst (λ (n : ℕ). n ≤ 2) (sym (ap (λ (e : Entry). e.seat) by.is)) lane)
+        by.edit.path by.edit.text (ap (λ (e : Entry). e.changes) by.is)) (made_by seat middle) are
+
     edits : AllByRecursion IsEdit middle
-    edits = by_seats IsEdit seats middle are_seats (by_seat (λ seat. AllByRecursion IsEdit (made_by seat middle)) (of_lane 1 (omega arith) ones.are) (of_lane 2 (omega arith) twos.are)
+    edits = by_seats IsEdit seats middle are_seats (by_seat (λ seat. AllByRecursion IsEdit (made_by seat middle))
+        (of_lane 1 (omega arith) ones.are) (of_lane 2 (omega arith) twos.are)
         (λ seat late to. all_weaker (IsIntakeBy seat) IsEdit (λ entry by. takes by.file by.stamp (ap (λ (e : Entry). e.changes) by.is)) (made_by seat middle)
         (intakes seat late to)))
-      where
-        of_lane : (seat : ℕ) → seat ≤ 2 → AllByRecursion (IsWriteBy seat) (made_by seat middle) → AllByRecursion IsEdit (made_by seat middle)
-        of_lane seat lane are = all_weaker (IsWriteBy seat) IsEdit (λ entry by. writes (subst (λ (n : ℕ). n ≤ 2) (sym (ap (λ (e : Entry). e.seat) by.is)) lane)
-            by.edit.path by.edit.text (ap (λ (e : Entry). e.changes) by.is)) (made_by seat middle) are
 
     -- ---- there are few of them
 
@@ -121,20 +125,11 @@ module _ (laws : Laws) (script : Parts) (apart : WritesApart script) where
     offered = all_offered laws middle opening (offers_below (fold opening) (next_id (fold opening))) edits legal
         (λ id less. offered_below (fold opening) (next_id (fold opening)) id less)
 
+    few_writes : count_to 2 middle ≤ 50000
+    few_writes = omega (arith, count_next 1 middle, count_next 0 middle, count_none seats middle are_seats, ones.few, twos.few, apart.few_edits)
+
     few_offers : length offered.list ≤ 60001
-    few_offers = omega (
-      arith,
-      offered.count,
-      length-offers_below (fold opening) (next_id (fold opening)),
-      begun.begun.ids,
-      apart.few_files,
-      apart.few_edits,
-      count_next 1 middle,
-      count_next 0 middle,
-      count_none seats middle are_seats,
-      ones.few,
-      twos.few,
-    )
+    few_offers = omega (arith, offered.count, length-offers_below (fold opening) (next_id (fold opening)), few_begun.1, few_writes)
 
     few_worked : (seat : ℕ) → 3 ≤ seat → seat ≤ seats → length (made_by seat middle) ≤ 60001
     few_worked seat late to =
@@ -163,15 +158,7 @@ module _ (laws : Laws) (script : Parts) (apart : WritesApart script) where
         = all_front IsEdit own front.0 (subst (AllByRecursion IsEdit) (append_cancel_left opening middle (own ++ front.0) whole) edits) in
         let now : IsLegal (opening ++ own) = subst IsLegal behind.1 (laws.legal_front start front.0 (subst IsLegal front.1 legal)) in
         let room : length (opening ++ own) < max_entries
-        = omega (
-          arith,
-          front_length start (opening ++ middle) front,
-          ap length behind.1,
-          length-append opening middle,
-          few_middle,
-          begun.begun.few,
-          apart.few_files,
-        ) in
+        = omega (arith, front_length start (opening ++ middle) front, ap length behind.1, length-append opening middle, few_middle, few_begun.0) in
         subst (λ (h : List Entry). list_refusal (fold h) (Write edit.path edit.text ∷ []) ≡ None) (sym behind.1)
         (write_accepted laws (opening ++ own) now edit.path edit.text (live_on laws own opening are now edit.path live) room)
 
@@ -183,106 +170,90 @@ module _ (laws : Laws) (script : Parts) (apart : WritesApart script) where
 
     -- ---- what files show behind the lanes
 
-    others_leave : (seat : ℕ) (path : List ℕ) → AllByRecursion (OthersLeave seat path) (made_by 1 middle) → AllByRecursion (OthersLeave seat path) (made_by 2 middle)
-        → AllByRecursion (OthersLeave seat path) middle
+    others_leave : (seat : ℕ) (path : List ℕ) → AllByRecursion (OthersLeave seat path) (made_by 1 middle)
+        → AllByRecursion (OthersLeave seat path) (made_by 2 middle) → AllByRecursion (OthersLeave seat path) middle
     others_leave seat path first second = by_seats (OthersLeave seat path) seats middle are_seats
         (by_seat (λ n. AllByRecursion (OthersLeave seat path) (made_by n middle)) first second
         (λ n late to. all_weaker (IsIntakeBy n) (OthersLeave seat path)
         (λ entry by other file same. ap (λ (e : Entry). acted e.changes file) by.is) (made_by n middle) (intakes n late to)))
 
-    own_leave : (seat : ℕ) (path : List ℕ) (lane : List Edit) → AllByRecursion (OthersLeave seat path) (map (write_entry seat) lane)
-    own_leave seat path lane = all_map (OthersLeave seat path) (write_entry seat) lane (all_edits lane)
-      where
-        all_edits : (es : List Edit) → AllByRecursion (λ (edit : Edit). OthersLeave seat path (write_entry seat edit)) es
-        all_edits [] = tt
-        all_edits (edit ∷ es) = ((λ other. absurd (other refl)), all_edits es)
+    own : (seat : ℕ) (path : List ℕ) → AllByRecursion (IsWriteBy seat) (made_by seat middle) → AllByRecursion (OthersLeave seat path) (made_by seat middle)
+    own seat path are = all_weaker (IsWriteBy seat) (OthersLeave seat path) (λ e by other. absurd (other (ap (λ (x : Entry). x.seat) by.is))) _ are
 
-    same_shown_by : (file : File) → acts middle file ≡ acts lane_entries file
-    same_shown_by file = by_lane (one_apart apart.first apart.second file.path apart.apart)
-      where
-        leave : (seat other : ℕ) (lane : List Edit) → WriteOthers file.path lane → AllByRecursion (OthersLeave other file.path) (map (write_entry seat) lane)
-        leave seat other lane all = all_weaker (Leaves file.path) (OthersLeave other file.path) (λ e leaves k. leaves) (map (write_entry seat) lane)
-            (lane_leaves seat file.path lane all)
+    by_lane : (file : File) → WriteOthers file.path apart.first ⊎ WriteOthers file.path apart.second
+        → acts middle file ≡ acts (made_by 2 middle) (acts (made_by 1 middle) file)
+    by_lane file (inr all) =
+        let out = subst (AllByRecursion (Leaves file.path)) (sym twos_are) (lane_leaves 2 file.path apart.second all) in
+        let others = all_weaker (Leaves file.path) (OthersLeave 1 file.path) (λ e leaves k. leaves) (made_by 2 middle) out in
+        by_one 1 file.path middle edits (others_leave 1 file.path (own 1 file.path ones.are) others) file refl
+        ∙ sym (all_leave file.path (made_by 2 middle) out (acts (made_by 1 middle) file)
+        (stays_all (made_by 1 middle) (of_lane 1 (omega arith) ones.are) file).0)
+    by_lane file (inl all) =
+        let out = subst (AllByRecursion (Leaves file.path)) (sym ones_are) (lane_leaves 1 file.path apart.first all) in
+        let others = all_weaker (Leaves file.path) (OthersLeave 2 file.path) (λ e leaves k. leaves) (made_by 1 middle) out in
+        by_one 2 file.path middle edits (others_leave 2 file.path others (own 2 file.path twos.are)) file refl
+        ∙ ap (acts (made_by 2 middle)) (sym (all_leave file.path (made_by 1 middle) out file refl))
 
-        by_lane : WriteOthers file.path apart.first ⊎ WriteOthers file.path apart.second → acts middle file ≡ acts lane_entries file
-        by_lane (inr all) =
-            by_one 1 file.path middle edits (others_leave 1 file.path (subst (AllByRecursion (OthersLeave 1 file.path)) (sym ones_are) (own_leave 1 file.path apart.first))
-            (subst (AllByRecursion (OthersLeave 1 file.path)) (sym twos_are) (leave 2 1 apart.second all))) file refl
-            ∙ ap (λ (l : List Entry). acts l file) ones_are
-            ∙ sym (acts_both (map (write_entry 1) apart.first) (map (write_entry 2) apart.second) file
-            ∙ all_leave file.path (map (write_entry 2) apart.second) (lane_leaves 2 file.path apart.second all) (acts (map (write_entry 1) apart.first) file)
-            (stays_all (map (write_entry 1) apart.first) (writes_edit 1 (omega arith) apart.first) file).0)
-        by_lane (inl all) =
-            by_one 2 file.path middle edits (others_leave 2 file.path (subst (AllByRecursion (OthersLeave 2 file.path)) (sym ones_are) (leave 1 2 apart.first all))
-            (subst (AllByRecursion (OthersLeave 2 file.path)) (sym twos_are) (own_leave 2 file.path apart.second))) file refl
-            ∙ ap (λ (l : List Entry). acts l file) twos_are
-            ∙ sym (acts_both (map (write_entry 1) apart.first) (map (write_entry 2) apart.second) file
-            ∙ ap (acts (map (write_entry 2) apart.second)) (all_leave file.path (map (write_entry 1) apart.first) (lane_leaves 1 file.path apart.first all) file refl))
+    same_file : (file : File) → acts middle file ≡ acts lane_entries file
+    same_file file = by_lane file (one_apart apart.first apart.second file.path apart.apart) ∙ sym (acts_both (made_by 1 middle) (made_by 2 middle) file)
+        ∙ ap (λ (l : List Entry). acts (l ++ made_by 2 middle) file) ones_are
+        ∙ ap (λ (l : List Entry). acts (map (write_entry 1) apart.first ++ l) file) twos_are
 
-    -- ---- on one thread
+    -- ---- on one thread the writes of both lanes go in behind the prelude
 
-    record IsSerial : Type 0 where
-      is : (before_last [] parts).history ≡ opening ++ lane_entries
-      legal_serial : IsLegal (opening ++ lane_entries)
-
-    serial : IsSerial
+    serial : ((before_last [] parts).history ≡ opening ++ lane_entries) × IsLegal (opening ++ lane_entries)
     serial =
         let w1 : List Entry = map (write_entry 1) apart.first in
-        let w2 : List Entry = map (write_entry 2) apart.second in
         let done : Done = done_from 1 (record { history = opening; records = fits.prelude_records }) (map write_line apart.first) [] in
         let first_in = lane_goes_in laws apart.first 1 (omega arith) opening fits.prelude_records begun.begun.legal
-        (omega (arith, begun.begun.few, apart.few_files, apart.few_edits)) (are_live apart.first apart.first_made) in
+        (omega (arith, few_begun.0, apart.few_edits)) (are_live apart.first apart.first_made) in
         let live = all_weaker (λ (edit : Edit). IsLive (fold opening) edit.path) (λ (edit : Edit). IsLive (fold (opening ++ w1)) edit.path)
         (λ edit alive. live_on laws w1 opening (writes_edit 1 (omega arith) apart.first) first_in.legal edit.path alive) apart.second
         (are_live apart.second apart.second_made) in
         let second_in = lane_goes_in laws apart.second 2 (omega arith) (opening ++ w1) done.records first_in.legal
-        (omega (arith, length-append opening w1, length-map apart.first (write_entry 1), begun.begun.few, apart.few_files, apart.few_edits)) live in
-        let regroup = append_assoc opening w1 w2 in
-        record {
-          is = ap (λ (d : Done). (lanes_from 1 d (map write_line apart.first ∷ map write_line apart.second ∷ [])).history) opened
+        (omega (arith, length-append opening w1, length-map apart.first (write_entry 1), few_begun.0, apart.few_edits)) live in
+        let regroup = append_assoc opening w1 (map (write_entry 2) apart.second) in (
+          ap (λ (d : Done). (lanes_from 1 d (map write_line apart.first ∷ map write_line apart.second ∷ [])).history) opened
               ∙ ap (λ (h : List Entry). (done_from 2 (record { history = h; records = done.records }) (map write_line apart.second) []).history) first_in.is
-              ∙ second_in.is ∙ regroup;
-          legal_serial = subst IsLegal regroup second_in.legal;
-        }
+              ∙ second_in.is ∙ regroup,
+          subst IsLegal regroup second_in.legal,
+        )
+
+    few_lanes : length lane_entries ≤ 50000
+    few_lanes = omega (
+      arith,
+      length-append (map (write_entry 1) apart.first) (map (write_entry 2) apart.second),
+      length-map apart.first (write_entry 1),
+      length-map apart.second (write_entry 2),
+      apart.few_edits,
+    )
 
     -- ---- the last section
 
     agree : summary_of ended ≡ summary_of (run_of [] parts)
     agree =
         let goes = goes_on laws middle opening edits legal in
-        let lanes_edit = all_append IsEdit (map (write_entry 1) apart.first) (map (write_entry 2) apart.second) (writes_edit 1 (omega arith) apart.first)
-        (writes_edit 2 (omega arith) apart.second) in
-        let goes_serial = goes_on laws lane_entries opening lanes_edit serial.legal_serial in
+        let lanes_edit = all_append IsEdit (map (write_entry 1) apart.first) _ (writes_edit 1 (omega arith) apart.first) (writes_edit 2 (omega arith) apart.second) in
+        let goes_serial = goes_on laws lane_entries opening lanes_edit serial.1 in
         let same : shown (fold (opening ++ middle)) ≡ shown (fold (opening ++ lane_entries))
         = same_shown laws (fold (opening ++ middle)) (fold (opening ++ lane_entries)) (goes.ids ∙ sym goes_serial.ids)
-        (λ id. goes.files id ∙ mapped (acts middle) (acts lane_entries) same_shown_by (bare_at (fold opening) id) ∙ sym (goes_serial.files id)) in
+        (λ id. goes.files id ∙ mapped (bare_at (fold opening) id) ∙ sym (goes_serial.files id)) in
         let lines : List Line = settle_line apart.settle ∷ map ask_line apart.questions in
         let last = laws.alone 0 fits.last_begins fits.last_end lines [] [] ended.last (opening ++ middle) fits.closing fits.last_behind
         (subst (λ (h : List Entry). SectionFits false h 0 fits.last_begins lines [] ended.last fits.closing fits.last_end) fits.history fits.last) in
         let room : length (opening ++ middle) + next_id (fold (opening ++ middle)) ≤ max_entries
-        = omega (arith, length-append opening middle, few_middle, begun.begun.few, begun.begun.ids, apart.few_files, goes.ids) in
+        = omega (arith, length-append opening middle, few_middle, few_begun, goes.ids) in
         let room_serial : length (opening ++ lane_entries) + next_id (fold (opening ++ lane_entries)) ≤ max_entries
-        = omega (
-          arith,
-          length-append opening lane_entries,
-          length-append (map (write_entry 1) apart.first) (map (write_entry 2) apart.second),
-          length-map apart.first (write_entry 1),
-          length-map apart.second (write_entry 2),
-          apart.few_edits,
-          begun.begun.few,
-          begun.begun.ids,
-          apart.few_files,
-          goes_serial.ids,
-        ) in
+        = omega (arith, length-append opening lane_entries, few_lanes, few_begun, goes_serial.ids) in
         ap (λ (d : Done). flat_map summary_text d.records) (sym last)
         ∙ last_told laws (opening ++ middle) legal room apart.settle apart.questions apart.of_all
         ∙ ap (λ (w : World). smart_text ++ all_told w apart.questions) same
-        ∙ sym (last_told laws (opening ++ lane_entries) serial.legal_serial room_serial apart.settle apart.questions apart.of_all)
-        ∙ ap (λ (h : List Entry). flat_map summary_text (last_from h lines).records) (sym serial.is)
+        ∙ sym (last_told laws (opening ++ lane_entries) serial.1 room_serial apart.settle apart.questions apart.of_all)
+        ∙ ap (λ (h : List Entry). flat_map summary_text (last_from h lines).records) (sym serial.0)
       where
-        mapped : (f g : File → File) → ((file : File) → f file ≡ g file) → (o : Option File) → option_map f o ≡ option_map g o
-        mapped f g same None = refl
-        mapped f g same (Some file) = ap Some (same file)
+        mapped : (o : Option File) → option_map (acts middle) o ≡ option_map (acts lane_entries) o
+        mapped None = refl
+        mapped (Some file) = ap Some (same_file file)
 
 -- every run of a script whose lanes write apart has the summary of the run on one thread
 pub writes_apart_agree : Laws → (script : Parts) → WritesApart script → (told : List Worked) → length told ≤ 8 → (ended : Ended)

@@ -1,8 +1,8 @@
 -- The script of a demo has two lanes that write different files, all of which its prelude makes at lawful paths.
-use Rattle.demo_runs.proofs.Words.{ℕ, zero, suc, ◌≡◌, ◌≢◌, ◌⊎◌, inl, inr, ⊎_elim, ◌+◌, ◌%◌, ◌<◌, ◌≤◌, Bool, true, not, List, [], ◌∷◌, ◌++◌}
-use Rattle.demo_runs.proofs.Words.{length, map, filter, codes, decimal, refl, ap, sym, ◌∙◌, arith, length-append, ◌==◌, ◌&&◌, nat_le, nat_lt}
-use Rattle.demo_runs.proofs.Words.{if◌then◌else◌, AllByRecursion, le-leb, cases_lt, append_cancel_left, append_cancel_right, is_path, Line}
-use Rattle.demo_runs.proofs.Words.{list_all, and_parts, not-true, lt-ltb, is_barred, Command, Verb, path_of, class_of, creates}
+use Rattle.demo_runs.proofs.Words.{ℕ, zero, suc, ◌≡◌, ◌≢◌, ◌⊎◌, inl, inr, ⊎_elim, ◌+◌, ◌%◌, ◌<◌, ◌≤◌, Bool, true, not, List, [], ◌∷◌, ◌++◌, length, map}
+use Rattle.demo_runs.proofs.Words.{filter, codes, decimal, refl, ap, sym, ◌∙◌, arith, length-append, ◌==◌, ◌&&◌, nat_le, nat_lt, if◌then◌else◌}
+use Rattle.demo_runs.proofs.Words.{AllByRecursion, le-leb, cases_lt, append_cancel_left, append_cancel_right, is_path, Line, list_all, and_parts}
+use Rattle.demo_runs.proofs.Words.{not-true, lt-ltb, is_barred, Command, Verb, path_of, class_of, creates}
 use Rattle.demo.specs.declared.command.Verb.TheVariants as verb
 use Rattle.queries.specs.declared.query.Query.TheVariants as query
 use Rattle.script_lang.specs.declared.command.Command.TheVariants as script

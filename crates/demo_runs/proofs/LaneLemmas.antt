@@ -1,10 +1,9 @@
 -- What a lane of writes makes: at most one entry a line, and one for each where all are accepted.
-use Rattle.demo_runs.proofs.Words.{ℕ, ◌≡◌, ◌⊎◌, inl, inr, ◌+◌, ◌<◌, ◌≤◌, Bool, false, List, [], ◌∷◌, ◌++◌, length, map, refl, ap, sym, ◌∙◌}
-use Rattle.demo_runs.proofs.Words.{subst, arith, append_assoc, append-nil, length-append, Some, None, nat_le, if◌then◌else◌, Option, is_none}
-use Rattle.demo_runs.proofs.Words.{option_and_then, AllByRecursion, lt-leb, IsFront, front_trans, Write, Entry, Refusal, World, File}
-use Rattle.demo_runs.proofs.Words.{file_of, id_at, document_at, refusal_of, is_unsaved, max_entries, list_refusal, ListRefusal, refusal_or}
-use Rattle.demo_runs.proofs.Words.{fold, IsLegal, entry_of, Nothing, Answer, Record, Step, step_unless, change_step, done_from, Mark, Fits}
-use Rattle.demo_runs.proofs.Words.{SectionFits}
+use Rattle.demo_runs.proofs.Words.{ℕ, ◌≡◌, ◌⊎◌, inl, inr, ◌+◌, ◌<◌, ◌≤◌, Bool, false, List, [], ◌∷◌, ◌++◌, length, map, refl, ap, sym, ◌∙◌, subst, arith}
+use Rattle.demo_runs.proofs.Words.{append_assoc, append-nil, length-append, Some, None, nat_le, if◌then◌else◌, Option, is_none, option_and_then}
+use Rattle.demo_runs.proofs.Words.{AllByRecursion, lt-leb, IsFront, front_trans, Write, Entry, Refusal, World, File, file_of, id_at, document_at}
+use Rattle.demo_runs.proofs.Words.{refusal_of, is_unsaved, max_entries, list_refusal, ListRefusal, refusal_or, fold, IsLegal, entry_of, Nothing, Answer}
+use Rattle.demo_runs.proofs.Words.{Record, Step, step_unless, change_step, done_from, Mark, Fits, SectionFits}
 use Rattle.script_lang.specs.declared.command.Command.TheVariants as command
 use Rattle.demo_runs.specs.Apart.{Edit, write_line}
 use Rattle.demo_runs.specs.Alike.{IsLive, IsEdit, writes}

@@ -1,11 +1,10 @@
 -- What the last section tells is read from what the files show.
-use Rattle.demo_runs.proofs.Words.{ℕ, suc, ◌≡◌, ◌+◌, ◌≤◌, Bool, true, false, cond, List, [], ◌∷◌, ◌++◌, length, map, filter, codes, refl, ap}
-use Rattle.demo_runs.proofs.Words.{sym, ◌∙◌, append_assoc, append-nil, Some, None, Ok, if◌then◌else◌, Option, option_map, is_some}
-use Rattle.demo_runs.proofs.Words.{slice_index_or, AllByRecursion, flat_map, length-map, flat_map-append, get_or-map, is_java, words_of}
-use Rattle.demo_runs.proofs.Words.{mask_in, Entry, Refusal, World, File, file_of, next_id, is_open, is_unready, count_of, lowest_unready}
-use Rattle.demo_runs.proofs.Words.{max_entries, fold, IsLegal, Settled, settled, Query, rows_in, word_in, word_row, of_files, of_world}
-use Rattle.demo_runs.proofs.Words.{is_class, has_super, is_method, unless_unready, reply, Answer, Record, answer_of, done_from, last_from}
-use Rattle.demo_runs.proofs.Words.{query_step, settle_answer, head_text, rows_text, summary_text}
+use Rattle.demo_runs.proofs.Words.{ℕ, suc, ◌≡◌, ◌+◌, ◌≤◌, Bool, true, false, cond, List, [], ◌∷◌, ◌++◌, length, map, filter, codes, refl, ap, sym, ◌∙◌}
+use Rattle.demo_runs.proofs.Words.{append_assoc, append-nil, Some, None, Ok, if◌then◌else◌, Option, option_map, is_some, slice_index_or, AllByRecursion}
+use Rattle.demo_runs.proofs.Words.{flat_map, length-map, flat_map-append, get_or-map, is_java, words_of, mask_in, Entry, Refusal, World, File, file_of}
+use Rattle.demo_runs.proofs.Words.{next_id, is_open, is_unready, count_of, lowest_unready, max_entries, fold, IsLegal, Settled, settled, Query, rows_in}
+use Rattle.demo_runs.proofs.Words.{word_in, word_row, of_files, of_world, is_class, has_super, is_method, unless_unready, reply, Answer, Record}
+use Rattle.demo_runs.proofs.Words.{answer_of, done_from, last_from, query_step, settle_answer, head_text, rows_text, summary_text}
 use Rattle.queries.specs.declared.query.Query.TheVariants as query
 use Rattle.query_engine.specs.declared.answer.Answer.{Answer as Found}
 use Rattle.query_engine.specs.declared.answer.Answer.TheVariants as found
@@ -146,13 +145,13 @@ pub last_told : Laws → (history : List Entry) → IsLegal history → length h
 last_told laws history legal room settle questions about =
     let ends : Settled = settled history 0 settle in
     let through = settles laws 0 settle history legal room in
-    let goes = goes_on laws ends.added history through.adds.edits through.adds.legal in
+    let goes = goes_on laws ends.added history through.0.edits through.0.legal in
     let kept : shown (fold (history ++ ends.added)) ≡ shown (fold history)
     = same_shown laws (fold (history ++ ends.added)) (fold history) goes.ids
-    (λ id. goes.files id ∙ unchanged ends through.adds.same (bare_at (fold history) id)) in
-    questions_told laws questions (history ++ ends.added) _ (laws.smart history 0 settle through.whole) about
+    (λ id. goes.files id ∙ unchanged ends through.0.same (bare_at (fold history) id)) in
+    questions_told laws questions (history ++ ends.added) _ (laws.smart history 0 settle through.1) about
     ∙ ap (λ (why : Option Refusal). flat_map summary_text (record { seat = 0; line = settle; answer = settle_answer (length (history ++ ends.added)) why } ∷ [])
-    ++ all_told (shown (fold (history ++ ends.added))) questions) through.whole
+    ++ all_told (shown (fold (history ++ ends.added))) questions) through.1
     ∙ ap (λ (w : World). smart_text ++ all_told w questions) kept
   where
     unchanged : (ends : Settled) → ((file : File) → acts ends.added file ≡ file) → (o : Option File) → option_map (acts ends.added) o ≡ o

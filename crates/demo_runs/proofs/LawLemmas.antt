@@ -1,8 +1,8 @@
 -- The laws of lower crates on which the lemmas rest, as their functions tell them.
-use Rattle.demo_runs.proofs.Words.{ℕ, ◌≡◌, ◌+◌, ◌<◌, ◌≤◌, false, List, [], ◌∷◌, ◌++◌, length, Some, None, ◌==◌, if◌then◌else◌, Change, Entry}
-use Rattle.demo_runs.proofs.Words.{Refusal, World, File, file_of, next_id, id_at, is_unready, lowest_unready, Put, put_of, refusal_of}
-use Rattle.demo_runs.proofs.Words.{max_entries, after_put, effect_of, list_refusal, fold, fold_from, IsLegal, IsLegalFrom, files_made}
-use Rattle.demo_runs.proofs.Words.{settled, Line, Loaded, Record, done_from, Mark, SectionFits}
+use Rattle.demo_runs.proofs.Words.{ℕ, ◌≡◌, ◌+◌, ◌<◌, ◌≤◌, false, List, [], ◌∷◌, ◌++◌, length, Some, None, ◌==◌, if◌then◌else◌, Change, Entry, Refusal}
+use Rattle.demo_runs.proofs.Words.{World, File, file_of, next_id, id_at, is_unready, lowest_unready, Put, put_of, refusal_of, max_entries, after_put}
+use Rattle.demo_runs.proofs.Words.{effect_of, list_refusal, fold, fold_from, IsLegal, IsLegalFrom, files_made, settled, Line, Loaded, Record, done_from}
+use Rattle.demo_runs.proofs.Words.{Mark, SectionFits}
 
 -- of histories, of a settle, and of a section alone
 pub record Laws : Type 0 where

@@ -1,6 +1,6 @@
 -- The bytes of a demo spell its script, from its last line up to its first.
-use Rattle.demo_runs.proofs.Words.{ℕ, ◌≡◌, ◌+◌, ◌<◌, ◌≤◌, true, List, [], ◌∷◌, ◌++◌, length, drop, codes, IsTrue, refl, subst, arith}
-use Rattle.demo_runs.proofs.Words.{append_assoc, Change, Line, ltb, list_all, and_parts, Command, Verb, path_of, class_of, creates}
+use Rattle.demo_runs.proofs.Words.{ℕ, ◌≡◌, ◌+◌, ◌<◌, ◌≤◌, true, List, [], ◌∷◌, ◌++◌, length, drop, codes, IsTrue, refl, subst, arith, append_assoc}
+use Rattle.demo_runs.proofs.Words.{Change, is_path, Line, ltb, list_all, and_parts, Command, Verb, path_of, class_of, creates}
 use Rattle.demo.specs.declared.command.Verb.TheVariants as verb
 use Rattle.queries.specs.declared.query.Query.TheVariants as query
 use Rattle.script_lang.specs.declared.command.Command.TheVariants as script

@@ -1,17 +1,13 @@
 -- Lists of which all are so, lists without repetition, and entries by their seats.
-use Rattle.demo_runs.proofs.Words.{ℕ, zero, suc, ◌≡◌, ◌≢◌, ◌⊎◌, inl, inr, ◌+◌, ◌*◌, ◌≤◌, Bool, true, false, cond, List, [], ◌∷◌, ◌++◌}
-use Rattle.demo_runs.proofs.Words.{length, map, filter, refl, ap, sym, ◌∙◌, subst, arith, suc-mul, ◌==◌, nat_le, AllByRecursion, eq-eqb}
-use Rattle.demo_runs.proofs.Words.{le-leb, leb-true, leb-false, lt-leb, bool_cases, Entry, made_by, IsSeatOf}
+use Rattle.demo_runs.proofs.Words.{ℕ, zero, suc, ◌≡◌, ◌≢◌, ◌⊎◌, inl, inr, ◌+◌, ◌*◌, ◌≤◌, Bool, true, false, cond, List, [], ◌∷◌, ◌++◌, length, filter}
+use Rattle.demo_runs.proofs.Words.{refl, ap, sym, ◌∙◌, subst, arith, suc-mul, ◌==◌, nat_le, AllByRecursion, eq-eqb, le-leb, leb-true, leb-false, lt-leb}
+use Rattle.demo_runs.proofs.Words.{bool_cases, Entry, made_by, IsSeatOf}
 
 -- ---- all of a list
 
 pub all_weaker : {X : Type 0} (P Q : X → Type 0) → ((x : X) → P x → Q x) → (xs : List X) → AllByRecursion P xs → AllByRecursion Q xs
 all_weaker P Q f [] all = tt
 all_weaker P Q f (x ∷ xs) all = (f x all.0, all_weaker P Q f xs all.1)
-
-pub all_map : {X Y : Type 0} (P : Y → Type 0) (f : X → Y) (xs : List X) → AllByRecursion (λ (x : X). P (f x)) xs → AllByRecursion P (map f xs)
-all_map P f [] all = tt
-all_map P f (x ∷ xs) all = (all.0, all_map P f xs all.1)
 
 pub all_both : {X : Type 0} (P Q : X → Type 0) (xs : List X) → AllByRecursion P xs → AllByRecursion Q xs → AllByRecursion (λ (x : X). P x × Q x) xs
 all_both P Q [] all also = tt

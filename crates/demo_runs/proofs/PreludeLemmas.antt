@@ -1,9 +1,9 @@
 -- What the prelude leaves: its paths are live.
-use Rattle.demo_runs.proofs.Words.{ℕ, zero, suc, ◌≡◌, ◌⊎◌, inl, inr, ⊎_elim, ◌+◌, ◌<◌, ◌≤◌, true, false, not, List, [], ◌∷◌, ◌++◌, length}
-use Rattle.demo_runs.proofs.Words.{map, refl, ap, sym, ◌∙◌, subst, arith, append-nil, length-append, Some, None, Option, option_map, is_some}
-use Rattle.demo_runs.proofs.Words.{AllByRecursion, lt-leb, bool_cases, Create, Entry, is_path, World, File, file_of, next_id, id_at}
-use Rattle.demo_runs.proofs.Words.{refusal_of, new_file, max_files, effect_of, list_refusal, ListRefusal, refusal_or, counted, fold, IsLegal}
-use Rattle.demo_runs.proofs.Words.{entry_of, Record, Step, step_unless, change_step, done_from}
+use Rattle.demo_runs.proofs.Words.{ℕ, zero, suc, ◌≡◌, ◌⊎◌, inl, inr, ⊎_elim, ◌+◌, ◌<◌, ◌≤◌, true, false, not, List, [], ◌∷◌, ◌++◌, length, map, refl, ap}
+use Rattle.demo_runs.proofs.Words.{sym, ◌∙◌, subst, arith, append-nil, length-append, Some, None, Option, option_map, is_some, AllByRecursion, lt-leb}
+use Rattle.demo_runs.proofs.Words.{bool_cases, Create, Entry, is_path, World, File, file_of, next_id, id_at, refusal_of, new_file, max_files, effect_of}
+use Rattle.demo_runs.proofs.Words.{list_refusal, ListRefusal, refusal_or, counted, fold, IsLegal, entry_of, Record, Step, step_unless, change_step}
+use Rattle.demo_runs.proofs.Words.{done_from}
 use Rattle.demo_runs.specs.Apart.{Edit, create_line, IsAmong}
 use Rattle.demo_runs.specs.Alike.{bare, bare_at, IsLive}
 use Rattle.demo_runs.proofs.LawLemmas.{Laws}

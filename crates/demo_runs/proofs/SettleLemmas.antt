@@ -1,8 +1,8 @@
 -- What a settle leaves where the history has room: no file is unready, and each file shows what it showed.
-use Rattle.demo_runs.proofs.Words.{ℕ, suc, ◌≡◌, ◌+◌, ◌≤◌, Bool, true, false, List, [], ◌∷◌, ◌++◌, length, refl, sym, subst, arith}
-use Rattle.demo_runs.proofs.Words.{append_assoc, append-nil, length-append, Some, None, if◌then◌else◌, Option, AllByRecursion, Entry}
-use Rattle.demo_runs.proofs.Words.{Refusal, File, file_of, next_id, ids_from, is_unready, unready_ids, stamp_of, max_entries, list_refusal}
-use Rattle.demo_runs.proofs.Words.{ListRefusal, fold, IsLegal, Settled, settled, settled_from, settled_unless, intake_of, intake_entry}
+use Rattle.demo_runs.proofs.Words.{ℕ, suc, ◌≡◌, ◌+◌, ◌<◌, ◌≤◌, Bool, true, false, List, [], ◌∷◌, ◌++◌, length, refl, sym, subst, arith, append_assoc}
+use Rattle.demo_runs.proofs.Words.{append-nil, length-append, Some, None, if◌then◌else◌, Option, AllByRecursion, Entry, Refusal, File, file_of, next_id}
+use Rattle.demo_runs.proofs.Words.{ids_from, is_unready, unready_ids, stamp_of, max_entries, list_refusal, ListRefusal, fold, IsLegal, Settled, settled}
+use Rattle.demo_runs.proofs.Words.{settled_from, settled_unless, intake_of, intake_entry}
 use Rattle.demo_runs.specs.Alike.{acts, IsEdit, takes}
 use Rattle.demo_runs.proofs.LawLemmas.{Laws}
 
@@ -46,25 +46,19 @@ ids_few test id (file ∷ files) = one_more (test file) (ids_from test (id + 1) 
     one_more false ids few = omega (arith, few)
 
 -- a settle with room for an intake of each file goes through
-pub record GoesThrough (history : List Entry) (ends : Settled) : Type 0 where
-  pub adds : AddsIntakes history (unready_ids (fold history)) ends
-  pub whole : ends.refused ≡ None
+abbrev pub GoesThrough : List Entry → Settled → Type 0
+GoesThrough history ends = AddsIntakes history (unready_ids (fold history)) ends × (ends.refused ≡ None)
 
 pub settles : Laws → (seat line : ℕ) (history : List Entry) → IsLegal history → length history + next_id (fold history) ≤ max_entries
     → GoesThrough history (settled history seat line)
-settles laws seat line history legal room =
-    record { adds = adds; whole = none (settled history seat line).refused refl }
+settles laws seat line history legal room = (adds, none (settled history seat line).refused refl)
   where
     adds : AddsIntakes history (unready_ids (fold history)) (settled history seat line)
     adds = adds_intakes laws seat line (unready_ids (fold history)) history legal
 
+    few : length (history ++ (settled history seat line).added) < max_entries
+    few = omega (arith, room, length-append history (settled history seat line).added, adds.few, ids_few is_unready 1 (fold history).files)
+
     none : (refused : Option Refusal) → (settled history seat line).refused ≡ refused → refused ≡ None
     none None is = refl
-    none (Some why) is = absurd (omega (
-      arith,
-      room,
-      laws.full history seat line why is,
-      length-append history (settled history seat line).added,
-      adds.few,
-      ids_few is_unready 1 (fold history).files,
-    ))
+    none (Some why) is = absurd (omega (arith, few, laws.full history seat line why is))

@@ -1,9 +1,9 @@
 -- What accepted writes and intakes make of what each file shows.
-use Rattle.demo_runs.proofs.Words.{ℕ, ◌≡◌, ◌≢◌, ◌+◌, Bool, false, List, [], ◌∷◌, ◌++◌, refl, ap, sym, ◌∙◌, subst, append_assoc, append-nil}
-use Rattle.demo_runs.proofs.Words.{add-zero, Some, None, ◌==◌, if◌then◌else◌, Option, option_map, is_none, unwrap_or, bytes_eq}
-use Rattle.demo_runs.proofs.Words.{option_and_then, AllByRecursion, bytes_decides, eqb-true, eqb-false, bool_cases, Change, Write, Intake}
-use Rattle.demo_runs.proofs.Words.{Entry, Refusal, World, File, file_of, next_id, id_at, Put, put_of, refusal_of, rewritten, taken_in}
-use Rattle.demo_runs.proofs.Words.{effect_of, list_refusal, refusal_or, counted, after_list, fold, IsLegal}
+use Rattle.demo_runs.proofs.Words.{ℕ, ◌≡◌, ◌≢◌, ◌+◌, Bool, false, List, [], ◌∷◌, ◌++◌, refl, ap, sym, ◌∙◌, subst, append_assoc, append-nil, add-zero}
+use Rattle.demo_runs.proofs.Words.{Some, None, ◌==◌, if◌then◌else◌, Option, option_map, is_none, unwrap_or, bytes_eq, option_and_then, AllByRecursion}
+use Rattle.demo_runs.proofs.Words.{bytes_decides, eqb-true, eqb-false, bool_cases, Change, Write, Intake, Entry, Refusal, World, File, file_of, next_id}
+use Rattle.demo_runs.proofs.Words.{id_at, Put, put_of, refusal_of, rewritten, taken_in, effect_of, list_refusal, refusal_or, counted, after_list, fold}
+use Rattle.demo_runs.proofs.Words.{IsLegal}
 use Rattle.demo_runs.specs.Alike.{bare, bare_at, IsLive, IsEdit, writes, takes, acted, acts}
 use Rattle.demo_runs.proofs.LawLemmas.{Laws}
 

@@ -1,9 +1,9 @@
 -- The words of the kit and of lower crates in which the lemmas speak.
-pub use Rattle.std.proofs.Common.{ℕ, zero, suc, ◌≡◌, ◌≢◌, ◌⊎◌, inl, inr, ⊎_elim, ◌+◌, ◌*◌, ◌%◌, ◌<◌, ◌≤◌, Bool, true, false, cond, not}
-pub use Rattle.std.proofs.Common.{List, [], ◌∷◌, ◌++◌, length, map, filter, drop, codes, decimal, IsTrue, refl, ap, sym, ◌∙◌, subst}
-pub use Rattle.std.proofs.Common.{arith, append_assoc, append-nil, add-zero, length-append, suc-mul, Some, None, Ok}
-pub use Rattle.std.specs.Prelude.{◌==◌, ◌&&◌, nat_le, nat_lt, if◌then◌else◌, Option, option_map, is_none, is_some, unwrap_or}
-pub use Rattle.std.specs.Prelude.{slice_index_or, bytes_eq, AllPairs}
+pub use Rattle.std.proofs.Common.{ℕ, zero, suc, ◌≡◌, ◌≢◌, ◌⊎◌, inl, inr, ⊎_elim, ◌+◌, ◌*◌, ◌%◌, ◌<◌, ◌≤◌, Bool, true, false, cond, not, List, []}
+pub use Rattle.std.proofs.Common.{◌∷◌, ◌++◌, length, map, filter, drop, codes, decimal, IsTrue, refl, ap, sym, ◌∙◌, subst, arith, append_assoc}
+pub use Rattle.std.proofs.Common.{append-nil, add-zero, length-append, suc-mul, Some, None, Ok}
+pub use Rattle.std.specs.Prelude.{◌==◌, ◌&&◌, nat_le, nat_lt, if◌then◌else◌, Option, option_map, is_none, is_some, unwrap_or, slice_index_or}
+pub use Rattle.std.specs.Prelude.{bytes_eq, AllPairs}
 pub use Rattle.std.specs.Option.{option_and_then}
 pub use Rattle.std.specs.List.{AllByRecursion, flat_map}
 pub use Rattle.std.specs.Cmp.Lexicographic.{bytes_decides}
@@ -25,13 +25,12 @@ pub use Rattle.write_history.specs.Path.{is_path}
 pub use Rattle.write_history.specs.World.{World, File, file_of, next_id, id_at, document_at, ids_from, is_open, is_unready, count_of}
 pub use Rattle.write_history.specs.World.{lowest_unready, unready_ids}
 pub use Rattle.write_history.specs.Effect.{Put, put_of, refusal_of, new_file, rewritten, taken_in, stamp_of, is_unsaved, max_files, max_entries}
-pub use Rattle.write_history.specs.Fold.{after_put, effect_of, list_refusal, ListRefusal, refusal_or, counted, after_list, fold, fold_from}
-pub use Rattle.write_history.specs.Fold.{IsLegal, IsLegalFrom}
+pub use Rattle.write_history.specs.Fold.{after_put, effect_of, list_refusal, ListRefusal, refusal_or, counted, after_list, fold, fold_from, IsLegal}
+pub use Rattle.write_history.specs.Fold.{IsLegalFrom}
 pub use Rattle.write_history.specs.Stamps.{files_made}
 pub use Rattle.ide_calls.specs.Settle.{Settled, settled, settled_from, settled_unless, entry_of, intake_of, intake_entry}
 pub use Rattle.queries.specs.declared.query.Query.{Query}
-pub use Rattle.query_engine.specs.Reply.{rows_in, word_in, word_row, of_files, of_world, is_class, has_super, is_method, unless_unready}
-pub use Rattle.query_engine.specs.Reply.{reply}
+pub use Rattle.query_engine.specs.Reply.{rows_in, word_in, word_row, of_files, of_world, is_class, has_super, is_method, unless_unready, reply}
 pub use Rattle.script_lang.specs.declared.line.Line.{Line}
 pub use Rattle.script_lang.specs.Parts.{Parts}
 pub use Rattle.index_workers.specs.declared.worked.Worked.{Worked}
@@ -40,8 +39,8 @@ pub use Rattle.transcripts.specs.declared.loaded.Loaded.{Loaded}
 pub use Rattle.transcripts.specs.declared.loaded.Loaded.TheVariants.{Nothing}
 pub use Rattle.transcripts.specs.declared.record.Answer.{Answer}
 pub use Rattle.transcripts.specs.declared.record.Record.{Record}
-pub use Rattle.transcripts.specs.Serial.{Step, step_unless, change_step, Done, Ended, answer_of, done_from, lanes_from, before_last}
-pub use Rattle.transcripts.specs.Serial.{last_from, run_of, query_step, settle_answer}
+pub use Rattle.transcripts.specs.Serial.{Step, step_unless, change_step, Done, Ended, answer_of, done_from, lanes_from, before_last, last_from}
+pub use Rattle.transcripts.specs.Serial.{run_of, query_step, settle_answer}
 pub use Rattle.transcripts.specs.Fits.{Mark, mark_at, Fits, SectionFits, WorkerFits, WorkersFit, made_by, IsSeatOf, RunFits}
 pub use Rattle.transcripts.specs.Transcript.{head_text, rows_text, summary_text, summary_of}
 pub use Rattle.std.proofs.Common.{ltb}
