@@ -93,7 +93,7 @@ unfolding AllShort
 creates-short seed zero few = tt
 creates-short seed (suc n) few = AllShort-more (creates seed n) (create_of seed (suc n)) (creates-short seed n (omega arith)) (created seed n few)
 
-length-creates : (seed n : ℕ) → length (creates seed n) ≡ n
+pub length-creates : (seed n : ℕ) → length (creates seed n) ≡ n
 length-creates seed zero = refl
 length-creates seed (suc n) = omega (arith, length-append (creates seed n) (create_of seed (suc n) ∷ []), length-creates seed n)
 
@@ -111,7 +111,7 @@ edits-short state files (suc n) some few fits =
     AllShort-more (edits state files n) (edit_after state files n) (edits-short state files n some few (omega arith))
     (edited (1 + d % files) (draw_of state (suc (suc (2 * n)))) (suc n) (omega arith) (omega arith) (omega arith))
 
-length-edits : (state files n : ℕ) → length (edits state files n) ≡ n
+pub length-edits : (state files n : ℕ) → length (edits state files n) ≡ n
 length-edits state files zero = refl
 length-edits state files (suc n) = omega (arith, length-append (edits state files n) (edit_after state files n ∷ []), length-edits state files n)
 

@@ -2,3 +2,5 @@ mod OnLiterals
 pub mod LineLemmas
 pub mod CommandLemmas
 pub mod LengthLemmas
+pub mod TextLemmas
+pub mod FileLemmas

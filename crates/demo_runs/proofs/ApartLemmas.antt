@@ -1,184 +1,129 @@
--- The script of a demo has two lanes that write different files, all of which its prelude makes.
-use Rattle.std.proofs.Common.{ℕ, zero, suc, ◌≡◌, ◌≢◌, inl, inr, ◌+◌, ◌*◌, ◌%◌, ◌<◌, ◌≤◌, Bool, true, false, cond, not, List, [], ◌∷◌, ◌++◌, length, map, filter, codes, refl, ap, sym, ◌∙◌, subst, arith, length-append}
-use Rattle.std.specs.Prelude.{◌==◌}
-use Rattle.std.specs.List.{AllByRecursion}
-use Rattle.std.proofs.lemmas.Bool.{eqb-true, eq-eqb}
-use Rattle.std.proofs.Math.Nat.{mod-lt}
-use Rattle.list_laws.proofs.BoolLemmas.{bool_cases}
-use Rattle.demo.specs.declared.command.Command.{Command}
-use Rattle.demo.specs.declared.command.Verb.{Verb}
-use Rattle.demo.specs.declared.command.Verb.TheVariants.{Create, Write}
-use Rattle.demo.specs.Draws.{draw_of, state_after}
-use Rattle.demo.specs.Line.{path_of, class_of}
-use Rattle.demo.specs.Commands.{create_of, creates, edit_after, edits, is_of_first_lane, is_of_second_lane}
-use Rattle.demo.specs.Script.{edits_of}
-use Rattle.write_history.specs.Path.{is_path}
+-- The script of a demo has two lanes that write different files, all of which its prelude makes at lawful paths.
+use Rattle.demo_runs.proofs.Words.{ℕ, zero, suc, ◌≡◌, ◌≢◌, ◌⊎◌, inl, inr, ⊎_elim, ◌+◌, ◌%◌, ◌<◌, ◌≤◌, Bool, true, not, List, [], ◌∷◌, ◌++◌, length, map}
+use Rattle.demo_runs.proofs.Words.{filter, codes, decimal, refl, ap, sym, ◌∙◌, arith, length-append, ◌==◌, ◌&&◌, nat_le, nat_lt, if◌then◌else◌}
+use Rattle.demo_runs.proofs.Words.{AllByRecursion, le-leb, cases_lt, append_cancel_left, append_cancel_right, is_path, Line, list_all, and_parts}
+use Rattle.demo_runs.proofs.Words.{not-true, lt-ltb, is_barred, Command, Verb, path_of, class_of, creates}
+use Rattle.demo.specs.declared.command.Verb.TheVariants as verb
 use Rattle.queries.specs.declared.query.Query.TheVariants as query
-use Rattle.script_lang.specs.declared.line.Line.{Line}
-use Rattle.demo_runs.specs.Apart.{Edit, WritesApart, IsAmong, create_line, write_line}
-use Rattle.demo_runs.specs.Parts.{demo_parts, lines_from, first_lane, second_lane, first_lane_begins, second_lane_begins, last_begins}
-use Rattle.demo_runs.proofs.PathLemmas.{path_tells, path_lawful}
+use Rattle.script_lang.specs.declared.command.Command.TheVariants as script
+use Rattle.std.proofs.lemmas.Fmt.{decimal_injective}
+use Rattle.write_history.specs.Path.{is_part, max_path, onto_first, parts_of}
+use Rattle.demo.specs.Draws.{state_after}
+use Rattle.demo.specs.Commands.{create_of, is_of_first_lane, is_of_second_lane}
+use Rattle.demo.specs.Script.{edits_of}
+use Rattle.demo.proofs.FileLemmas.{IsOneOf, creates_are, edits_are, lanes_length}
+use Rattle.demo.proofs.LengthLemmas.{length-creates, length-edits}
+use Rattle.demo.proofs.TextLemmas.{weaker, path_text}
+use Rattle.demo_runs.specs.Apart.{Edit, WritesApart, IsAmong, write_line}
+use Rattle.demo_runs.proofs.ListLemmas.{all_weaker, all_filter}
+use Rattle.demo_runs.specs.Parts.{demo_parts, change_by, lines_from}
+use Rattle.demo_runs.specs.Parts.{first_lane, second_lane, first_lane_begins, second_lane_begins, last_begins}
 
--- ---- lists of commands
+-- ---- paths
 
--- a command has this verb, and its file is among so many
-record IsOneOf (verb : Verb) (files : ℕ) (command : Command) : Type 0 where
-  is : command.verb ≡ verb
-  from : 1 ≤ command.file
-  to : command.file ≤ files
+-- files with the same path have the same number
+path_tells : (file other : ℕ) → file ≤ 10000 → other ≤ 10000 → path_of file ≡ path_of other → file ≡ other
+path_tells file other few fits same = decimal_injective file other (omega arith) (omega arith) (append_cancel_left (codes "G") (decimal file) (decimal other)
+    (append_cancel_right (codes "G" ++ decimal file) (codes "G" ++ decimal other) (codes ".java") same))
 
--- one command more
-all_more : (P : Command → Type 0) (commands : List Command) (command : Command) → AllByRecursion P commands → P command
-    → AllByRecursion P (commands ++ command ∷ [])
-all_more P [] command all one = (one, tt)
-all_more P (other ∷ commands) command all one = (all.0, all_more P commands command all.1 one)
+-- a character that a path of one part may have
+abbrev is_name : ℕ → Bool
+is_name c = not (is_barred c) && not (c == 47)
 
--- what holds of all holds of those that pass a test, with the test
-all_filtered : (P : Command → Type 0) (test : Command → Bool) (commands : List Command) → AllByRecursion P commands
-    → AllByRecursion (λ command. P command × (test command ≡ true)) (filter test commands)
-all_filtered P test [] all = tt
-all_filtered P test (command ∷ commands) all =
-    bool_cases (test command) (λ b. AllByRecursion (λ c. P c × (test c ≡ true)) (cond b (command ∷ filter test commands) (filter test commands)))
-    (λ is. ((all.0, is), all_filtered P test commands all.1))
-    (λ is. all_filtered P test commands all.1)
+-- a path of such characters is one part
+one_part : (path : List ℕ) → list_all is_name path ≡ true → parts_of path ≡ path ∷ []
+one_part [] all = refl
+one_part (c ∷ path) all =
+    let parts = and_parts (is_name c) (list_all is_name path) all in
+    let no_slash = and_parts (not (is_barred c)) (not (c == 47)) parts.0 in
+    ap (λ b. if b then [] ∷ parts_of path else onto_first c (parts_of path)) (not-true (c == 47) no_slash.1) ∙ ap (onto_first c) (one_part path parts.1)
 
--- one more is in one of two lists
-one_in_two : (all : ℕ) (b : Bool) (command : Command) (xs ys : List Command) → length xs + length ys ≡ all
-    → length (cond b (command ∷ xs) xs) + length (cond (not b) (command ∷ ys) ys) ≡ suc all
-one_in_two all true command xs ys both = omega (arith, both)
-one_in_two all false command xs ys both = omega (arith, both)
-
--- both lanes have as many commands as there are
-lanes_length : (commands : List Command) → length (filter is_of_first_lane commands) + length (filter is_of_second_lane commands) ≡ length commands
-lanes_length [] = refl
-lanes_length (command ∷ commands) =
-    one_in_two (length commands) (is_of_first_lane command) command (filter is_of_first_lane commands) (filter is_of_second_lane commands)
-    (lanes_length commands)
-
--- ---- the commands of a demo
-
--- the creations make files from 1 on
-creates_are : (seed most files : ℕ) → files ≤ most → AllByRecursion (IsOneOf Create most) (creates seed files)
-creates_are seed most zero few = tt
-creates_are seed most (suc before) few =
-    all_more (IsOneOf Create most) (creates seed before) (create_of seed (suc before)) (creates_are seed most before (omega arith))
-    (record { is = refl; from = omega arith; to = few })
-
--- the edits go to them
-edits_are : (state files count : ℕ) → 0 < files → AllByRecursion (IsOneOf Write files) (edits state files count)
-edits_are state files zero some = tt
-edits_are state files (suc before) some =
-    let drawn : draw_of state (suc (2 * before)) % files < files = mod-lt (draw_of state (suc (2 * before))) some in
-    all_more (IsOneOf Write files) (edits state files before) (edit_after state files before) (edits_are state files before some)
-    (record { is = refl; from = omega arith; to = omega arith })
-
-length_creates : (seed files : ℕ) → length (creates seed files) ≡ files
-length_creates seed zero = refl
-length_creates seed (suc before) = omega (arith, length-append (creates seed before) (create_of seed (suc before) ∷ []), length_creates seed before)
-
-length_edits : (state files count : ℕ) → length (edits state files count) ≡ count
-length_edits state files zero = refl
-length_edits state files (suc before) =
-    omega (arith, length-append (edits state files before) (edit_after state files before ∷ []), length_edits state files before)
+path_lawful : (file : ℕ) → is_path (path_of file) ≡ true
+path_lawful file =
+    let path : List ℕ = path_of file in
+    let text = path_text is_name refl refl refl file in
+    let barred = weaker is_name (λ c. not (is_barred c)) (λ c e. (and_parts (not (is_barred c)) (not (c == 47)) e).0) path text.all in
+    four_true (nat_lt 0 (length path)) (nat_le (length path) max_path) (list_all (λ c. not (is_barred c)) path) (list_all is_part (parts_of path))
+    (lt-ltb 0 (length path) (omega (arith, length-append (codes "G" ++ decimal file) (codes ".java")))) (le-leb (length path) max_path (omega (arith, text.few))) barred
+    (ap (list_all is_part) (one_part path text.all))
+  where
+    four_true : (a b c d : Bool) → a ≡ true → b ≡ true → c ≡ true → d ≡ true → (a && b && c && d) ≡ true
+    four_true a b c d is1 is2 is3 is4 = rw (is1, is2, is3, is4) refl
 
 -- ---- their lines
-
--- what the line of a command with this number does
-abbrev edit_of : ℕ → Command → Edit
-edit_of number command = record { number = number; path = path_of command.file; text = class_of command }
 
 -- what the lines of commands do, the first of which has this number
 edits_at : ℕ → List Command → List Edit
 edits_at number [] = []
-edits_at number (command ∷ commands) = edit_of number command ∷ edits_at (number + 1) commands
+edits_at number (command ∷ commands) = record { number = number; path = path_of command.file; text = class_of command } ∷ edits_at (number + 1) commands
 
 length_at : (number : ℕ) (commands : List Command) → length (edits_at number commands) ≡ length commands
 unfolding edits_at
 length_at number [] = refl
 length_at number (command ∷ commands) = ap suc (length_at (number + 1) commands)
 
-creation_lines : (number most : ℕ) (commands : List Command) → AllByRecursion (IsOneOf Create most) commands
-    → lines_from number commands ≡ map create_line (edits_at number commands)
-unfolding edits_at
-creation_lines number most [] all = refl
-creation_lines number most (command ∷ commands) all = rw (all.0.is, creation_lines (number + 1) most commands all.1) refl
+-- the line of an edit by this verb
+abbrev line_by : Verb → Edit → Line
+line_by v edit = record { number = edit.number; command = script.Change (change_by v edit.path edit.text) }
 
-writing_lines : (number most : ℕ) (commands : List Command) → AllByRecursion (IsOneOf Write most) commands
-    → lines_from number commands ≡ map write_line (edits_at number commands)
+lines_are : (v : Verb) (most number : ℕ) (commands : List Command) → AllByRecursion (IsOneOf v most) commands
+    → lines_from number commands ≡ map (line_by v) (edits_at number commands)
 unfolding edits_at
-writing_lines number most [] all = refl
-writing_lines number most (command ∷ commands) all = rw (all.0.is, writing_lines (number + 1) most commands all.1) refl
+lines_are v most number [] all = refl
+lines_are v most number (command ∷ commands) all = rw (all.0.is, lines_are v most (number + 1) commands all.1) refl
 
--- what is said of the commands holds of what their lines do
-all_at : {P : Command → Type 0} (Q : Edit → Type 0) (number : ℕ) (commands : List Command) → AllByRecursion P commands
-    → ((at : ℕ) (command : Command) → P command → Q (edit_of at command)) → AllByRecursion Q (edits_at number commands)
+-- what is said of the files of commands holds of the paths of what their lines do
+all_at : (P : Command → Type 0) (Q : List ℕ → Type 0) → ((command : Command) → P command → Q (path_of command.file)) → (number : ℕ) (commands : List Command)
+    → AllByRecursion P commands → AllByRecursion (λ (edit : Edit). Q edit.path) (edits_at number commands)
 unfolding edits_at
-all_at Q number [] all each = tt
-all_at Q number (command ∷ commands) all each = (each number command all.0, all_at Q (number + 1) commands all.1 each)
-
--- ---- what the lanes write is made
-
-among_last : (number : ℕ) (commands : List Command) (command : Command) → IsAmong (edits_at number (commands ++ command ∷ [])) (path_of command.file)
-unfolding edits_at
-among_last number [] command = inl refl
-among_last number (other ∷ commands) command = inr (among_last (number + 1) commands command)
-
-among_more : (number : ℕ) (commands : List Command) (command : Command) (path : List ℕ) → IsAmong (edits_at number commands) path
-    → IsAmong (edits_at number (commands ++ command ∷ [])) path
-unfolding edits_at
-among_more number [] command path among = absurd among
-among_more number (other ∷ commands) command path (inl is) = inl is
-among_more number (other ∷ commands) command path (inr later) = inr (among_more (number + 1) commands command path later)
+all_at P Q each number [] all = tt
+all_at P Q each number (command ∷ commands) all = (each command all.0, all_at P Q each (number + 1) commands all.1)
 
 -- the path of each file is made
+among : (number : ℕ) (commands : List Command) (command : Command) (path : List ℕ) → IsAmong (edits_at number commands) path ⊎ (path_of command.file ≡ path)
+    → IsAmong (edits_at number (commands ++ command ∷ [])) path
+unfolding edits_at
+among number [] command path (inl is) = absurd is
+among number [] command path (inr last) = inl last
+among number (other ∷ commands) command path (inl (inl is)) = inl is
+among number (other ∷ commands) command path (inl (inr later)) = inr (among (number + 1) commands command path (inl later))
+among number (other ∷ commands) command path (inr last) = inr (among (number + 1) commands command path (inr last))
+
 created_path : (seed files file : ℕ) → 1 ≤ file → file ≤ files → IsAmong (edits_at 1 (creates seed files)) (path_of file)
 created_path seed zero file from to = absurd (omega (arith, from, to))
-created_path seed (suc before) file from to = bool_cases (file == suc before) (λ b. IsAmong (edits_at 1 (creates seed (suc before))) (path_of file))
-    (λ is. subst (λ (n : ℕ). IsAmong (edits_at 1 (creates seed (suc before))) (path_of n)) (sym (eqb-true file (suc before) is))
-    (among_last 1 (creates seed before) (create_of seed (suc before))))
-    (λ other. among_more 1 (creates seed before) (create_of seed (suc before)) (path_of file)
-    (created_path seed before file from (lower file before to (λ e. absurd (let t : (file == suc before) ≡ true = eq-eqb file (suc before) e in cc)))))
-  where
-    lower : (n m : ℕ) → n ≤ suc m → n ≢ suc m → n ≤ m
-    lower n m most other = omega (arith, other)
-
--- ---- no file is written by both lanes
-
--- a file of the first lane isn't one of the second
-lanes_apart : (command other : Command) (files : ℕ) → files ≤ 10000 → IsOneOf Write files command → IsOneOf Write files other
-    → is_of_first_lane command ≡ true → is_of_second_lane other ≡ true → path_of command.file ≢ path_of other.file
-lanes_apart command other files few one second is not_is same =
-    let equal : command.file ≡ other.file = path_tells command.file other.file (omega (arith, one.to)) (omega (arith, second.to)) same in
-    let both : is_of_first_lane other ≡ true = sym (ap (λ (n : ℕ). n % 2 == 1) equal) ∙ is in
-    let clash : not true ≡ true = sym (ap not both) ∙ not_is in
-    cc
+created_path seed (suc before) file from to = among 1 (creates seed before) (create_of seed (suc before)) (path_of file) (⊎_elim
+    (λ (below : file < suc before). inl (created_path seed before file from (omega (arith, below))))
+    (λ (above : suc before ≤ file). inr (ap path_of (let e : suc before ≡ file = omega (arith, above, to) in e))) (cases_lt file (suc before)))
 
 -- ---- the script
 
-two_lanes : (first as_first second as_second : List Line) → first ≡ as_first → second ≡ as_second → first ∷ second ∷ [] ≡ as_first ∷ as_second ∷ []
-two_lanes first as_first second as_second is is_also = rw (is, is_also) refl
-
 module _ (seed files edited : ℕ) (some : 0 < files) (few : files ≤ 10000) (short : edited ≤ 50000) where
-  -- a write of one of the files
+  -- a write of one of the files, in this lane
   abbrev IsIn : (Command → Bool) → Command → Type 0
-  IsIn test command = IsOneOf Write files command × (test command ≡ true)
+  IsIn lane command = IsOneOf verb.Write files command × (lane command ≡ true)
 
-  in_lane : (test : Command → Bool) → AllByRecursion (IsIn test) (filter test (edits_of seed files edited))
-  in_lane test = all_filtered (IsOneOf Write files) test (edits_of seed files edited) (edits_are (state_after seed files) files edited some)
+  abbrev lane_of : (Command → Bool) → List Command
+  lane_of lane = filter lane (edits_of seed files edited)
 
-  writes_of : (test : Command → Bool) (number : ℕ) (commands : List Command) → AllByRecursion (IsIn test) commands
-      → lines_from number commands ≡ map write_line (edits_at number commands)
-  writes_of test number commands all = writing_lines number files commands (all_first commands all)
-    where
-      all_first : (cs : List Command) → AllByRecursion (IsIn test) cs → AllByRecursion (IsOneOf Write files) cs
-      all_first [] every = tt
-      all_first (c ∷ cs) every = (every.0.0, all_first cs every.1)
+  in_lane : (lane : Command → Bool) → AllByRecursion (IsIn lane) (lane_of lane)
+  in_lane lane = all_filter (IsOneOf verb.Write files) lane (edits_of seed files edited) (edits_are (state_after seed files) files edited some)
 
-  made_in : (test : Command → Bool) (number : ℕ) (commands : List Command) → AllByRecursion (IsIn test) commands
-      → AllByRecursion (λ (edit : Edit). IsAmong (edits_at 1 (creates seed files)) edit.path) (edits_at number commands)
-  made_in test number commands all =
-      all_at (λ (edit : Edit). IsAmong (edits_at 1 (creates seed files)) edit.path) number commands all
-      (λ at command is. created_path seed files command.file is.0.from is.0.to)
+  lane_lines : (lane : Command → Bool) (number : ℕ) → lines_from number (lane_of lane) ≡ map write_line (edits_at number (lane_of lane))
+  lane_lines lane number = lines_are verb.Write files number (lane_of lane)
+      (all_weaker (IsIn lane) (IsOneOf verb.Write files) (λ command is. is.0) (lane_of lane) (in_lane lane))
+
+  made : (lane : Command → Bool) (number : ℕ)
+      → AllByRecursion (λ (edit : Edit). IsAmong (edits_at 1 (creates seed files)) edit.path) (edits_at number (lane_of lane))
+  made lane number = all_at (IsIn lane) (IsAmong (edits_at 1 (creates seed files)))
+      (λ command is. created_path seed files command.file is.0.from is.0.to) number (lane_of lane) (in_lane lane)
+
+  -- a file of the first lane isn't one of the second
+  apart : (command other : Command) → IsIn is_of_first_lane command → IsIn is_of_second_lane other → path_of command.file ≢ path_of other.file
+  apart command other one second same =
+      let equal : command.file ≡ other.file = path_tells command.file other.file (omega (arith, one.0.to, few)) (omega (arith, second.0.to, few)) same in
+      let both : is_of_first_lane other ≡ true = sym (ap (λ (n : ℕ). n % 2 == 1) equal) ∙ one.1 in
+      let clash : not true ≡ true = sym (ap not both) ∙ second.1 in
+      cc
 
   -- the script of a demo is lawful
   pub demo_writes_apart : WritesApart (demo_parts seed files edited)
@@ -188,6 +133,7 @@ module _ (seed files edited : ℕ) (some : 0 < files) (few : files ≤ 10000) (s
       let first_at : ℕ = first_lane_begins seed files + 1 in
       let second_at : ℕ = second_lane_begins seed files edited + 1 in
       let last_at : ℕ = last_begins seed files edited + 1 in
+      let all_created = creates_are seed files files (omega arith) in
       record {
         creations = edits_at 1 (creates seed files);
         first = edits_at first_at first;
@@ -198,26 +144,23 @@ module _ (seed files edited : ℕ) (some : 0 < files) (few : files ≤ 10000) (s
             ∷ record { number = last_at + 2; query = query.Supers (codes "G0") }
             ∷ record { number = last_at + 3; query = query.Supers (codes "G1") }
             ∷ [];
-        prelude = creation_lines 1 files (creates seed files) (creates_are seed files files (omega arith));
-        lanes = two_lanes (lines_from first_at first) (map write_line (edits_at first_at first)) (lines_from second_at second)
-            (map write_line (edits_at second_at second))
-            (writes_of is_of_first_lane first_at first (in_lane is_of_first_lane)) (writes_of is_of_second_lane second_at second (in_lane is_of_second_lane));
+        prelude = lines_are verb.Create files 1 (creates seed files) all_created;
+        lanes = ap (λ l. l ∷ lines_from second_at second ∷ []) (lane_lines is_of_first_lane first_at)
+            ∙ ap (λ l. map write_line (edits_at first_at first) ∷ l ∷ []) (lane_lines is_of_second_lane second_at);
         last = refl;
-        lawful = all_at (λ (edit : Edit). is_path edit.path ≡ true) 1 (creates seed files) (creates_are seed files files (omega arith))
-            (λ at command is. path_lawful command.file (omega (arith, is.to)));
-        first_made = made_in is_of_first_lane first_at first (in_lane is_of_first_lane);
-        second_made = made_in is_of_second_lane second_at second (in_lane is_of_second_lane);
-        apart = all_at (λ (edit : Edit). AllByRecursion (λ (other : Edit). edit.path ≢ other.path) (edits_at second_at second)) first_at first
-            (in_lane is_of_first_lane)
-            (λ at command is. all_at (λ (other : Edit). path_of command.file ≢ other.path) second_at second (in_lane is_of_second_lane)
-            (λ at_other other also. lanes_apart command other files few is.0 also.0 is.1 also.1));
-        few_files = omega (arith, length_at 1 (creates seed files), length_creates seed files);
+        lawful = all_at (IsOneOf verb.Create files) (λ path. is_path path ≡ true) (λ command is. path_lawful command.file) 1 (creates seed files) all_created;
+        first_made = made is_of_first_lane first_at;
+        second_made = made is_of_second_lane second_at;
+        apart = all_at (IsIn is_of_first_lane) (λ path. AllByRecursion (λ (other : Edit). path ≢ other.path) (edits_at second_at second))
+            (λ command is. all_at (IsIn is_of_second_lane) (λ path. path_of command.file ≢ path) (λ other also. apart command other is also) second_at second
+            (in_lane is_of_second_lane)) first_at first (in_lane is_of_first_lane);
+        few_files = omega (arith, length_at 1 (creates seed files), length-creates seed files);
         few_edits = omega (
           arith,
           length_at first_at first,
           length_at second_at second,
           lanes_length (edits_of seed files edited),
-          length_edits (state_after seed files) files edited,
+          length-edits (state_after seed files) files edited,
         );
         of_all = (tt, (tt, (tt, tt)));
       }

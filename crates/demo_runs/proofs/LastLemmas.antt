@@ -1,140 +1,159 @@
--- The last sections of two histories whose files show the same tell the same.
-use Rattle.std.proofs.Common.{ℕ, ◌≡◌, ◌+◌, ◌≤◌, List, [], ◌∷◌, ◌++◌, length, map, codes, refl, ap, sym, ◌∙◌, subst, append-nil, Some, None}
-use Rattle.std.specs.Prelude.{Option, Result}
-use Rattle.std.specs.List.{AllByRecursion, flat_map}
-use Rattle.std.proofs.lemmas.Grind.{flat_map-append}
-use Rattle.write_history.specs.declared.entry.Entry.{Entry}
-use Rattle.write_history.specs.declared.refusal.Refusal.{Refusal}
-use Rattle.write_history.specs.World.{World, next_id}
-use Rattle.write_history.specs.Effect.{max_entries}
-use Rattle.write_history.specs.Fold.{fold, IsLegal}
-use Rattle.ide_calls.specs.Settle.{Settled, settled}
-use Rattle.queries.specs.declared.query.Query.{Query}
+-- What the last section tells is read from what the files show.
+use Rattle.demo_runs.proofs.Words.{ℕ, suc, ◌≡◌, ◌+◌, ◌≤◌, Bool, true, false, cond, List, [], ◌∷◌, ◌++◌, length, map, filter, codes, refl, ap, sym, ◌∙◌}
+use Rattle.demo_runs.proofs.Words.{append_assoc, append-nil, Some, None, Ok, if◌then◌else◌, Option, option_map, is_some, slice_index_or, AllByRecursion}
+use Rattle.demo_runs.proofs.Words.{flat_map, length-map, flat_map-append, get_or-map, is_java, words_of, mask_in, Entry, Refusal, World, File, file_of}
+use Rattle.demo_runs.proofs.Words.{next_id, is_open, is_unready, count_of, lowest_unready, max_entries, fold, IsLegal, Settled, settled, Query, rows_in}
+use Rattle.demo_runs.proofs.Words.{word_in, word_row, of_files, of_world, is_class, has_super, is_method, unless_unready, reply, Answer, Record}
+use Rattle.demo_runs.proofs.Words.{answer_of, done_from, last_from, query_step, settle_answer, head_text, rows_text, summary_text}
 use Rattle.queries.specs.declared.query.Query.TheVariants as query
-use Rattle.query_engine.specs.declared.answer.Row.{Row}
 use Rattle.query_engine.specs.declared.answer.Answer.{Answer as Found}
 use Rattle.query_engine.specs.declared.answer.Answer.TheVariants as found
-use Rattle.query_engine.specs.declared.answer.AskRefusal.{AskRefusal}
-use Rattle.query_engine.specs.Reply.{reply}
-use Rattle.transcripts.specs.declared.record.Answer.{Answer}
-use Rattle.transcripts.specs.declared.record.Record.{Record}
-use Rattle.transcripts.specs.Serial.{Done, after_step, answer_of, done_from, found_answer, last_from, query_step, rows_answer, settle_answer, settle_step}
-use Rattle.transcripts.specs.Transcript.{head_text, rows_text, summary_text}
+use Rattle.transcripts.specs.declared.record.Answer.TheVariants.{Smart, Rows, Words, Status}
 use Rattle.demo_runs.specs.Apart.{Question, IsOfAll, ask_line, settle_line}
-use Rattle.demo_runs.specs.Alike.{IsAlike}
-use Rattle.demo_runs.proofs.LawLemmas.{Laws, SettleLaws}
-use Rattle.demo_runs.proofs.SameLemmas.{AnswersSame, IsReady, answers_same}
-use Rattle.demo_runs.proofs.SettleLemmas.{IsSmart, alike_settled, settles_smart}
+use Rattle.demo_runs.specs.Alike.{bare, bare_at, acts}
+use Rattle.demo_runs.proofs.LawLemmas.{Laws}
+use Rattle.demo_runs.proofs.StepLemmas.{goes_on}
+use Rattle.demo_runs.proofs.SettleLemmas.{settles}
+
+-- ---- what a world shows
+
+-- a world whose files are bare
+abbrev pub shown : World → World
+shown world = record { files = map (option_map bare) world.files; next_stamp = 0; entries = 0 }
+
+pub same_shown : Laws → (world other : World) → next_id world ≡ next_id other → ((id : ℕ) → bare_at world id ≡ bare_at other id) → shown world ≡ shown other
+same_shown laws world other ids files = laws.alike (shown world) (shown other)
+    (ap (λ (n : ℕ). n + 1) (length-map world.files (option_map bare)) ∙ ids ∙ sym (ap (λ (n : ℕ). n + 1) (length-map other.files (option_map bare))))
+    (λ id. file_shown world id ∙ files id ∙ sym (file_shown other id)) refl refl
+  where
+    file_shown : (w : World) (id : ℕ) → file_of (shown w) id ≡ bare_at w id
+    file_shown w id = get_or-map (option_map bare) (None ∷ w.files) id None
+
+-- ---- rows and counts
+
+-- rows that are read from what a file shows
+rows_shown : {X : Type 0} (rows : ℕ → File → List X) → ((id : ℕ) (file : File) → rows id (bare file) ≡ rows id file) → (id : ℕ) (files : List (Option File))
+    → of_files rows id (map (option_map bare) files) ≡ of_files rows id files
+rows_shown rows same id [] = refl
+rows_shown rows same id (None ∷ files) = rows_shown rows same (id + 1) files
+rows_shown rows same id (Some file ∷ files) =
+    ap (λ here. (if is_java file.path then here else []) ++ of_files rows (id + 1) (map (option_map bare) files)) (same id file)
+    ∙ ap (λ later. (if is_java file.path then rows id file else []) ++ later) (rows_shown rows same (id + 1) files)
+
+word_shown : (id : ℕ) (file : File) (mask : Option ℕ) → word_row id (bare file) mask ≡ word_row id file mask
+word_shown id file None = refl
+word_shown id file (Some mask) = refl
+
+counts_shown : (test : Option File → Bool) → ((file : Option File) → test (option_map bare file) ≡ test file) → (files : List (Option File))
+    → length (filter test (map (option_map bare) files)) ≡ length (filter test files)
+counts_shown test same [] = refl
+counts_shown test same (file ∷ files) =
+    ap (λ b. length (cond b (option_map bare file ∷ filter test (map (option_map bare) files)) (filter test (map (option_map bare) files)))) (same file)
+    ∙ one (test file) (option_map bare file) _ (filter test files) (counts_shown test same files)
+  where
+    one : (b : Bool) (x : Option File) (xs ys : List (Option File)) → length xs ≡ length ys → length (cond b (x ∷ xs) xs) ≡ length (cond b (file ∷ ys) ys)
+    one true x xs ys e = ap suc e
+    one false x xs ys e = e
+
+some_shown : (file : Option File) → is_some (option_map bare file) ≡ is_some file
+some_shown None = refl
+some_shown (Some file) = refl
+
+open_shown : (file : Option File) → is_open (option_map bare file) ≡ is_open file
+open_shown None = refl
+open_shown (Some file) = refl
+
+none_passes : (test : Option File → Bool) (files : List (Option File)) → ((place : ℕ) → test (slice_index_or files place None) ≡ false)
+    → length (filter test files) ≡ 0
+none_passes test [] each = refl
+none_passes test (file ∷ files) each =
+    ap (λ b. length (cond b (file ∷ filter test files) (filter test files))) (each 0) ∙ none_passes test files (λ place. each (suc place))
+
+-- ---- one question
 
 -- an answer as a summary tells it
 abbrev answer_text : Answer → List ℕ
 answer_text answer = head_text answer ++ codes "\n" ++ rows_text answer
 
--- ---- one answer
+-- what a question about a workspace without unready files is told
+abbrev told_of : World → Query → List ℕ
+told_of world (query.Class name) = answer_text (Rows 0 (of_world (rows_in (is_class name)) world))
+told_of world (query.Supers name) = answer_text (Rows 0 (of_world (rows_in (has_super name)) world))
+told_of world (query.Method name) = answer_text (Rows 0 (of_world (rows_in (is_method name)) world))
+told_of world (query.Word name) = answer_text (Words 0 (of_world (word_in name) world))
+told_of world (query.Outline path) = []
+told_of world query.Status = answer_text (Status 0 (count_of is_some world) (count_of is_open world) 0)
 
-rows_told : (query : Query) (at second : ℕ) (rows : List Row) → answer_text (rows_answer query at rows) ≡ answer_text (rows_answer query second rows)
-rows_told (query.Outline path) at second rows = refl
-rows_told (query.Class name) at second rows = refl
-rows_told (query.Supers name) at second rows = refl
-rows_told (query.Method name) at second rows = refl
-rows_told (query.Word name) at second rows = refl
-rows_told query.Status at second rows = refl
+module _ (laws : Laws) (world : World) (ready : lowest_unready world ≡ None) (at : ℕ) where
+  listed : {X : Type 0} (answer : List X → Found) (rows : ℕ → File → List X) → ((id : ℕ) (file : File) → rows id (bare file) ≡ rows id file)
+      → unless_unready (lowest_unready world) (answer (of_world rows world)) ≡ Ok (answer (of_world rows (shown world)))
+  listed answer rows same = ap (λ lowest. unless_unready lowest (answer (of_world rows world))) ready
+      ∙ ap (λ found. Ok (answer found)) (sym (rows_shown rows same 1 world.files))
 
--- what a question found is told alike, wherever the history stands
-found_told : (query : Query) (at second : ℕ) (answer : Found) → answer_text (found_answer query at answer) ≡ answer_text (found_answer query second answer)
-found_told query at second (found.Rows rows) = rows_told query at second rows
-found_told query at second (found.Words rows) = refl
-found_told query at second (found.Counts files docs unready) = refl
-
-asked_told : (query : Query) (world other : World) (at second : ℕ) → AnswersSame world other query
-    → answer_text (answer_of query world at (reply world query)) ≡ answer_text (answer_of query other second (reply other query))
-asked_told query world other at second same =
-    ap (λ (result : Result Found AskRefusal). answer_text (answer_of query world at result)) same.here
-    ∙ found_told query at second same.answer
-    ∙ sym (ap (λ (result : Result Found AskRefusal). answer_text (answer_of query other second result)) same.there)
-
--- ---- a section so far
-
--- a settled history
-abbrev IsSettled : List Entry → Type 0
-IsSettled history = IsReady (fold history)
-
--- two sections that have told the same, and whose settled files show the same
-record TellsSame (done also : Done) : Type 0 where
-  told : flat_map summary_text done.records ≡ flat_map summary_text also.records
-  alike : IsAlike (fold done.history) (fold also.history)
-  ready : IsSettled done.history
-  also_ready : IsSettled also.history
-
-two_told : (first second : List Record) (one other : Record) → flat_map summary_text first ≡ flat_map summary_text second
-    → summary_text one ≡ summary_text other
-    → flat_map summary_text (first ++ one ∷ []) ≡ flat_map summary_text (second ++ other ∷ [])
-two_told first second one other before is =
-    flat_map-append summary_text first (one ∷ [])
-    ∙ joined (flat_map summary_text first) (flat_map summary_text second) (summary_text one) (summary_text other) before is
-    ∙ sym (flat_map-append summary_text second (other ∷ []))
-  where
-    joined : (a b c d : List ℕ) → a ≡ b → c ≡ d → a ++ (c ++ []) ≡ b ++ (d ++ [])
-    joined a b c d left right = rw (left, right) refl
-
--- one question more
-asks_same : (done also : Done) (question : Question) → IsOfAll question.query → TellsSame done also
-    → TellsSame (after_step done 0 question.number (query_step done.history question.query))
-    (after_step also 0 question.number (query_step also.history question.query))
-asks_same done also question about same =
-    let answers = answers_same (fold done.history) (fold also.history) same.alike same.ready same.also_ready question.query about in
-    let here : done.history ++ [] ≡ done.history = append-nil done.history in
-    let there : also.history ++ [] ≡ also.history = append-nil also.history in
-    record {
-      told = two_told done.records also.records _ _ same.told
-          (asked_told question.query (fold done.history) (fold also.history) (length done.history) (length also.history) answers);
-      alike = subst (λ (h : List Entry). IsAlike (fold h) (fold (also.history ++ []))) (sym here)
-          (subst (λ (h : List Entry). IsAlike (fold done.history) (fold h)) (sym there) same.alike);
-      ready = subst IsSettled (sym here) same.ready;
-      also_ready = subst IsSettled (sym there) same.also_ready;
-    }
-
--- all questions
-questions_same : (questions : List Question) (done also : Done) → AllByRecursion (λ (question : Question). IsOfAll question.query) questions
-    → TellsSame done also
-    → flat_map summary_text (done_from 0 done (map ask_line questions) []).records
-    ≡ flat_map summary_text (done_from 0 also (map ask_line questions) []).records
-questions_same [] done also about same = same.told
-questions_same (question ∷ questions) done also about same =
-    questions_same questions (after_step done 0 question.number (query_step done.history question.query))
-    (after_step also 0 question.number (query_step also.history question.query)) about.1 (asks_same done also question about.0 same)
+  asked : (asks : Query) → IsOfAll asks → answer_text (answer_of asks world at (reply world asks)) ≡ told_of (shown world) asks
+  asked (query.Class name) about =
+      ap (λ r. answer_text (answer_of (query.Class name) world at r)) (listed found.Rows (rows_in (is_class name)) (λ id file. refl))
+  asked (query.Supers name) about =
+      ap (λ r. answer_text (answer_of (query.Supers name) world at r)) (listed found.Rows (rows_in (has_super name)) (λ id file. refl))
+  asked (query.Method name) about =
+      ap (λ r. answer_text (answer_of (query.Method name) world at r)) (listed found.Rows (rows_in (is_method name)) (λ id file. refl))
+  asked (query.Word name) about = ap (λ r. answer_text (answer_of (query.Word name) world at r))
+      (listed found.Words (word_in name) (λ id file. word_shown id file (mask_in (words_of _) name)))
+  asked (query.Outline path) about = absurd about
+  asked query.Status about =
+      ap (λ files. answer_text (Status at files (count_of is_open world) (count_of is_unready world))) (sym (counts_shown is_some some_shown world.files))
+      ∙ ap (λ open_files. answer_text (Status at (count_of is_some (shown world)) open_files (count_of is_unready world)))
+      (sym (counts_shown is_open open_shown world.files))
+      ∙ ap (λ unready. answer_text (Status at (count_of is_some (shown world)) (count_of is_open (shown world)) unready))
+      (none_passes is_unready world.files (λ place. laws.ready world (suc place) ready))
 
 -- ---- the section
 
-settle_told : (at second : ℕ) (why other : Option Refusal) → why ≡ None → other ≡ None
-    → answer_text (settle_answer at why) ≡ answer_text (settle_answer second other)
-settle_told at second None None is also = refl
-settle_told at second None (Some why) is also = absurd (cc)
-settle_told at second (Some why) other is also = absurd (cc)
+-- a settle that went through
+abbrev pub smart_text : List ℕ
+smart_text = answer_text (Smart 0)
 
--- the record of a settle
-abbrev settle_record : List Entry → ℕ → Record
-settle_record history line = record { seat = 0; line = line; answer = (settle_step history 0 line).answer }
+-- what questions about a world are told
+abbrev pub all_told : World → List Question → List ℕ
+all_told world questions = flat_map (λ (question : Question). told_of world question.query) questions
 
--- From two histories whose files show the same, with room for an intake of each file, a settle and then questions about the workspace are
--- told the same
-pub last_agrees : Laws → SettleLaws → (history other : List Entry) → IsLegal history → IsLegal other → IsAlike (fold history) (fold other)
-    → length history + next_id (fold history) ≤ max_entries → length other + next_id (fold other) ≤ max_entries
-    → (settle : ℕ) (questions : List Question) → AllByRecursion (λ (question : Question). IsOfAll question.query) questions
+questions_told : Laws → (questions : List Question) (history : List Entry) (records : List Record) → lowest_unready (fold history) ≡ None
+    → AllByRecursion (λ (question : Question). IsOfAll question.query) questions
+    → flat_map summary_text (done_from 0 (record { history = history; records = records }) (map ask_line questions) []).records
+    ≡ flat_map summary_text records ++ all_told (shown (fold history)) questions
+questions_told laws [] history records ready about = sym (append-nil (flat_map summary_text records))
+questions_told laws (question ∷ questions) history records ready about =
+    let answer : Answer = (query_step history question.query).answer in
+    let more : List Record = records ++ record { seat = 0; line = question.number; answer = answer } ∷ [] in
+    ap (λ (h : List Entry). flat_map summary_text (done_from 0 (record { history = h; records = more }) (map ask_line questions) []).records)
+    (append-nil history)
+    ∙ questions_told laws questions history more ready about.1
+    ∙ ap (λ l. l ++ all_told (shown (fold history)) questions)
+    (flat_map-append summary_text records (record { seat = 0; line = question.number; answer = answer } ∷ []))
+    ∙ ap (λ l. (flat_map summary_text records ++ (l ++ [])) ++ all_told (shown (fold history)) questions)
+    (asked laws (fold history) ready (length history) question.query about.0)
+    ∙ regroup (flat_map summary_text records) (told_of (shown (fold history)) question.query) (all_told (shown (fold history)) questions)
+  where
+    regroup : (a b c : List ℕ) → (a ++ (b ++ [])) ++ c ≡ a ++ (b ++ c)
+    regroup a b c = ap (λ l. (a ++ l) ++ c) (append-nil b) ∙ append_assoc a b c
+
+-- from a history with room for an intake of each file, a settle and questions about the workspace are told what its files show
+pub last_told : Laws → (history : List Entry) → IsLegal history → length history + next_id (fold history) ≤ max_entries → (settle : ℕ)
+    (questions : List Question) → AllByRecursion (λ (question : Question). IsOfAll question.query) questions
     → flat_map summary_text (last_from history (settle_line settle ∷ map ask_line questions)).records
-    ≡ flat_map summary_text (last_from other (settle_line settle ∷ map ask_line questions)).records
-last_agrees laws settles history other legal also_legal alike short also_short settle questions about =
+    ≡ smart_text ++ all_told (shown (fold history)) questions
+last_told laws history legal room settle questions about =
     let ends : Settled = settled history 0 settle in
-    let also : Settled = settled other 0 settle in
-    let smart : IsSmart history ends = settles_smart laws settles 0 settle history legal short in
-    let smart_also : IsSmart other also = settles_smart laws settles 0 settle other also_legal also_short in
-    let begun : Done = record { history = history; records = [] } in
-    let also_begun : Done = record { history = other; records = [] } in
-    let same : TellsSame (after_step begun 0 settle (settle_step history 0 settle)) (after_step also_begun 0 settle (settle_step other 0 settle)) = record {
-      told = two_told [] [] (settle_record history settle) (settle_record other settle) refl
-          (settle_told (length (history ++ ends.added)) (length (other ++ also.added)) ends.refused also.refused smart.whole smart_also.whole);
-      alike = alike_settled laws history other ends also smart smart_also alike;
-      ready = (λ id. settles.ready (fold (history ++ ends.added)) id smart.ready, smart.ready);
-      also_ready = (λ id. settles.ready (fold (other ++ also.added)) id smart_also.ready, smart_also.ready);
-    } in
-    questions_same questions (after_step begun 0 settle (settle_step history 0 settle)) (after_step also_begun 0 settle (settle_step other 0 settle)) about same
+    let through = settles laws 0 settle history legal room in
+    let goes = goes_on laws ends.added history through.0.edits through.0.legal in
+    let kept : shown (fold (history ++ ends.added)) ≡ shown (fold history)
+    = same_shown laws (fold (history ++ ends.added)) (fold history) goes.ids
+    (λ id. goes.files id ∙ unchanged ends through.0.same (bare_at (fold history) id)) in
+    questions_told laws questions (history ++ ends.added) _ (laws.smart history 0 settle through.1) about
+    ∙ ap (λ (why : Option Refusal). flat_map summary_text (record { seat = 0; line = settle; answer = settle_answer (length (history ++ ends.added)) why } ∷ [])
+    ++ all_told (shown (fold (history ++ ends.added))) questions) through.1
+    ∙ ap (λ (w : World). smart_text ++ all_told w questions) kept
+  where
+    unchanged : (ends : Settled) → ((file : File) → acts ends.added file ≡ file) → (o : Option File) → option_map (acts ends.added) o ≡ o
+    unchanged ends same None = refl
+    unchanged ends same (Some file) = ap Some (same file)

@@ -1,126 +1,64 @@
--- Writes of different files may go in in any order.
-use Rattle.std.proofs.Common.{ℕ, ◌≡◌, ◌≢◌, Bool, true, false, List, [], ◌∷◌, ◌++◌, map, refl, ap, sym, ◌∙◌, subst, arith}
-use Rattle.std.specs.Prelude.{if◌then◌else◌, bytes_eq}
-use Rattle.std.specs.List.{AllByRecursion}
-use Rattle.std.specs.Cmp.Lexicographic.{bytes_decides}
-use Rattle.list_laws.proofs.BoolLemmas.{bool_cases}
-use Rattle.write_history.specs.declared.entry.Entry.{Entry}
-use Rattle.transcripts.specs.Fits.{made_by}
+-- Lanes that write different files: what a file shows behind them is what the one lane that writes it makes of it.
+use Rattle.demo_runs.proofs.Words.{ℕ, ◌≡◌, ◌≢◌, ◌⊎◌, inl, inr, true, cond, List, [], ◌∷◌, ◌++◌, map, refl, ap, sym, ◌∙◌, ◌==◌, bytes_eq, AllByRecursion}
+use Rattle.demo_runs.proofs.Words.{bytes_decides, eq-eqb, bool_cases, Entry, File, made_by}
 use Rattle.demo_runs.specs.Apart.{Edit}
-use Rattle.demo_runs.specs.Alike.{Seen, with_content, written, seen_after_list, seen_after_all}
-use Rattle.demo_runs.proofs.SeenLemmas.{other_paths}
+use Rattle.demo_runs.specs.Alike.{acted, acts, IsEdit}
+use Rattle.demo_runs.proofs.StepLemmas.{acted_there, stays_one}
 use Rattle.demo_runs.proofs.LaneLemmas.{write_entry}
-use Rattle.demo_runs.proofs.CountLemmas.{made_here, made_there}
-use Rattle.demo_runs.proofs.OfferLemmas.{IsBeside, of_first, of_second, of_worker}
 
--- ---- two writes
+-- an entry leaves a file with this path as it is
+abbrev pub Leaves : List ℕ → Entry → Type 0
+Leaves path entry = (file : File) → file.path ≡ path → acted entry.changes file ≡ file
 
-written_here : (path text : List ℕ) (file : Seen) → bytes_eq file.path path ≡ true → written path text file ≡ with_content text file
-written_here path text file e = ap (λ (b : Bool). if b then with_content text file else file) e
+-- entries with other seats leave it
+abbrev pub OthersLeave : ℕ → List ℕ → Entry → Type 0
+OthersLeave seat path entry = entry.seat ≢ seat → Leaves path entry
 
-written_there : (path text : List ℕ) (file : Seen) → bytes_eq file.path path ≡ false → written path text file ≡ file
-written_there path text file e = ap (λ (b : Bool). if b then with_content text file else file) e
-
-written_path : (path text : List ℕ) (file : Seen) → (written path text file).path ≡ file.path
-written_path path text file = bool_cases (bytes_eq file.path path) (λ b. (if b then with_content text file else file).path ≡ file.path) (λ t. refl) (λ f. refl)
-
--- writes of different paths may change places
-written_apart : (path text other given : List ℕ) → path ≢ other → (file : Seen)
-    → written path text (written other given file) ≡ written other given (written path text file)
-written_apart path text other given apart file = bool_cases (bytes_eq file.path path)
-    (λ b. bytes_eq file.path path ≡ b → written path text (written other given file) ≡ written other given (written path text file))
-    (λ t h.
-    let same : file.path ≡ path = (bytes_decides file.path path).0 t in
-    let no_other : bytes_eq file.path other ≡ false = other_paths file.path other (λ e. apart (sym same ∙ e)) in
-    ap (written path text) (written_there other given file no_other) ∙ written_here path text file t
-    ∙ sym (ap (written other given) (written_here path text file t) ∙ written_there other given (with_content text file) no_other))
-    (λ f h.
-    let still : bytes_eq (written other given file).path path ≡ false = ap (λ (l : List ℕ). bytes_eq l path) (written_path other given file) ∙ f in
-    written_there path text (written other given file) still ∙ sym (ap (written other given) (written_there path text file f)))
+-- then it shows what those with this seat make of it
+pub by_one : (seat : ℕ) (path : List ℕ) (entries : List Entry) → AllByRecursion IsEdit entries → AllByRecursion (OthersLeave seat path) entries
+    → (file : File) → file.path ≡ path → acts entries file ≡ acts (made_by seat entries) file
+by_one seat path [] edits others file same = refl
+by_one seat path (entry ∷ entries) edits others file same = bool_cases (entry.seat == seat)
+    (λ b. (entry.seat == seat) ≡ b → acts (entry ∷ entries) file ≡ acts (cond b (entry ∷ made_by seat entries) (made_by seat entries)) file)
+    (λ t e. by_one seat path entries edits.1 others.1 (acted entry.changes file) ((stays_one entry edits.0 file).0 ∙ same))
+    (λ f e. ap (acts entries) (others.0 (λ k. let t : (entry.seat == seat) ≡ true = eq-eqb entry.seat seat k in absurd (cc)) file same)
+    ∙ by_one seat path entries edits.1 others.1 file same)
     refl
 
--- ---- entries
+-- the edits write other paths
+abbrev pub WriteOthers : List ℕ → List Edit → Type 0
+WriteOthers path edits = AllByRecursion (λ (edit : Edit). edit.path ≢ path) edits
 
--- two entries may change places
-abbrev pub Commute : Entry → Entry → Type 0
-Commute entry other = (file : Seen)
-    → seen_after_list entry.changes (seen_after_list other.changes file) ≡ seen_after_list other.changes (seen_after_list entry.changes file)
+-- so their entries leave it, all together
+pub lane_leaves : (seat : ℕ) (path : List ℕ) (edits : List Edit) → WriteOthers path edits → AllByRecursion (Leaves path) (map (write_entry seat) edits)
+lane_leaves seat path [] apart = tt
+lane_leaves seat path (edit ∷ edits) apart =
+    (λ file same. acted_there edit.path edit.text file (λ e. apart.0 (sym e ∙ same)), lane_leaves seat path edits apart.1)
 
--- so may each of some with each of others
-abbrev pub AllCommute : List Entry → List Entry → Type 0
-AllCommute entries others = AllByRecursion (λ (e : Entry). AllByRecursion (λ (other : Entry). Commute e other) others) entries
+pub all_leave : (path : List ℕ) (entries : List Entry) → AllByRecursion (Leaves path) entries → (file : File) → file.path ≡ path → acts entries file ≡ file
+all_leave path [] leave file same = refl
+all_leave path (entry ∷ entries) leave file same = ap (acts entries) (leave.0 file same) ∙ all_leave path entries leave.1 file same
 
--- an entry that changes places with all of some may stand behind them
-behind_all : (entries : List Entry) (other : Entry) → AllByRecursion (λ (e : Entry). Commute e other) entries → (file : Seen)
-    → seen_after_all entries (seen_after_list other.changes file) ≡ seen_after_list other.changes (seen_after_all entries file)
-behind_all [] other commute file = refl
-behind_all (entry ∷ entries) other commute file =
-    ap (seen_after_all entries) (commute.0 file) ∙ behind_all entries other commute.1 (seen_after_list entry.changes file)
-
-first_commutes : (entries : List Entry) (other : Entry) (others : List Entry) → AllCommute entries (other ∷ others)
-    → AllByRecursion (λ (e : Entry). Commute e other) entries
-first_commutes [] other others all = tt
-first_commutes (entry ∷ entries) other others all = (all.0.0, first_commutes entries other others all.1)
-
-later_commute : (entries : List Entry) (other : Entry) (others : List Entry) → AllCommute entries (other ∷ others) → AllCommute entries others
-later_commute [] other others all = tt
-later_commute (entry ∷ entries) other others all = (all.0.1, later_commute entries other others all.1)
-
--- what stands behind others may come before: entries of two lanes, and intakes, do what those of the first lane and then those of the second do
-pub by_lanes : (entries : List Entry) → AllByRecursion IsBeside entries → AllCommute (made_by 1 entries) (made_by 2 entries) → (file : Seen)
-    → seen_after_all entries file ≡ seen_after_all (made_by 2 entries) (seen_after_all (made_by 1 entries) file)
-by_lanes [] are commute file = refl
-by_lanes (entry ∷ entries) are commute file = by_first entry entries (λ less. by_lanes entries are.1 less) are.0 commute file
+-- one of two lanes doesn't write a path
+pub one_apart : (first second : List Edit) (path : List ℕ)
+    → AllByRecursion (λ (edit : Edit). AllByRecursion (λ (other : Edit). edit.path ≢ other.path) second) first
+    → WriteOthers path first ⊎ WriteOthers path second
+one_apart [] second path apart = inl tt
+one_apart (edit ∷ first) second path apart = bool_cases (bytes_eq edit.path path)
+    (λ b. bytes_eq edit.path path ≡ b → WriteOthers path (edit ∷ first) ⊎ WriteOthers path second)
+    (λ t e. inr (others second apart.0 ((bytes_decides edit.path path).0 t)))
+    (λ f e. with_first (λ same. let t : bytes_eq edit.path path ≡ true = (bytes_decides edit.path path).1 same in absurd (cc)) (one_apart first second path apart.1))
+    refl
   where
-    by_first : (entry : Entry) (entries : List Entry)
-        → (AllCommute (made_by 1 entries) (made_by 2 entries) → (file : Seen)
-        → seen_after_all entries file ≡ seen_after_all (made_by 2 entries) (seen_after_all (made_by 1 entries) file))
-        → IsBeside entry → AllCommute (made_by 1 (entry ∷ entries)) (made_by 2 (entry ∷ entries)) → (file : Seen)
-        → seen_after_all (entry ∷ entries) file ≡ seen_after_all (made_by 2 (entry ∷ entries)) (seen_after_all (made_by 1 (entry ∷ entries)) file)
-    by_first entry entries rest (of_first by) commute file =
-        let seat : entry.seat ≡ 1 = ap (λ (e : Entry). e.seat) by.is in
-        let ones = made_here 1 entry entries seat in
-        let twos = made_there 2 entry entries (λ k. absurd (omega (arith, seat, k))) in
-        let less : AllCommute (entry ∷ made_by 1 entries) (made_by 2 entries)
-        = subst (λ (l : List Entry). AllCommute (entry ∷ made_by 1 entries) l) twos
-        (subst (λ (l : List Entry). AllCommute l (made_by 2 (entry ∷ entries))) ones commute) in
-        rest less.1 (seen_after_list entry.changes file)
-        ∙ sym (ap (λ (l : List Entry). seen_after_all l (seen_after_all (made_by 1 (entry ∷ entries)) file)) twos
-        ∙ ap (λ (l : List Entry). seen_after_all (made_by 2 entries) (seen_after_all l file)) ones)
-    by_first entry entries rest (of_second by) commute file =
-        let seat : entry.seat ≡ 2 = ap (λ (e : Entry). e.seat) by.is in
-        let ones = made_there 1 entry entries (λ k. absurd (omega (arith, seat, k))) in
-        let twos = made_here 2 entry entries seat in
-        let less : AllCommute (made_by 1 entries) (entry ∷ made_by 2 entries)
-        = subst (λ (l : List Entry). AllCommute (made_by 1 entries) l) twos (subst (λ (l : List Entry). AllCommute l (made_by 2 (entry ∷ entries))) ones commute) in
-        rest (later_commute (made_by 1 entries) entry (made_by 2 entries) less) (seen_after_list entry.changes file)
-        ∙ ap (seen_after_all (made_by 2 entries)) (behind_all (made_by 1 entries) entry (first_commutes (made_by 1 entries) entry (made_by 2 entries) less) file)
-        ∙ sym (ap (λ (l : List Entry). seen_after_all l (seen_after_all (made_by 1 (entry ∷ entries)) file)) twos
-        ∙ ap (λ (l : List Entry). seen_after_all (entry ∷ made_by 2 entries) (seen_after_all l file)) ones)
-    by_first entry entries rest (of_worker seat late by) commute file =
-        let seat_is : entry.seat ≡ seat = ap (λ (e : Entry). e.seat) by.is in
-        let ones = made_there 1 entry entries (λ k. absurd (omega (arith, seat_is, k, late))) in
-        let twos = made_there 2 entry entries (λ k. absurd (omega (arith, seat_is, k, late))) in
-        let less : AllCommute (made_by 1 entries) (made_by 2 entries)
-        = subst (λ (l : List Entry). AllCommute (made_by 1 entries) l) twos (subst (λ (l : List Entry). AllCommute l (made_by 2 (entry ∷ entries))) ones commute) in
-        let nothing : seen_after_list entry.changes file ≡ file = ap (λ (e : Entry). seen_after_list e.changes file) by.is in
-        ap (seen_after_all entries) nothing
-        ∙ rest less file
-        ∙ sym (ap (λ (l : List Entry). seen_after_all l (seen_after_all (made_by 1 (entry ∷ entries)) file)) twos
-        ∙ ap (λ (l : List Entry). seen_after_all (made_by 2 entries) (seen_after_all l file)) ones)
+    others : (edits : List Edit) → AllByRecursion (λ (other : Edit). edit.path ≢ other.path) edits → edit.path ≡ path → WriteOthers path edits
+    others [] all same = tt
+    others (other ∷ edits) all same = ((λ e. all.0 (same ∙ sym e)), others edits all.1 same)
 
--- the entries of lanes that write different paths may change places
-pub lanes_commute : (first second : List Edit) → AllByRecursion (λ (edit : Edit). AllByRecursion (λ (other : Edit). edit.path ≢ other.path) second) first
-    → AllCommute (map (write_entry 1) first) (map (write_entry 2) second)
-lanes_commute [] second apart = tt
-lanes_commute (edit ∷ first) second apart = (one second apart.0, lanes_commute first second apart.1)
-  where
-    one : (others : List Edit) → AllByRecursion (λ (other : Edit). edit.path ≢ other.path) others
-        → AllByRecursion (λ (other : Entry). Commute (write_entry 1 edit) other) (map (write_entry 2) others)
-    one [] apart = tt
-    one (other ∷ others) apart = (written_apart edit.path edit.text other.path other.text apart.0, one others apart.1)
+    with_first : edit.path ≢ path → WriteOthers path first ⊎ WriteOthers path second → WriteOthers path (edit ∷ first) ⊎ WriteOthers path second
+    with_first apart (inl all) = inl (apart, all)
+    with_first apart (inr all) = inr all
 
 -- one list of entries after another
-pub seen_after_both : (entries others : List Entry) (file : Seen) → seen_after_all (entries ++ others) file ≡ seen_after_all others (seen_after_all entries file)
-seen_after_both [] others file = refl
-seen_after_both (entry ∷ entries) others file = seen_after_both entries others (seen_after_list entry.changes file)
+pub acts_both : (entries others : List Entry) (file : File) → acts (entries ++ others) file ≡ acts others (acts entries file)
+acts_both [] others file = refl
+acts_both (entry ∷ entries) others file = acts_both entries others (acted entry.changes file)

@@ -1,113 +1,131 @@
--- What the prelude leaves: its paths are live, and no file is open.
-use Rattle.std.proofs.Common.{ℕ, suc, ◌≡◌, ◌⊎◌, inl, inr, ◌+◌, ◌<◌, ◌≤◌, true, false, List, [], ◌∷◌, ◌++◌, length, map, refl, ap, sym, ◌∙◌, subst, arith, append-nil, length-append, None}
-use Rattle.std.specs.Prelude.{Option, is_some}
-use Rattle.std.specs.List.{AllByRecursion}
-use Rattle.list_laws.proofs.BoolLemmas.{bool_cases}
-use Rattle.write_history.specs.declared.change.Change.TheVariants.{Create}
-use Rattle.write_history.specs.declared.entry.Entry.{Entry}
-use Rattle.write_history.specs.Path.{is_path}
-use Rattle.write_history.specs.World.{next_id, id_at}
-use Rattle.write_history.specs.Fold.{ListRefusal, fold, IsLegal}
-use Rattle.ide_calls.specs.Settle.{entry_of}
-use Rattle.transcripts.specs.declared.record.Record.{Record}
-use Rattle.transcripts.specs.Serial.{Step, step_unless, change_step, done_from}
+-- What the prelude leaves: its paths are live.
+use Rattle.demo_runs.proofs.Words.{ℕ, zero, suc, ◌≡◌, ◌⊎◌, inl, inr, ⊎_elim, ◌+◌, ◌<◌, ◌≤◌, true, false, not, List, [], ◌∷◌, ◌++◌, length, map, refl, ap}
+use Rattle.demo_runs.proofs.Words.{sym, ◌∙◌, subst, arith, append-nil, length-append, Some, None, Option, option_map, is_some, AllByRecursion, lt-leb}
+use Rattle.demo_runs.proofs.Words.{bool_cases, Create, Entry, is_path, World, File, file_of, next_id, id_at, refusal_of, new_file, max_files, effect_of}
+use Rattle.demo_runs.proofs.Words.{list_refusal, ListRefusal, refusal_or, counted, fold, IsLegal, entry_of, Record, Step, step_unless, change_step}
+use Rattle.demo_runs.proofs.Words.{done_from}
 use Rattle.demo_runs.specs.Apart.{Edit, create_line, IsAmong}
-use Rattle.demo_runs.specs.Alike.{IsClosed, IsLive}
+use Rattle.demo_runs.specs.Alike.{bare, bare_at, IsLive}
 use Rattle.demo_runs.proofs.LawLemmas.{Laws}
-use Rattle.demo_runs.proofs.SeenLemmas.{world_after}
-use Rattle.demo_runs.proofs.AcceptLemmas.{create_taken, create_free, create_accepted, taken_live, IsCreated, created}
+use Rattle.demo_runs.proofs.StepLemmas.{of_bare, placed, accepted_last}
+use Rattle.demo_runs.proofs.LaneLemmas.{passes, not_full}
 
 -- a legal history with so many entries and files at most, none of them open
 pub record HasBegun (history : List Entry) (count : ℕ) : Type 0 where
   pub legal : IsLegal history
-  pub closed : IsClosed (fold history)
+  pub closed : (id : ℕ) (file : File) → bare_at (fold history) id ≡ Some file → file.document ≡ None
   pub few : length history ≤ count
   pub ids : next_id (fold history) ≤ count + 1
 
--- what creations leave
-pub record HasMadeAll (edits : List Edit) (before after : List Entry) (count : ℕ) : Type 0 where
+-- what creations of these paths leave of what has begun
+pub record HasMade (IsMade : List ℕ → Type 0) (before after : List Entry) (count : ℕ) : Type 0 where
   pub begun : HasBegun after count
-  pub stays : (path : List ℕ) → IsLive (fold before) path → IsLive (fold after) path
-  pub among : (path : List ℕ) → IsAmong edits path → IsLive (fold after) path
+  pub live : (path : List ℕ) → IsLive (fold before) path ⊎ IsMade path → IsLive (fold after) path
 
--- what one leaves
-record HasMadeOne (edit : Edit) (before after : List Entry) (count : ℕ) : Type 0 where
-  begun : HasBegun after count
-  stays : (path : List ℕ) → IsLive (fold before) path → IsLive (fold after) path
-  live : IsLive (fold after) edit.path
+more : (history : List Entry) (count other : ℕ) → count ≤ other → HasBegun history count → HasBegun history other
+more history count other le begun =
+    record { legal = begun.legal; closed = begun.closed; few = omega (arith, le, begun.few); ids = omega (arith, le, begun.ids) }
 
--- the entry of a creation
-abbrev create_entry : Edit → Entry
-create_entry edit = entry_of 0 edit.number (Create edit.path edit.text ∷ [])
+-- nothing has been made yet
+pub begun_empty : HasBegun [] 0
+begun_empty = record { legal = tt; closed = nobody; few = omega arith; ids = omega arith }
+  where
+    nobody : (id : ℕ) (file : File) → bare_at (fold []) id ≡ Some file → file.document ≡ None
+    nobody zero file is = absurd (cc)
+    nobody (suc id) file is = absurd (cc)
 
 module _ (laws : Laws) (edit : Edit) (history : List Entry) (count : ℕ) (begun : HasBegun history count) (few : count < 10000)
     (lawful : is_path edit.path ≡ true) where
-  taken_one : is_some (id_at (fold history) edit.path) ≡ true → HasMadeOne edit history history (suc count)
-  taken_one taken = record {
-    begun = record { legal = begun.legal; closed = begun.closed; few = omega (arith, begun.few); ids = omega (arith, begun.ids) };
-    stays = λ path live. live;
-    live = taken_live laws history begun.legal edit.path taken;
-  }
+  abbrev world : World
+  world = fold history
 
-  made_one : is_some (id_at (fold history) edit.path) ≡ false → HasMadeOne edit history (history ++ create_entry edit ∷ []) (suc count)
-  made_one free =
-      let ids : next_id (fold history) ≤ 65536 = omega (arith, begun.ids) in
-      let short : length history < 1048576 = omega (arith, begun.few) in
-      let accepted = create_free laws history begun.legal edit.path edit.text lawful free ids short in
-      let listed = create_accepted laws history begun.legal edit.path edit.text lawful free ids short in
-      let after : IsCreated laws history begun.legal edit.path (fold (history ++ create_entry edit ∷ []))
-      = subst (IsCreated laws history begun.legal edit.path) (sym (world_after laws history (create_entry edit) (Create edit.path edit.text) refl))
-      (created laws history begun.legal edit.path edit.text accepted) in
+  abbrev entry : Entry
+  entry = entry_of 0 edit.number (Create edit.path edit.text ∷ [])
+
+  abbrev IsHere : List ℕ → Type 0
+  IsHere path = edit.path ≡ path
+
+  -- at a taken path
+  taken_one : (o : Option ℕ) → id_at world edit.path ≡ o → is_some o ≡ true → HasMade IsHere history (history ++ []) (suc count)
+  taken_one None is taken = absurd (cc)
+  taken_one (Some id) is taken = subst (λ (h : List Entry). HasMade IsHere history h (suc count)) (sym (append-nil history))
+      (record { begun = more history count (suc count) (omega arith) begun; live = alive })
+    where
+      alive : (path : List ℕ) → IsLive world path ⊎ IsHere path → IsLive world path
+      alive path (inl live) = live
+      alive path (inr same) =
+          let file = laws.at_path world edit.path id is in
+          let shown : bare_at world id ≡ Some (bare file.0) = ap (option_map bare) file.1 in
+          record { id = id; file = bare file.0; is = shown; same = file.2 ∙ same; closed = begun.closed id (bare file.0) shown }
+
+  -- at a free one
+  free_accepted : is_some (id_at world edit.path) ≡ false → list_refusal world (Create edit.path edit.text ∷ []) ≡ None
+  free_accepted free =
+      let none : refusal_of world (Create edit.path edit.text) ≡ None
+      = passes _ _ _ (ap not lawful) (passes _ _ _ free (passes _ _ _ (lt-leb max_files (length world.files) (omega (arith, begun.ids)))
+      (passes _ _ _ (not_full laws history (omega (arith, begun.few))) refl))) in
+      ap (λ r. refusal_or r None) none
+
+  made_one : list_refusal world (Create edit.path edit.text ∷ []) ≡ None → HasMade IsHere history (history ++ entry ∷ []) (suc count)
+  made_one accepted =
+      let now : IsLegal (history ++ entry ∷ []) = laws.legal_on history entry begun.legal accepted in
+      let is = accepted_last laws history entry (Create edit.path edit.text) refl now in
       record {
         begun = record {
-          legal = laws.legal_on history (create_entry edit) begun.legal listed;
-          closed = after.closed begun.closed;
-          few = omega (arith, length-append history (create_entry edit ∷ []), begun.few);
-          ids = omega (arith, after.ids, begun.ids);
+          legal = now;
+          closed = subst (λ (w : World). (id : ℕ) (file : File) → bare_at w id ≡ Some file → file.document ≡ None) (sym is.world)
+              (λ id file. placed laws world (Create edit.path edit.text) is.accepted id (λ o. option_map bare o ≡ Some file → file.document ≡ None)
+              (λ same e. let fresh : bare (new_file edit.path edit.text 0) ≡ file = cc in sym (ap (λ (f : File). f.document) fresh))
+              (λ other e. begun.closed id file e));
+          few = omega (arith, length-append history (entry ∷ []), begun.few);
+          ids = omega (arith, ap next_id is.world, laws.made world (Create edit.path edit.text) is.accepted, begun.ids);
         };
-        stays = after.stays;
-        live = after.live;
+        live = subst (λ (w : World). (path : List ℕ) → IsLive world path ⊎ IsHere path → IsLive w path) (sym is.world) (alive is.accepted);
       }
+    where
+      alive : refusal_of world (Create edit.path edit.text) ≡ None → (path : List ℕ) → IsLive world path ⊎ IsHere path
+          → IsLive (counted (effect_of world (Create edit.path edit.text))) path
+      alive accepted path (inr same) = record {
+        id = next_id world;
+        file = bare (new_file edit.path edit.text 0);
+        is = placed laws world (Create edit.path edit.text) accepted (next_id world) (λ o. option_map bare o ≡ Some (bare (new_file edit.path edit.text 0)))
+            (λ here. refl) (λ other. absurd (other refl));
+        same = same;
+        closed = refl;
+      }
+      alive accepted path (inl old) =
+          let file = of_bare (file_of world old.id) old.file old.is in
+          let is = placed laws world (Create edit.path edit.text) accepted old.id (λ o. option_map bare o ≡ Some old.file)
+          (λ here. absurd (omega (arith, here, (laws.live world old.id file.0 file.1).1))) (λ other. old.is) in
+          record { id = old.id; file = old.file; is = is; same = old.same; closed = old.closed }
 
-  one : HasMadeOne edit history (history ++ (change_step history 0 edit.number (Create edit.path edit.text)).added) (suc count)
-  one = bool_cases (is_some (id_at (fold history) edit.path))
-      (λ b. HasMadeOne edit history (history ++ (change_step history 0 edit.number (Create edit.path edit.text)).added) (suc count))
-      (λ taken.
-      let added : (change_step history 0 edit.number (Create edit.path edit.text)).added ≡ []
-      = ap (λ (r : Option ListRefusal). (step_unless r (λ place. None) history (create_entry edit)).added)
-      (create_taken laws history begun.legal edit.path edit.text lawful taken) in
-      subst (λ (after : List Entry). HasMadeOne edit history after (suc count)) (sym (ap (λ (l : List Entry). history ++ l) added ∙ append-nil history))
-      (taken_one taken))
-      (λ free.
-      let ids : next_id (fold history) ≤ 65536 = omega (arith, begun.ids) in
-      let short : length history < 1048576 = omega (arith, begun.few) in
-      let added : (change_step history 0 edit.number (Create edit.path edit.text)).added ≡ create_entry edit ∷ []
-      = ap (λ (r : Option ListRefusal). (step_unless r (λ place. None) history (create_entry edit)).added)
-      (create_accepted laws history begun.legal edit.path edit.text lawful free ids short) in
-      subst (λ (after : List Entry). HasMadeOne edit history after (suc count)) (sym (ap (λ (l : List Entry). history ++ l) added)) (made_one free))
+  one : HasMade IsHere history (history ++ (change_step history 0 edit.number (Create edit.path edit.text)).added) (suc count)
+  one = by_refusal (list_refusal world (Create edit.path edit.text ∷ [])) refl
+    where
+      by_refusal : (refusal : Option ListRefusal) → list_refusal world (Create edit.path edit.text ∷ []) ≡ refusal
+          → HasMade IsHere history (history ++ (step_unless refusal (λ place. None) history entry).added) (suc count)
+      by_refusal None is = made_one is
+      by_refusal (Some refusal) is = taken_one (id_at world edit.path) refl (bool_cases (is_some (id_at world edit.path)) (λ b. b ≡ true) (λ taken. refl)
+          (λ free. absurd (let e : Some refusal ≡ None = sym is ∙ free_accepted free in cc)))
 
 -- what the lines of creations leave, one after another
 pub prelude_makes : Laws → (edits : List Edit) (history : List Entry) (records : List Record) (count : ℕ) → HasBegun history count
     → count + length edits ≤ 10000 → AllByRecursion (λ (edit : Edit). is_path edit.path ≡ true) edits
-    → HasMadeAll edits history (done_from 0 (record { history = history; records = records }) (map create_line edits) []).history (count + length edits)
-prelude_makes laws [] history records count begun few lawful = record {
-  begun = record { legal = begun.legal; closed = begun.closed; few = omega (arith, begun.few); ids = omega (arith, begun.ids) };
-  stays = λ path live. live;
-  among = λ path among. absurd among;
-}
+    → HasMade (IsAmong edits) history (done_from 0 (record { history = history; records = records }) (map create_line edits) []).history
+    (count + length edits)
+prelude_makes laws [] history records count begun few lawful =
+    record { begun = more history count (count + 0) (omega arith) begun; live = λ path. ⊎_elim (λ live. live) (λ among. absurd among) }
 prelude_makes laws (edit ∷ edits) history records count begun few lawful =
-    let first = one laws edit history count begun (omega (arith, few)) lawful.0 in
     let step : Step = change_step history 0 edit.number (Create edit.path edit.text) in
-    let between : List Entry = history ++ step.added in
-    let told : List Record = records ++ record { seat = 0; line = edit.number; answer = step.answer } ∷ [] in
-    let rest = prelude_makes laws edits between told (suc count) first.begun (omega (arith, few)) lawful.1 in
+    let first = one laws edit history count begun (omega (arith, few)) lawful.0 in
+    let rest = prelude_makes laws edits (history ++ step.added) (records ++ record { seat = 0; line = edit.number; answer = step.answer } ∷ [])
+    (suc count) first.begun (omega (arith, few)) lawful.1 in
     record {
-      begun = record { legal = rest.begun.legal; closed = rest.begun.closed; few = omega (arith, rest.begun.few); ids = omega (arith, rest.begun.ids) };
-      stays = λ path live. rest.stays path (first.stays path live);
-      among = λ path among. found path among first.live first.stays rest;
+      begun = more _ (suc count + length edits) (count + suc (length edits)) (omega arith) rest.begun;
+      live = λ path. joined (first.live path) (rest.live path);
     }
   where
-    found : (path : List ℕ) {between after : List Entry} {n : ℕ} → (edit.path ≡ path) ⊎ IsAmong edits path → IsLive (fold between) edit.path
-        → ((other : List ℕ) → IsLive (fold history) other → IsLive (fold between) other) → HasMadeAll edits between after n → IsLive (fold after) path
-    found path {between} {after} {n} (inl same) live stays rest = rest.stays path (subst (IsLive (fold between)) same live)
-    found path {between} {after} {n} (inr later) live stays rest = rest.among path later
+    joined : {Old New Later Between After : Type 0} → (Old ⊎ New → Between) → (Between ⊎ Later → After) → Old ⊎ (New ⊎ Later) → After
+    joined first rest (inl old) = rest (inl (first (inl old)))
+    joined first rest (inr (inl new)) = rest (inl (first (inr new)))
+    joined first rest (inr (inr later)) = rest (inr later)

@@ -8,11 +8,10 @@ ghost use Rattle.transcripts.specs.Transcript.{summary_of};
 ghost use Rattle.demo_runs.specs.Apart.{WritesApart};
 ghost use Rattle.demo_runs.specs.Parts.{demo_parts};
 
-use ide_calls::laws::{a_settle_goes_by_the_lowest, intakes_are_refused_where_full};
-use transcripts::laws::a_section_alone_is_serial;
+use transcripts::laws::{a_section_alone_is_serial, a_settle_readies_all};
 use write_history::laws::{
     histories_go_on, ids_are_places, live_files_have_paths_of_their_own, puts_change_one_file,
-    unready_files_have_an_order,
+    unready_files_have_an_order, worlds_are_what_they_hold,
 };
 
 /// Every run of a script whose two lanes write different files, with at most eight workers, has the summary of the run on
@@ -26,8 +25,8 @@ pub fn runs_with_lanes_apart_agree()
     ids_are_places();
     live_files_have_paths_of_their_own();
     unready_files_have_an_order();
-    a_settle_goes_by_the_lowest();
-    intakes_are_refused_where_full();
+    worlds_are_what_they_hold();
+    a_settle_readies_all();
     a_section_alone_is_serial();
 }
 

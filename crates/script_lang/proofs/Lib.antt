@@ -22,3 +22,5 @@ pub mod GrammarOpen
 pub mod RiseLemmas
 pub mod HeldLemmas
 pub mod GrammarAnswers
+pub mod PrintLemmas
+pub mod OnceLemmas

@@ -1,4 +1,4 @@
-use Rattle.demo_runs.proofs.LawLemmas.{Laws, SettleLaws}
+use Rattle.demo_runs.proofs.LawLemmas.{Laws}
 use Rattle.demo_runs.proofs.AgreeLemmas.{writes_apart_agree}
 use Rattle.demo_runs.proofs.agree.runs_with_lanes_apart_agree.Goals as goal
 
@@ -7,7 +7,6 @@ returns c =
     let histories = c.histories_go_on.ensures in
     let puts = c.puts_change_one_file.ensures in
     let paths = c.live_files_have_paths_of_their_own.ensures in
-    let lowest = c.a_settle_goes_by_the_lowest.ensures in
     let laws : Laws = record {
       fold_on = histories.fold;
       legal_on = histories.legal;
@@ -22,12 +21,10 @@ returns c =
       apart = paths.apart;
       id_is = paths.id;
       at_path = paths.file;
-    } in
-    let settles : SettleLaws = record {
-      over = lowest.over;
-      goes_on = lowest.goes_on;
-      fewer = lowest.fewer;
-      full = c.intakes_are_refused_where_full.ensures.full;
       ready = c.unready_files_have_an_order.ensures.none;
+      alike = c.worlds_are_what_they_hold.ensures;
+      smart = c.a_settle_readies_all.ensures.smart;
+      full = c.a_settle_readies_all.ensures.full;
+      alone = c.a_section_alone_is_serial.ensures;
     } in
-    λ script told ended apart few fits. writes_apart_agree laws settles c.a_section_alone_is_serial.ensures script apart told few ended fits
+    λ script told ended apart few fits. writes_apart_agree laws script apart told few ended fits

@@ -1,7 +1,7 @@
 use Rattle.demo.specs.Script.{demo_bytes}
 use Rattle.demo_runs.specs.Parts.{demo_parts}
-use Rattle.demo_runs.proofs.DemoScript.{demo_is_script}
-use Rattle.demo_runs.proofs.RefusedLemmas.{one_script}
+use Rattle.demo_runs.proofs.LineLemmas.{demo_is_script}
+use Rattle.script_lang.proofs.OnceLemmas.{one_script}
 use Rattle.demo_runs.proofs.laws.a_demo_is_lawful.Goals as goal
 
 pub returns : goal.returns

@@ -1,7 +1,7 @@
 use Rattle.demo.specs.Script.{demo_bytes}
 use Rattle.demo_runs.specs.Parts.{demo_parts}
-use Rattle.demo_runs.proofs.DemoScript.{demo_is_script}
-use Rattle.demo_runs.proofs.RefusedLemmas.{never_refused}
+use Rattle.demo_runs.proofs.LineLemmas.{demo_is_script}
+use Rattle.script_lang.proofs.OnceLemmas.{never_refused}
 use Rattle.demo_runs.proofs.laws.no_demo_is_refused.Goals as goal
 
 pub returns : goal.returns

@@ -1,4 +1,4 @@
-use Rattle.demo_runs.proofs.RefusedLemmas.{one_script}
+use Rattle.script_lang.proofs.OnceLemmas.{one_script}
 use Rattle.demo_runs.proofs.laws.scripts_are_read_in_one_way.Goals as goal
 
 pub returns : goal.returns
