@@ -44,8 +44,8 @@ path_lawful file =
     let text = path_text is_name refl refl refl file in
     let barred = weaker is_name (λ c. not (is_barred c)) (λ c e. (and_parts (not (is_barred c)) (not (c == 47)) e).0) path text.all in
     four_true (nat_lt 0 (length path)) (nat_le (length path) max_path) (list_all (λ c. not (is_barred c)) path) (list_all is_part (parts_of path))
-    (lt-ltb 0 (length path) (omega (arith, length-append (codes "G" ++ decimal file) (codes ".java")))) (le-leb (length path) max_path (omega (arith, text.few))) barred
-    (ap (list_all is_part) (one_part path text.all))
+    (lt-ltb 0 (length path) (omega (arith, length-append (codes "G" ++ decimal file) (codes ".java"))))
+    (le-leb (length path) max_path (omega (arith, text.few))) barred (ap (list_all is_part) (one_part path text.all))
   where
     four_true : (a b c d : Bool) → a ≡ true → b ≡ true → c ≡ true → d ≡ true → (a && b && c && d) ≡ true
     four_true a b c d is1 is2 is3 is4 = rw (is1, is2, is3, is4) refl

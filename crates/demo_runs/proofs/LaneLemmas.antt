@@ -25,12 +25,11 @@ pub write_accepted : Laws → (history : List Entry) → IsLegal history → (pa
     → list_refusal (fold history) (Write path text ∷ []) ≡ None
 write_accepted laws history legal path text live short =
     let world : World = fold history in
-    let file = of_bare (file_of world live.id) live.file live.is in
-    let same : file.0.path ≡ path = ap (λ (f : File). f.path) file.2 ∙ live.same in
-    let there : id_at world path ≡ Some live.id = ap (id_at world) (sym same) ∙ laws.id_is history live.id file.0 legal file.1 in
+    let file = of_bare (file_of world live.0) path live.1 in
+    let there : id_at world path ≡ Some live.0 = ap (id_at world) (sym file.2.0) ∙ laws.id_is history live.0 file.0 legal file.1 in
     let closed : document_at world path ≡ None
     = ap (λ o. option_and_then (λ (f : File). f.document) (option_and_then (file_of world) o)) there
-    ∙ ap (option_and_then (λ (f : File). f.document)) file.1 ∙ ap (λ (f : File). f.document) file.2 ∙ live.closed in
+    ∙ ap (option_and_then (λ (f : File). f.document)) file.1 ∙ file.2.1 in
     let none : refusal_of world (Write path text) ≡ None
     = passes _ _ _ (ap is_none there) (passes _ _ _ (ap is_unsaved closed) (passes _ _ _ (not_full laws history short) refl)) in
     ap (λ r. refusal_or r None) none

@@ -47,7 +47,8 @@ one_apart [] second path apart = inl tt
 one_apart (edit ∷ first) second path apart = bool_cases (bytes_eq edit.path path)
     (λ b. bytes_eq edit.path path ≡ b → WriteOthers path (edit ∷ first) ⊎ WriteOthers path second)
     (λ t e. inr (others second apart.0 ((bytes_decides edit.path path).0 t)))
-    (λ f e. with_first (λ same. let t : bytes_eq edit.path path ≡ true = (bytes_decides edit.path path).1 same in absurd (cc)) (one_apart first second path apart.1))
+    (λ f e. with_first (λ same. let t : bytes_eq edit.path path ≡ true = (bytes_decides edit.path path).1 same in absurd (cc))
+    (one_apart first second path apart.1))
     refl
   where
     others : (edits : List Edit) → AllByRecursion (λ (other : Edit). edit.path ≢ other.path) edits → edit.path ≡ path → WriteOthers path edits

@@ -1,5 +1,5 @@
 -- The intakes of a history are among few: one for each file that stood before, and one for each write.
-use Rattle.demo_runs.proofs.Words.{ℕ, zero, suc, ◌≡◌, ◌⊎◌, inl, inr, ⊎_elim, ◌+◌, ◌<◌, ◌≤◌, Bool, true, false, not, List, [], ◌∷◌, ◌++◌, length, filter}
+use Rattle.demo_runs.proofs.Words.{ℕ, zero, suc, ◌≡◌, inl, inr, ⊎_elim, ◌+◌, ◌<◌, ◌≤◌, Bool, true, false, not, List, [], ◌∷◌, ◌++◌, length, filter}
 use Rattle.demo_runs.proofs.Words.{refl, ap, sym, ◌∙◌, subst, arith, append_assoc, Some, None, ◌==◌, nat_le, if◌then◌else◌, Option, option_map, is_none}
 use Rattle.demo_runs.proofs.Words.{AllByRecursion, eqb-true, cases_lt, Change, Write, Intake, Entry, Refusal, World, File, file_of, next_id, Put, put_of}
 use Rattle.demo_runs.proofs.Words.{refusal_of, taken_in, stamp_of, effect_of, fold, IsLegal, intake_of}

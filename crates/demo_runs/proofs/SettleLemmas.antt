@@ -16,7 +16,8 @@ pub record AddsIntakes (history : List Entry) (ids : List ℕ) (ends : Settled) 
 adds_intakes : Laws → (seat line : ℕ) (ids : List ℕ) (history : List Entry) → IsLegal history → AddsIntakes history ids (settled_from history seat line ids)
 adds_intakes laws seat line [] history legal =
     record { few = omega arith; edits = tt; same = λ file. refl; legal = subst IsLegal (sym (append-nil history)) legal }
-adds_intakes laws seat line (id ∷ ids) history legal = by_refusal (adds_intakes laws seat line ids after) (list_refusal (fold history) (intake_of (fold history) id)) refl
+adds_intakes laws seat line (id ∷ ids) history legal =
+    by_refusal (adds_intakes laws seat line ids after) (list_refusal (fold history) (intake_of (fold history) id)) refl
   where
     entry : Entry
     entry = intake_entry history seat line id
