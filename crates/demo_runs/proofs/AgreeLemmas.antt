@@ -4,9 +4,8 @@ use Rattle.demo_runs.proofs.Words.{◌∙◌, subst, arith, append_assoc, length
 use Rattle.demo_runs.proofs.Words.{flat_map, cases_order, append_cancel_left, length-map, recursion_from_All, front_shorter, front_length, Write, Entry}
 use Rattle.demo_runs.proofs.Words.{World, File, next_id, max_entries, list_refusal, fold, IsLegal, Line, Parts, Worked, IsIntakeBy, Done, Ended}
 use Rattle.demo_runs.proofs.Words.{done_from, lanes_from, before_last, last_from, run_of, mark_at, SectionFits, WorkerFits, WorkersFit, made_by, IsSeatOf}
-use Rattle.demo_runs.proofs.Words.{RunFits, summary_text, summary_of}
-use Rattle.demo_runs.specs.Apart.{Edit, create_line, write_line, ask_line, settle_line, IsAmong, WritesApart}
-use Rattle.demo_runs.specs.Alike.{bare_at, IsLive, IsEdit, writes, takes, acted, acts}
+use Rattle.demo_runs.proofs.Words.{RunFits, summary_text, summary_of, Edit, create_line, write_line, ask_line, settle_line, IsAmong, WritesApart, bare_at}
+use Rattle.demo_runs.proofs.Words.{IsLive, IsEdit, writes, takes, acted, acts}
 use Rattle.demo_runs.proofs.LawLemmas.{Laws}
 use Rattle.demo_runs.proofs.ListLemmas.{all_weaker, all_both, all_front, all_append, all_filter, IsIn}
 use Rattle.demo_runs.proofs.ListLemmas.{AreDistinct, no_more, by_seats, count_to, count_next, count_none, seats_bound}
@@ -210,15 +209,15 @@ module _ (laws : Laws) (script : Parts) (apart : WritesApart script) where
         let first_in = lane_goes_in laws apart.first 1 (omega arith) opening fits.prelude_records begun.begun.legal
         (omega (arith, few_begun.0, apart.few_edits)) (are_live apart.first apart.first_made) in
         let live = all_weaker (λ (edit : Edit). IsLive (fold opening) edit.path) (λ (edit : Edit). IsLive (fold (opening ++ w1)) edit.path)
-        (λ edit alive. live_on laws w1 opening (writes_edit 1 (omega arith) apart.first) first_in.legal edit.path alive) apart.second
+        (λ edit alive. live_on laws w1 opening (writes_edit 1 (omega arith) apart.first) first_in.1 edit.path alive) apart.second
         (are_live apart.second apart.second_made) in
-        let second_in = lane_goes_in laws apart.second 2 (omega arith) (opening ++ w1) done.records first_in.legal
+        let second_in = lane_goes_in laws apart.second 2 (omega arith) (opening ++ w1) done.records first_in.1
         (omega (arith, length-append opening w1, length-map apart.first (write_entry 1), few_begun.0, apart.few_edits)) live in
         let regroup = append_assoc opening w1 (map (write_entry 2) apart.second) in (
           ap (λ (d : Done). (lanes_from 1 d (map write_line apart.first ∷ map write_line apart.second ∷ [])).history) opened
-              ∙ ap (λ (h : List Entry). (done_from 2 (record { history = h; records = done.records }) (map write_line apart.second) []).history) first_in.is
-              ∙ second_in.is ∙ regroup,
-          subst IsLegal regroup second_in.legal,
+              ∙ ap (λ (h : List Entry). (done_from 2 (record { history = h; records = done.records }) (map write_line apart.second) []).history) first_in.0
+              ∙ second_in.0 ∙ regroup,
+          subst IsLegal regroup second_in.1,
         )
 
     few_lanes : length lane_entries ≤ 50000

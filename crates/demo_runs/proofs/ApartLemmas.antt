@@ -2,7 +2,7 @@
 use Rattle.demo_runs.proofs.Words.{ℕ, zero, suc, ◌≡◌, ◌≢◌, ◌⊎◌, inl, inr, ⊎_elim, ◌+◌, ◌%◌, ◌<◌, ◌≤◌, Bool, true, not, List, [], ◌∷◌, ◌++◌, length, map}
 use Rattle.demo_runs.proofs.Words.{filter, codes, decimal, refl, ap, sym, ◌∙◌, arith, length-append, ◌==◌, ◌&&◌, nat_le, nat_lt, if◌then◌else◌}
 use Rattle.demo_runs.proofs.Words.{AllByRecursion, le-leb, cases_lt, append_cancel_left, append_cancel_right, is_path, Line, list_all, and_parts}
-use Rattle.demo_runs.proofs.Words.{not-true, lt-ltb, is_barred, Command, Verb, path_of, class_of, creates}
+use Rattle.demo_runs.proofs.Words.{not-true, lt-ltb, is_barred, Command, Verb, path_of, class_of, creates, Edit, write_line, IsAmong, WritesApart}
 use Rattle.demo.specs.declared.command.Verb.TheVariants as verb
 use Rattle.queries.specs.declared.query.Query.TheVariants as query
 use Rattle.script_lang.specs.declared.command.Command.TheVariants as script
@@ -14,7 +14,6 @@ use Rattle.demo.specs.Script.{edits_of}
 use Rattle.demo.proofs.FileLemmas.{IsOneOf, creates_are, edits_are, lanes_length}
 use Rattle.demo.proofs.LengthLemmas.{length-creates, length-edits}
 use Rattle.demo.proofs.TextLemmas.{weaker, path_text}
-use Rattle.demo_runs.specs.Apart.{Edit, WritesApart, IsAmong, write_line}
 use Rattle.demo_runs.proofs.ListLemmas.{all_weaker, all_filter}
 use Rattle.demo_runs.specs.Parts.{demo_parts, change_by, lines_from}
 use Rattle.demo_runs.specs.Parts.{first_lane, second_lane, first_lane_begins, second_lane_begins, last_begins}

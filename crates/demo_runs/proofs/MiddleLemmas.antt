@@ -1,8 +1,6 @@
 -- Lanes that write different files: what a file shows behind them is what the one lane that writes it makes of it.
 use Rattle.demo_runs.proofs.Words.{ℕ, ◌≡◌, ◌≢◌, ◌⊎◌, inl, inr, true, cond, List, [], ◌∷◌, ◌++◌, map, refl, ap, sym, ◌∙◌, ◌==◌, bytes_eq, AllByRecursion}
-use Rattle.demo_runs.proofs.Words.{bytes_decides, eq-eqb, bool_cases, Entry, File, made_by}
-use Rattle.demo_runs.specs.Apart.{Edit}
-use Rattle.demo_runs.specs.Alike.{acted, acts, IsEdit}
+use Rattle.demo_runs.proofs.Words.{bytes_decides, eq-eqb, bool_cases, Entry, File, made_by, Edit, IsEdit, acted, acts}
 use Rattle.demo_runs.proofs.StepLemmas.{acted_there, stays_one}
 use Rattle.demo_runs.proofs.LaneLemmas.{write_entry}
 

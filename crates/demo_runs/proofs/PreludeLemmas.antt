@@ -3,9 +3,7 @@ use Rattle.demo_runs.proofs.Words.{ℕ, zero, suc, ◌≡◌, ◌⊎◌, inl, in
 use Rattle.demo_runs.proofs.Words.{sym, ◌∙◌, subst, arith, append-nil, length-append, Some, None, Option, option_map, is_some, AllByRecursion, lt-leb}
 use Rattle.demo_runs.proofs.Words.{bool_cases, Create, Entry, is_path, World, File, file_of, next_id, id_at, refusal_of, max_files, effect_of}
 use Rattle.demo_runs.proofs.Words.{list_refusal, ListRefusal, refusal_or, counted, fold, IsLegal, entry_of, Record, Step, step_unless, change_step}
-use Rattle.demo_runs.proofs.Words.{done_from}
-use Rattle.demo_runs.specs.Apart.{Edit, create_line, IsAmong}
-use Rattle.demo_runs.specs.Alike.{bare, IsAt, IsLive}
+use Rattle.demo_runs.proofs.Words.{done_from, Edit, create_line, IsAmong, bare, IsAt, IsLive}
 use Rattle.demo_runs.proofs.LawLemmas.{Laws}
 use Rattle.demo_runs.proofs.StepLemmas.{of_bare, placed, accepted_last}
 use Rattle.demo_runs.proofs.LaneLemmas.{passes, not_full}
@@ -76,27 +74,25 @@ module _ (laws : Laws) (edit : Edit) (history : List Entry) (count : ℕ) (begun
       record {
         begun = record {
           legal = now;
-          closed = subst (λ (w : World). (id : ℕ) → IsClosed (file_of w id)) (sym is.world)
-              (λ id. placed laws world (Create edit.path edit.text) is.accepted id IsClosed (λ here. refl) (λ other. begun.closed id));
+          closed = subst (λ (w : World). (id : ℕ) → IsClosed (file_of w id)) (sym is.1)
+              (λ id. placed laws world (Create edit.path edit.text) is.0 id IsClosed (λ here. refl) (λ other. begun.closed id));
           few = omega (arith, length-append history (entry ∷ []), begun.few);
-          ids = omega (arith, ap next_id is.world, laws.made world (Create edit.path edit.text) is.accepted, begun.ids);
+          ids = omega (arith, ap next_id is.1, laws.made world (Create edit.path edit.text) is.0, begun.ids);
         };
-        live = subst (λ (w : World). (path : List ℕ) → IsLive world path ⊎ IsHere path → IsLive w path) (sym is.world) (alive is.accepted);
+        live = subst (λ (w : World). (path : List ℕ) → IsLive world path ⊎ IsHere path → IsLive w path) (sym is.1) (alive is.0);
       }
     where
       alive : refusal_of world (Create edit.path edit.text) ≡ None → (path : List ℕ) → IsLive world path ⊎ IsHere path
           → IsLive (counted (effect_of world (Create edit.path edit.text))) path
-      alive accepted path (inr same) = (
-        next_id world,
-        placed laws world (Create edit.path edit.text) accepted (next_id world)
-            (λ o. IsAt path (option_map bare o)) (λ here. (same, refl)) (λ other. absurd (other refl)),
-      )
+      alive accepted path (inr same) =
+          let is = placed laws world (Create edit.path edit.text) accepted (next_id world) (λ o. IsAt path (option_map bare o))
+          (λ here. (same, refl)) (λ other. absurd (other refl)) in
+          (next_id world, is)
       alive accepted path (inl old) =
-          let file = of_bare (file_of world old.0) path old.1 in (
-            old.0,
-            placed laws world (Create edit.path edit.text) accepted old.0 (λ o. IsAt path (option_map bare o))
-                (λ here. absurd (omega (arith, here, (laws.live world old.0 file.0 file.1).1))) (λ other. old.1),
-          )
+          let file = of_bare (file_of world old.0) path old.1 in
+          let is = placed laws world (Create edit.path edit.text) accepted old.0 (λ o. IsAt path (option_map bare o))
+          (λ here. absurd (omega (arith, here, (laws.live world old.0 file.0 file.1).1))) (λ other. old.1) in
+          (old.0, is)
 
   one : HasMade IsHere history (history ++ (change_step history 0 edit.number (Create edit.path edit.text)).added) (suc count)
   one = by_refusal (list_refusal world (Create edit.path edit.text ∷ [])) refl

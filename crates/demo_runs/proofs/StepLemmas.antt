@@ -3,8 +3,7 @@ use Rattle.demo_runs.proofs.Words.{ℕ, ◌≡◌, ◌≢◌, ◌+◌, Bool, fal
 use Rattle.demo_runs.proofs.Words.{Some, None, ◌==◌, if◌then◌else◌, Option, option_map, is_none, unwrap_or, bytes_eq, option_and_then, AllByRecursion}
 use Rattle.demo_runs.proofs.Words.{bytes_decides, eqb-true, eqb-false, bool_cases, Change, Write, Intake, Entry, Refusal, World, File, file_of, next_id}
 use Rattle.demo_runs.proofs.Words.{id_at, Put, put_of, refusal_of, rewritten, taken_in, effect_of, list_refusal, refusal_or, counted, after_list, fold}
-use Rattle.demo_runs.proofs.Words.{IsLegal}
-use Rattle.demo_runs.specs.Alike.{bare, bare_at, IsAt, IsLive, IsEdit, writes, takes, acted, acts}
+use Rattle.demo_runs.proofs.Words.{IsLegal, bare, bare_at, IsAt, IsLive, IsEdit, writes, takes, acted, acts}
 use Rattle.demo_runs.proofs.LawLemmas.{Laws}
 
 -- ---- one change
@@ -84,16 +83,12 @@ wrote laws history legal path text accepted id =
 -- ---- entries
 
 -- an entry of one change, which a legal history ends with, is an accepted change
-pub record IsAccepted (history : List Entry) (entry : Entry) (change : Change) : Type 0 where
-  pub accepted : refusal_of (fold history) change ≡ None
-  pub world : fold (history ++ entry ∷ []) ≡ counted (effect_of (fold history) change)
-
 pub accepted_last : Laws → (history : List Entry) (entry : Entry) (change : Change) → entry.changes ≡ change ∷ [] → IsLegal (history ++ entry ∷ [])
-    → IsAccepted history entry change
-accepted_last laws history entry change one legal = record {
-  accepted = first (refusal_of (fold history) change) (sym (ap (list_refusal (fold history)) one) ∙ (laws.legal_rest history (entry ∷ []) legal).0);
-  world = laws.fold_on history (entry ∷ []) ∙ ap (after_list (fold history)) one;
-}
+    → (refusal_of (fold history) change ≡ None) × (fold (history ++ entry ∷ []) ≡ counted (effect_of (fold history) change))
+accepted_last laws history entry change one legal = (
+  first (refusal_of (fold history) change) (sym (ap (list_refusal (fold history)) one) ∙ (laws.legal_rest history (entry ∷ []) legal).0),
+  laws.fold_on history (entry ∷ []) ∙ ap (after_list (fold history)) one,
+)
   where
     first : (refusal : Option Refusal) → refusal_or refusal None ≡ None → refusal ≡ None
     first None h = refl
@@ -108,25 +103,25 @@ goes_on_one : Laws → (history : List Entry) (entry : Entry) → IsEdit entry �
     → GoesOn history (history ++ entry ∷ []) (entry ∷ [])
 goes_on_one laws history entry edit legal = by_kind edit
   where
-    by_change : (change : Change) → entry.changes ≡ change ∷ [] → (is : IsAccepted history entry change)
+    by_change : (change : Change) → entry.changes ≡ change ∷ [] → fold (history ++ entry ∷ []) ≡ counted (effect_of (fold history) change)
         → next_id (effect_of (fold history) change) ≡ next_id (fold history) + 0
         → ((id : ℕ) → bare_at (effect_of (fold history) change) id ≡ option_map (acted (change ∷ [])) (bare_at (fold history) id))
         → GoesOn history (history ++ entry ∷ []) (entry ∷ [])
     by_change change one is none shown = record {
-      ids = ap next_id is.world ∙ none ∙ add-zero (next_id (fold history));
-      files = λ id. ap (λ (w : World). bare_at w id) is.world ∙ shown id
+      ids = ap next_id is ∙ none ∙ add-zero (next_id (fold history));
+      files = λ id. ap (λ (w : World). bare_at w id) is ∙ shown id
           ∙ ap (λ (changes : List Change). option_map (acted changes) (bare_at (fold history) id)) (sym one);
     }
 
     by_kind : IsEdit entry → GoesOn history (history ++ entry ∷ []) (entry ∷ [])
     by_kind (writes lane path text one) =
         let is = accepted_last laws history entry (Write path text) one legal in
-        by_change (Write path text) one is (laws.made (fold history) (Write path text) is.accepted)
-        (wrote laws history (laws.legal_front history (entry ∷ []) legal) path text is.accepted)
+        by_change (Write path text) one is.1 (laws.made (fold history) (Write path text) is.0)
+        (wrote laws history (laws.legal_front history (entry ∷ []) legal) path text is.0)
     by_kind (takes file stamp one) =
         let is = accepted_last laws history entry (Intake file stamp) one legal in
-        by_change (Intake file stamp) one is (laws.made (fold history) (Intake file stamp) is.accepted)
-        (λ id. took (option_map bare) laws (fold history) file stamp is.accepted (took_bare stamp) id ∙ map_nothing (bare_at (fold history) id))
+        by_change (Intake file stamp) one is.1 (laws.made (fold history) (Intake file stamp) is.0)
+        (λ id. took (option_map bare) laws (fold history) file stamp is.0 (took_bare stamp) id ∙ map_nothing (bare_at (fold history) id))
 
 pub goes_on : Laws → (entries history : List Entry) → AllByRecursion IsEdit entries → IsLegal (history ++ entries) → GoesOn history (history ++ entries) entries
 goes_on laws [] history are legal = subst (λ (h : List Entry). GoesOn history h []) (sym (append-nil history))

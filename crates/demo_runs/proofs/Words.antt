@@ -51,3 +51,5 @@ pub use Rattle.demo.specs.declared.command.Command.{Command}
 pub use Rattle.demo.specs.declared.command.Verb.{Verb}
 pub use Rattle.demo.specs.Line.{path_of, class_of}
 pub use Rattle.demo.specs.Commands.{creates}
+pub use Rattle.demo_runs.specs.Apart.{Edit, create_line, write_line, Question, ask_line, settle_line, IsAmong, IsOfAll, WritesApart}
+pub use Rattle.demo_runs.specs.Alike.{bare, bare_at, IsAt, IsLive, IsEdit, writes, takes, acted, acts}
