@@ -7,7 +7,8 @@ use Rattle.demo.specs.declared.command.Verb.TheVariants as verb
 use Rattle.demo.specs.Draws.{draw_of}
 use Rattle.demo.specs.Commands.{create_of, creates, edit_after, edits, is_of_first_lane, is_of_second_lane}
 
-one_more : (P : Command → Type 0) (commands : List Command) (command : Command) → AllByRecursion P commands → P command → AllByRecursion P (commands ++ command ∷ [])
+one_more : (P : Command → Type 0) (commands : List Command) (command : Command) → AllByRecursion P commands → P command
+    → AllByRecursion P (commands ++ command ∷ [])
 one_more P [] command all one = (one, tt)
 one_more P (other ∷ commands) command all one = (all.0, one_more P commands command all.1 one)
 

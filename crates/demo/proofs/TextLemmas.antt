@@ -43,7 +43,8 @@ joined test m n xs ys a b = record { all = all_in test xs ys a.all b.all; few = 
 abbrev pub TenDigits : (ℕ → Bool) → Type 0
 TenDigits test = list_all test (map (λ d. 48 + d) (range_with_len 0 10)) ≡ true
 
-digits_text : (test : ℕ → Bool) → TenDigits test → (k n most : ℕ) (after : List ℕ) → IsText test most after → IsText test (k + most) (digits_onto k 10 false n after)
+digits_text : (test : ℕ → Bool) → TenDigits test → (k n most : ℕ) (after : List ℕ) → IsText test most after
+    → IsText test (k + most) (digits_onto k 10 false n after)
 digits_text test ten zero n most after text = record { all = text.all; few = omega (arith, text.few) }
 digits_text test ten (suc k) n most after text =
     cond_both (eqb (n / 10) 0) (d ∷ after) (digits_onto k 10 false (n / 10) (d ∷ after)) (IsText test (suc k + most))
@@ -84,7 +85,8 @@ class_text c =
     (numbered (codes "class G") (codes " extends G") c.file 10 refl (omega arith) (record { all = refl; few = omega arith })))
     (joined is_plain 1 64 (letter_of c.verb) (decimal c.method) (letter c.verb) (number_text is_plain refl c.method)))
   where
-    piece : (front text : List ℕ) (most : ℕ) → list_all is_plain text ≡ true → length text ≤ 10 → IsText is_plain most front → IsText is_plain (most + 10) (front ++ text)
+    piece : (front text : List ℕ) (most : ℕ) → list_all is_plain text ≡ true → length text ≤ 10 → IsText is_plain most front
+        → IsText is_plain (most + 10) (front ++ text)
     piece front text most all few before = joined is_plain most 10 front text before (record { all = all; few = few })
 
     numbered : (front text : List ℕ) (n most : ℕ) → list_all is_plain text ≡ true → length text ≤ 10 → IsText is_plain most front

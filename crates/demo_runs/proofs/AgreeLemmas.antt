@@ -1,14 +1,14 @@
 -- A script whose lanes write different files: every run has the summary of the run on one thread.
-use Rattle.demo_runs.proofs.Words.{ℕ, zero, suc, ◌≡◌, ◌≢◌, ◌⊎◌, inl, inr, ⊎_elim, ◌+◌, ◌<◌, ◌≤◌, true, false, List, [], ◌∷◌, ◌++◌, length, map, refl, ap}
-use Rattle.demo_runs.proofs.Words.{sym, ◌∙◌, subst, arith, append_assoc, length-append, Some, None, ◌==◌, Option, option_map, AllPairs, AllByRecursion}
+use Rattle.demo_runs.proofs.Words.{ℕ, zero, suc, ◌≡◌, ◌≢◌, ◌⊎◌, inl, inr, ⊎_elim, ◌+◌, ◌<◌, ◌≤◌, false, List, [], ◌∷◌, ◌++◌, length, map, refl, ap, sym}
+use Rattle.demo_runs.proofs.Words.{◌∙◌, subst, arith, append_assoc, length-append, Some, None, ◌==◌, Option, option_map, AllPairs, AllByRecursion}
 use Rattle.demo_runs.proofs.Words.{flat_map, cases_order, append_cancel_left, length-map, recursion_from_All, front_shorter, front_length, Write, Entry}
 use Rattle.demo_runs.proofs.Words.{World, File, next_id, max_entries, list_refusal, fold, IsLegal, Line, Parts, Worked, IsIntakeBy, Done, Ended}
 use Rattle.demo_runs.proofs.Words.{done_from, lanes_from, before_last, last_from, run_of, mark_at, SectionFits, WorkerFits, WorkersFit, made_by, IsSeatOf}
-use Rattle.demo_runs.proofs.Words.{RunFits, summary_text, summary_of}
-use Rattle.demo_runs.specs.Apart.{Edit, create_line, write_line, ask_line, settle_line, IsAmong, WritesApart}
-use Rattle.demo_runs.specs.Alike.{bare_at, IsLive, IsEdit, writes, takes, acted, acts}
+use Rattle.demo_runs.proofs.Words.{RunFits, summary_text, summary_of, Edit, create_line, write_line, ask_line, settle_line, IsAmong, WritesApart, bare_at}
+use Rattle.demo_runs.proofs.Words.{IsLive, IsEdit, writes, takes, acted, acts}
 use Rattle.demo_runs.proofs.LawLemmas.{Laws}
-use Rattle.demo_runs.proofs.ListLemmas.{all_weaker, all_both, all_front, all_append, all_filter, IsIn, AreDistinct, no_more, by_seats, count_to, count_next, count_none, seats_bound}
+use Rattle.demo_runs.proofs.ListLemmas.{all_weaker, all_both, all_front, all_append, all_filter, IsIn}
+use Rattle.demo_runs.proofs.ListLemmas.{AreDistinct, no_more, by_seats, count_to, count_next, count_none, seats_bound}
 use Rattle.demo_runs.proofs.StepLemmas.{goes_on, stays_all, live_on}
 use Rattle.demo_runs.proofs.PreludeLemmas.{HasMade, begun_empty, prelude_makes}
 use Rattle.demo_runs.proofs.LaneLemmas.{write_entry, write_accepted, IsWriteBy, IsAccepted, IsLane, section_made, writes_edit, lane_goes_in}
@@ -69,7 +69,8 @@ module _ (laws : Laws) (script : Parts) (apart : WritesApart script) where
     legal : IsLegal (opening ++ middle)
     legal = laws.legal_front (opening ++ middle) fits.closing legal_whole
 
-    opened : done_from 0 (record { history = []; records = [] }) (map create_line apart.creations) [] ≡ record { history = opening; records = fits.prelude_records }
+    opened : done_from 0 (record { history = []; records = [] }) (map create_line apart.creations) []
+        ≡ record { history = opening; records = fits.prelude_records }
     opened = laws.alone 0 (mark_at 0) fits.prelude_end (map create_line apart.creations) [] [] fits.prelude_records [] opening refl fits.prelude
 
     begun : HasMade (IsAmong apart.creations) [] opening (0 + length apart.creations)
@@ -134,9 +135,9 @@ module _ (laws : Laws) (script : Parts) (apart : WritesApart script) where
     few_worked : (seat : ℕ) → 3 ≤ seat → seat ≤ seats → length (made_by seat middle) ≤ 60001
     few_worked seat late to =
         let own : List Entry = made_by seat middle in
-        let is_offered = all_filter (IsOffered offered.list) (λ (e : Entry). e.seat == seat) middle offered.are in
-        let are = all_weaker (λ (e : Entry). (IsOffered offered.list e × ((e.seat == seat) ≡ true)) × IsIntakeBy seat e) (λ (e : Entry). IsIn e.changes offered.list)
-        (λ e both. both.0.0 both.1.file both.1.stamp (ap (λ (x : Entry). x.changes) both.1.is)) own (all_both _ (IsIntakeBy seat) own is_offered (intakes seat late to)) in
+        let both = all_both _ (IsIntakeBy seat) own (all_filter (IsOffered offered.list) (λ e. e.seat == seat) middle offered.are) (intakes seat late to) in
+        let are = all_weaker _ (λ (e : Entry). IsIn e.changes offered.list)
+        (λ e is. is.0.0 is.1.file is.1.stamp (ap (λ (x : Entry). x.changes) is.1.is)) own both in
         let less = no_more (λ (e : Entry). e.changes) own offered.list are (distinct_from_pairs own (worker seat late to).1.apart) in
         omega (arith, less, few_offers)
 
@@ -208,15 +209,15 @@ module _ (laws : Laws) (script : Parts) (apart : WritesApart script) where
         let first_in = lane_goes_in laws apart.first 1 (omega arith) opening fits.prelude_records begun.begun.legal
         (omega (arith, few_begun.0, apart.few_edits)) (are_live apart.first apart.first_made) in
         let live = all_weaker (λ (edit : Edit). IsLive (fold opening) edit.path) (λ (edit : Edit). IsLive (fold (opening ++ w1)) edit.path)
-        (λ edit alive. live_on laws w1 opening (writes_edit 1 (omega arith) apart.first) first_in.legal edit.path alive) apart.second
+        (λ edit alive. live_on laws w1 opening (writes_edit 1 (omega arith) apart.first) first_in.1 edit.path alive) apart.second
         (are_live apart.second apart.second_made) in
-        let second_in = lane_goes_in laws apart.second 2 (omega arith) (opening ++ w1) done.records first_in.legal
+        let second_in = lane_goes_in laws apart.second 2 (omega arith) (opening ++ w1) done.records first_in.1
         (omega (arith, length-append opening w1, length-map apart.first (write_entry 1), few_begun.0, apart.few_edits)) live in
         let regroup = append_assoc opening w1 (map (write_entry 2) apart.second) in (
           ap (λ (d : Done). (lanes_from 1 d (map write_line apart.first ∷ map write_line apart.second ∷ [])).history) opened
-              ∙ ap (λ (h : List Entry). (done_from 2 (record { history = h; records = done.records }) (map write_line apart.second) []).history) first_in.is
-              ∙ second_in.is ∙ regroup,
-          subst IsLegal regroup second_in.legal,
+              ∙ ap (λ (h : List Entry). (done_from 2 (record { history = h; records = done.records }) (map write_line apart.second) []).history) first_in.0
+              ∙ second_in.0 ∙ regroup,
+          subst IsLegal regroup second_in.1,
         )
 
     few_lanes : length lane_entries ≤ 50000
@@ -233,7 +234,8 @@ module _ (laws : Laws) (script : Parts) (apart : WritesApart script) where
     agree : summary_of ended ≡ summary_of (run_of [] parts)
     agree =
         let goes = goes_on laws middle opening edits legal in
-        let lanes_edit = all_append IsEdit (map (write_entry 1) apart.first) _ (writes_edit 1 (omega arith) apart.first) (writes_edit 2 (omega arith) apart.second) in
+        let lanes_edit = all_append IsEdit (map (write_entry 1) apart.first) _ (writes_edit 1 (omega arith) apart.first)
+        (writes_edit 2 (omega arith) apart.second) in
         let goes_serial = goes_on laws lane_entries opening lanes_edit serial.1 in
         let same : shown (fold (opening ++ middle)) ≡ shown (fold (opening ++ lane_entries))
         = same_shown laws (fold (opening ++ middle)) (fold (opening ++ lane_entries)) (goes.ids ∙ sym goes_serial.ids)

@@ -2,7 +2,7 @@
 use Rattle.demo_runs.proofs.Words.{ℕ, zero, suc, ◌≡◌, ◌≢◌, ◌⊎◌, inl, inr, ⊎_elim, ◌+◌, ◌%◌, ◌<◌, ◌≤◌, Bool, true, not, List, [], ◌∷◌, ◌++◌, length, map}
 use Rattle.demo_runs.proofs.Words.{filter, codes, decimal, refl, ap, sym, ◌∙◌, arith, length-append, ◌==◌, ◌&&◌, nat_le, nat_lt, if◌then◌else◌}
 use Rattle.demo_runs.proofs.Words.{AllByRecursion, le-leb, cases_lt, append_cancel_left, append_cancel_right, is_path, Line, list_all, and_parts}
-use Rattle.demo_runs.proofs.Words.{not-true, lt-ltb, is_barred, Command, Verb, path_of, class_of, creates}
+use Rattle.demo_runs.proofs.Words.{not-true, lt-ltb, is_barred, Command, Verb, path_of, class_of, creates, Edit, write_line, IsAmong, WritesApart}
 use Rattle.demo.specs.declared.command.Verb.TheVariants as verb
 use Rattle.queries.specs.declared.query.Query.TheVariants as query
 use Rattle.script_lang.specs.declared.command.Command.TheVariants as script
@@ -14,7 +14,6 @@ use Rattle.demo.specs.Script.{edits_of}
 use Rattle.demo.proofs.FileLemmas.{IsOneOf, creates_are, edits_are, lanes_length}
 use Rattle.demo.proofs.LengthLemmas.{length-creates, length-edits}
 use Rattle.demo.proofs.TextLemmas.{weaker, path_text}
-use Rattle.demo_runs.specs.Apart.{Edit, WritesApart, IsAmong, write_line}
 use Rattle.demo_runs.proofs.ListLemmas.{all_weaker, all_filter}
 use Rattle.demo_runs.specs.Parts.{demo_parts, change_by, lines_from}
 use Rattle.demo_runs.specs.Parts.{first_lane, second_lane, first_lane_begins, second_lane_begins, last_begins}
@@ -44,8 +43,8 @@ path_lawful file =
     let text = path_text is_name refl refl refl file in
     let barred = weaker is_name (λ c. not (is_barred c)) (λ c e. (and_parts (not (is_barred c)) (not (c == 47)) e).0) path text.all in
     four_true (nat_lt 0 (length path)) (nat_le (length path) max_path) (list_all (λ c. not (is_barred c)) path) (list_all is_part (parts_of path))
-    (lt-ltb 0 (length path) (omega (arith, length-append (codes "G" ++ decimal file) (codes ".java")))) (le-leb (length path) max_path (omega (arith, text.few))) barred
-    (ap (list_all is_part) (one_part path text.all))
+    (lt-ltb 0 (length path) (omega (arith, length-append (codes "G" ++ decimal file) (codes ".java"))))
+    (le-leb (length path) max_path (omega (arith, text.few))) barred (ap (list_all is_part) (one_part path text.all))
   where
     four_true : (a b c d : Bool) → a ≡ true → b ≡ true → c ≡ true → d ≡ true → (a && b && c && d) ≡ true
     four_true a b c d is1 is2 is3 is4 = rw (is1, is2, is3, is4) refl

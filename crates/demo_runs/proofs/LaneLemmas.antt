@@ -3,10 +3,8 @@ use Rattle.demo_runs.proofs.Words.{ℕ, ◌≡◌, ◌⊎◌, inl, inr, ◌+◌,
 use Rattle.demo_runs.proofs.Words.{append_assoc, append-nil, length-append, Some, None, nat_le, if◌then◌else◌, Option, is_none, option_and_then}
 use Rattle.demo_runs.proofs.Words.{AllByRecursion, lt-leb, IsFront, front_trans, Write, Entry, Refusal, World, File, file_of, id_at, document_at}
 use Rattle.demo_runs.proofs.Words.{refusal_of, is_unsaved, max_entries, list_refusal, ListRefusal, refusal_or, fold, IsLegal, entry_of, Nothing, Answer}
-use Rattle.demo_runs.proofs.Words.{Record, Step, step_unless, change_step, done_from, Mark, Fits, SectionFits}
+use Rattle.demo_runs.proofs.Words.{Record, Step, step_unless, change_step, done_from, Mark, Fits, SectionFits, Edit, write_line, IsLive, IsEdit, writes}
 use Rattle.script_lang.specs.declared.command.Command.TheVariants as command
-use Rattle.demo_runs.specs.Apart.{Edit, write_line}
-use Rattle.demo_runs.specs.Alike.{IsLive, IsEdit, writes}
 use Rattle.demo_runs.proofs.LawLemmas.{Laws}
 use Rattle.demo_runs.proofs.ListLemmas.{all_weaker}
 use Rattle.demo_runs.proofs.StepLemmas.{of_bare, live_on}
@@ -25,12 +23,11 @@ pub write_accepted : Laws → (history : List Entry) → IsLegal history → (pa
     → list_refusal (fold history) (Write path text ∷ []) ≡ None
 write_accepted laws history legal path text live short =
     let world : World = fold history in
-    let file = of_bare (file_of world live.id) live.file live.is in
-    let same : file.0.path ≡ path = ap (λ (f : File). f.path) file.2 ∙ live.same in
-    let there : id_at world path ≡ Some live.id = ap (id_at world) (sym same) ∙ laws.id_is history live.id file.0 legal file.1 in
+    let file = of_bare (file_of world live.0) path live.1 in
+    let there : id_at world path ≡ Some live.0 = ap (id_at world) (sym file.2.0) ∙ laws.id_is history live.0 file.0 legal file.1 in
     let closed : document_at world path ≡ None
     = ap (λ o. option_and_then (λ (f : File). f.document) (option_and_then (file_of world) o)) there
-    ∙ ap (option_and_then (λ (f : File). f.document)) file.1 ∙ ap (λ (f : File). f.document) file.2 ∙ live.closed in
+    ∙ ap (option_and_then (λ (f : File). f.document)) file.1 ∙ file.2.1 in
     let none : refusal_of world (Write path text) ≡ None
     = passes _ _ _ (ap is_none there) (passes _ _ _ (ap is_unsaved closed) (passes _ _ _ (not_full laws history short) refl)) in
     ap (λ r. refusal_or r None) none
@@ -111,16 +108,15 @@ writes_edit seat lane [] = tt
 writes_edit seat lane (edit ∷ edits) = (writes lane edit.path edit.text refl, writes_edit seat lane edits)
 
 -- what a lane leaves on one thread
-pub record GoesIn (history : List Entry) (seat : ℕ) (edits : List Edit) (after : List Entry) : Type 0 where
-  pub is : after ≡ history ++ map (write_entry seat) edits
-  pub legal : IsLegal (history ++ map (write_entry seat) edits)
+abbrev pub GoesIn : List Entry → ℕ → List Edit → List Entry → Type 0
+GoesIn history seat edits after = (after ≡ history ++ map (write_entry seat) edits) × IsLegal (history ++ map (write_entry seat) edits)
 
 -- on one thread each write of a lane goes in where the paths are live and there is room
 pub lane_goes_in : Laws → (edits : List Edit) (seat : ℕ) → seat ≤ 2 → (history : List Entry) (records : List Record) → IsLegal history
     → length history + length edits ≤ max_entries → AllByRecursion (λ (edit : Edit). IsLive (fold history) edit.path) edits
     → GoesIn history seat edits (done_from seat (record { history = history; records = records }) (map write_line edits) []).history
 lane_goes_in laws [] seat lane history records legal room live =
-    record { is = sym (append-nil history); legal = subst IsLegal (sym (append-nil history)) legal }
+    (sym (append-nil history), subst IsLegal (sym (append-nil history)) legal)
 lane_goes_in laws (edit ∷ edits) seat lane history records legal room live =
     let entry : Entry = write_entry seat edit in
     let accepted = write_accepted laws history legal edit.path edit.text live.0 (omega (arith, room)) in
@@ -132,8 +128,5 @@ lane_goes_in laws (edit ∷ edits) seat lane history records legal room live =
     (λ other alive. live_on laws (entry ∷ []) history (writes lane edit.path edit.text refl, tt) now other.path alive) edits live.1 in
     let rest = lane_goes_in laws edits seat lane (history ++ entry ∷ []) told now (omega (arith, room, length-append history (entry ∷ []))) still in
     let regroup = append_assoc history (entry ∷ []) (map (write_entry seat) edits) in
-    record {
-      is = ap (λ (a : List Entry). (done_from seat (record { history = history ++ a; records = told }) (map write_line edits) []).history) added
-          ∙ rest.is ∙ regroup;
-      legal = subst IsLegal regroup rest.legal;
-    }
+    let is = ap (λ (a : List Entry). (done_from seat (record { history = history ++ a; records = told }) (map write_line edits) []).history) added in
+    (is ∙ rest.0 ∙ regroup, subst IsLegal regroup rest.1)

@@ -1,19 +1,78 @@
--- What the last section tells is read from what the files show.
-use Rattle.demo_runs.proofs.Words.{ℕ, suc, ◌≡◌, ◌+◌, ◌≤◌, Bool, true, false, cond, List, [], ◌∷◌, ◌++◌, length, map, filter, codes, refl, ap, sym, ◌∙◌}
-use Rattle.demo_runs.proofs.Words.{append_assoc, append-nil, Some, None, Ok, if◌then◌else◌, Option, option_map, is_some, slice_index_or, AllByRecursion}
-use Rattle.demo_runs.proofs.Words.{flat_map, length-map, flat_map-append, get_or-map, is_java, words_of, mask_in, Entry, Refusal, World, File, file_of}
-use Rattle.demo_runs.proofs.Words.{next_id, is_open, is_unready, count_of, lowest_unready, max_entries, fold, IsLegal, Settled, settled, Query, rows_in}
-use Rattle.demo_runs.proofs.Words.{word_in, word_row, of_files, of_world, is_class, has_super, is_method, unless_unready, reply, Answer, Record}
-use Rattle.demo_runs.proofs.Words.{answer_of, done_from, last_from, query_step, settle_answer, head_text, rows_text, summary_text}
+-- The last section: its settle goes through, and what it tells is read from what the files show.
+use Rattle.demo_runs.proofs.Words.{ℕ, suc, ◌≡◌, ◌+◌, ◌<◌, ◌≤◌, Bool, true, false, cond, List, [], ◌∷◌, ◌++◌, length, map, filter, codes, refl, ap, sym}
+use Rattle.demo_runs.proofs.Words.{◌∙◌, subst, arith, append_assoc, append-nil, length-append, Some, None, Ok, if◌then◌else◌, Option, option_map, is_some}
+use Rattle.demo_runs.proofs.Words.{slice_index_or, AllByRecursion, flat_map, length-map, flat_map-append, get_or-map, is_java, words_of, mask_in, Entry}
+use Rattle.demo_runs.proofs.Words.{Refusal, World, File, file_of, next_id, ids_from, is_open, is_unready, count_of, lowest_unready, unready_ids, stamp_of}
+use Rattle.demo_runs.proofs.Words.{max_entries, list_refusal, ListRefusal, fold, IsLegal, Settled, settled, settled_from, settled_unless, intake_of}
+use Rattle.demo_runs.proofs.Words.{intake_entry, Query, rows_in, word_in, word_row, of_files, of_world, is_class, has_super, is_method, unless_unready}
+use Rattle.demo_runs.proofs.Words.{reply, Answer, Record, answer_of, done_from, last_from, query_step, settle_answer, head_text, rows_text, summary_text}
+use Rattle.demo_runs.proofs.Words.{Question, ask_line, settle_line, IsOfAll, bare, bare_at, IsEdit, takes, acts}
 use Rattle.queries.specs.declared.query.Query.TheVariants as query
 use Rattle.query_engine.specs.declared.answer.Answer.{Answer as Found}
 use Rattle.query_engine.specs.declared.answer.Answer.TheVariants as found
 use Rattle.transcripts.specs.declared.record.Answer.TheVariants.{Smart, Rows, Words, Status}
-use Rattle.demo_runs.specs.Apart.{Question, IsOfAll, ask_line, settle_line}
-use Rattle.demo_runs.specs.Alike.{bare, bare_at, acts}
 use Rattle.demo_runs.proofs.LawLemmas.{Laws}
 use Rattle.demo_runs.proofs.StepLemmas.{goes_on}
-use Rattle.demo_runs.proofs.SettleLemmas.{settles}
+
+-- ---- the settle
+
+-- what a settle adds for these files, at most, is legal, and changes nothing that a file shows
+pub record AddsIntakes (history : List Entry) (ids : List ℕ) (ends : Settled) : Type 0 where
+  pub few : length ends.added ≤ length ids
+  pub edits : AllByRecursion IsEdit ends.added
+  pub same : (file : File) → acts ends.added file ≡ file
+  pub legal : IsLegal (history ++ ends.added)
+
+adds_intakes : Laws → (seat line : ℕ) (ids : List ℕ) (history : List Entry) → IsLegal history → AddsIntakes history ids (settled_from history seat line ids)
+adds_intakes laws seat line [] history legal =
+    record { few = omega arith; edits = tt; same = λ file. refl; legal = subst IsLegal (sym (append-nil history)) legal }
+adds_intakes laws seat line (id ∷ ids) history legal =
+    by_refusal (adds_intakes laws seat line ids after) (list_refusal (fold history) (intake_of (fold history) id)) refl
+  where
+    entry : Entry
+    entry = intake_entry history seat line id
+
+    after : List Entry
+    after = history ++ entry ∷ []
+
+    by_refusal : (IsLegal after → AddsIntakes after ids (settled_from after seat line ids)) → (refusal : Option ListRefusal)
+        → list_refusal (fold history) entry.changes ≡ refusal
+        → AddsIntakes history (id ∷ ids) (settled_unless refusal entry (settled_from after seat line ids))
+    by_refusal rest (Some refusal) is =
+        record { few = omega arith; edits = tt; same = λ file. refl; legal = subst IsLegal (sym (append-nil history)) legal }
+    by_refusal rest None is =
+        let later = rest (laws.legal_on history entry legal is) in record {
+          few = omega (arith, later.few);
+          edits = (takes id (stamp_of (file_of (fold history) id)) refl, later.edits);
+          same = later.same;
+          legal = subst IsLegal (append_assoc history (entry ∷ []) (settled_from after seat line ids).added) later.legal;
+        }
+
+ids_few : (test : Option File → Bool) (id : ℕ) (files : List (Option File)) → length (ids_from test id files) ≤ length files
+ids_few test id [] = omega arith
+ids_few test id (file ∷ files) = one_more (test file) (ids_from test (id + 1) files) (ids_few test (id + 1) files)
+  where
+    one_more : (b : Bool) (ids : List ℕ) → length ids ≤ length files → length (if b then id ∷ ids else ids) ≤ suc (length files)
+    one_more true ids few = omega (arith, few)
+    one_more false ids few = omega (arith, few)
+
+-- a settle with room for an intake of each file goes through
+abbrev pub GoesThrough : List Entry → Settled → Type 0
+GoesThrough history ends = AddsIntakes history (unready_ids (fold history)) ends × (ends.refused ≡ None)
+
+pub settles : Laws → (seat line : ℕ) (history : List Entry) → IsLegal history → length history + next_id (fold history) ≤ max_entries
+    → GoesThrough history (settled history seat line)
+settles laws seat line history legal room = (adds, none (settled history seat line).refused refl)
+  where
+    adds : AddsIntakes history (unready_ids (fold history)) (settled history seat line)
+    adds = adds_intakes laws seat line (unready_ids (fold history)) history legal
+
+    few : length (history ++ (settled history seat line).added) < max_entries
+    few = omega (arith, room, length-append history (settled history seat line).added, adds.few, ids_few is_unready 1 (fold history).files)
+
+    none : (refused : Option Refusal) → (settled history seat line).refused ≡ refused → refused ≡ None
+    none None is = refl
+    none (Some why) is = absurd (omega (arith, few, laws.full history seat line why is))
 
 -- ---- what a world shows
 

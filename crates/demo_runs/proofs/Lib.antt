@@ -7,7 +7,6 @@ pub mod LaneLemmas
 pub mod PreludeLemmas
 pub mod OfferLemmas
 pub mod MiddleLemmas
-pub mod SettleLemmas
 pub mod LastLemmas
 pub mod AgreeLemmas
 pub mod ApartLemmas

@@ -1,6 +1,6 @@
 -- The bytes of a demo spell its script, from its last line up to its first.
 use Rattle.demo_runs.proofs.Words.{ℕ, ◌≡◌, ◌+◌, ◌<◌, ◌≤◌, true, List, [], ◌∷◌, ◌++◌, length, drop, codes, IsTrue, refl, subst, arith, append_assoc}
-use Rattle.demo_runs.proofs.Words.{Change, is_path, Line, ltb, list_all, and_parts, Command, Verb, path_of, class_of, creates}
+use Rattle.demo_runs.proofs.Words.{Change, Line, ltb, list_all, and_parts, Command, Verb, path_of, class_of, creates}
 use Rattle.demo.specs.declared.command.Verb.TheVariants as verb
 use Rattle.queries.specs.declared.query.Query.TheVariants as query
 use Rattle.script_lang.specs.declared.command.Command.TheVariants as script
@@ -85,7 +85,8 @@ spells_last number =
     (coming (drop 3 (last_from number)) [] []) refl (refl, first_is_word) refl (moved (number + 3) (number + 2 + 1) _ _ (omega arith) fourth) in
     let second = spells_command Finally (number + 1) (codes "status") (codes "supers G0\nsupers G1\n") (script.Ask query.Status)
     (coming (drop 2 (last_from number)) [] []) refl refl refl (moved (number + 2) (number + 1 + 1) _ _ (omega arith) third) in
-    spells_command Finally number (codes "settle") (codes "status\nsupers G0\nsupers G1\n") script.Settle (coming (drop 1 (last_from number)) [] []) refl refl refl second
+    spells_command Finally number (codes "settle") (codes "status\nsupers G0\nsupers G1\n") script.Settle
+    (coming (drop 1 (last_from number)) [] []) refl refl refl second
   where
     moved : (n m : ℕ) (bytes : List ℕ) (rest : Rest) → n ≡ m → Spells Finally n bytes rest → Spells Finally m bytes rest
     moved n m bytes rest e = subst (λ k. Spells Finally k bytes rest) e
@@ -109,7 +110,8 @@ demo_is_script seed files edits some few fits =
         let last = last_from (end + 1) in
         let twos = lines_from (two + 1) second in
         let finals = spells_finally (Lane 2) end _ (coming last [] []) refl (spells_last (end + 1)) in
-        let second_all = spells_lane (Lane 1) (Lane 2) two _ (coming twos [] last) refl (spells_commands second (Lane 2) (two + 1) last_section [] last (λ c. refl) finals) in
+        let second_all = spells_lane (Lane 1) (Lane 2) two _ (coming twos [] last) refl
+        (spells_commands second (Lane 2) (two + 1) last_section [] last (λ c. refl) finals) in
         let first_lines = spells_commands first (Lane 1) (one + 1) _ (twos ∷ []) last (λ c. refl) second_all in
         let first_all = spells_lane Prelude (Lane 1) one _ (coming (lines_from (one + 1) first) (twos ∷ []) last) refl first_lines in
         subst (λ bytes. Spells Prelude 1 bytes (whole (demo_parts seed files edits)))

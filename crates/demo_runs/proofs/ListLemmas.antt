@@ -1,7 +1,7 @@
 -- Lists of which all are so, lists without repetition, and entries by their seats.
-use Rattle.demo_runs.proofs.Words.{ℕ, zero, suc, ◌≡◌, ◌≢◌, ◌⊎◌, inl, inr, ◌+◌, ◌*◌, ◌≤◌, Bool, true, false, cond, List, [], ◌∷◌, ◌++◌, length, filter}
-use Rattle.demo_runs.proofs.Words.{refl, ap, sym, ◌∙◌, subst, arith, suc-mul, ◌==◌, nat_le, AllByRecursion, eq-eqb, le-leb, leb-true, leb-false, lt-leb}
-use Rattle.demo_runs.proofs.Words.{bool_cases, Entry, made_by, IsSeatOf}
+use Rattle.demo_runs.proofs.Words.{ℕ, zero, suc, ◌≡◌, ◌≢◌, ◌⊎◌, inl, inr, ⊎_elim, ◌+◌, ◌*◌, ◌≤◌, Bool, true, false, cond, List, [], ◌∷◌, ◌++◌, length}
+use Rattle.demo_runs.proofs.Words.{filter, refl, ap, sym, ◌∙◌, subst, arith, suc-mul, ◌==◌, nat_le, AllByRecursion, eq-eqb, le-leb, leb-true, leb-false}
+use Rattle.demo_runs.proofs.Words.{lt-leb, bool_cases, Entry, made_by, IsSeatOf}
 
 -- ---- all of a list
 
@@ -44,16 +44,10 @@ record Without {X : Type 0} (x : X) (ys : List X) : Type 0 where
 
 without : {X : Type 0} (x : X) (ys : List X) → IsIn x ys → Without x ys
 without x [] h = absurd h
-without {X} x (y ∷ ys) (inl e) = record { left = ys; long = refl; keeps = other }
-  where
-    other : (z : X) → (z ≡ y) ⊎ IsIn z ys → x ≢ z → IsIn z ys
-    other z (inl same) n = absurd (n (e ∙ sym same))
-    other z (inr later) n = later
-without {X} x (y ∷ ys) (inr h) = let rest = without x ys h in record { left = y ∷ rest.left; long = ap suc rest.long; keeps = other rest }
-  where
-    other : (rest : Without x ys) (z : X) → (z ≡ y) ⊎ IsIn z ys → x ≢ z → IsIn z (y ∷ rest.left)
-    other rest z (inl same) n = inl same
-    other rest z (inr later) n = inr (rest.keeps z later n)
+without x (y ∷ ys) (inl e) =
+    record { left = ys; long = refl; keeps = λ z h apart. ⊎_elim (λ same. absurd (apart (e ∙ sym same))) (λ later. later) h }
+without x (y ∷ ys) (inr h) = let rest = without x ys h in
+    record { left = y ∷ rest.left; long = ap suc rest.long; keeps = λ z k apart. ⊎_elim (λ same. inl same) (λ later. inr (rest.keeps z later apart)) k }
 
 -- no element is the same as a later one, as far as `f` tells
 abbrev pub AreDistinct : {X Y : Type 0} → (X → Y) → List X → Type 0

@@ -1,8 +1,6 @@
 -- Lanes that write different files: what a file shows behind them is what the one lane that writes it makes of it.
 use Rattle.demo_runs.proofs.Words.{ℕ, ◌≡◌, ◌≢◌, ◌⊎◌, inl, inr, true, cond, List, [], ◌∷◌, ◌++◌, map, refl, ap, sym, ◌∙◌, ◌==◌, bytes_eq, AllByRecursion}
-use Rattle.demo_runs.proofs.Words.{bytes_decides, eq-eqb, bool_cases, Entry, File, made_by}
-use Rattle.demo_runs.specs.Apart.{Edit}
-use Rattle.demo_runs.specs.Alike.{acted, acts, IsEdit}
+use Rattle.demo_runs.proofs.Words.{bytes_decides, eq-eqb, bool_cases, Entry, File, made_by, Edit, IsEdit, acted, acts}
 use Rattle.demo_runs.proofs.StepLemmas.{acted_there, stays_one}
 use Rattle.demo_runs.proofs.LaneLemmas.{write_entry}
 
@@ -47,7 +45,8 @@ one_apart [] second path apart = inl tt
 one_apart (edit ∷ first) second path apart = bool_cases (bytes_eq edit.path path)
     (λ b. bytes_eq edit.path path ≡ b → WriteOthers path (edit ∷ first) ⊎ WriteOthers path second)
     (λ t e. inr (others second apart.0 ((bytes_decides edit.path path).0 t)))
-    (λ f e. with_first (λ same. let t : bytes_eq edit.path path ≡ true = (bytes_decides edit.path path).1 same in absurd (cc)) (one_apart first second path apart.1))
+    (λ f e. with_first (λ same. let t : bytes_eq edit.path path ≡ true = (bytes_decides edit.path path).1 same in absurd (cc))
+    (one_apart first second path apart.1))
     refl
   where
     others : (edits : List Edit) → AllByRecursion (λ (other : Edit). edit.path ≢ other.path) edits → edit.path ≡ path → WriteOthers path edits

@@ -1,9 +1,8 @@
 -- The intakes of a history are among few: one for each file that stood before, and one for each write.
-use Rattle.demo_runs.proofs.Words.{ℕ, zero, suc, ◌≡◌, ◌⊎◌, inl, inr, ⊎_elim, ◌+◌, ◌<◌, ◌≤◌, Bool, true, false, not, List, [], ◌∷◌, ◌++◌, length, filter}
+use Rattle.demo_runs.proofs.Words.{ℕ, zero, suc, ◌≡◌, inl, inr, ⊎_elim, ◌+◌, ◌<◌, ◌≤◌, Bool, true, false, not, List, [], ◌∷◌, ◌++◌, length, filter}
 use Rattle.demo_runs.proofs.Words.{refl, ap, sym, ◌∙◌, subst, arith, append_assoc, Some, None, ◌==◌, nat_le, if◌then◌else◌, Option, option_map, is_none}
 use Rattle.demo_runs.proofs.Words.{AllByRecursion, eqb-true, cases_lt, Change, Write, Intake, Entry, Refusal, World, File, file_of, next_id, Put, put_of}
-use Rattle.demo_runs.proofs.Words.{refusal_of, taken_in, stamp_of, effect_of, fold, IsLegal, intake_of}
-use Rattle.demo_runs.specs.Alike.{IsEdit, writes, takes}
+use Rattle.demo_runs.proofs.Words.{refusal_of, taken_in, stamp_of, effect_of, fold, IsLegal, intake_of, IsEdit, writes, takes}
 use Rattle.demo_runs.proofs.LawLemmas.{Laws}
 use Rattle.demo_runs.proofs.StepLemmas.{found, placed, took, accepted_last}
 use Rattle.demo_runs.proofs.ListLemmas.{IsIn, count_to, count_here, grows}
@@ -97,8 +96,8 @@ all_offered laws (entry ∷ entries) history offers edits legal are =
     by_kind : ((more : List (List Change)) → AreOffered (fold after) more → AllOffered more entries) → IsEdit entry → AllOffered offers (entry ∷ entries)
     by_kind behind (writes lane path text one) =
         let is = accepted_last laws history entry (Write path text) one now in
-        let next = after_write laws (fold history) offers are path text is.accepted in
-        let rest = behind (next.0 ∷ offers) (subst (λ (w : World). AreOffered w (next.0 ∷ offers)) (sym is.world) next.1) in record {
+        let next = after_write laws (fold history) offers are path text is.0 in
+        let rest = behind (next.0 ∷ offers) (subst (λ (w : World). AreOffered w (next.0 ∷ offers)) (sym is.1) next.1) in record {
           list = rest.list;
           count = omega (arith, rest.count, count_here 2 entry entries lane);
           keeps = λ changes h. rest.keeps changes (inr h);
@@ -106,9 +105,9 @@ all_offered laws (entry ∷ entries) history offers edits legal are =
         }
     by_kind behind (takes file stamp one) =
         let is = accepted_last laws history entry (Intake file stamp) one now in
-        let next = after_intake laws (fold history) offers are file stamp is.accepted in
-        let rest = behind offers (subst (λ (w : World). AreOffered w offers) (sym is.world) next) in
-        let own = subst (λ (c : List Change). IsIn c offers) (sym one) (intake_offered laws (fold history) offers are file stamp is.accepted) in record {
+        let next = after_intake laws (fold history) offers are file stamp is.0 in
+        let rest = behind offers (subst (λ (w : World). AreOffered w offers) (sym is.1) next) in
+        let own = subst (λ (c : List Change). IsIn c offers) (sym one) (intake_offered laws (fold history) offers are file stamp is.0) in record {
           list = rest.list;
           count = omega (arith, rest.count, grows (nat_le entry.seat 2) entry (filter (λ (e : Entry). nat_le e.seat 2) entries));
           keeps = rest.keeps;

@@ -1,19 +1,22 @@
 -- What the prelude leaves: its paths are live.
 use Rattle.demo_runs.proofs.Words.{ℕ, zero, suc, ◌≡◌, ◌⊎◌, inl, inr, ⊎_elim, ◌+◌, ◌<◌, ◌≤◌, true, false, not, List, [], ◌∷◌, ◌++◌, length, map, refl, ap}
 use Rattle.demo_runs.proofs.Words.{sym, ◌∙◌, subst, arith, append-nil, length-append, Some, None, Option, option_map, is_some, AllByRecursion, lt-leb}
-use Rattle.demo_runs.proofs.Words.{bool_cases, Create, Entry, is_path, World, File, file_of, next_id, id_at, refusal_of, new_file, max_files, effect_of}
+use Rattle.demo_runs.proofs.Words.{bool_cases, Create, Entry, is_path, World, File, file_of, next_id, id_at, refusal_of, max_files, effect_of}
 use Rattle.demo_runs.proofs.Words.{list_refusal, ListRefusal, refusal_or, counted, fold, IsLegal, entry_of, Record, Step, step_unless, change_step}
-use Rattle.demo_runs.proofs.Words.{done_from}
-use Rattle.demo_runs.specs.Apart.{Edit, create_line, IsAmong}
-use Rattle.demo_runs.specs.Alike.{bare, bare_at, IsLive}
+use Rattle.demo_runs.proofs.Words.{done_from, Edit, create_line, IsAmong, bare, IsAt, IsLive}
 use Rattle.demo_runs.proofs.LawLemmas.{Laws}
 use Rattle.demo_runs.proofs.StepLemmas.{of_bare, placed, accepted_last}
 use Rattle.demo_runs.proofs.LaneLemmas.{passes, not_full}
 
+-- a file isn't open, where it is there
+abbrev pub IsClosed : Option File → Type 0
+IsClosed None = Unit {0}
+IsClosed (Some file) = file.document ≡ None
+
 -- a legal history with so many entries and files at most, none of them open
 pub record HasBegun (history : List Entry) (count : ℕ) : Type 0 where
   pub legal : IsLegal history
-  pub closed : (id : ℕ) (file : File) → bare_at (fold history) id ≡ Some file → file.document ≡ None
+  pub closed : (id : ℕ) → IsClosed (file_of (fold history) id)
   pub few : length history ≤ count
   pub ids : next_id (fold history) ≤ count + 1
 
@@ -30,9 +33,9 @@ more history count other le begun =
 pub begun_empty : HasBegun [] 0
 begun_empty = record { legal = tt; closed = nobody; few = omega arith; ids = omega arith }
   where
-    nobody : (id : ℕ) (file : File) → bare_at (fold []) id ≡ Some file → file.document ≡ None
-    nobody zero file is = absurd (cc)
-    nobody (suc id) file is = absurd (cc)
+    nobody : (id : ℕ) → IsClosed (file_of (fold []) id)
+    nobody zero = tt
+    nobody (suc id) = tt
 
 module _ (laws : Laws) (edit : Edit) (history : List Entry) (count : ℕ) (begun : HasBegun history count) (few : count < 10000)
     (lawful : is_path edit.path ≡ true) where
@@ -48,15 +51,13 @@ module _ (laws : Laws) (edit : Edit) (history : List Entry) (count : ℕ) (begun
   -- at a taken path
   taken_one : (o : Option ℕ) → id_at world edit.path ≡ o → is_some o ≡ true → HasMade IsHere history (history ++ []) (suc count)
   taken_one None is taken = absurd (cc)
-  taken_one (Some id) is taken = subst (λ (h : List Entry). HasMade IsHere history h (suc count)) (sym (append-nil history))
-      (record { begun = more history count (suc count) (omega arith) begun; live = alive })
-    where
-      alive : (path : List ℕ) → IsLive world path ⊎ IsHere path → IsLive world path
-      alive path (inl live) = live
-      alive path (inr same) =
-          let file = laws.at_path world edit.path id is in
-          let shown : bare_at world id ≡ Some (bare file.0) = ap (option_map bare) file.1 in
-          record { id = id; file = bare file.0; is = shown; same = file.2 ∙ same; closed = begun.closed id (bare file.0) shown }
+  taken_one (Some id) is taken =
+      let file = laws.at_path world edit.path id is in
+      subst (λ (h : List Entry). HasMade IsHere history h (suc count)) (sym (append-nil history)) (record {
+        begun = more history count (suc count) (omega arith) begun;
+        live = λ path. ⊎_elim (λ live. live) (λ (same : IsHere path).
+            (id, subst (λ o. IsAt path (option_map bare o)) (sym file.1) (file.2 ∙ same, subst IsClosed file.1 (begun.closed id))));
+      })
 
   -- at a free one
   free_accepted : is_some (id_at world edit.path) ≡ false → list_refusal world (Create edit.path edit.text ∷ []) ≡ None
@@ -73,31 +74,25 @@ module _ (laws : Laws) (edit : Edit) (history : List Entry) (count : ℕ) (begun
       record {
         begun = record {
           legal = now;
-          closed = subst (λ (w : World). (id : ℕ) (file : File) → bare_at w id ≡ Some file → file.document ≡ None) (sym is.world)
-              (λ id file. placed laws world (Create edit.path edit.text) is.accepted id (λ o. option_map bare o ≡ Some file → file.document ≡ None)
-              (λ same e. let fresh : bare (new_file edit.path edit.text 0) ≡ file = cc in sym (ap (λ (f : File). f.document) fresh))
-              (λ other e. begun.closed id file e));
+          closed = subst (λ (w : World). (id : ℕ) → IsClosed (file_of w id)) (sym is.1)
+              (λ id. placed laws world (Create edit.path edit.text) is.0 id IsClosed (λ here. refl) (λ other. begun.closed id));
           few = omega (arith, length-append history (entry ∷ []), begun.few);
-          ids = omega (arith, ap next_id is.world, laws.made world (Create edit.path edit.text) is.accepted, begun.ids);
+          ids = omega (arith, ap next_id is.1, laws.made world (Create edit.path edit.text) is.0, begun.ids);
         };
-        live = subst (λ (w : World). (path : List ℕ) → IsLive world path ⊎ IsHere path → IsLive w path) (sym is.world) (alive is.accepted);
+        live = subst (λ (w : World). (path : List ℕ) → IsLive world path ⊎ IsHere path → IsLive w path) (sym is.1) (alive is.0);
       }
     where
       alive : refusal_of world (Create edit.path edit.text) ≡ None → (path : List ℕ) → IsLive world path ⊎ IsHere path
           → IsLive (counted (effect_of world (Create edit.path edit.text))) path
-      alive accepted path (inr same) = record {
-        id = next_id world;
-        file = bare (new_file edit.path edit.text 0);
-        is = placed laws world (Create edit.path edit.text) accepted (next_id world) (λ o. option_map bare o ≡ Some (bare (new_file edit.path edit.text 0)))
-            (λ here. refl) (λ other. absurd (other refl));
-        same = same;
-        closed = refl;
-      }
+      alive accepted path (inr same) =
+          let is = placed laws world (Create edit.path edit.text) accepted (next_id world) (λ o. IsAt path (option_map bare o))
+          (λ here. (same, refl)) (λ other. absurd (other refl)) in
+          (next_id world, is)
       alive accepted path (inl old) =
-          let file = of_bare (file_of world old.id) old.file old.is in
-          let is = placed laws world (Create edit.path edit.text) accepted old.id (λ o. option_map bare o ≡ Some old.file)
-          (λ here. absurd (omega (arith, here, (laws.live world old.id file.0 file.1).1))) (λ other. old.is) in
-          record { id = old.id; file = old.file; is = is; same = old.same; closed = old.closed }
+          let file = of_bare (file_of world old.0) path old.1 in
+          let is = placed laws world (Create edit.path edit.text) accepted old.0 (λ o. IsAt path (option_map bare o))
+          (λ here. absurd (omega (arith, here, (laws.live world old.0 file.0 file.1).1))) (λ other. old.1) in
+          (old.0, is)
 
   one : HasMade IsHere history (history ++ (change_step history 0 edit.number (Create edit.path edit.text)).added) (suc count)
   one = by_refusal (list_refusal world (Create edit.path edit.text ∷ [])) refl

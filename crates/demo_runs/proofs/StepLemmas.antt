@@ -3,8 +3,7 @@ use Rattle.demo_runs.proofs.Words.{ℕ, ◌≡◌, ◌≢◌, ◌+◌, Bool, fal
 use Rattle.demo_runs.proofs.Words.{Some, None, ◌==◌, if◌then◌else◌, Option, option_map, is_none, unwrap_or, bytes_eq, option_and_then, AllByRecursion}
 use Rattle.demo_runs.proofs.Words.{bytes_decides, eqb-true, eqb-false, bool_cases, Change, Write, Intake, Entry, Refusal, World, File, file_of, next_id}
 use Rattle.demo_runs.proofs.Words.{id_at, Put, put_of, refusal_of, rewritten, taken_in, effect_of, list_refusal, refusal_or, counted, after_list, fold}
-use Rattle.demo_runs.proofs.Words.{IsLegal}
-use Rattle.demo_runs.specs.Alike.{bare, bare_at, IsLive, IsEdit, writes, takes, acted, acts}
+use Rattle.demo_runs.proofs.Words.{IsLegal, bare, bare_at, IsAt, IsLive, IsEdit, writes, takes, acted, acts}
 use Rattle.demo_runs.proofs.LawLemmas.{Laws}
 
 -- ---- one change
@@ -14,10 +13,10 @@ pub found : {A : Type 0} (o : Option A) (why : Refusal) (rest : Option Refusal) 
 found None why rest h = absurd (let e : Some why ≡ None = h in cc)
 found (Some x) why rest h = (x, refl)
 
--- a bare file is of a live one
-pub of_bare : (o : Option File) (shown : File) → option_map bare o ≡ Some shown → (file : File) × (o ≡ Some file) × (bare file ≡ shown)
-of_bare None shown e = absurd (cc)
-of_bare (Some file) shown e = let same : bare file ≡ shown = cc in (file, refl, same)
+-- what is there bare is a live file
+pub of_bare : (o : Option File) (path : List ℕ) → IsAt path (option_map bare o) → (file : File) × (o ≡ Some file) × IsAt path (Some file)
+of_bare None path is = absurd is
+of_bare (Some file) path is = (file, refl, is)
 
 -- a write of another path does nothing
 pub acted_there : (path text : List ℕ) (file : File) → file.path ≢ path → acted (Write path text ∷ []) file ≡ file
@@ -55,7 +54,8 @@ wrote laws history legal path text accepted id =
     placed laws world (Write path text) accepted id (λ o. option_map bare o ≡ option_map (acted (Write path text ∷ [])) (bare_at world id))
     (λ same. ap (λ (p : Put). option_map bare p.file) put_is
     ∙ ap (λ (b : Bool). Some (if b then rewritten text 0 (bare old.0) else bare old.0)) (sym ((bytes_decides old.0.path path).1 old.2))
-    ∙ sym (ap (λ (o : Option File). option_map (acted (Write path text ∷ [])) (option_map bare o)) (ap (file_of world) (same ∙ ap (λ (p : Put). p.id) put_is) ∙ old.1)))
+    ∙ sym (ap (λ (o : Option File). option_map (acted (Write path text ∷ [])) (option_map bare o))
+    (ap (file_of world) (same ∙ ap (λ (p : Put). p.id) put_is) ∙ old.1)))
     (λ other. elsewhere (file_of world id) (λ file is same. other (laws.apart history id there.0 file old.0 legal is old.1 (same ∙ sym old.2)
     ∙ sym (ap (λ (p : Put). p.id) put_is))))
   where
@@ -75,23 +75,20 @@ wrote laws history legal path text accepted id =
     put_is = ap (λ o. record { id = unwrap_or o 0; file = option_and_then edit (option_and_then (file_of world) o); drawn = 1 }) there.1
         ∙ ap (λ o. record { id = there.0; file = option_and_then edit o; drawn = 1 }) old.1
 
-    elsewhere : (o : Option File) → ((file : File) → o ≡ Some file → file.path ≢ path) → option_map bare o ≡ option_map (acted (Write path text ∷ [])) (option_map bare o)
+    elsewhere : (o : Option File) → ((file : File) → o ≡ Some file → file.path ≢ path)
+        → option_map bare o ≡ option_map (acted (Write path text ∷ [])) (option_map bare o)
     elsewhere None apart = refl
     elsewhere (Some file) apart = ap Some (sym (acted_there path text (bare file) (apart file refl)))
 
 -- ---- entries
 
 -- an entry of one change, which a legal history ends with, is an accepted change
-pub record IsAccepted (history : List Entry) (entry : Entry) (change : Change) : Type 0 where
-  pub accepted : refusal_of (fold history) change ≡ None
-  pub world : fold (history ++ entry ∷ []) ≡ counted (effect_of (fold history) change)
-
 pub accepted_last : Laws → (history : List Entry) (entry : Entry) (change : Change) → entry.changes ≡ change ∷ [] → IsLegal (history ++ entry ∷ [])
-    → IsAccepted history entry change
-accepted_last laws history entry change one legal = record {
-  accepted = first (refusal_of (fold history) change) (sym (ap (list_refusal (fold history)) one) ∙ (laws.legal_rest history (entry ∷ []) legal).0);
-  world = laws.fold_on history (entry ∷ []) ∙ ap (after_list (fold history)) one;
-}
+    → (refusal_of (fold history) change ≡ None) × (fold (history ++ entry ∷ []) ≡ counted (effect_of (fold history) change))
+accepted_last laws history entry change one legal = (
+  first (refusal_of (fold history) change) (sym (ap (list_refusal (fold history)) one) ∙ (laws.legal_rest history (entry ∷ []) legal).0),
+  laws.fold_on history (entry ∷ []) ∙ ap (after_list (fold history)) one,
+)
   where
     first : (refusal : Option Refusal) → refusal_or refusal None ≡ None → refusal ≡ None
     first None h = refl
@@ -106,24 +103,25 @@ goes_on_one : Laws → (history : List Entry) (entry : Entry) → IsEdit entry �
     → GoesOn history (history ++ entry ∷ []) (entry ∷ [])
 goes_on_one laws history entry edit legal = by_kind edit
   where
-    by_change : (change : Change) → entry.changes ≡ change ∷ [] → (is : IsAccepted history entry change) → next_id (effect_of (fold history) change) ≡ next_id (fold history) + 0
+    by_change : (change : Change) → entry.changes ≡ change ∷ [] → fold (history ++ entry ∷ []) ≡ counted (effect_of (fold history) change)
+        → next_id (effect_of (fold history) change) ≡ next_id (fold history) + 0
         → ((id : ℕ) → bare_at (effect_of (fold history) change) id ≡ option_map (acted (change ∷ [])) (bare_at (fold history) id))
         → GoesOn history (history ++ entry ∷ []) (entry ∷ [])
     by_change change one is none shown = record {
-      ids = ap next_id is.world ∙ none ∙ add-zero (next_id (fold history));
-      files = λ id. ap (λ (w : World). bare_at w id) is.world ∙ shown id
+      ids = ap next_id is ∙ none ∙ add-zero (next_id (fold history));
+      files = λ id. ap (λ (w : World). bare_at w id) is ∙ shown id
           ∙ ap (λ (changes : List Change). option_map (acted changes) (bare_at (fold history) id)) (sym one);
     }
 
     by_kind : IsEdit entry → GoesOn history (history ++ entry ∷ []) (entry ∷ [])
     by_kind (writes lane path text one) =
         let is = accepted_last laws history entry (Write path text) one legal in
-        by_change (Write path text) one is (laws.made (fold history) (Write path text) is.accepted)
-        (wrote laws history (laws.legal_front history (entry ∷ []) legal) path text is.accepted)
+        by_change (Write path text) one is.1 (laws.made (fold history) (Write path text) is.0)
+        (wrote laws history (laws.legal_front history (entry ∷ []) legal) path text is.0)
     by_kind (takes file stamp one) =
         let is = accepted_last laws history entry (Intake file stamp) one legal in
-        by_change (Intake file stamp) one is (laws.made (fold history) (Intake file stamp) is.accepted)
-        (λ id. took (option_map bare) laws (fold history) file stamp is.accepted (took_bare stamp) id ∙ map_nothing (bare_at (fold history) id))
+        by_change (Intake file stamp) one is.1 (laws.made (fold history) (Intake file stamp) is.0)
+        (λ id. took (option_map bare) laws (fold history) file stamp is.0 (took_bare stamp) id ∙ map_nothing (bare_at (fold history) id))
 
 pub goes_on : Laws → (entries history : List Entry) → AllByRecursion IsEdit entries → IsLegal (history ++ entries) → GoesOn history (history ++ entries) entries
 goes_on laws [] history are legal = subst (λ (h : List Entry). GoesOn history h []) (sym (append-nil history))
@@ -165,10 +163,8 @@ stays_all (entry ∷ entries) are file =
 pub live_on : Laws → (entries history : List Entry) → AllByRecursion IsEdit entries → IsLegal (history ++ entries) → (path : List ℕ)
     → IsLive (fold history) path → IsLive (fold (history ++ entries)) path
 live_on laws entries history are legal path live =
-    let stays = stays_all entries are live.file in record {
-      id = live.id;
-      file = acts entries live.file;
-      is = (goes_on laws entries history are legal).files live.id ∙ ap (option_map (acts entries)) live.is;
-      same = stays.0 ∙ live.same;
-      closed = stays.1 live.closed;
-    }
+    (live.0, subst (IsAt path) (sym ((goes_on laws entries history are legal).files live.0)) (stays (bare_at (fold history) live.0) live.1))
+  where
+    stays : (o : Option File) → IsAt path o → IsAt path (option_map (acts entries) o)
+    stays None is = absurd is
+    stays (Some file) is = let kept = stays_all entries are file in (kept.0 ∙ is.0, kept.1 is.1)

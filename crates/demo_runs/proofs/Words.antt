@@ -24,7 +24,7 @@ pub use Rattle.write_history.specs.declared.refusal.Refusal.{Refusal}
 pub use Rattle.write_history.specs.Path.{is_path}
 pub use Rattle.write_history.specs.World.{World, File, file_of, next_id, id_at, document_at, ids_from, is_open, is_unready, count_of}
 pub use Rattle.write_history.specs.World.{lowest_unready, unready_ids}
-pub use Rattle.write_history.specs.Effect.{Put, put_of, refusal_of, new_file, rewritten, taken_in, stamp_of, is_unsaved, max_files, max_entries}
+pub use Rattle.write_history.specs.Effect.{Put, put_of, refusal_of, rewritten, taken_in, stamp_of, is_unsaved, max_files, max_entries}
 pub use Rattle.write_history.specs.Fold.{after_put, effect_of, list_refusal, ListRefusal, refusal_or, counted, after_list, fold, fold_from, IsLegal}
 pub use Rattle.write_history.specs.Fold.{IsLegalFrom}
 pub use Rattle.write_history.specs.Stamps.{files_made}
@@ -51,3 +51,5 @@ pub use Rattle.demo.specs.declared.command.Command.{Command}
 pub use Rattle.demo.specs.declared.command.Verb.{Verb}
 pub use Rattle.demo.specs.Line.{path_of, class_of}
 pub use Rattle.demo.specs.Commands.{creates}
+pub use Rattle.demo_runs.specs.Apart.{Edit, create_line, write_line, Question, ask_line, settle_line, IsAmong, IsOfAll, WritesApart}
+pub use Rattle.demo_runs.specs.Alike.{bare, bare_at, IsAt, IsLive, IsEdit, writes, takes, acted, acts}

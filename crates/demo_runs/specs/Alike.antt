@@ -3,7 +3,7 @@ use Rattle.std.specs.Prelude.{ℕ, ◌≡◌, ◌≤◌, List, [], ◌∷◌, if
 use Rattle.write_history.specs.declared.change.Change.{Change}
 use Rattle.write_history.specs.declared.change.Change.TheVariants.{Write, Intake}
 use Rattle.write_history.specs.declared.entry.Entry.{Entry}
-use Rattle.write_history.specs.World.{World, File, file_of, next_id}
+use Rattle.write_history.specs.World.{World, File, file_of}
 use Rattle.write_history.specs.Effect.{rewritten}
 
 -- a file without its stamp and its mark
@@ -14,18 +14,14 @@ bare file = record { path = file.path; content = file.content; stamp = 0; indexe
 abbrev pub bare_at : World → ℕ → Option File
 bare_at world id = option_map bare (file_of world id)
 
--- two worlds have files with the same ids, which show the same
-pub record IsAlike (world other : World) : Type 0 where
-  pub ids : next_id world ≡ next_id other
-  pub files : (id : ℕ) → bare_at world id ≡ bare_at other id
+-- a file is there with the path, and isn't open
+abbrev pub IsAt : List ℕ → Option File → Type 0
+IsAt path None = ⊥
+IsAt path (Some file) = (file.path ≡ path) × (file.document ≡ None)
 
 -- a live file has the path, and isn't open
-pub record IsLive (world : World) (path : List ℕ) : Type 0 where
-  pub id : ℕ
-  pub file : File
-  pub is : bare_at world id ≡ Some file
-  pub same : file.path ≡ path
-  pub closed : file.document ≡ None
+abbrev pub IsLive : World → List ℕ → Type 0
+IsLive world path = (id : ℕ) × IsAt path (bare_at world id)
 
 -- an entry of one write, which a lane made, or of one intake
 pub data IsEdit (entry : Entry) : Type 0 where

@@ -1,6 +1,7 @@
 -- Printed lines are read back: bytes that are put together line by line spell the script of their lines, where each line is of ASCII from
 -- the space on. What is to come of a script is built from its last line up to its first.
-use Rattle.std.proofs.Common.{◌≡◌, ◌≢◌, ◌≤◌, inl, inr, ℕ, zero, suc, ◌+◌, Bool, true, false, not, ◌&&◌, leb, ltb, eqb, IsTrue, IsAscii, List, [], ◌∷◌, ◌++◌, length, codes, Some, None, refl, ap, sym, ◌∙◌, subst, arith}
+use Rattle.std.proofs.Common.{◌≡◌, ◌≢◌, ◌≤◌, inl, inr, ℕ, zero, suc, ◌+◌, Bool, true, false, not, ◌&&◌, leb, ltb, eqb, IsTrue, IsAscii}
+use Rattle.std.proofs.Common.{List, [], ◌∷◌, ◌++◌, length, codes, Some, None, refl, ap, sym, ◌∙◌, subst, arith}
 use Rattle.std.specs.List.{All, list_all}
 use Rattle.std.proofs.lemmas.Bool.{and_parts, ne_eqb, ltb-true}
 use Rattle.std.proofs.lemmas.List.Elements.{All-weaker}
@@ -9,7 +10,8 @@ use Rattle.std.proofs.lemmas.List.Sums.{AllPass-from_list_all}
 use Rattle.std.proofs.lemmas.Str.{chars-IsAscii, IsUtf8-from_ascii}
 use Rattle.ide_text.specs.Text.{repaired, max_chars}
 use Rattle.script_lang.specs.Contents.{alone_or, lone_content, content_from}
-use Rattle.script_lang.specs.Grammar.{AreSpelled, IsQuoted, IsCommandLine, DropsReturn, IsLine, AreLines, AreContents, Rest, HoldRest, nothing, first_comes, lane_comes, last_comes, whole, IsScript}
+use Rattle.script_lang.specs.Grammar.{AreSpelled, IsQuoted, IsCommandLine, DropsReturn, IsLine, AreLines, AreContents, IsScript}
+use Rattle.script_lang.specs.Grammar.{Rest, HoldRest, nothing, first_comes, lane_comes, last_comes, whole}
 use Rattle.script_lang.specs.Lines.{max_bytes, line_feed, carriage_return}
 use Rattle.script_lang.specs.Parts.{Parts}
 use Rattle.script_lang.specs.Quotes.{quote, backslash}
