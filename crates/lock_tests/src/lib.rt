@@ -4,6 +4,8 @@
 #[cfg(test)]
 mod append;
 #[cfg(test)]
+mod begun;
+#[cfg(test)]
 mod board;
 #[cfg(test)]
 mod count;
@@ -19,6 +21,8 @@ mod nothing;
 mod reads;
 #[cfg(test)]
 mod refusals;
+#[cfg(test)]
+mod scenes;
 #[cfg(test)]
 mod side_by_side;
 #[cfg(test)]

@@ -1,79 +1,47 @@
 //! What a clause cannot say: that the calls succeed, and that readers are in side by side.
-use crate::append::Append;
-use crate::board::Board;
-use crate::count::Count;
-use crate::drawing::draw;
+use crate::begun::{
+    begun, begun_with_three, begun_with_two, ended, ended_with_three, ended_with_two,
+};
 use crate::lanes::{Lane, run_all};
-use crate::nothing::NoGate;
-use crate::reads::{finds_nothing, is_let_in, sees_a_write};
-use crate::refusals::{is_held_up, pending_word};
+use crate::scenes::{
+    numbers_run_out, read_at_once, reads_alone, threads_wait, write_stops_readers, writes_follow,
+};
 use crate::side_by_side::{Room, read_three};
-use crate::waiting::{ask_twice, read_and_write, soft_and_write};
-use crate::writes::{begin, change_once, change_twice};
-use action_lock::{ActionLock, SplitRefusal};
-use nonblocking_read::{SoftRefusal, soft};
-use std::test::Fail;
 
 #[test]
-fn two_passes_read_at_once(rt: HostRuntime) -> Result<(), Fail> {
+fn two_passes_read_at_once(rt: HostRuntime) {
     let alloc = rt.alloc();
-    let board = Board::empty(alloc)?;
-    let Ok((lock, mut first)) = ActionLock::new(alloc, board) else {
+    let Some((lock, mut first, mut second)) = begun_with_two(alloc) else {
         panic!(rt; "no memory for the lock")
     };
-    let Ok(mut second) = lock.split(&mut first) else {
-        panic!(rt; "no number is left")
+    let right = read_at_once(alloc, &lock, &mut first, &mut second);
+    assert!(rt; right);
+    let board = match ended_with_two(lock, first, second) {
+        Ok(board) => board,
+        Err((_lock, _pass)) => panic!(rt; "all have been met"),
     };
-    let Ok(one) = first.try_read(alloc, &lock) else {
-        panic!(rt; "nobody is in")
-    };
-    let Ok(mut two) = second.try_read(alloc, &lock) else {
-        panic!(rt; "a reader is no hindrance")
-    };
-    let found = two.check();
-    assert!(rt; !found);
-    assert!(rt; one.share().is_empty());
-    one.leave();
-    two.leave();
-    assert!(rt; second.number() == 1 && second.sights() == 0);
-    assert!(rt; !lock.is_last(&mut first));
-    lock.meet(second, &mut first);
-    assert!(rt; lock.is_last(&mut first));
-    let board = lock.close(first);
     assert!(rt; board.notes.is_empty());
-    Ok(())
 }
 
 #[test]
-fn the_numbers_end_at_65536(rt: HostRuntime) -> Result<(), Fail> {
-    let alloc = rt.alloc();
-    let board = Board::empty(alloc)?;
-    let Ok((lock, mut first)) = ActionLock::new(alloc, board) else {
+fn the_numbers_end_at_65536(rt: HostRuntime) {
+    let Some((lock, mut first)) = begun(rt.alloc()) else {
         panic!(rt; "no memory for the lock")
     };
-    let drawn = draw(&lock, &mut first, 65535);
-    assert!(rt; drawn.is_none());
-    let full = draw(&lock, &mut first, 1);
-    assert!(rt; full == Some(SplitRefusal::Full { drawn: 65536 }));
-    assert!(rt; lock.is_last(&mut first));
-    let _board = lock.close(first);
-    Ok(())
+    let right = numbers_run_out(&lock, &mut first);
+    assert!(rt; right);
+    let _board = match ended(lock, first) {
+        Ok(board) => board,
+        Err((_lock, _pass)) => panic!(rt; "all have been met"),
+    };
 }
 
 #[test]
-fn three_threads_read_side_by_side(rt: HostRuntime) -> Result<(), Fail> {
+fn three_threads_read_side_by_side(rt: HostRuntime) {
     let alloc = rt.alloc();
-    let board = Board::empty(alloc)?;
-    let Ok((lock, mut first)) = ActionLock::new(alloc, board) else {
+    let Some((lock, mut first, mut second, mut third)) = begun_with_three(alloc) else {
         panic!(rt; "no memory for the lock")
     };
-    let Ok(mut second) = lock.split(&mut first) else {
-        panic!(rt; "no number is left")
-    };
-    let Ok(mut third) = lock.split(&mut first) else {
-        panic!(rt; "no number is left")
-    };
-    let room = Room::new(3);
     let met = read_three(
         &rt,
         alloc,
@@ -81,140 +49,79 @@ fn three_threads_read_side_by_side(rt: HostRuntime) -> Result<(), Fail> {
         &mut first,
         &mut second,
         &mut third,
-        &room,
+        &Room::new(3),
     );
     assert!(rt; met);
-    lock.meet(second, &mut first);
-    lock.meet(third, &mut first);
-    assert!(rt; lock.is_last(&mut first));
-    let _board = lock.close(first);
-    Ok(())
+    let _board = match ended_with_three(lock, first, second, third) {
+        Ok(board) => board,
+        Err((_lock, _pass)) => panic!(rt; "all have been met"),
+    };
 }
 
 #[test]
-fn a_read_waits_and_is_taken_apart(rt: HostRuntime) -> Result<(), Fail> {
+fn a_read_waits_and_is_taken_apart(rt: HostRuntime) {
     let alloc = rt.alloc();
-    let board = Board::empty(alloc)?;
-    let Ok((lock, mut first)) = ActionLock::new(alloc, board) else {
+    let Some((lock, mut first)) = begun(alloc) else {
         panic!(rt; "no memory for the lock")
     };
-    let empty = finds_nothing(&rt, alloc, &lock, &mut first);
-    let written = sees_a_write(alloc, &lock, &mut first);
-    let let_in = is_let_in(alloc, &lock, &mut first);
-    assert!(rt; empty);
-    assert!(rt; !written);
-    assert!(rt; let_in);
-    assert!(rt; lock.is_last(&mut first));
-    let _board = lock.close(first);
-    Ok(())
+    let right = reads_alone(&rt, alloc, &lock, &mut first);
+    assert!(rt; right);
+    let _board = match ended(lock, first) {
+        Ok(board) => board,
+        Err((_lock, _pass)) => panic!(rt; "all have been met"),
+    };
 }
 
 #[test]
-fn a_write_stops_readers_until_it_ends(rt: HostRuntime) -> Result<(), Fail> {
+fn a_write_stops_readers_until_it_ends(rt: HostRuntime) {
     let alloc = rt.alloc();
-    let board = Board::empty(alloc)?;
-    let Ok((lock, mut first)) = ActionLock::new(alloc, board) else {
+    let Some((lock, mut first, mut second)) = begun_with_two(alloc) else {
         panic!(rt; "no memory for the lock")
     };
-    let Ok(mut second) = lock.split(&mut first) else {
-        panic!(rt; "no number is left")
+    let right = write_stops_readers(&rt, alloc, &lock, &mut first, &mut second);
+    assert!(rt; right && second.number() == 1);
+    let board = match ended_with_two(lock, first, second) {
+        Ok(board) => board,
+        Err((_lock, _pass)) => panic!(rt; "all have been met"),
     };
-    let Ok(()) = second.try_intent(&lock) else {
-        panic!(rt; "nobody has the intent")
-    };
-    let begun = begin(&rt, &lock, &mut second, &Append { alloc, text: 1 });
-    let word = pending_word(alloc, &lock, &mut first);
-    assert!(rt; word == 7 && first.sights() == 1);
-    let room = Room::new(0);
-    let mut work = Count {
-        room: &room,
-        more_looks: 0,
-    };
-    let refused = soft(&rt, alloc, &lock, &mut first, 2, &mut work, &NoGate {});
-    assert!(rt; refused == Err(SoftRefusal::Cancelled { attempts: 2 }));
-    assert!(rt; first.sights() == 3);
-    let held = is_held_up(&lock, &mut first);
-    assert!(rt; held);
-    assert!(rt; begun);
-    second.finish(&lock);
-    second.release(&lock);
-    let counted = soft(&rt, alloc, &lock, &mut first, 2, &mut work, &NoGate {});
-    assert!(rt; counted == Ok(1));
-    assert!(rt; first.sights() == 3 && second.number() == 1);
-    lock.meet(second, &mut first);
-    assert!(rt; lock.is_last(&mut first));
-    let board = lock.close(first);
     assert!(rt; board.notes.len() == 1 && board.notes[0].number == 1);
-    Ok(())
 }
 
 #[test]
-fn writes_follow_one_another(rt: HostRuntime) -> Result<(), Fail> {
+fn writes_follow_one_another(rt: HostRuntime) {
     let alloc = rt.alloc();
-    let board = Board::empty(alloc)?;
-    let Ok((lock, mut first)) = ActionLock::new(alloc, board) else {
+    let Some((lock, mut first)) = begun(alloc) else {
         panic!(rt; "no memory for the lock")
     };
-    let one = change_once(&rt, &lock, &mut first, &Append { alloc, text: 1 });
-    let two = change_twice(&rt, &lock, &mut first, &Append { alloc, text: 2 });
-    assert!(rt; one && two);
-    first.intent(&rt, &lock);
-    first.write(&rt, &lock);
-    first.abandon(&lock);
-    first.release(&lock);
-    let let_in = is_let_in(alloc, &lock, &mut first);
-    assert!(rt; let_in);
-    assert!(rt; lock.is_last(&mut first));
-    let board = lock.close(first);
+    let right = writes_follow(&rt, alloc, &lock, &mut first);
+    assert!(rt; right);
+    let board = match ended(lock, first) {
+        Ok(board) => board,
+        Err((_lock, _pass)) => panic!(rt; "all have been met"),
+    };
     assert!(rt; board.notes.len() == 3 && board.notes[0].text == 1 && board.notes[2].text == 2);
-    Ok(())
 }
 
 #[test]
-fn threads_wait_for_one_another(rt: HostRuntime) -> Result<(), Fail> {
+fn threads_wait_for_one_another(rt: HostRuntime) {
     let alloc = rt.alloc();
-    let board = Board::empty(alloc)?;
-    let Ok((lock, mut first)) = ActionLock::new(alloc, board) else {
+    let Some((lock, mut first, mut second)) = begun_with_two(alloc) else {
         panic!(rt; "no memory for the lock")
     };
-    let Ok(mut second) = lock.split(&mut first) else {
-        panic!(rt; "no number is left")
+    let right = threads_wait(&rt, alloc, &lock, &mut first, &mut second);
+    assert!(rt; right);
+    let board = match ended_with_two(lock, first, second) {
+        Ok(board) => board,
+        Err((_lock, _pass)) => panic!(rt; "all have been met"),
     };
-    let room = Room::new(1);
-    let read = read_and_write(&rt, alloc, &lock, &mut first, &mut second, &room);
-    assert!(rt; read && first.sights() == 1);
-    let room = Room::new(1);
-    let stopped = soft_and_write(&rt, alloc, &lock, &mut first, &mut second, &room);
-    assert!(rt; stopped && first.sights() == 2);
-    let mut work = Count {
-        room: &room,
-        more_looks: 0,
-    };
-    let counted = soft(&rt, alloc, &lock, &mut first, 1, &mut work, &NoGate {});
-    assert!(rt; counted == Ok(2));
-    let held = Room::new(1);
-    let told = Room::new(1);
-    let refused = ask_twice(&rt, &lock, &mut first, &mut second, &held, &told);
-    assert!(rt; refused);
-    lock.meet(second, &mut first);
-    assert!(rt; lock.is_last(&mut first));
-    let board = lock.close(first);
     assert!(rt; board.notes.len() == 2);
-    Ok(())
 }
 
 #[test]
-fn lanes_write_in_threads_of_their_own(rt: HostRuntime) -> Result<(), Fail> {
+fn lanes_write_in_threads_of_their_own(rt: HostRuntime) {
     let alloc = rt.alloc();
-    let board = Board::empty(alloc)?;
-    let Ok((lock, mut first)) = ActionLock::new(alloc, board) else {
+    let Some((lock, first, second, third)) = begun_with_three(alloc) else {
         panic!(rt; "no memory for the lock")
-    };
-    let Ok(second) = lock.split(&mut first) else {
-        panic!(rt; "no number is left")
-    };
-    let Ok(third) = lock.split(&mut first) else {
-        panic!(rt; "no number is left")
     };
     let mut lanes = [
         Lane {
@@ -237,10 +144,9 @@ fn lanes_write_in_threads_of_their_own(rt: HostRuntime) -> Result<(), Fail> {
         written: by_third,
     } = two;
     assert!(rt; second.number() == 1 && third.number() == 2);
-    lock.meet(second, &mut first);
-    lock.meet(third, &mut first);
-    assert!(rt; lock.is_last(&mut first));
-    let board = lock.close(first);
+    let board = match ended_with_three(lock, first, second, third) {
+        Ok(board) => board,
+        Err((_lock, _pass)) => panic!(rt; "all have been met"),
+    };
     assert!(rt; by_second && by_third && board.notes.len() == 2);
-    Ok(())
 }
