@@ -5,7 +5,7 @@ ghost use Rattle.java_tokens.specs.Words.{words_of};
 ghost use Rattle.decl_parser.specs.Listing.{listing_of};
 ghost use Rattle.overlay_index.specs.Parts.{no_parts, parts_of};
 
-use crate::word_masks::rows_of_words;
+use crate::word_masks::{WordMasks, rows_of_words};
 use decl_parser::stubs;
 use file_index::{Indexer, KeyRows, copy_rows};
 use ide_text::{Name, Text};
