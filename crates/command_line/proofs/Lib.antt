@@ -1,4 +1,3 @@
 pub mod NumberLemmas
 pub mod RequestLemmas
 mod OnLiterals
-pub mod GrammarLemmas

@@ -111,21 +111,14 @@ impl Reader {
     }
 
     /// The script with a command more in the section at hand, where it may stand there.
-    fn with_command(self, number: u32, command: Command) -> Result<Option<Reader>, AllocError>
+    fn with_command(mut self, number: u32, command: Command) -> Result<Option<Reader>, AllocError>
         ensures { IfOk result (λ next. next ≡ with_command self number command) }
     {
         if !may_stand(self.section, &command) {
             return Ok(None);
         }
-        Ok(Some(self.with_line(Line { number, command })?))
-    }
-
-    /// The script with a line more in the section at hand.
-    fn with_line(mut self, line: Line) -> Result<Reader, AllocError>
-        ensures { IfOk result (λ next. next ≡ record self { here = self.here ++ line ∷ [] }) }
-    {
-        self.here.push(line)?;
-        Ok(self)
+        self.here.push(Line { number, command })?;
+        Ok(Some(self))
     }
 
     /// The script at the beginning of another section. The section at hand isn't the last one.
@@ -155,13 +148,14 @@ impl Reader {
     }
 
     /// The script with a group more in the section at hand, where the group has a change.
-    fn with_group(self, group: Group) -> Result<Option<Reader>, AllocError>
+    fn with_group(mut self, group: Group) -> Result<Option<Reader>, AllocError>
         ensures { IfOk result (λ next. next ≡ with_group self group) }
     {
         if group.len() == 0 {
             return Ok(None);
         }
-        Ok(Some(self.with_line(group.line())?))
+        self.here.push(group.line())?;
+        Ok(Some(self))
     }
 
     /// The sections, where no group is open.
