@@ -1,5 +1,5 @@
 -- The last sections of two histories whose files show the same tell the same.
-use Rattle.std.proofs.Common.{ℕ, ◌≡◌, ◌+◌, ◌≤◌, List, [], ◌∷◌, ◌++◌, length, map, codes, refl, ap, sym, ◌∙◌, subst, append-nil, Some, None}
+use Rattle.std.proofs.Common.{ℕ, ◌≡◌, ◌+◌, ◌≤◌, List, [], ◌∷◌, ◌++◌, length, map, refl, ap, sym, ◌∙◌, subst, append-nil, Some, None}
 use Rattle.std.specs.Prelude.{Option, Result}
 use Rattle.std.specs.List.{AllByRecursion, flat_map}
 use Rattle.std.proofs.lemmas.Grind.{flat_map-append}
@@ -10,48 +10,26 @@ use Rattle.write_history.specs.Effect.{max_entries}
 use Rattle.write_history.specs.Fold.{fold, IsLegal}
 use Rattle.ide_calls.specs.Settle.{Settled, settled}
 use Rattle.queries.specs.declared.query.Query.{Query}
-use Rattle.queries.specs.declared.query.Query.TheVariants as query
-use Rattle.query_engine.specs.declared.answer.Row.{Row}
-use Rattle.query_engine.specs.declared.answer.Answer.{Answer as Found}
-use Rattle.query_engine.specs.declared.answer.Answer.TheVariants as found
+use Rattle.query_engine.specs.declared.answer.Answer.{Answer as Finding}
 use Rattle.query_engine.specs.declared.answer.AskRefusal.{AskRefusal}
 use Rattle.query_engine.specs.Reply.{reply}
-use Rattle.transcripts.specs.declared.record.Answer.{Answer}
 use Rattle.transcripts.specs.declared.record.Record.{Record}
-use Rattle.transcripts.specs.Serial.{Done, after_step, answer_of, done_from, found_answer, last_from, query_step, rows_answer, settle_answer, settle_step}
-use Rattle.transcripts.specs.Transcript.{head_text, rows_text, summary_text}
+use Rattle.transcripts.specs.Serial.{Done, after_step, answer_of, done_from, last_from, query_step, settle_answer, settle_step}
+use Rattle.transcripts.specs.Transcript.{answer_text, summary_text}
 use Rattle.demo_runs.specs.Apart.{Question, IsOfAll, ask_line, settle_line}
 use Rattle.demo_runs.specs.Alike.{IsAlike}
 use Rattle.demo_runs.proofs.LawLemmas.{Laws, SettleLaws}
 use Rattle.demo_runs.proofs.SameLemmas.{AnswersSame, IsReady, answers_same}
 use Rattle.demo_runs.proofs.SettleLemmas.{IsSmart, alike_settled, settles_smart}
 
--- an answer as a summary tells it
-abbrev answer_text : Answer → List ℕ
-answer_text answer = head_text answer ++ codes "\n" ++ rows_text answer
-
 -- ---- one answer
 
-rows_told : (query : Query) (at second : ℕ) (rows : List Row) → answer_text (rows_answer query at rows) ≡ answer_text (rows_answer query second rows)
-rows_told (query.Outline path) at second rows = refl
-rows_told (query.Class name) at second rows = refl
-rows_told (query.Supers name) at second rows = refl
-rows_told (query.Method name) at second rows = refl
-rows_told (query.Word name) at second rows = refl
-rows_told query.Status at second rows = refl
-
--- what a question found is told alike, wherever the history stands
-found_told : (query : Query) (at second : ℕ) (answer : Found) → answer_text (found_answer query at answer) ≡ answer_text (found_answer query second answer)
-found_told query at second (found.Rows rows) = rows_told query at second rows
-found_told query at second (found.Words rows) = refl
-found_told query at second (found.Counts files docs unready) = refl
-
+-- what a question finds is told alike, wherever the history stands
 asked_told : (query : Query) (world other : World) (at second : ℕ) → AnswersSame world other query
-    → answer_text (answer_of query world at (reply world query)) ≡ answer_text (answer_of query other second (reply other query))
+    → answer_text (answer_of world at (reply world query)) ≡ answer_text (answer_of other second (reply other query))
 asked_told query world other at second same =
-    ap (λ (result : Result Found AskRefusal). answer_text (answer_of query world at result)) same.here
-    ∙ found_told query at second same.answer
-    ∙ sym (ap (λ (result : Result Found AskRefusal). answer_text (answer_of query other second result)) same.there)
+    ap (λ (result : Result Finding AskRefusal). answer_text (answer_of world at result)) same.here
+    ∙ sym (ap (λ (result : Result Finding AskRefusal). answer_text (answer_of other second result)) same.there)
 
 -- ---- a section so far
 

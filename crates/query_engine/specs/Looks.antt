@@ -2,7 +2,7 @@
 use Rattle.std.specs.Prelude.{ℕ, ◌≡◌, ◌≤◌, ◌+◌, ◌/◌, ◌%◌, ◌==◌, if◌then◌else◌, length, Result, Ok, Err, max, min}
 use Rattle.action_lock.specs.Counts.{counted, HasRisen}
 use Rattle.query_engine.specs.declared.answer.Answer.{Answer}
-use Rattle.query_engine.specs.declared.answer.Answer.TheVariants.{Rows, Words, Counts}
+use Rattle.query_engine.specs.declared.answer.Answer.TheVariants.{Rows, Outline, Words, Counts}
 use Rattle.query_engine.specs.declared.answer.AskRefusal.{AskRefusal}
 use Rattle.query_engine.specs.declared.answer.AskRefusal.TheVariants.{NoSuchFile, NotReady, Cancelled, OutOfMemory}
 
@@ -17,6 +17,7 @@ rows_a_look = 256
 -- the number of rows of an answer
 abbrev pub row_count : Answer → ℕ
 row_count (Rows rows) = length rows
+row_count (Outline rows) = length rows
 row_count (Words rows) = length rows
 row_count (Counts files docs unready) = 0
 

@@ -139,8 +139,10 @@ impl WordRows {
 /// What a question comes to.
 #[derive(Drop)]
 pub enum Answer {
-    /// Declarations.
+    /// The declarations that fit, of all files.
     Rows { rows: RowList },
+    /// The declarations of one file.
+    Outline { rows: RowList },
     /// The files that have a word.
     Words { rows: WordRows },
     /// How many live files, open documents and unready files there are.

@@ -40,7 +40,7 @@ pub(crate) fn outline<W: Watch>(
     };
     let stubs = stubs(alloc, text, &tokens(alloc, text)?)?;
     let rows = file_rows(alloc, state, id, stubs.as_slice(), watch)?;
-    Ok(Answer::Rows { rows })
+    Ok(Answer::Outline { rows })
 }
 
 /// The rows of declarations of one live file.
