@@ -6,6 +6,7 @@ mod listed_file;
 mod looks;
 mod outline;
 mod question;
+mod ready;
 mod stub_rows;
 mod word_rows;
 
