@@ -10,6 +10,6 @@ mod ready;
 mod stub_rows;
 mod word_rows;
 
-pub use answer::{Answer, AskRefusal, Row, RowList, WordRow, WordRows};
+pub use answer::{Answer, AskRefusal, Row, RowList, WordRow};
 pub use looks::NoWatch;
 pub use question::{ask, ask_unwatched};

@@ -5,7 +5,7 @@ ghost use Rattle.query_engine.specs.Looks.{rows_a_look, HasLooked, EndsEarly};
 ghost use Rattle.query_engine.specs.Listed.{AreAhead, row_found};
 ghost use Rattle.query_engine.specs.Given.{GivesReply, declared_reply};
 
-use crate::answer::{Answer, AskRefusal, RowList};
+use crate::answer::{Answer, AskRefusal, Row, RowList};
 use crate::listed_file::ListedFile;
 use crate::looks::look_after;
 use crate::ready::ready;
@@ -38,7 +38,7 @@ fn stub_rows<W: Watch>(
     state: &State,
     found: StubWalk<'_>,
     watch: &mut W,
-) -> Result<RowList, AskRefusal>
+) -> Result<RowList<Row>, AskRefusal>
     requires can { W.can_look watch.old }
     requires ahead { AreAhead state.now.world None found }
     ensures again { W.can_look watch.new }

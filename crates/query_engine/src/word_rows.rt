@@ -5,7 +5,7 @@ ghost use Rattle.query_engine.specs.Looks.{rows_a_look, HasLooked, EndsEarly};
 ghost use Rattle.query_engine.specs.Listed.{AreLive, word_found};
 ghost use Rattle.query_engine.specs.Given.{GivesReply, word_reply};
 
-use crate::answer::{Answer, AskRefusal, WordRow, WordRows};
+use crate::answer::{Answer, AskRefusal, RowList, WordRow};
 use crate::looks::look_after;
 use crate::ready::ready;
 use action_lock::Watch;
@@ -36,7 +36,7 @@ fn word_rows<W: Watch>(
     state: &State,
     found: WordWalk<'_>,
     watch: &mut W,
-) -> Result<WordRows, AskRefusal>
+) -> Result<RowList<WordRow>, AskRefusal>
     requires can { W.can_look watch.old }
     requires live { AreLive state.now.world found }
     ensures again { W.can_look watch.new }
@@ -45,7 +45,7 @@ fn word_rows<W: Watch>(
     ensures rows { IfOk result (λ rows. rows ≡ map (word_found state.now.world) found.entry) }
     ensures early { IfErr result EndsEarly }
 {
-    let mut rows = WordRows::new(alloc);
+    let mut rows = RowList::new(alloc);
     for (file, mask) in found {
         let Some(path) = path(state, file) else {
             unreachable!()

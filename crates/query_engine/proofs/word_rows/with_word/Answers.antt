@@ -1,7 +1,8 @@
 use Rattle.std.proofs.Common.{map, ap}
 use Rattle.write_history.specs.World.{lowest_unready}
 use Rattle.query_engine.specs.declared.answer.Answer.TheVariants.{Words}
-use Rattle.query_engine.specs.declared.answer.WordRows.{WordRows}
+use Rattle.query_engine.specs.declared.answer.RowList.{RowList}
+use Rattle.query_engine.specs.declared.answer.WordRow.{WordRow}
 use Rattle.query_engine.specs.Listed.{word_found}
 use Rattle.query_engine.proofs.ReplyLemmas.{dumb_given, early_given, whole_given, looks_counted}
 use Rattle.query_engine.proofs.word_rows.with_word.Goals as goal
@@ -16,7 +17,7 @@ returns-in_err-ready-clause-answered g c =
 
 pub returns-in_err-rows-clause-answered : goal.returns-in_err-rows-clause-answered
 returns-in_err-rows-clause-answered g c =
-    early_given _ _ g.W.Watch.stays WordRows (lowest_unready c.args.state.now.world) (Words (map (word_found c.args.state.now.world) c.args.found)) _ _ _ _
+    early_given _ _ g.W.Watch.stays (RowList WordRow) (lowest_unready c.args.state.now.world) (Words (map (word_found c.args.state.now.world) c.args.found)) _ _ _ _
     c.in_ok-ready.ensures.smart (looks_counted (word_found c.args.state.now.world) c.args.found) c.in_err-rows.ensures.early c.in_err-rows.ensures.looked
     c.from_residual-in_err-rows.result c.from_residual-in_err-rows.ensures.1
 
