@@ -5,12 +5,12 @@ use Rattle.demo_runs.proofs.Words.{slice_index_or, AllByRecursion, flat_map, len
 use Rattle.demo_runs.proofs.Words.{Refusal, World, File, file_of, next_id, ids_from, is_open, is_unready, count_of, lowest_unready, unready_ids, stamp_of}
 use Rattle.demo_runs.proofs.Words.{max_entries, list_refusal, ListRefusal, fold, IsLegal, Settled, settled, settled_from, settled_unless, intake_of}
 use Rattle.demo_runs.proofs.Words.{intake_entry, Query, rows_in, word_in, word_row, of_files, of_world, is_class, has_super, is_method, unless_unready}
-use Rattle.demo_runs.proofs.Words.{reply, Answer, Record, answer_of, done_from, last_from, query_step, settle_answer, head_text, rows_text, summary_text}
+use Rattle.demo_runs.proofs.Words.{reply, Answer, Record, answer_of, done_from, last_from, query_step, settle_answer, answer_text, found_text, summary_text}
 use Rattle.demo_runs.proofs.Words.{Question, ask_line, settle_line, IsOfAll, bare, bare_at, IsEdit, takes, acts}
 use Rattle.queries.specs.declared.query.Query.TheVariants as query
-use Rattle.query_engine.specs.declared.answer.Answer.{Answer as Found}
+use Rattle.query_engine.specs.declared.answer.Answer.{Answer as Finding}
 use Rattle.query_engine.specs.declared.answer.Answer.TheVariants as found
-use Rattle.transcripts.specs.declared.record.Answer.TheVariants.{Smart, Rows, Words, Status}
+use Rattle.transcripts.specs.declared.record.Answer.TheVariants.{Smart}
 use Rattle.demo_runs.proofs.LawLemmas.{Laws}
 use Rattle.demo_runs.proofs.StepLemmas.{goes_on}
 
@@ -130,40 +130,36 @@ none_passes test (file ∷ files) each =
 
 -- ---- one question
 
--- an answer as a summary tells it
-abbrev answer_text : Answer → List ℕ
-answer_text answer = head_text answer ++ codes "\n" ++ rows_text answer
-
 -- what a question about a workspace without unready files is told
 abbrev told_of : World → Query → List ℕ
-told_of world (query.Class name) = answer_text (Rows 0 (of_world (rows_in (is_class name)) world))
-told_of world (query.Supers name) = answer_text (Rows 0 (of_world (rows_in (has_super name)) world))
-told_of world (query.Method name) = answer_text (Rows 0 (of_world (rows_in (is_method name)) world))
-told_of world (query.Word name) = answer_text (Words 0 (of_world (word_in name) world))
+told_of world (query.Class name) = found_text (found.Rows (of_world (rows_in (is_class name)) world))
+told_of world (query.Supers name) = found_text (found.Rows (of_world (rows_in (has_super name)) world))
+told_of world (query.Method name) = found_text (found.Rows (of_world (rows_in (is_method name)) world))
+told_of world (query.Word name) = found_text (found.Words (of_world (word_in name) world))
 told_of world (query.Outline path) = []
-told_of world query.Status = answer_text (Status 0 (count_of is_some world) (count_of is_open world) 0)
+told_of world query.Status = found_text (found.Counts (count_of is_some world) (count_of is_open world) 0)
 
 module _ (laws : Laws) (world : World) (ready : lowest_unready world ≡ None) (at : ℕ) where
-  listed : {X : Type 0} (answer : List X → Found) (rows : ℕ → File → List X) → ((id : ℕ) (file : File) → rows id (bare file) ≡ rows id file)
+  listed : {X : Type 0} (answer : List X → Finding) (rows : ℕ → File → List X) → ((id : ℕ) (file : File) → rows id (bare file) ≡ rows id file)
       → unless_unready (lowest_unready world) (answer (of_world rows world)) ≡ Ok (answer (of_world rows (shown world)))
   listed answer rows same = ap (λ lowest. unless_unready lowest (answer (of_world rows world))) ready
       ∙ ap (λ found. Ok (answer found)) (sym (rows_shown rows same 1 world.files))
 
-  asked : (asks : Query) → IsOfAll asks → answer_text (answer_of asks world at (reply world asks)) ≡ told_of (shown world) asks
+  asked : (asks : Query) → IsOfAll asks → answer_text (answer_of world at (reply world asks)) ≡ told_of (shown world) asks
   asked (query.Class name) about =
-      ap (λ r. answer_text (answer_of (query.Class name) world at r)) (listed found.Rows (rows_in (is_class name)) (λ id file. refl))
+      ap (λ r. answer_text (answer_of world at r)) (listed found.Rows (rows_in (is_class name)) (λ id file. refl))
   asked (query.Supers name) about =
-      ap (λ r. answer_text (answer_of (query.Supers name) world at r)) (listed found.Rows (rows_in (has_super name)) (λ id file. refl))
+      ap (λ r. answer_text (answer_of world at r)) (listed found.Rows (rows_in (has_super name)) (λ id file. refl))
   asked (query.Method name) about =
-      ap (λ r. answer_text (answer_of (query.Method name) world at r)) (listed found.Rows (rows_in (is_method name)) (λ id file. refl))
-  asked (query.Word name) about = ap (λ r. answer_text (answer_of (query.Word name) world at r))
+      ap (λ r. answer_text (answer_of world at r)) (listed found.Rows (rows_in (is_method name)) (λ id file. refl))
+  asked (query.Word name) about = ap (λ r. answer_text (answer_of world at r))
       (listed found.Words (word_in name) (λ id file. word_shown id file (mask_in (words_of _) name)))
   asked (query.Outline path) about = absurd about
   asked query.Status about =
-      ap (λ files. answer_text (Status at files (count_of is_open world) (count_of is_unready world))) (sym (counts_shown is_some some_shown world.files))
-      ∙ ap (λ open_files. answer_text (Status at (count_of is_some (shown world)) open_files (count_of is_unready world)))
+      ap (λ files. found_text (found.Counts files (count_of is_open world) (count_of is_unready world))) (sym (counts_shown is_some some_shown world.files))
+      ∙ ap (λ open_files. found_text (found.Counts (count_of is_some (shown world)) open_files (count_of is_unready world)))
       (sym (counts_shown is_open open_shown world.files))
-      ∙ ap (λ unready. answer_text (Status at (count_of is_some (shown world)) (count_of is_open (shown world)) unready))
+      ∙ ap (λ unready. found_text (found.Counts (count_of is_some (shown world)) (count_of is_open (shown world)) unready))
       (none_passes is_unready world.files (λ place. laws.ready world (suc place) ready))
 
 -- ---- the section

@@ -42,7 +42,7 @@ pub use Rattle.transcripts.specs.declared.record.Record.{Record}
 pub use Rattle.transcripts.specs.Serial.{Step, step_unless, change_step, Done, Ended, answer_of, done_from, lanes_from, before_last, last_from}
 pub use Rattle.transcripts.specs.Serial.{run_of, query_step, settle_answer}
 pub use Rattle.transcripts.specs.Fits.{Mark, mark_at, Fits, SectionFits, WorkerFits, WorkersFit, made_by, IsSeatOf, RunFits}
-pub use Rattle.transcripts.specs.Transcript.{head_text, rows_text, summary_text, summary_of}
+pub use Rattle.transcripts.specs.Transcript.{answer_text, found_text, summary_text, summary_of}
 pub use Rattle.std.proofs.Common.{ltb}
 pub use Rattle.std.specs.List.{list_all}
 pub use Rattle.std.proofs.lemmas.Bool.{and_parts, not-true, lt-ltb}

@@ -8,7 +8,7 @@ use crate::ending::Ending;
 use crate::words::{PATHS, TEXTS, TYPES, class};
 use ide_calls::{Reply, SettleRefusal};
 use index_workers::IdePass;
-use query_engine::{Answer, RowList};
+use query_engine::{Answer, Row, RowList};
 use shared_ide::SharedIde;
 use std::alloc::{AllocError, Global};
 use std::sync::Wait;
@@ -39,7 +39,7 @@ pub fn find_types<R: Wait>(
     ide: &SharedIde,
     pass: &mut IdePass,
     gate: &Ending,
-) -> Result<[Option<RowList>; 2], AllocError>
+) -> Result<[Option<RowList<Row>>; 2], AllocError>
     requires { IsIdePassOf ide.now pass.old }
     ensures { IsIdePassOf ide.now pass.new × HasKept (ide_view pass.old) (ide_view pass.new) }
 {
@@ -59,7 +59,7 @@ fn find<R: Wait>(
     pass: &mut IdePass,
     name: &str,
     gate: &Ending,
-) -> Result<Option<RowList>, AllocError>
+) -> Result<Option<RowList<Row>>, AllocError>
     requires { IsIdePassOf ide.now pass.old }
     ensures { IsIdePassOf ide.now pass.new × HasKept (ide_view pass.old) (ide_view pass.new) }
 {

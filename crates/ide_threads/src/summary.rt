@@ -1,5 +1,5 @@
 //! What the run leaves, however the threads took their turns.
-use query_engine::RowList;
+use query_engine::{Row, RowList};
 use std::io;
 use write_history::{Change, Entry, History};
 
@@ -12,7 +12,7 @@ pub struct Summary {
     pub asked_softly: u32,
     pub indexed: u32,
     /// Where the types are declared.
-    pub found: [Option<RowList>; 2],
+    pub found: [Option<RowList<Row>>; 2],
     pub history: History,
 }
 
@@ -41,7 +41,7 @@ pub fn print<R: Print>(rt: &R, summary: &Summary) -> io::Result<()> {
 }
 
 /// Prints where a type is declared.
-fn print_rows<R: Print>(rt: &R, rows: &Option<RowList>) -> io::Result<()> {
+fn print_rows<R: Print>(rt: &R, rows: &Option<RowList<Row>>) -> io::Result<()> {
     let Some(rows) = rows else {
         return println!(rt; "not ready");
     };

@@ -19,7 +19,7 @@ use Rattle.ide_calls.specs.declared.reply.Reply.{Reply}
 use Rattle.ide_calls.specs.declared.reply.Reply.TheVariants as reply
 use Rattle.ide_calls.specs.Settling.{HasSettled}
 use Rattle.queries.specs.declared.query.Query.{Query}
-use Rattle.query_engine.specs.declared.answer.Answer.{Answer as Found}
+use Rattle.query_engine.specs.declared.answer.Answer.{Answer as Finding}
 use Rattle.query_engine.specs.declared.answer.AskRefusal.{AskRefusal}
 use Rattle.query_engine.specs.Reply.{reply as reply_of}
 use Rattle.script_lang.specs.declared.command.Command.{Command}
@@ -176,23 +176,23 @@ settles v w line at refusal h long =
 
 -- ---- questions
 
-tells_answer : (world : World) (query : Query) (at : ℕ) (expected : Result Found AskRefusal) (reply : Reply) → Tells world expected reply
-    → answer_of query world at expected ≡ reply_answer query at reply
-tells_answer world query at expected (reply.Found found) h = ap (answer_of query world at) h
-tells_answer world query at expected reply.NoSuchFile h = ap (answer_of query world at) h
-tells_answer world query at expected (reply.NotReady file path) h = ap (answer_of query world at) h.0 ∙ ap (NotReady at) (sym h.1)
+tells_answer : (world : World) (at : ℕ) (expected : Result Finding AskRefusal) (reply : Reply) → Tells world expected reply
+    → answer_of world at expected ≡ reply_answer at reply
+tells_answer world at expected (reply.Found finding) h = ap (answer_of world at) h
+tells_answer world at expected reply.NoSuchFile h = ap (answer_of world at) h
+tells_answer world at expected (reply.NotReady file path) h = ap (answer_of world at) h.0 ∙ ap (NotReady at) (sym h.1)
 
 -- a question that was replied to
 pub replies : (v w : View Entry) (query : Query) (replied : Replied) → HasReplied v w query replied
-    → IsAnswered (λ start seat. query_step start query) v w (reply_answer query replied.at replied.reply)
+    → IsAnswered (λ start seat. query_step start query) v w (reply_answer replied.at replied.reply)
 replies v w query replied h = record {
   start = w.seen;
   own = [];
   known = h.found.known;
   seen = h.found.seen;
   mine = h.found.mine;
-  made = λ seat number. ap told (tells_answer (fold w.seen) query (length w.seen) (reply_of (fold w.seen) query) replied.reply h.tells
-      ∙ ap (λ (n : ℕ). reply_answer query n replied.reply) (sym h.is_at));
+  made = λ seat number. ap told (tells_answer (fold w.seen) (length w.seen) (reply_of (fold w.seen) query) replied.reply h.tells
+      ∙ ap (λ (n : ℕ). reply_answer n replied.reply) (sym h.is_at));
 }
 
 -- ---- lines

@@ -15,15 +15,15 @@ use Rattle.script_lang.specs.declared.command.Command.TheVariants.{Change, Group
 use Rattle.script_lang.specs.declared.line.Line.{Line}
 use Rattle.transcripts.specs.declared.loaded.Loaded.{Loaded}
 use Rattle.transcripts.specs.declared.record.Answer.{Answer}
-use Rattle.transcripts.specs.declared.record.Answer.TheVariants.{Refused, NotReady, Cancelled}
+use Rattle.transcripts.specs.declared.record.Answer.TheVariants.{Refused, NotReady, Found, Cancelled}
 use Rattle.transcripts.specs.declared.record.Record.{Record}
-use Rattle.transcripts.specs.Serial.{Step, step_of, query_step, found_answer}
+use Rattle.transcripts.specs.Serial.{Step, step_of, query_step}
 
 -- what a reply is told as
-abbrev pub reply_answer : Query → ℕ → Reply → Answer
-reply_answer query at (reply.Found found) = found_answer query at found
-reply_answer query at reply.NoSuchFile = Refused at None why.NoSuchFile
-reply_answer query at (reply.NotReady file path) = NotReady at path
+abbrev pub reply_answer : ℕ → Reply → Answer
+reply_answer at (reply.Found finding) = Found at finding
+reply_answer at reply.NoSuchFile = Refused at None why.NoSuchFile
+reply_answer at (reply.NotReady file path) = NotReady at path
 
 -- The command was done behind `start`, which begins with all that the pass had seen: the step there, by the pass's number, says what it made,
 -- and what it is answered

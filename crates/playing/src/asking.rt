@@ -31,7 +31,7 @@ pub(crate) fn do_ask<R: Wait, G: Gate>(
     ensures answer { IfOk result (IsAnswered (λ start seat. query_step start query.now) (ide_view pass.old) (ide_view pass.new)) }
 {
     let replied = ide.ask(rt, alloc, pass, query, gate)?;
-    Ok(answer_of(query, replied))
+    Ok(answer_of(replied))
 }
 
 /// Answers a question that gives way to writes, or answers that it was given up after so many attempts. It may wait for
@@ -52,7 +52,7 @@ pub(crate) fn do_soft_ask<R: Wait, G: Gate>(
     ensures answer { IfOk result (IsSoftlyAnswered attempts query.now (ide_view pass.old) (ide_view pass.new)) }
 {
     match ide.soft_ask(rt, alloc, pass, attempts, query, gate) {
-        Ok(replied) => Ok(answer_of(query, replied)),
+        Ok(replied) => Ok(answer_of(replied)),
         Err(SoftAskRefusal::Cancelled(sighted)) => Ok(Answer::Cancelled { sighted }),
         Err(SoftAskRefusal::OutOfMemory) => Err(AllocError),
     }

@@ -1,4 +1,5 @@
 pub mod AheadLemmas
+pub mod AskLemmas
 pub mod FoundLemmas
 pub mod FromLemmas
 pub mod LookLemmas

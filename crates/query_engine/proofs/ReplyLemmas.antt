@@ -1,68 +1,100 @@
--- Answers, by what is found.
-use Rattle.std.proofs.Common.{ℕ, ◌≡◌, ◌/◌, List, map, length, refl, ap, sym, subst, ◌∙◌, Option, Some, None, IsSomeAnd, Result, Ok, Err, IfErr, IsErrAnd}
+-- Replies, by what is found.
+use Rattle.std.proofs.Common.{ℕ, ◌≡◌, ◌/◌, Bool, List, map, length, refl, ap, sym, subst, ◌∙◌, Option, Some, None, IsSomeAnd, Result, Ok, Err, IsErrAnd}
 use Rattle.std.proofs.lemmas.List.{length-map}
-use Rattle.query_engine.specs.declared.answer.Row.{Row}
-use Rattle.query_engine.specs.declared.answer.WordRow.{WordRow}
+use Rattle.stub_tree.specs.declared.stub.Stub.{Stub}
+use Rattle.write_history.specs.World.{World, lowest_unready}
+use Rattle.ide_world.specs.Found.{found, stubs_in, masks_in}
+use Rattle.queries.specs.declared.query.Query.{Query}
 use Rattle.query_engine.specs.declared.answer.Answer.{Answer}
 use Rattle.query_engine.specs.declared.answer.Answer.TheVariants.{Rows, Words}
 use Rattle.query_engine.specs.declared.answer.AskRefusal.{AskRefusal}
-use Rattle.query_engine.specs.declared.answer.AskRefusal.TheVariants.{NotReady}
-use Rattle.query_engine.specs.Reply.{unless_unready, IsRefusalOf}
-use Rattle.query_engine.specs.Looks.{rows_a_look, row_count, later_looks, HasLooked}
-use Rattle.query_engine.proofs.LookLemmas.{looked_not}
+use Rattle.query_engine.specs.declared.answer.AskRefusal.TheVariants.{NoSuchFile, NotReady, Cancelled, OutOfMemory}
+use Rattle.query_engine.specs.Reply.{reply, unless_unready, of_world, rows_in, word_in, IsRefusalOf}
+use Rattle.query_engine.specs.Looks.{rows_a_look, later_looks, HasLooked, LooksThrough, EndsEarly}
+use Rattle.query_engine.specs.Listed.{row_found, word_found}
+use Rattle.query_engine.specs.Given.{GivesReply, RepliesTo, declared_reply, word_reply}
+use Rattle.query_engine.proofs.FoundLemmas.{stub_rows_found, word_rows_found}
+use Rattle.query_engine.proofs.LookLemmas.{looked_not, looked_told}
 
 -- the refusal in place of an answer, where a file is unready
-unready_reply : (o : Option ℕ) (answer : Answer) (e : AskRefusal) → IsSomeAnd o (λ file. e ≡ NotReady file) → (file : ℕ) × (unless_unready o answer ≡ Err (NotReady file)) × (e ≡ NotReady file)
+unready_reply : (o : Option ℕ) (answer : Answer) (e : AskRefusal) → IsSomeAnd o (λ file. e ≡ NotReady file)
+    → (file : ℕ) × (unless_unready o answer ≡ Err (NotReady file)) × (e ≡ NotReady file)
 unready_reply None answer e h = absurd h
 unready_reply (Some file) answer e h = (file, refl, h)
 
-module _ (o : Option ℕ) (answer : Answer) (expected : Result Answer AskRefusal) (told : expected ≡ unless_unready o answer) where
-  -- the refusal is the expected one
-  pub dumb_refused : (e : AskRefusal) → IsSomeAnd o (λ file. e ≡ NotReady file) → (r : Result Answer AskRefusal) → IsErrAnd r (λ f. f ≡ e) → IfErr r (IsRefusalOf expected)
-  dumb_refused e h (Ok x) is = tt
-  dumb_refused e h (Err f) is =
+-- a call that ends early refuses nothing that is answered
+early_refused : (answer : Answer) (e : AskRefusal) → EndsEarly e → IsRefusalOf (Ok answer) e
+early_refused answer NoSuchFile early = absurd early
+early_refused answer (NotReady file) early = absurd early
+early_refused answer Cancelled early = tt
+early_refused answer OutOfMemory early = refl
+
+module _ {W : Type 0} (l s : W → ℕ) (st : W → W → Type 0) where
+  -- a file is unready: it is told, and no look belongs to it but the first
+  pub dumb_given : (o : Option ℕ) (answer : Answer) (watch : W) (e : AskRefusal) → IsSomeAnd o (λ file. e ≡ NotReady file)
+      → (r : Result Answer AskRefusal) → IsErrAnd r (λ f. f ≡ e) → GivesReply l s st (unless_unready o answer) r watch watch
+  dumb_given o answer watch e h (Ok x) is = absurd is
+  dumb_given o answer watch e h (Err f) is =
       let (file, dumb, named) = unready_reply o answer e h in
-      subst (λ (f : AskRefusal). IsRefusalOf expected f) (sym (is ∙ named)) (told ∙ dumb)
+      record {
+        looked = subst (λ (x : Result Answer AskRefusal). HasLooked {X = Answer} l s st (Err f) (later_looks x) watch watch) (sym dumb)
+            (subst (λ (f : AskRefusal). HasLooked {X = Answer} l s st (Err f) 0 watch watch) (sym (is ∙ named)) (looked_not l s watch));
+        answer = tt;
+        refused = subst (λ (f : AskRefusal). IsRefusalOf (unless_unready o answer) f) (sym (is ∙ named)) dumb;
+      }
 
-  -- and no look belongs to it but the first
-  pub dumb_looked : {W : Type 0} (l s : W → ℕ) (st : W → W → Type 0) (watch : W) (e : AskRefusal) → IsSomeAnd o (λ file. e ≡ NotReady file) → (r : Result Answer AskRefusal) → IsErrAnd r (λ f. f ≡ e)
-      → HasLooked l s st r (later_looks expected) watch watch
-  dumb_looked l s st watch e h (Ok x) is = absurd is
-  dumb_looked l s st watch e h (Err f) is =
-      let (file, dumb, named) = unready_reply o answer e h in
-      subst (λ (x : Result Answer AskRefusal). HasLooked {X = Answer} l s st (Err f) (later_looks x) watch watch) (sym (told ∙ dumb))
-      (subst (λ (f : AskRefusal). HasLooked {X = Answer} l s st (Err f) 0 watch watch) (sym (is ∙ named)) (looked_not l s watch))
+  early_of : (X : Type 0) (answer : Answer) (n : ℕ) (e : AskRefusal) (old new : W) → n ≡ later_looks (Ok answer) → EndsEarly e
+      → HasLooked {X = X} l s st (Err e) n old new → (r : Result Answer AskRefusal) → IsErrAnd r (λ f. f ≡ e) → GivesReply l s st (Ok answer) r old new
+  early_of X answer n e old new same early q (Ok x) is = absurd is
+  early_of X answer n e old new same early q (Err f) is = record {
+    looked = looked_told l s st X Answer n (later_looks (Ok answer)) (Err f) e old new same is q;
+    answer = tt;
+    refused = subst (IsRefusalOf (Ok answer)) (sym is) (early_refused answer e early);
+  }
 
-  -- the answer, where no file is unready
-  smart_reply : o ≡ None → expected ≡ Ok answer
-  smart_reply smart = told ∙ ap (λ o. unless_unready o answer) smart
+  -- no file is unready, and the call ended early
+  pub early_given : (X : Type 0) (o : Option ℕ) (answer : Answer) (n : ℕ) (e : AskRefusal) (old new : W) → o ≡ None → n ≡ later_looks (Ok answer) → EndsEarly e
+      → HasLooked {X = X} l s st (Err e) n old new → (r : Result Answer AskRefusal) → IsErrAnd r (λ f. f ≡ e) → GivesReply l s st (unless_unready o answer) r old new
+  early_given X o answer n e old new smart same early q r is =
+      subst (λ (o : Option ℕ). GivesReply l s st (unless_unready o answer) r old new) (sym smart) (early_of X answer n e old new same early q r is)
 
-  -- how often it looks
-  smart_looks : o ≡ None → later_looks expected ≡ row_count answer / rows_a_look
-  smart_looks smart = ap later_looks (smart_reply smart)
+  -- no file is unready, and this is all that was found
+  pub whole_given : (o : Option ℕ) (answer given : Answer) (n : ℕ) (old new : W) → o ≡ None → n ≡ later_looks (Ok answer) → given ≡ answer
+      → LooksThrough l s n old new → GivesReply l s st (unless_unready o answer) (Ok given) old new
+  whole_given o answer given n old new smart same is q =
+      subst (λ (o : Option ℕ). GivesReply l s st (unless_unready o answer) (Ok given) old new) (sym smart) record {
+        looked = subst (λ (k : ℕ). LooksThrough l s k old new) same q;
+        answer = ap Ok (sym is);
+        refused = tt;
+      }
 
--- the number of rows of declarations
-rows_counted : {F : Type 0} (row : F → Row) (found found' : List F) (all : List Row) → found ≡ found' → map row found' ≡ all → length found / rows_a_look ≡ row_count (Rows all) / rows_a_look
-rows_counted row found found' all same made = ap (λ fs. length fs / rows_a_look) same ∙ ap (λ n. n / rows_a_look) (sym (length-map found' row)) ∙ ap (λ rs. length rs / rows_a_look) made
+  -- what gives the reply to a question replies to it
+  pub replied : (world : World) (query : Query) (expected : Result Answer AskRefusal) (r : Result Answer AskRefusal) (old new : W) → expected ≡ reply world query
+      → GivesReply l s st expected r old new → RepliesTo l s st world query r old new
+  replied world query expected r old new same given =
+      let all = subst (λ (x : Result Answer AskRefusal). GivesReply l s st x r old new) same given in
+      record { later = later_looks (reply world query); may = refl; looked = all.looked; answer = all.answer; refused = all.refused }
 
--- the number of rows of a word
-words_counted : {F : Type 0} (row : F → WordRow) (found found' : List F) (all : List WordRow) → found ≡ found' → map row found' ≡ all → length found / rows_a_look ≡ row_count (Words all) / rows_a_look
-words_counted row found found' all same made = ap (λ fs. length fs / rows_a_look) same ∙ ap (λ n. n / rows_a_look) (sym (length-map found' row)) ∙ ap (λ rs. length rs / rows_a_look) made
+-- the looks for rows are those of the answer
+pub looks_counted : {F R : Type 0} (row : F → R) (found : List F) → length found / rows_a_look ≡ length (map row found) / rows_a_look
+looks_counted row found = ap (λ n. n / rows_a_look) (sym (length-map found row))
 
-module _ {F : Type 0} (row : F → Row) (found found' : List F) (all : List Row) (same : found ≡ found') (made : map row found' ≡ all) (o : Option ℕ) (smart : o ≡ None) (expected : Result Answer AskRefusal) (told : expected ≡ unless_unready o (Rows all)) where
-  -- the rows of all that is found are the answer
-  pub rows_told : (rows : List Row) → rows ≡ map row found → expected ≡ Ok (Rows rows)
-  rows_told rows is = smart_reply o (Rows all) expected told smart ∙ ap (λ rs. Ok (Rows rs)) (sym (is ∙ ap (map row) same ∙ made))
+-- a reply that rests on what is found where no file is unready
+smart_same : (o lowest : Option ℕ) (answer other : Answer) → lowest ≡ o → (lowest ≡ None → answer ≡ other) → unless_unready o answer ≡ unless_unready o other
+smart_same None lowest answer other is same = ap Ok (same is)
+smart_same (Some file) lowest answer other is same = refl
 
-  -- and the looks for them are those of the answer
-  pub rows_looks : length found / rows_a_look ≡ later_looks expected
-  rows_looks = rows_counted row found found' all same made ∙ sym (smart_looks o (Rows all) expected told smart)
+module _ (world : World) where
+  -- the rows of the declarations that are found are those of the files
+  pub declared_told : (fits : Stub → Bool) (walk : List (ℕ × Stub)) → (lowest_unready world ≡ None → walk ≡ found (stubs_in fits) world)
+      → declared_reply world walk ≡ unless_unready (lowest_unready world) (Rows (of_world (rows_in fits) world))
+  declared_told fits walk ready =
+      smart_same (lowest_unready world) (lowest_unready world) (Rows (map (row_found world) walk)) (Rows (of_world (rows_in fits) world)) refl
+      (λ smart. ap Rows (ap (map (row_found world)) (ready smart) ∙ stub_rows_found fits world))
 
-module _ {F : Type 0} (row : F → WordRow) (found found' : List F) (all : List WordRow) (same : found ≡ found') (made : map row found' ≡ all) (o : Option ℕ) (smart : o ≡ None) (expected : Result Answer AskRefusal) (told : expected ≡ unless_unready o (Words all)) where
-  -- the rows of a word in all that is found are the answer
-  pub words_told : (rows : List WordRow) → rows ≡ map row found → expected ≡ Ok (Words rows)
-  words_told rows is = smart_reply o (Words all) expected told smart ∙ ap (λ rs. Ok (Words rs)) (sym (is ∙ ap (map row) same ∙ made))
-
-  -- and the looks for them are those of the answer
-  pub words_looks : length found / rows_a_look ≡ later_looks expected
-  words_looks = words_counted row found found' all same made ∙ sym (smart_looks o (Words all) expected told smart)
+  -- the rows of a word that is found are those of the files
+  pub word_told : (name : List ℕ) (walk : List (ℕ × ℕ)) → (lowest_unready world ≡ None → walk ≡ found (masks_in name) world)
+      → word_reply world walk ≡ unless_unready (lowest_unready world) (Words (of_world (word_in name) world))
+  word_told name walk ready =
+      smart_same (lowest_unready world) (lowest_unready world) (Words (map (word_found world) walk)) (Words (of_world (word_in name) world)) refl
+      (λ smart. ap Words (ap (map (word_found world)) (ready smart) ∙ word_rows_found name world))

@@ -3,6 +3,8 @@ pub mod Reply
 pub mod Looks
 -- Internal: a file whose rows are being made.
 pub mod Listed
+-- What a call gives after its first look
+pub mod Given
 -- What these cite from below: the world, listings, words, places in texts, and counts of looks.
 pub use Rattle.write_history.specs.World
 pub use Rattle.dumb_mode.specs.Filter

@@ -1,10 +1,13 @@
 -- How often a call looks at its watch, and what it sees.
 use Rattle.std.specs.Prelude.{ℕ, ◌≡◌, ◌≤◌, ◌+◌, ◌/◌, ◌%◌, ◌==◌, if◌then◌else◌, length, Result, Ok, Err, max, min}
 use Rattle.action_lock.specs.Counts.{counted, HasRisen}
+use Rattle.write_history.specs.World.{World}
+use Rattle.queries.specs.declared.query.Query.{Query}
 use Rattle.query_engine.specs.declared.answer.Answer.{Answer}
-use Rattle.query_engine.specs.declared.answer.Answer.TheVariants.{Rows, Words, Counts}
+use Rattle.query_engine.specs.declared.answer.Answer.TheVariants.{Rows, Outline, Words, Counts}
 use Rattle.query_engine.specs.declared.answer.AskRefusal.{AskRefusal}
 use Rattle.query_engine.specs.declared.answer.AskRefusal.TheVariants.{NoSuchFile, NotReady, Cancelled, OutOfMemory}
+use Rattle.query_engine.specs.Reply.{reply}
 
 -- a count of looks after so many more; like `counted`, it goes up to 2^64 - 1 and stands there
 abbrev pub counted_by : ℕ → ℕ → ℕ
@@ -17,6 +20,7 @@ rows_a_look = 256
 -- the number of rows of an answer
 abbrev pub row_count : Answer → ℕ
 row_count (Rows rows) = length rows
+row_count (Outline rows) = length rows
 row_count (Words rows) = length rows
 row_count (Counts files docs unready) = 0
 
@@ -28,6 +32,10 @@ later_looks (Err refusal) = 0
 -- how often the call with this answer looks, where no look sees anything
 abbrev pub looks_for : Result Answer AskRefusal → ℕ
 looks_for answer = 1 + later_looks answer
+
+-- how often a question may look in a world, where no look sees anything: once as the call begins, and once for each full 256 rows
+abbrev pub MayLook : World → Query → ℕ → Type 0
+MayLook world query n = n ≡ looks_for (reply world query)
 
 -- how often a call looks when it has made so many rows
 abbrev pub looks_at : ℕ → ℕ
@@ -67,6 +75,13 @@ HasLooked looks_of sights_of stays (Err NoSuchFile) n old new = LooksThrough loo
 HasLooked looks_of sights_of stays (Err (NotReady file)) n old new = LooksThrough looks_of sights_of n old new
 HasLooked looks_of sights_of stays (Err Cancelled) n old new = StopsAtSight looks_of sights_of stays n old new
 HasLooked looks_of sights_of stays (Err OutOfMemory) n old new = StopsUnseen looks_of sights_of n old new
+
+-- how the call that asks a question looks, by what it gives: as often as the question may
+pub record HasLookedFor {W X : Type 0} (looks_of sights_of : W → ℕ) (stays : W → W → Type 0) (world : World) (query : Query)
+    (result : Result X AskRefusal) (old new : W) : Type 0 where
+  pub number : ℕ
+  pub may : MayLook world query number
+  pub looked : HasLooked looks_of sights_of stays result number old new
 
 -- a call ends early alone: it was stopped, or memory ran out
 abbrev pub EndsEarly : AskRefusal → Type 0

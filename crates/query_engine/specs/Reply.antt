@@ -15,7 +15,7 @@ use Rattle.queries.specs.declared.query.Query.TheVariants as query
 use Rattle.query_engine.specs.declared.answer.Row.{Row}
 use Rattle.query_engine.specs.declared.answer.WordRow.{WordRow}
 use Rattle.query_engine.specs.declared.answer.Answer.{Answer}
-use Rattle.query_engine.specs.declared.answer.Answer.TheVariants.{Rows, Words, Counts}
+use Rattle.query_engine.specs.declared.answer.Answer.TheVariants.{Rows, Outline, Words, Counts}
 use Rattle.query_engine.specs.declared.answer.AskRefusal.{AskRefusal}
 use Rattle.query_engine.specs.declared.answer.AskRefusal.TheVariants.{NoSuchFile, NotReady, Cancelled, OutOfMemory}
 
@@ -84,7 +84,7 @@ all_rows id file = map (row_of id file.path (shown_text file)) (listing_of (show
 -- the declarations of the live file with an id, where a file has it
 abbrev pub listing_reply : World → Option ℕ → Result Answer AskRefusal
 listing_reply world None = Err NoSuchFile
-listing_reply world (Some id) = Ok (Rows (option_map_or (all_rows id) (file_of world id) []))
+listing_reply world (Some id) = Ok (Outline (option_map_or (all_rows id) (file_of world id) []))
 
 -- the answer to a question
 abbrev pub reply : World → Query → Result Answer AskRefusal

@@ -38,24 +38,23 @@ pub struct WordRow {
     pub mask: u8,
 }
 
-/// Declarations, file by file in order of ids, and within a file in the order of its text.
+/// Rows of an answer: file by file in order of ids, and within a file in the order of its text.
 #[derive(Drop)]
-pub struct RowList {
-    rows: Vec<Row>,
+pub struct RowList<T> {
+    rows: Vec<T>,
 }
 
-impl Model for RowList {
+impl<T> Model for RowList<T> {
     ghost use Rattle.std.specs.Prelude.{List};
-    ghost use Rattle.query_engine.specs.declared.answer.Row.{Row};
 
-    ghost Value = { List Row };
+    ghost Value = { List T };
 
     ghost view = { λ r. r.rows.items };
 }
 
-impl RowList {
+impl<T: Drop> RowList<T> {
     /// No row.
-    pub(crate) fn new(alloc: Global) -> RowList
+    pub(crate) fn new(alloc: Global) -> RowList<T>
         ensures { result ≡ [] }
     {
         RowList {
@@ -64,7 +63,7 @@ impl RowList {
     }
 
     /// Puts a row at the end. On an error the list is as before.
-    pub(crate) fn push(&mut self, row: Row) -> Result<(), AllocError>
+    pub(crate) fn push(&mut self, row: T) -> Result<(), AllocError>
         ensures ok { OnOk result (self.new ≡ self.old ++ row ∷ []) }
         ensures err { OnErr result (self.new ≡ self.old) }
     {
@@ -80,56 +79,7 @@ impl RowList {
     }
 
     /// The rows.
-    pub fn as_slice(&self) -> &[Row]
-        ensures { result.now ≡ self.now }
-    {
-        &self.rows
-    }
-}
-
-/// Files that have a word, in order of ids.
-#[derive(Drop)]
-pub struct WordRows {
-    rows: Vec<WordRow>,
-}
-
-impl Model for WordRows {
-    ghost use Rattle.std.specs.Prelude.{List};
-    ghost use Rattle.query_engine.specs.declared.answer.WordRow.{WordRow};
-
-    ghost Value = { List WordRow };
-
-    ghost view = { λ r. r.rows.items };
-}
-
-impl WordRows {
-    /// No row.
-    pub(crate) fn new(alloc: Global) -> WordRows
-        ensures { result ≡ [] }
-    {
-        WordRows {
-            rows: Vec::new(alloc),
-        }
-    }
-
-    /// Puts a row at the end. On an error the list is as before.
-    pub(crate) fn push(&mut self, row: WordRow) -> Result<(), AllocError>
-        ensures ok { OnOk result (self.new ≡ self.old ++ row ∷ []) }
-        ensures err { OnErr result (self.new ≡ self.old) }
-    {
-        self.rows.push(row)?;
-        Ok(())
-    }
-
-    /// The number of rows.
-    pub fn len(&self) -> usize
-        ensures { result ≡ length self.now }
-    {
-        self.rows.len()
-    }
-
-    /// The rows.
-    pub fn as_slice(&self) -> &[WordRow]
+    pub fn as_slice(&self) -> &[T]
         ensures { result.now ≡ self.now }
     {
         &self.rows
@@ -139,10 +89,12 @@ impl WordRows {
 /// What a question comes to.
 #[derive(Drop)]
 pub enum Answer {
-    /// Declarations.
-    Rows { rows: RowList },
+    /// The declarations that fit, of all files.
+    Rows { rows: RowList<Row> },
+    /// The declarations of one file.
+    Outline { rows: RowList<Row> },
     /// The files that have a word.
-    Words { rows: WordRows },
+    Words { rows: RowList<WordRow> },
     /// How many live files, open documents and unready files there are.
     Counts { files: u32, docs: u32, unready: u32 },
 }

@@ -6,9 +6,10 @@ mod listed_file;
 mod looks;
 mod outline;
 mod question;
+mod ready;
 mod stub_rows;
 mod word_rows;
 
-pub use answer::{Answer, AskRefusal, Row, RowList, WordRow, WordRows};
+pub use answer::{Answer, AskRefusal, Row, RowList, WordRow};
 pub use looks::NoWatch;
 pub use question::{ask, ask_unwatched};

@@ -5,7 +5,7 @@ ghost use Rattle.query_engine.specs.Reply.{row_of, listing_reply, IsRefusalOf};
 ghost use Rattle.query_engine.specs.Looks.{rows_a_look, later_looks, HasLooked, EndsEarly};
 ghost use Rattle.query_engine.specs.Listed.{path_at, text_at, AreFrom};
 
-use crate::answer::{Answer, AskRefusal, RowList};
+use crate::answer::{Answer, AskRefusal, Row, RowList};
 use crate::listed_file::ListedFile;
 use crate::looks::look_after;
 use action_lock::Watch;
@@ -40,7 +40,7 @@ pub(crate) fn outline<W: Watch>(
     };
     let stubs = stubs(alloc, text, &tokens(alloc, text)?)?;
     let rows = file_rows(alloc, state, id, stubs.as_slice(), watch)?;
-    Ok(Answer::Rows { rows })
+    Ok(Answer::Outline { rows })
 }
 
 /// The rows of declarations of one live file.
@@ -50,7 +50,7 @@ fn file_rows<W: Watch>(
     id: u32,
     stubs: &[Stub],
     watch: &mut W,
-) -> Result<RowList, AskRefusal>
+) -> Result<RowList<Row>, AskRefusal>
     requires can { W.can_look watch.old }
     requires live { IsSome (file_of state.now.world id) }
     requires ahead { AreFrom (length (text_at state.now.world id)) 0 stubs.now }

@@ -1,15 +1,16 @@
 //! A question asked of a workspace.
-ghost use Rattle.std.specs.Prelude.{◌≡◌, ◌≢◌, ◌≤◌, Ok, Err, IfOk, IfErr, IsSomeAnd, OnOk, None};
+ghost use Rattle.std.specs.Prelude.{◌≡◌, ◌≢◌, ◌≤◌, Ok, Err, IfOk, IfErr};
 ghost use Rattle.action_lock.specs.Counts.{counted};
-ghost use Rattle.write_history.specs.World.{lowest_unready};
+ghost use Rattle.queries.specs.declared.query.Query.TheVariants.{Status};
 ghost use Rattle.query_engine.specs.Reply.{reply, IsRefusalOf};
-ghost use Rattle.query_engine.specs.Looks.{looks_for, later_looks, HasLooked};
+ghost use Rattle.query_engine.specs.Looks.{HasLookedFor};
+ghost use Rattle.query_engine.specs.Given.{RepliesTo};
 
 use crate::answer::{Answer, AskRefusal};
 use crate::looks::{NoWatch, look};
 use crate::outline::outline;
-use crate::stub_rows::stub_rows;
-use crate::word_rows::word_rows;
+use crate::stub_rows::declared;
+use crate::word_rows::with_word;
 use action_lock::Watch;
 use decl_parser::laws::{listings_are_lawful, names_are_identifiers};
 use ide_world::State;
@@ -29,7 +30,7 @@ pub fn ask<W: Watch>(
     requires { W.can_look watch.old }
     ensures again { W.can_look watch.new }
     ensures stays { W.stays watch.old watch.new }
-    ensures looked { HasLooked W.looks W.sightings W.stays result (looks_for (reply state.now.world query.now)) watch.old watch.new }
+    ensures looked { HasLookedFor W.looks W.sightings W.stays state.now.world query.now result watch.old watch.new }
     ensures first_look { counted (W.looks watch.old) ≤ W.looks watch.new }
     ensures answer { IfOk result (λ answer. reply state.now.world query.now ≡ Ok answer) }
     ensures refused { IfErr result (IsRefusalOf (reply state.now.world query.now)) }
@@ -57,49 +58,27 @@ fn answer<W: Watch>(
     requires { W.can_look watch.old }
     ensures again { W.can_look watch.new }
     ensures stays { W.stays watch.old watch.new }
-    ensures looked { HasLooked W.looks W.sightings W.stays result (later_looks (reply state.now.world query.now)) watch.old watch.new }
-    ensures answer { IfOk result (λ answer. reply state.now.world query.now ≡ Ok answer) }
-    ensures refused { IfErr result (IsRefusalOf (reply state.now.world query.now)) }
+    ensures replied { RepliesTo W.looks W.sightings W.stays state.now.world query.now result watch.old watch.new }
 {
     listings_are_lawful();
     names_are_identifiers();
     match query {
-        Query::Class { name } => {
-            ready(state)?;
-            let rows = stub_rows(alloc, state, state.type_rows(name), watch)?;
-            Ok(Answer::Rows { rows })
-        }
-        Query::Supers { name } => {
-            ready(state)?;
-            let rows = stub_rows(alloc, state, state.super_rows(name), watch)?;
-            Ok(Answer::Rows { rows })
-        }
-        Query::Method { name } => {
-            ready(state)?;
-            let rows = stub_rows(alloc, state, state.method_rows(name), watch)?;
-            Ok(Answer::Rows { rows })
-        }
-        Query::Word { name } => {
-            ready(state)?;
-            let rows = word_rows(alloc, state, state.word_rows(name), watch)?;
-            Ok(Answer::Words { rows })
-        }
+        Query::Class { name } => declared(alloc, state, state.type_rows(name), watch),
+        Query::Supers { name } => declared(alloc, state, state.super_rows(name), watch),
+        Query::Method { name } => declared(alloc, state, state.method_rows(name), watch),
+        Query::Word { name } => with_word(alloc, state, state.word_rows(name), watch),
         Query::Outline { path } => outline(alloc, state, path, watch),
-        Query::Status => Ok(Answer::Counts {
-            files: state.live_count(),
-            docs: state.open_count(),
-            unready: state.unready_count(),
-        }),
+        Query::Status => Ok(counts(state)),
     }
 }
 
-/// Gives up where a file is unready.
-fn ready(state: &State) -> Result<(), AskRefusal>
-    ensures smart { OnOk result (lowest_unready state.now.world ≡ None) }
-    ensures dumb { IfErr result (λ refusal. IsSomeAnd (lowest_unready state.now.world) (λ file. refusal ≡ AskRefusal.NotReady file)) }
+/// How many live files, open documents and unready files there are.
+fn counts(state: &State) -> Answer
+    ensures { Ok result ≡ reply state.now.world Status }
 {
-    match state.lowest_unready() {
-        Some(file) => Err(AskRefusal::NotReady { file }),
-        None => Ok(()),
+    Answer::Counts {
+        files: state.live_count(),
+        docs: state.open_count(),
+        unready: state.unready_count(),
     }
 }

@@ -1,21 +1,42 @@
 //! The rows of a word that was found.
-ghost use Rattle.std.specs.Prelude.{◌≡◌, ◌/◌, IfOk, IfErr, map, length};
+ghost use Rattle.std.specs.Prelude.{◌≡◌, ◌/◌, None, IfOk, IfErr, map, length};
+ghost use Rattle.write_history.specs.World.{lowest_unready};
 ghost use Rattle.query_engine.specs.Looks.{rows_a_look, HasLooked, EndsEarly};
 ghost use Rattle.query_engine.specs.Listed.{AreLive, word_found};
+ghost use Rattle.query_engine.specs.Given.{GivesReply, word_reply};
 
-use crate::answer::{AskRefusal, WordRow, WordRows};
+use crate::answer::{Answer, AskRefusal, RowList, WordRow};
 use crate::looks::look_after;
+use crate::ready::ready;
 use action_lock::Watch;
 use ide_world::{State, WordWalk, path};
 use std::alloc::Global;
 
-/// The rows of the files in which a word is found.
-pub(crate) fn word_rows<W: Watch>(
+/// The answer to a question about a word, by the walk over the files that have it; refused where a file is unready.
+pub(crate) fn with_word<W: Watch>(
     alloc: Global,
     state: &State,
     found: WordWalk<'_>,
     watch: &mut W,
-) -> Result<WordRows, AskRefusal>
+) -> Result<Answer, AskRefusal>
+    requires can { W.can_look watch.old }
+    requires live { lowest_unready state.now.world ≡ None → AreLive state.now.world found }
+    ensures again { W.can_look watch.new }
+    ensures stays { W.stays watch.old watch.new }
+    ensures answered { GivesReply W.looks W.sightings W.stays (word_reply state.now.world found.entry) result watch.old watch.new }
+{
+    ready(state)?;
+    let rows = word_rows(alloc, state, found, watch)?;
+    Ok(Answer::Words { rows })
+}
+
+/// The rows of the files in which a word is found.
+fn word_rows<W: Watch>(
+    alloc: Global,
+    state: &State,
+    found: WordWalk<'_>,
+    watch: &mut W,
+) -> Result<RowList<WordRow>, AskRefusal>
     requires can { W.can_look watch.old }
     requires live { AreLive state.now.world found }
     ensures again { W.can_look watch.new }
@@ -24,7 +45,7 @@ pub(crate) fn word_rows<W: Watch>(
     ensures rows { IfOk result (λ rows. rows ≡ map (word_found state.now.world) found.entry) }
     ensures early { IfErr result EndsEarly }
 {
-    let mut rows = WordRows::new(alloc);
+    let mut rows = RowList::new(alloc);
     for (file, mask) in found {
         let Some(path) = path(state, file) else {
             unreachable!()

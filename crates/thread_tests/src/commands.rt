@@ -98,27 +98,34 @@ fn is_unknown(
 /// Whether the state gives a question this answer.
 pub fn is_reply(alloc: Global, state: &State, query: &Query, answer: &Answer) -> bool {
     match ask_unwatched(alloc, state, query) {
-        Ok(found) => is_found(query, answer, &found),
+        Ok(found) => is_found(answer, &found),
         Err(AskRefusal::NotReady { file }) => is_not_ready(state, answer, file),
         Err(_) => false,
     }
 }
 
 /// Whether an answer tells what was found.
-fn is_found(query: &Query, answer: &Answer, found: &Found) -> bool {
-    match (answer, found) {
-        (Answer::Rows { at: _, rows }, Found::Rows { rows: own }) => {
-            !is_outline(query) && are_same_rows(rows.as_slice(), own.as_slice())
+fn is_found(answer: &Answer, found: &Found) -> bool {
+    match answer {
+        Answer::Found { at: _, found: told } => is_same(told, found),
+        _ => false,
+    }
+}
+
+/// Whether two questions found the same.
+fn is_same(told: &Found, own: &Found) -> bool {
+    match (told, own) {
+        (Found::Rows { rows }, Found::Rows { rows: own }) => {
+            are_same_rows(rows.as_slice(), own.as_slice())
         }
-        (Answer::Outline { at: _, rows }, Found::Rows { rows: own }) => {
-            is_outline(query) && are_same_rows(rows.as_slice(), own.as_slice())
+        (Found::Outline { rows }, Found::Outline { rows: own }) => {
+            are_same_rows(rows.as_slice(), own.as_slice())
         }
-        (Answer::Words { at: _, rows }, Found::Words { rows: own }) => {
+        (Found::Words { rows }, Found::Words { rows: own }) => {
             are_same_words(rows.as_slice(), own.as_slice())
         }
         (
-            Answer::Status {
-                at: _,
+            Found::Counts {
                 files,
                 docs,
                 unready,
@@ -131,11 +138,6 @@ fn is_found(query: &Query, answer: &Answer, found: &Found) -> bool {
         ) => files == live && docs == opened && unready == left,
         _ => false,
     }
-}
-
-/// Whether the question is for the declarations of one file.
-fn is_outline(query: &Query) -> bool {
-    matches!(query, Query::Outline { .. })
 }
 
 /// Whether an answer names the path of a file that isn't ready.

@@ -14,10 +14,7 @@ use Rattle.script_lang.specs.declared.command.Command.TheVariants as command
 use Rattle.script_lang.specs.declared.line.Line.{Line}
 use Rattle.script_lang.specs.Parts.{Parts}
 use Rattle.queries.specs.declared.query.Query.{Query}
-use Rattle.queries.specs.declared.query.Query.TheVariants as query
-use Rattle.query_engine.specs.declared.answer.Row.{Row}
-use Rattle.query_engine.specs.declared.answer.Answer.{Answer as Found}
-use Rattle.query_engine.specs.declared.answer.Answer.TheVariants as found
+use Rattle.query_engine.specs.declared.answer.Answer.{Answer as Finding}
 use Rattle.query_engine.specs.declared.answer.AskRefusal.{AskRefusal}
 use Rattle.query_engine.specs.declared.answer.AskRefusal.TheVariants as refused
 use Rattle.query_engine.specs.Reply.{reply}
@@ -25,7 +22,7 @@ use Rattle.query_engine.specs.Listed.{path_at}
 use Rattle.transcripts.specs.declared.loaded.Loaded.{Loaded}
 use Rattle.transcripts.specs.declared.loaded.Loaded.TheVariants as loaded
 use Rattle.transcripts.specs.declared.record.Answer.{Answer}
-use Rattle.transcripts.specs.declared.record.Answer.TheVariants.{Accepted, Refused, NotText, TooLong, Smart, NotReady, Rows, Outline, Words, Status}
+use Rattle.transcripts.specs.declared.record.Answer.TheVariants.{Accepted, Refused, NotText, TooLong, Smart, NotReady, Found}
 use Rattle.transcripts.specs.declared.record.Record.{Record}
 
 -- what a command adds to the history, and what it is answered
@@ -78,21 +75,6 @@ settle_step history seat line = record {
   answer = settle_answer (length (history ++ (settled history seat line).added)) (settled history seat line).refused;
 }
 
--- the declarations that a question found: those of an outline are told as such
-abbrev pub rows_answer : Query → ℕ → List Row → Answer
-rows_answer (query.Outline path) at rows = Outline at rows
-rows_answer (query.Class name) at rows = Rows at rows
-rows_answer (query.Supers name) at rows = Rows at rows
-rows_answer (query.Method name) at rows = Rows at rows
-rows_answer (query.Word name) at rows = Rows at rows
-rows_answer query.Status at rows = Rows at rows
-
--- what a question found, told at a prefix
-abbrev pub found_answer : Query → ℕ → Found → Answer
-found_answer query at (found.Rows rows) = rows_answer query at rows
-found_answer query at (found.Words rows) = Words at rows
-found_answer query at (found.Counts files docs unready) = Status at files docs unready
-
 -- why a question was refused, told at a prefix; the last two aren't among the answers of the definition
 abbrev pub refused_answer : World → ℕ → AskRefusal → Answer
 refused_answer world at refused.NoSuchFile = Refused at None why.NoSuchFile
@@ -101,13 +83,13 @@ refused_answer world at refused.Cancelled = Refused at None why.OutOfMemory
 refused_answer world at refused.OutOfMemory = Refused at None why.OutOfMemory
 
 -- what a question is answered
-abbrev pub answer_of : Query → World → ℕ → Result Found AskRefusal → Answer
-answer_of query world at (Ok answer) = found_answer query at answer
-answer_of query world at (Err refusal) = refused_answer world at refusal
+abbrev pub answer_of : World → ℕ → Result Finding AskRefusal → Answer
+answer_of world at (Ok finding) = Found at finding
+answer_of world at (Err refusal) = refused_answer world at refusal
 
 -- a question adds nothing
 abbrev pub query_step : List Entry → Query → Step
-query_step history query = told (answer_of query (fold history) (length history) (reply (fold history) query))
+query_step history query = told (answer_of (fold history) (length history) (reply (fold history) query))
 
 -- what a command of a line of a section does, where this is what a load of it reads
 abbrev pub step_of : Loaded → List Entry → ℕ → ℕ → Command → Step

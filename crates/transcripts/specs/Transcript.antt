@@ -8,8 +8,10 @@ use Rattle.stub_tree.specs.declared.stub_kind.StubKind.TheVariants as declares
 use Rattle.stub_tree.specs.Stub.{code_of}
 use Rattle.query_engine.specs.declared.answer.Row.{Row}
 use Rattle.query_engine.specs.declared.answer.WordRow.{WordRow}
+use Rattle.query_engine.specs.declared.answer.Answer.{Answer as Finding}
+use Rattle.query_engine.specs.declared.answer.Answer.TheVariants.{Rows, Outline, Words, Counts}
 use Rattle.transcripts.specs.declared.record.Answer.{Answer}
-use Rattle.transcripts.specs.declared.record.Answer.TheVariants.{Accepted, Refused, NotText, TooLong, Smart, NotReady, Rows, Outline, Words, Status, Cancelled}
+use Rattle.transcripts.specs.declared.record.Answer.TheVariants.{Accepted, Refused, NotText, TooLong, Smart, NotReady, Found, Cancelled}
 use Rattle.transcripts.specs.declared.record.Record.{Record}
 use Rattle.transcripts.specs.Serial.{Ended}
 
@@ -91,43 +93,50 @@ prefix_text (NotText at) = []
 prefix_text (TooLong count) = []
 prefix_text (Smart at) = codes "at " ++ decimal at ++ codes " "
 prefix_text (NotReady at path) = codes "at " ++ decimal at ++ codes " "
-prefix_text (Rows at rows) = codes "at " ++ decimal at ++ codes " "
-prefix_text (Outline at rows) = codes "at " ++ decimal at ++ codes " "
-prefix_text (Words at rows) = codes "at " ++ decimal at ++ codes " "
-prefix_text (Status at files docs unready) = codes "at " ++ decimal at ++ codes " "
+prefix_text (Found at finding) = codes "at " ++ decimal at ++ codes " "
 prefix_text (Cancelled sighted) = []
 
--- an answer without its prefix and its rows
-abbrev pub head_text : Answer → List ℕ
-head_text (Accepted at) = codes "accepted"
-head_text (Refused at place why) = codes "refused " ++ place_of_refusal place ++ why_text why
-head_text (NotText at) = codes "not-text " ++ decimal at
-head_text (TooLong count) = codes "too-long " ++ decimal count
-head_text (Smart at) = codes "smart"
-head_text (NotReady at path) = codes "not-ready " ++ encode_utf8_all path
-head_text (Rows at rows) = codes "rows " ++ decimal (length rows)
-head_text (Outline at rows) = codes "rows " ++ decimal (length rows)
-head_text (Words at rows) = codes "rows " ++ decimal (length rows)
-head_text (Status at files docs unready) = codes "status files " ++ decimal files ++ codes " open " ++ decimal docs ++ codes " unready " ++ decimal unready
-head_text (Cancelled sighted) = codes "cancelled " ++ decimal sighted.attempts
+-- how many rows there are, in a line
+abbrev pub count_line : ℕ → List ℕ
+count_line count = codes "rows " ++ decimal count ++ codes "\n"
 
--- the rows of an answer
-abbrev pub rows_text : Answer → List ℕ
-rows_text (Accepted at) = []
-rows_text (Refused at place why) = []
-rows_text (NotText at) = []
-rows_text (TooLong count) = []
-rows_text (Smart at) = []
-rows_text (NotReady at path) = []
-rows_text (Rows at rows) = flat_map found_line rows
-rows_text (Outline at rows) = flat_map outline_line rows
-rows_text (Words at rows) = flat_map word_line rows
-rows_text (Status at files docs unready) = []
-rows_text (Cancelled sighted) = []
+-- how many files there are
+abbrev pub files_text : ℕ → List ℕ
+files_text files = codes "status files " ++ decimal files
+
+-- how many open documents there are
+abbrev pub open_text : ℕ → List ℕ
+open_text docs = codes " open " ++ decimal docs
+
+-- how many unready files there are
+abbrev pub unready_text : ℕ → List ℕ
+unready_text unready = codes " unready " ++ decimal unready ++ codes "\n"
+
+-- the three counts, in a line
+abbrev pub counts_line : ℕ → ℕ → ℕ → List ℕ
+counts_line files docs unready = files_text files ++ open_text docs ++ unready_text unready
+
+-- what a question found: a line that says how much, and one for each row
+abbrev pub found_text : Finding → List ℕ
+found_text (Rows rows) = count_line (length rows) ++ flat_map found_line rows
+found_text (Outline rows) = count_line (length rows) ++ flat_map outline_line rows
+found_text (Words rows) = count_line (length rows) ++ flat_map word_line rows
+found_text (Counts files docs unready) = counts_line files docs unready
+
+-- an answer without its prefix
+abbrev pub answer_text : Answer → List ℕ
+answer_text (Accepted at) = codes "accepted\n"
+answer_text (Refused at place why) = codes "refused " ++ place_of_refusal place ++ why_text why ++ codes "\n"
+answer_text (NotText at) = codes "not-text " ++ decimal at ++ codes "\n"
+answer_text (TooLong count) = codes "too-long " ++ decimal count ++ codes "\n"
+answer_text (Smart at) = codes "smart\n"
+answer_text (NotReady at path) = codes "not-ready " ++ encode_utf8_all path ++ codes "\n"
+answer_text (Found at finding) = found_text finding
+answer_text (Cancelled sighted) = codes "cancelled " ++ decimal sighted.attempts ++ codes "\n"
 
 -- the record of a command: its line's number, its answer, then the rows
 abbrev pub record_text : Record → List ℕ
-record_text reply = decimal reply.line ++ codes " " ++ prefix_text reply.answer ++ head_text reply.answer ++ codes "\n" ++ rows_text reply.answer
+record_text reply = decimal reply.line ++ codes " " ++ prefix_text reply.answer ++ answer_text reply.answer
 
 -- the lines of entries, the first of which has this position
 abbrev pub entry_lines : ℕ → List Entry → List ℕ
@@ -144,7 +153,7 @@ transcript_of ended = history_text ended.history ++ flat_map record_text (ended.
 
 -- the record of a command as a summary tells it: without its line's number and its prefix
 abbrev pub summary_text : Record → List ℕ
-summary_text reply = head_text reply.answer ++ codes "\n" ++ rows_text reply.answer
+summary_text reply = answer_text reply.answer
 
 -- the summary: the records of the last section
 abbrev pub summary_of : Ended → List ℕ

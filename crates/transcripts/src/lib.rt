@@ -1,6 +1,7 @@
 //! What a script is answered, and how the transcript prints it: the history, then a record for each command.
 #![tactic(auto)]
 
+mod found;
 pub mod laws;
 mod loaded;
 mod print;

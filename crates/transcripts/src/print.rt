@@ -3,13 +3,13 @@ ghost use Rattle.std.specs.Prelude.{◌≡◌, ◌++◌, ℕ, List, IfOk, OnOk, 
 ghost use Rattle.std.specs.List.{flat_map};
 ghost use Rattle.std.specs.Option.{option_map_or};
 ghost use Rattle.std.specs.Fmt.{decimal};
-ghost use Rattle.transcripts.specs.Transcript.{transcript_of, summary_of, history_text, entry_lines, record_text, summary_text, prefix_text, head_text, rows_text, place_of_refusal};
+ghost use Rattle.write_history.specs.Print.{why_text};
+ghost use Rattle.transcripts.specs.Transcript.{transcript_of, summary_of, history_text, entry_lines, record_text, summary_text, prefix_text, answer_text, place_of_refusal};
 
-use crate::rows::{push_found, push_outline, push_words};
+use crate::found::push_found;
 use crate::{Answer, Played, Record};
 use std::alloc::{AllocError, Global};
-use std::fmt;
-use write_history::{History, line_of};
+use write_history::{History, Refusal, line_of};
 
 /// The transcript: the history, then one record for each command, in UTF-8.
 pub fn transcript(alloc: Global, played: &Played) -> Result<Vec<u8>, AllocError>
@@ -74,7 +74,7 @@ fn push_answers(alloc: Global, out: &mut Vec<u8>, replies: &[Record]) -> Result<
     Ok(())
 }
 
-/// Adds a record with its rows.
+/// Adds a record.
 fn push_record(alloc: Global, out: &mut Vec<u8>, reply: &Record) -> Result<(), AllocError>
     ensures { OnOk result (out.new.items ≡ out.old.items ++ record_text reply.now) }
 {
@@ -106,30 +106,43 @@ fn prefix(answer: &Answer) -> Option<u64>
         Answer::Refused { at, .. } => Some(*at),
         Answer::Smart { at } => Some(*at),
         Answer::NotReady { at, .. } => Some(*at),
-        Answer::Rows { at, .. } => Some(*at),
-        Answer::Outline { at, .. } => Some(*at),
-        Answer::Words { at, .. } => Some(*at),
-        Answer::Status { at, .. } => Some(*at),
+        Answer::Found { at, .. } => Some(*at),
     }
 }
 
-/// Adds an answer without its prefix, and its rows.
+/// Adds an answer without its prefix.
 fn push_answer(alloc: Global, out: &mut Vec<u8>, answer: &Answer) -> Result<(), AllocError>
-    ensures { OnOk result (out.new.items ≡ out.old.items ++ (head_text answer.now ++ codes "\n" ++ rows_text answer.now)) }
-{
-    push_text(out, &format!(in alloc; "{answer}\n")?)?;
-    push_rows(alloc, out, answer)
-}
-
-/// Adds the rows of an answer.
-fn push_rows(alloc: Global, out: &mut Vec<u8>, answer: &Answer) -> Result<(), AllocError>
-    ensures { OnOk result (out.new.items ≡ out.old.items ++ rows_text answer.now) }
+    ensures { OnOk result (out.new.items ≡ out.old.items ++ answer_text answer.now) }
 {
     match answer {
-        Answer::Rows { at: _, rows } => push_found(alloc, out, rows.as_slice()),
-        Answer::Outline { at: _, rows } => push_outline(alloc, out, rows.as_slice()),
-        Answer::Words { at: _, rows } => push_words(alloc, out, rows.as_slice()),
-        _ => Ok(()),
+        Answer::Accepted { .. } => out.extend_from_slice(b"accepted\n"),
+        Answer::Refused { at: _, place, why } => push_refusal(alloc, out, *place, *why),
+        Answer::NotText { at } => push_text(out, &format!(in alloc; "not-text {at}\n")?),
+        Answer::TooLong { count } => push_text(out, &format!(in alloc; "too-long {count}\n")?),
+        Answer::Smart { .. } => out.extend_from_slice(b"smart\n"),
+        Answer::NotReady { at: _, path } => {
+            push_text(out, &format!(in alloc; "not-ready {path}\n")?)
+        }
+        Answer::Found { at: _, found } => push_found(alloc, out, found),
+        Answer::Cancelled { sighted } => {
+            let attempts = sighted.attempts();
+            push_text(out, &format!(in alloc; "cancelled {attempts}\n")?)
+        }
+    }
+}
+
+/// Adds a refusal, of a group with the place of the change that it refuses.
+fn push_refusal(
+    alloc: Global,
+    out: &mut Vec<u8>,
+    place: Option<u32>,
+    why: Refusal,
+) -> Result<(), AllocError>
+    ensures { OnOk result (out.new.items ≡ out.old.items ++ (codes "refused " ++ place_of_refusal place ++ why_text why ++ codes "\n")) }
+{
+    match place {
+        None => push_text(out, &format!(in alloc; "refused {why}\n")?),
+        Some(place) => push_text(out, &format!(in alloc; "refused in {place} {why}\n")?),
     }
 }
 
@@ -138,41 +151,4 @@ pub(crate) fn push_text(out: &mut Vec<u8>, text: &String) -> Result<(), AllocErr
     ensures { OnOk result (out.new.items ≡ out.old.items ++ string_bytes text.now) }
 {
     out.extend_from_slice(text.as_bytes())
-}
-
-impl fmt::Display for Answer {
-    ghost use Rattle.std.specs.Prelude.{Some};
-    ghost use Rattle.transcripts.specs.Transcript.{head_text};
-
-    ghost output = { λ answer. Some (head_text answer) };
-
-    fn fmt<W: fmt::Write>(&self, f: &mut fmt::Formatter<W>) -> fmt::Result {
-        match self {
-            Answer::Accepted { .. } => f.write_str("accepted"),
-            Answer::Refused {
-                at: _,
-                place: None,
-                why,
-            } => write!(f, "refused {why}"),
-            Answer::Refused {
-                at: _,
-                place: Some(place),
-                why,
-            } => write!(f, "refused in {place} {why}"),
-            Answer::NotText { at } => write!(f, "not-text {at}"),
-            Answer::TooLong { count } => write!(f, "too-long {count}"),
-            Answer::Smart { .. } => f.write_str("smart"),
-            Answer::NotReady { at: _, path } => write!(f, "not-ready {path}"),
-            Answer::Rows { at: _, rows } => write!(f, "rows {}", rows.len()),
-            Answer::Outline { at: _, rows } => write!(f, "rows {}", rows.len()),
-            Answer::Words { at: _, rows } => write!(f, "rows {}", rows.len()),
-            Answer::Status {
-                at: _,
-                files,
-                docs,
-                unready,
-            } => write!(f, "status files {files} open {docs} unready {unready}"),
-            Answer::Cancelled { sighted } => write!(f, "cancelled {}", sighted.attempts()),
-        }
-    }
 }

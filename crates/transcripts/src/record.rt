@@ -4,7 +4,6 @@ ghost use Rattle.std.specs.Prelude.{◌≡◌, [], ◌∷◌, ◌++◌, OnOk, On
 use ide_calls::Sighted;
 use ide_text::Name;
 use index_workers::Worked;
-use query_engine::{RowList, WordRows};
 use std::alloc::{AllocError, Global};
 use std::marker::Model;
 use write_history::{History, Refusal};
@@ -39,27 +38,10 @@ pub enum Answer {
         at: u64,
         path: Name,
     },
-    /// The declarations that a question finds.
-    Rows {
+    /// What a question found.
+    Found {
         at: u64,
-        rows: RowList,
-    },
-    /// The declarations of one file.
-    Outline {
-        at: u64,
-        rows: RowList,
-    },
-    /// The files that have a word.
-    Words {
-        at: u64,
-        rows: WordRows,
-    },
-    /// The numbers of live files, open documents and unready files.
-    Status {
-        at: u64,
-        files: u32,
-        docs: u32,
-        unready: u32,
+        found: query_engine::Answer,
     },
     /// A soft question was given up: each of its attempts found that a write waits.
     Cancelled {

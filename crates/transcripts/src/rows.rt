@@ -9,17 +9,17 @@ use query_engine::{Row, WordRow};
 use std::alloc::{AllocError, Global};
 
 /// Adds the lines of declarations that a question found.
-pub(crate) fn push_found(alloc: Global, out: &mut Vec<u8>, rows: &[Row]) -> Result<(), AllocError>
+pub(crate) fn push_rows(alloc: Global, out: &mut Vec<u8>, rows: &[Row]) -> Result<(), AllocError>
     ensures { OnOk result (out.new.items ≡ out.old.items ++ flat_map found_line rows.now) }
 {
     for row in rows {
-        push_found_row(alloc, out, row)?;
+        push_row(alloc, out, row)?;
     }
     Ok(())
 }
 
 /// Adds the line of a declaration that a question found.
-fn push_found_row(alloc: Global, out: &mut Vec<u8>, row: &Row) -> Result<(), AllocError>
+fn push_row(alloc: Global, out: &mut Vec<u8>, row: &Row) -> Result<(), AllocError>
     ensures { OnOk result (out.new.items ≡ out.old.items ++ found_line row.now) }
 {
     push_place(alloc, out, row)?;

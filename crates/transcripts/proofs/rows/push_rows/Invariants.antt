@@ -1,7 +1,7 @@
 use Rattle.std.proofs.Common.{◌≡◌, ◌++◌, drop}
 use Rattle.std.specs.List.{flat_map}
 use Rattle.transcripts.specs.Transcript.{found_line}
-use Rattle.transcripts.proofs.rows.push_found.Given as goal
+use Rattle.transcripts.proofs.rows.push_rows.Given as goal
 
 -- what was printed so far and what the rest gives is all
 abbrev pub invariant-loop-row : goal.invariant-loop-row
