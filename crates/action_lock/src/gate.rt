@@ -1,5 +1,6 @@
 //! Points of a run at which a gate is told where a thread is, so that a test can hold it there.
 
+/// A place in a run at which a gate is told where a thread is.
 #[derive(Clone, Copy, Debug, PartialEq, Eq)]
 pub enum Point {
     /// A lane is about to begin a command.

@@ -17,6 +17,7 @@ use std::alloc::{AllocFailed, Global};
 /// How many numbers a lock has.
 const NUMBERS: u32 = 65536;
 
+/// A lock with reads that go side by side, one write-intent, and writes that come before new reads. It holds a home value, and is used by passes.
 pub struct ActionLock<H: Home> {
     pub(crate) table: Table<H, View<H::Entry>, (), GateRule<H>, Global>,
     ghost sized: { (table.shared.table_id.words ≡ 2) × (table.shared.table_id.slots ≡ 1) },

@@ -27,6 +27,7 @@ pub struct Pass<H: Home> {
 impl<H: Home> Pass<H> {
     ghost use Rattle.action_lock.specs.Passes.{view_of, IsSamePass};
 
+    /// Its number: 0 for the first pass of a lock, then in the order in which passes were split off.
     pub fn number(&self) -> u32
         ensures { (view_of self.now).number ≡ Some result }
     {

@@ -4,6 +4,7 @@ use crate::view::View;
 use atomic_table::TableRule;
 use std::marker::PhantomData;
 
+/// The rule of the lock over a home value of this type. No value of it is made.
 pub struct GateRule<H> {
     home: PhantomData<H>,
 }

@@ -22,6 +22,7 @@ pub struct Ended<E> {
     pub sights: u64,
 }
 
+/// What the lock's rule knows of one pass: its number, its phase, and what it has seen and made. No value of it is made.
 pub struct View<E> {
     pub number: Option<u32>,
     /// Of number 0: how many numbers were given, its own included.

@@ -31,7 +31,7 @@ impl<H: Home> Pass<H> {
         }
     }
 
-    /// Gets the intent as soon as no other pass has it. It may wait for ever.
+    /// Gets the intent as soon as no other pass has it. May block.
     pub fn intent<R: Wait>(&mut self, rt: &R, lock: &ActionLock<H>)
         requires { IsPassOf lock.now self.old }
         ensures same { IsSamePass self.old self.new }
@@ -48,7 +48,7 @@ impl<H: Home> Pass<H> {
         unreachable!()
     }
 
-    /// Begins to write, as soon as the readers have left; no reader enters meanwhile. It may wait for ever.
+    /// Begins to write, as soon as the readers have left; no reader enters meanwhile. May block.
     pub fn write<R: Wait>(&mut self, rt: &R, lock: &ActionLock<H>)
         requires { Intends lock.now self.old }
         ensures same { IsSamePass self.old self.new }

@@ -3,7 +3,7 @@ use document_buf::{Doc, Docs};
 use ide_text::{MAX_CHARS, SharedText, Text};
 use std::alloc::{AllocError, Global};
 
-/// The text that a string spells. One that is none, or too long, counts as want of memory.
+/// The text that a string spells. One that is none, or too long, counts as running out of memory.
 pub(crate) fn text_of(alloc: Global, text: &str) -> Result<Text, AllocError> {
     match Text::from_utf8(alloc, text.as_bytes()) {
         Ok(text) => Ok(text),

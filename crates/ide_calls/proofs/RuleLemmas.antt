@@ -1,4 +1,4 @@
--- The rules never give want of memory as a reason.
+-- The rules never give running out of memory as a reason.
 use Rattle.std.proofs.Common.{◌≡◌, Bool, true, false, List, [], ◌∷◌, ◌++◌, refl, sym, ap, ◌∙◌, Option, Some, None, cond}
 use Rattle.std.specs.List.{list_all}
 use Rattle.std.specs.Prelude.{not, ◌&&◌}
@@ -11,7 +11,7 @@ use Rattle.ide_world.specs.declared.group.GroupRefusal.{GroupRefusal}
 use Rattle.ide_world.specs.Ready.{is_want_of_memory}
 use Rattle.ide_calls.specs.Planned.{IsFirstAccepted}
 
--- whether a reason is no want of memory
+-- whether a reason isn't running out of memory
 abbrev pub is_rule : Reason → Bool
 is_rule reason = not (is_want_of_memory reason.refusal)
 
@@ -47,7 +47,7 @@ are_rules world (change.CloseDoc path) = refl
 are_rules world (change.Intake file stamp) = refl
 are_rules world (change.Move path to) = refl
 
--- a change is never refused for want of memory
+-- a change is never refused for running out of memory
 pub refused_by_rule : (world : World) (c : Change) (why : Refusal) → refusal_of world c ≡ Some why → is_want_of_memory why ≡ false
 refused_by_rule world c why h = first_of_rules (reasons world c ++ history_full world ∷ []) (are_rules world c) why h
 
@@ -55,7 +55,7 @@ not_some : {A : Type 0} (o : Option A) → ((a : A) → o ≡ Some a → ⊥) �
 not_some None h = refl
 not_some (Some a) h = absurd (h a refl)
 
--- where memory is wanted, the first change of a list isn't refused
+-- when memory runs out, the first change of a list isn't refused
 pub first_is_accepted : (world : World) (changes : List Change) (refusal : GroupRefusal) → is_want_of_memory refusal.why ≡ true
     → ((c : Change) (rest : List Change) (why : Refusal) → changes ≡ c ∷ rest → refusal_of world c ≡ Some why → refusal ≡ record { place = 1; why = why })
     → IsFirstAccepted world changes

@@ -40,7 +40,7 @@ pub record HasRefused (v w : View Entry) (changes : List Change) (at place : ℕ
   pub no_want : is_want_of_memory why ≡ false
   pub is_at : at ≡ length w.seen
 
--- when each refusal of a group comes; of a want of memory, that nothing was made
+-- when each refusal of a group comes; of running out of memory, that nothing was made
 abbrev pub IsGroupRefused : View Entry → View Entry → List Change → GroupChangeRefusal → Type 0
 IsGroupRefused v w changes (group.Refused at place why) = HasRefused v w changes at place why
 IsGroupRefused v w changes group.OutOfMemory = HasOnlyRead v w

@@ -23,7 +23,7 @@ abbrev pub IsFirstAccepted : World → List Change → Type 0
 IsFirstAccepted world [] = Unit {0}
 IsFirstAccepted world (change ∷ changes) = refusal_of world change ≡ None
 
--- why the changes may not go in: a refusal of the first of them is never told as want of memory
+-- why the changes may not go in: a refusal of the first of them is never reported as out of memory
 abbrev pub IsRefusedIn : World → List Change → GroupChangeRefusal → Type 0
 IsRefusedIn world changes (Refused at place why) =
     (at ≡ world.entries) × (list_refusal world changes ≡ Some (record { place = place; why = why })) × (is_want_of_memory why ≡ false)

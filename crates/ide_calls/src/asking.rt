@@ -17,7 +17,7 @@ use std::sync::Wait;
 use write_history::laws::histories_go_on;
 
 /// Answers a question by the whole history of a moment of this call. The gate is told `Reading` while the read is open.
-/// It may wait for ever.
+/// May block.
 pub fn ask<R: Wait, G: Gate>(
     rt: &R,
     alloc: Global,

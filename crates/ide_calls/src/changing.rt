@@ -18,7 +18,7 @@ use std::sync::Wait;
 use write_history::laws::histories_go_on;
 use write_history::{Change, Changes, Entry};
 
-/// Makes a change other than an intake, as an entry of its own. It may wait for ever.
+/// Makes a change other than an intake, as an entry of its own. May block.
 pub fn change<R: Wait>(
     rt: &R,
     alloc: Global,

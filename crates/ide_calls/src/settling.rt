@@ -17,7 +17,7 @@ use write_history::laws::{histories_go_on, unready_files_have_an_order};
 use write_history::{Change, Changes, Entry};
 
 /// Takes every unready file in, in order of ids, one entry each, for a line of a script. It answers with the number of
-/// entries after which no file is unready. It may wait for ever.
+/// entries after which no file is unready. May block.
 pub fn settle<R: Wait>(
     rt: &R,
     alloc: Global,

@@ -19,7 +19,7 @@ use std::sync::Wait;
 use write_history::laws::histories_go_on;
 
 /// Answers a question as `ask` does, but gives way to writes: an attempt that sees that one waits ends, and after
-/// `attempts` of them the call ends too. An answer comes from a read that looked whether one waits. It may wait for ever.
+/// `attempts` of them the call ends too. An answer comes from a read that looked whether one waits. May block.
 pub fn soft_ask<R: Wait, G: Gate>(
     rt: &R,
     alloc: Global,

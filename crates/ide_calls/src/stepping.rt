@@ -15,7 +15,7 @@ use std::sync::Wait;
 
 /// Takes up the hinted file where it is unready, else the first unready one from a place that goes by the pass's number and the
 /// length of the history, so that passes seldom take up the same one: makes its index data outside the lock, and takes them in where the file is still at the same stamp. The gate is told `Reading` while the first read
-/// is still held, and `Made` before the intent is asked for. It may wait for ever.
+/// is still held, and `Made` before the intent is asked for. May block.
 pub fn index_step<R: Wait, G: Gate>(
     rt: &R,
     alloc: Global,

@@ -16,7 +16,7 @@ use write_history::Entry;
 use write_history::laws::histories_go_on;
 
 /// Puts a prepared entry in, under an intent that has read what it was prepared on. The intent stays. Where there is no
-/// memory nothing is written. The answer is the first of the changed files that is unready now. It may wait for ever.
+/// memory nothing is written. The answer is the first of the changed files that is unready now. May block.
 pub fn write_entry<R: Wait>(
     rt: &R,
     lock: &ActionLock<IdeHome>,

@@ -14,7 +14,7 @@ use std::marker::Model;
 
 /// Bytes in memory, each write put last. A write fails only where no room is left.
 ///
-/// A write has no answer for want of memory, so the room is taken when the sink is made.
+/// A write has no answer for running out of memory, so the room is taken when the sink is made.
 #[derive(Drop)]
 pub struct BytesSink {
     taken: Vec<u8>,

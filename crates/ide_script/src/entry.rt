@@ -18,7 +18,7 @@ use std::sync::Wait;
 use std::thread::Threads;
 
 /// Runs the program on the words that the system gave, writes the line of the status to `error`, and gives the number with
-/// which the process ends. It may wait for ever.
+/// which the process ends. May block.
 pub fn run_main<R: Threads + Wait + Sync, S: Source, T: Tree, K: Sink, E: Sink>(
     rt: &R,
     alloc: Global,
@@ -38,7 +38,7 @@ pub fn run_main<R: Threads + Wait + Sync, S: Source, T: Tree, K: Sink, E: Sink>(
     finish(status, error)
 }
 
-/// Runs the program on the words that the system gave. It may wait for ever.
+/// Runs the program on the words that the system gave. May block.
 fn run_given<R: Threads + Wait + Sync, S: Source, T: Tree, K: Sink>(
     rt: &R,
     alloc: Global,
@@ -65,7 +65,7 @@ fn run_given<R: Threads + Wait + Sync, S: Source, T: Tree, K: Sink>(
 }
 
 /// Runs the program on the words that the system gave, or says why it gave none, and gives the code with which the process
-/// ends. It may wait for ever.
+/// ends. May block.
 pub fn run_process<R: Threads + Wait + Sync, S: Source, T: Tree, K: Sink, E: Sink>(
     rt: &R,
     alloc: Global,

@@ -18,7 +18,7 @@ use transcripts::laws::a_run_alone_is_serial;
 
 /// Plays a script from the empty workspace: the prelude, then its lanes and so many workers, each on a thread of its own
 /// beside the others, then the last section. What the loads ask for is read before all else; a tree that fails ends it. A
-/// load of an unlawful path asks for nothing. It may wait for ever.
+/// load of an unlawful path asks for nothing. May block.
 pub fn play<R: Threads + Wait + Sync, T: Tree, G: Gate + Sync>(
     rt: &R,
     alloc: Global,

@@ -23,7 +23,7 @@ use transcripts::{Played, summary, transcript};
 
 /// Runs the program. The words begin with its name. `play` takes its script from the source and what its loads ask for
 /// from the tree, and writes the transcript; `demo` writes the summary of a script of its own. Nothing is written before
-/// the run is known to end with `Done`, `SinkFault` or `OutOfMemory`. It may wait for ever.
+/// the run is known to end with `Done`, `SinkFault` or `OutOfMemory`. May block.
 pub fn run_ide<R: Threads + Wait + Sync, S: Source, T: Tree, K: Sink>(
     rt: &R,
     alloc: Global,
@@ -65,7 +65,7 @@ pub fn run_ide<R: Threads + Wait + Sync, S: Source, T: Tree, K: Sink>(
     }
 }
 
-/// Plays the source's script with so many workers, and writes its transcript. It may wait for ever.
+/// Plays the source's script with so many workers, and writes its transcript. May block.
 fn run_play<R: Threads + Wait + Sync, S: Source, T: Tree, K: Sink>(
     rt: &R,
     alloc: Global,
@@ -129,7 +129,7 @@ fn write_transcript<K: Sink>(alloc: Global, played: &Played, out: &mut K) -> Sta
     }
 }
 
-/// Plays the script of a demo with so many workers, and writes its summary. It may wait for ever.
+/// Plays the script of a demo with so many workers, and writes its summary. May block.
 fn run_demo<R: Threads + Wait + Sync, K: Sink>(
     rt: &R,
     alloc: Global,
@@ -150,7 +150,7 @@ fn run_demo<R: Threads + Wait + Sync, K: Sink>(
     }
 }
 
-/// Plays the script of a demo with so many workers. It may wait for ever.
+/// Plays the script of a demo with so many workers. May block.
 fn play_demo<R: Threads + Wait + Sync>(
     rt: &R,
     alloc: Global,

@@ -13,7 +13,7 @@ use std::thread::Threads;
 use std::{env, io};
 
 /// Plays the script of standard input, writes its transcript to standard output, and the line of a status other than
-/// `Done` to standard error. It may wait for ever.
+/// `Done` to standard error. May block.
 pub fn start<R: AllocGlobal + Env + Files + Input + Print + Threads + Wait + Sync>(
     rt: &R,
     stderr: &Stderr,

@@ -39,7 +39,7 @@ sized_text cs = if nat_le (length cs) max_chars then Ok cs else Err (TooLong (le
 abbrev pub text_of : List ℕ → Result (List ℕ) TextRefusal
 text_of bytes = if is_utf8 bytes then sized_text (repaired (chars bytes)) else Err (NotText (utf8_valid_len bytes))
 
--- an answer other than want of memory is this one
+-- an answer other than `OutOfMemory` is this one
 abbrev pub IsRefusalOf : Result (List ℕ) TextRefusal → TextRefusal → Type 0
 IsRefusalOf expected OutOfMemory = Unit {0}
 IsRefusalOf expected (NotText at) = expected ≡ Err (NotText at)

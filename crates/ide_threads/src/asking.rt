@@ -17,8 +17,7 @@ const QUESTIONS: u32 = 40;
 /// How many attempts a soft question has.
 const ATTEMPTS: u32 = 3;
 
-/// Asks again and again, and waits to be let in. How many answers were of no earlier moment than the one before. It may
-/// wait for ever.
+/// Asks again and again, and waits to be let in. How many answers were of no earlier moment than the one before. May block.
 pub fn ask<R: Wait>(
     rt: &R,
     alloc: Global,
@@ -43,7 +42,7 @@ pub fn ask<R: Wait>(
 }
 
 /// Asks again and again, and gives way to writes. How many questions were answered, or given up for writes that were
-/// seen as often as attempts were allowed. It may wait for ever.
+/// seen as often as attempts were allowed. May block.
 pub fn ask_softly<R: Wait>(
     rt: &R,
     alloc: Global,

@@ -19,7 +19,7 @@ const ROUNDS: u32 = 5;
 /// How many changes a round has.
 const STEPS: u32 = 5;
 
-/// Edits a file in a document, again and again. How many changes were accepted. It may wait for ever.
+/// Edits a file in a document, again and again. How many changes were accepted. May block.
 pub fn edit<R: Wait>(
     rt: &R,
     alloc: Global,
@@ -40,7 +40,7 @@ pub fn edit<R: Wait>(
     Ok(accepted)
 }
 
-/// Makes a change. Whether it was accepted. It may wait for ever.
+/// Makes a change. Whether it was accepted. May block.
 pub fn make<R: Wait>(
     rt: &R,
     alloc: Global,
@@ -77,7 +77,7 @@ fn step_of(alloc: Global, path: &str, step: u32) -> Result<Change, AllocError>
     })
 }
 
-/// Creates a file. Whether it was accepted. It may wait for ever.
+/// Creates a file. Whether it was accepted. May block.
 pub fn create<R: Wait>(
     rt: &R,
     alloc: Global,

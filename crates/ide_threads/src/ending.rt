@@ -14,6 +14,7 @@ pub struct Ending {
 }
 
 impl Ending {
+    /// A gate for so many editors, none of which has ended.
     pub fn new(editors: u64) -> Ending {
         Ending {
             editors,

@@ -9,7 +9,7 @@ use shared_ide::SharedIde;
 use std::alloc::{AllocError, Global};
 use std::sync::Wait;
 
-/// Takes unready files in until the editors have ended and nothing is to be done. 1 if it ended so. It may wait for ever.
+/// Takes unready files in until the editors have ended and nothing is to be done. 1 if it ended so. May block.
 pub fn index<R: Wait>(
     rt: &R,
     alloc: Global,

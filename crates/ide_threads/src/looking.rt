@@ -13,7 +13,7 @@ use shared_ide::SharedIde;
 use std::alloc::{AllocError, Global};
 use std::sync::Wait;
 
-/// Creates the files. How many were created. It may wait for ever.
+/// Creates the files. How many were created. May block.
 pub fn create_files<R: Wait>(
     rt: &R,
     alloc: Global,
@@ -32,7 +32,7 @@ pub fn create_files<R: Wait>(
     Ok(created)
 }
 
-/// Takes in what is still unready, and then finds where the types are declared. It may wait for ever.
+/// Takes in what is still unready, and then finds where the types are declared. May block.
 pub fn find_types<R: Wait>(
     rt: &R,
     alloc: Global,
@@ -51,7 +51,7 @@ pub fn find_types<R: Wait>(
     Ok([first, second])
 }
 
-/// Where a type is declared, if that can be told. It may wait for ever.
+/// Where a type is declared, if that can be told. May block.
 fn find<R: Wait>(
     rt: &R,
     alloc: Global,

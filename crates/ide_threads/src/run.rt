@@ -8,8 +8,7 @@ use std::alloc::{AllocError, Global};
 use std::sync::Wait;
 use std::thread::Threads;
 
-/// Makes a workspace, gives each thread a pass, lets all act at once, meets their passes, and closes the workspace. It may
-/// wait for ever.
+/// Makes a workspace, gives each thread a pass, lets all act at once, meets their passes, and closes the workspace. May block.
 pub fn run<R: Threads + Wait + Sync>(rt: &R, alloc: Global) -> Result<Summary, AllocError> {
     let gate = Ending::new(2);
     let (ide, mut first) = SharedIde::new(alloc)?;

@@ -75,7 +75,7 @@ impl Seat {
         done
     }
 
-    /// Does what the role asks for. It may wait for ever.
+    /// Does what the role asks for. May block.
     fn act<R: Wait>(&mut self, rt: &R, alloc: Global, ide: &SharedIde, gate: &Ending)
         requires { IsSeatOf ide.now self.old.pass }
         ensures { IsSeatOf ide.now self.new.pass }
@@ -84,7 +84,7 @@ impl Seat {
     }
 }
 
-/// Does what a role asks for. How much was done. It may wait for ever.
+/// Does what a role asks for. How much was done. May block.
 fn perform<R: Wait>(
     rt: &R,
     alloc: Global,
@@ -105,7 +105,7 @@ fn perform<R: Wait>(
     }
 }
 
-/// Edits a file, and tells the gate when that is done. How many changes were accepted. It may wait for ever.
+/// Edits a file, and tells the gate when that is done. How many changes were accepted. May block.
 fn edit_to_end<R: Wait>(
     rt: &R,
     alloc: Global,
@@ -122,7 +122,7 @@ fn edit_to_end<R: Wait>(
     accepted
 }
 
-/// Two seats at once. It may wait for ever.
+/// Two seats at once. May block.
 fn act_two<R: Threads + Wait + Sync>(
     rt: &R,
     alloc: Global,
@@ -143,7 +143,7 @@ fn act_two<R: Threads + Wait + Sync>(
     );
 }
 
-/// Three seats at once. It may wait for ever.
+/// Three seats at once. May block.
 fn act_three<R: Threads + Wait + Sync>(
     rt: &R,
     alloc: Global,
@@ -171,7 +171,7 @@ fn act_three<R: Threads + Wait + Sync>(
 }
 
 /// Five seats at once, each on a thread of its own where one can be had. Where none can, the last seat acts first: so a
-/// worker, which waits for those that edit, is to be the first one. It may wait for ever.
+/// worker, which waits for those that edit, is to be the first one. May block.
 pub fn act_five<R: Threads + Wait + Sync>(
     rt: &R,
     alloc: Global,

@@ -12,7 +12,7 @@ pub const TYPES: [&str; 2] = ["Left", "Right"];
 /// What the files are at first.
 pub const TEXTS: [&str; 2] = ["class Left {}\n", "class Right extends Left {}\n"];
 
-/// A text. One that is none, or too long, counts as want of memory.
+/// A text. One that is none, or too long, counts as running out of memory.
 pub fn text_of(alloc: Global, text: &str) -> Result<SharedText, AllocError> {
     match Text::from_utf8(alloc, text.as_bytes()) {
         Ok(text) => SharedText::new(alloc, text),

@@ -54,7 +54,7 @@ is_edit (CloseDoc path) = true
 is_edit (Intake file stamp) = false
 is_edit (Move path to) = true
 
--- an answer other than want of memory is this refusal
+-- an answer other than `OutOfMemory` is this refusal
 abbrev pub IsRefusalOf : Option Refusal → Refusal → Type 0
 IsRefusalOf expected OutOfMemory = Unit {0}
 IsRefusalOf expected NoSuchFile = expected ≡ Some NoSuchFile
@@ -76,7 +76,7 @@ IsRefusalOf expected HistoryFull = expected ≡ Some HistoryFull
 abbrev pub told : GroupRefusal → ListRefusal
 told refusal = record { place = refusal.place; why = refusal.why }
 
--- whether an answer tells want of memory
+-- whether an answer tells running out of memory
 abbrev pub is_want_of_memory : Refusal → Bool
 is_want_of_memory OutOfMemory = true
 is_want_of_memory NoSuchFile = false
@@ -94,6 +94,6 @@ is_want_of_memory (TextFull count) = false
 is_want_of_memory (Stale made present) = false
 is_want_of_memory HistoryFull = false
 
--- an answer other than want of memory is this refusal of a list
+-- an answer other than `OutOfMemory` is this refusal of a list
 abbrev pub IsListRefusalOf : Option ListRefusal → GroupRefusal → Type 0
 IsListRefusalOf expected refusal = is_want_of_memory refusal.why ≡ false → expected ≡ Some (told refusal)

@@ -241,7 +241,7 @@ all_turns said seat taken v w q r on = record {
   at_end = tt;
 }
 
--- after a step for which memory was wanting
+-- after a step in which memory ran out
 pub cut_short : (said : Sayings) (seat turns taken : ℕ) (v w u : View Entry) (q r s : QueueView) (hint : Option Hint)
     → HasGoneOn said seat turns taken v w q r → HasTaken hint r s → Advances w u → u.mine ≡ w.mine → HasWorkedInPart said v u q s
 cut_short said seat turns taken v w u q r s hint on takes advances mine = record {

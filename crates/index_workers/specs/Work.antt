@@ -147,7 +147,7 @@ pub record HasWorkedSo (v w : View Entry) (worked : Worked) : Type 0 where
   pub after : QueueView
   pub done : HasWorked any_answer v w before after worked
 
--- What a worker did for which memory was wanting: its steps so far stay, and the one after them took a hint, if one was there, and made
+-- What a worker did in which memory ran out: its steps so far stay, and the one after them took a hint, if one was there, and made
 -- nothing
 pub record HasWorkedInPart (said : Sayings) (v w : View Entry) (q r : QueueView) : Type 0 where
   pub seat : ℕ

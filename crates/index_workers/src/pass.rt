@@ -13,6 +13,7 @@ pub struct IdePass {
 }
 
 impl IdePass {
+    /// The number that it has for lock and queue: 0 for the first pass.
     pub fn number(&self) -> u32
         ensures { (view_of self.now.lock).number ≡ Some result }
     {

@@ -19,8 +19,8 @@ use std::sync::Wait;
 /// How many steps a worker makes at most.
 const TURNS: u32 = 131_072;
 
-/// Makes steps until nothing is to be done and the gate tells it to end, or the history is full, or it has made 131,072. Where memory
-/// is wanted, what it made so far stays.
+/// Makes steps until nothing is to be done and the gate tells it to end, or the history is full, or it has made 131,072. When memory
+/// runs out, what it made so far stays.
 pub fn worker<R: Wait, G: Gate>(
     rt: &R,
     alloc: Global,

@@ -27,6 +27,7 @@ pub struct QueuePass {
 impl QueuePass {
     ghost use Rattle.job_queue.specs.Passes.{queue_view};
 
+    /// Its number: 0 for the first pass of a queue, then in the order in which passes were split off.
     pub fn number(&self) -> u32
         ensures { (queue_view self.now).number ≡ Some result }
     {

@@ -6,6 +6,7 @@ use crate::hint::Hint;
 use crate::view::QueueView;
 use crossbeam_queue::protocol::{Join, Lesson, Outcome, Protocol, Split};
 
+/// The rule of the queue. No value of it is made.
 pub struct JobRule;
 
 impl Protocol<Hint, QueueView> for JobRule {

@@ -9,6 +9,7 @@ pub struct Hand {
     pub took: LinkedList<Hint>,
 }
 
+/// What the queue's rule knows of one pass: the hints that it put and took. No value of it is made.
 pub struct QueueView {
     pub number: Option<u32>,
     /// Of number 0: how many numbers were given, its own included.

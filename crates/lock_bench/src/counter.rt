@@ -6,6 +6,7 @@ ghost use Rattle.std.proofs.Common.{sym, ◌∙◌};
 use action_lock::Home;
 use std::alloc::{AllocError, Global};
 
+/// A count of writes.
 #[derive(Drop)]
 pub struct Counter {
     pub count: u64,

@@ -8,6 +8,7 @@ use std::alloc::{AllocError, Global};
 use std::sync::{RwLock, Wait};
 use std::thread::Threads;
 
+/// What each turn does, with this lock or with a plain one.
 #[derive(Clone, Copy)]
 pub enum Mode {
     Read,
@@ -19,6 +20,7 @@ pub enum Mode {
     PlainReaders,
 }
 
+/// All of them, in the order of their words.
 pub const MODES: [Mode; 6] = [
     Mode::Read,
     Mode::Write,

@@ -19,7 +19,7 @@ pub enum SoftRefusal {
 }
 
 /// Reads and works until an attempt gives an answer, or `attempts` of them saw that a write waits. One that finds another seat's turn is
-/// tried again and not counted. It may wait for ever.
+/// tried again and not counted. May block.
 pub fn soft<R: Wait, H: Home, K: Work<H>, G: Gate>(
     rt: &R,
     alloc: Global,

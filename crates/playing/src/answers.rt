@@ -25,7 +25,7 @@ impl Answers {
         }
     }
 
-    /// Puts what one part has done behind the rest. An outcome that tells nothing is taken for want of memory.
+    /// Puts what one part has done behind the rest. An outcome that tells nothing is taken for running out of memory.
     pub(crate) fn take(&mut self, outcome: Outcome) -> Result<(), AllocError>
         ensures { OnOk result (HasTaken outcome self.old self.new) }
     {

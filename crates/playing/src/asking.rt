@@ -16,7 +16,7 @@ use std::alloc::{AllocError, Global};
 use std::sync::Wait;
 use transcripts::Answer;
 
-/// Answers a question. It may wait for ever.
+/// Answers a question. May block.
 pub(crate) fn do_ask<R: Wait, G: Gate>(
     rt: &R,
     alloc: Global,

@@ -20,7 +20,7 @@ use std::sync::Wait;
 use transcripts::{Answer, Loaded};
 use write_history::{Change, Changes, is_lawful_path};
 
-/// Makes a change, or answers with the first reason to refuse it. It may wait for ever.
+/// Makes a change, or answers with the first reason to refuse it. May block.
 pub(crate) fn do_change<R: Wait>(
     rt: &R,
     alloc: Global,
@@ -46,8 +46,7 @@ pub(crate) fn do_change<R: Wait>(
     }
 }
 
-/// Makes the changes of a group together, or answers with the place and the reason of the first that is refused. It may
-/// wait for ever.
+/// Makes the changes of a group together, or answers with the place and the reason of the first that is refused. May block.
 pub(crate) fn do_group<R: Wait>(
     rt: &R,
     alloc: Global,
@@ -73,7 +72,7 @@ pub(crate) fn do_group<R: Wait>(
     }
 }
 
-/// Makes a file of what was read for a load. It may wait for ever.
+/// Makes a file of what was read for a load. May block.
 pub(crate) fn do_load<R: Wait>(
     rt: &R,
     alloc: Global,
@@ -106,7 +105,7 @@ pub(crate) fn do_load<R: Wait>(
 }
 
 /// Refuses a load of an unlawful path, at a moment of the history: that of a move to this path, which is refused for the
-/// same reason. It may wait for ever.
+/// same reason. May block.
 fn refuse_path<R: Wait>(
     rt: &R,
     alloc: Global,

@@ -18,7 +18,7 @@ use std::sync::Wait;
 use transcripts::{Answer, Loaded, Record, Records};
 
 /// Does the command of a line, for which this was read, and adds its record. The gate is told `Start` before, but for
-/// seat 0. It may wait for ever.
+/// seat 0. May block.
 pub(crate) fn do_line<R: Wait, G: Gate>(
     rt: &R,
     alloc: Global,
@@ -53,7 +53,7 @@ fn tell_start<G: Gate>(gate: &G, seat: u32, line: u32) {
     }
 }
 
-/// Does the command of a line, for which this was read, and answers it. It may wait for ever.
+/// Does the command of a line, for which this was read, and answers it. May block.
 fn answer_line<R: Wait, G: Gate>(
     rt: &R,
     alloc: Global,

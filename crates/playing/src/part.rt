@@ -26,7 +26,7 @@ pub(crate) enum Task {
 /// What was done with the pass of a part.
 #[derive(Drop)]
 pub(crate) enum Outcome {
-    /// Nothing that can be told: it has yet to run, or memory was wanting.
+    /// Nothing that can be told: it has yet to run, or memory ran out.
     Nothing,
     /// The records of a lane.
     Answered { records: Records },
@@ -41,7 +41,7 @@ pub(crate) struct Part {
     pub(crate) outcome: Outcome,
 }
 
-/// Does what a part is for, and tells the gate that it has ended. It may wait for ever.
+/// Does what a part is for, and tells the gate that it has ended. May block.
 pub(crate) fn run_part<R: Wait, G: Gate>(
     rt: &R,
     alloc: Global,
@@ -71,7 +71,7 @@ pub(crate) fn run_part<R: Wait, G: Gate>(
     gate.at(Point::Ended { seat });
 }
 
-/// Does the lines of a lane. It may wait for ever.
+/// Does the lines of a lane. May block.
 fn do_lane<R: Wait, G: Gate>(
     rt: &R,
     alloc: Global,
@@ -107,7 +107,7 @@ fn do_lane<R: Wait, G: Gate>(
     }
 }
 
-/// Indexes until nothing is left to do. It may wait for ever.
+/// Indexes until nothing is left to do. May block.
 fn do_worker<R: Wait, G: Gate>(
     rt: &R,
     alloc: Global,

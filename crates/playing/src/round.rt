@@ -45,7 +45,7 @@ impl Round {
 }
 
 /// Plays all lanes of a script and so many workers. Their records and what the workers did are put behind the answers. Where
-/// memory is wanting, what was made so far stays. It may wait for ever.
+/// memory runs out, what was made so far stays. May block.
 pub(crate) fn play_round<R: Threads + Wait + Sync, G: Gate + Sync>(
     rt: &R,
     alloc: Global,
@@ -75,7 +75,7 @@ pub(crate) fn play_round<R: Threads + Wait + Sync, G: Gate + Sync>(
     met
 }
 
-/// A part for each lane and worker of a round, in order of their seats. Where memory is wanting no number is given.
+/// A part for each lane and worker of a round, in order of their seats. When memory runs out no number is given.
 fn begin_parts(
     alloc: Global,
     ide: &SharedIde,
@@ -110,7 +110,7 @@ fn begin_parts(
     Ok(parts)
 }
 
-/// Runs all parts, each on a thread of its own where one can be had. It may wait for ever.
+/// Runs all parts, each on a thread of its own where one can be had. May block.
 fn run_parts<R: Threads + Wait + Sync, G: Gate + Sync>(
     rt: &R,
     alloc: Global,
@@ -129,7 +129,7 @@ fn run_parts<R: Threads + Wait + Sync, G: Gate + Sync>(
 }
 
 /// Runs all parts, the first of them first where threads are wanting: so a lane never waits behind a worker that waits for
-/// it. It may wait for ever.
+/// it. May block.
 fn run_reversed<R: Threads + Wait + Sync, G: Gate + Sync>(
     rt: &R,
     alloc: Global,
@@ -149,7 +149,7 @@ fn run_reversed<R: Threads + Wait + Sync, G: Gate + Sync>(
 }
 
 /// Runs all parts, with as many threads as there are parts. A thread that can't be had leaves its work to the caller, the
-/// last part first. It may wait for ever.
+/// last part first. May block.
 fn run_each<R: Threads + Wait + Sync, G: Gate + Sync>(
     rt: &R,
     alloc: Global,

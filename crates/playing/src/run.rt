@@ -24,7 +24,7 @@ use transcripts::{Loaded, Played, Records};
 const LEADER: u32 = 0;
 
 /// Plays a script: the prelude, then its lanes and so many workers, each on a thread of its own beside the others, then
-/// the last section. `loads` is what was read for the prelude. It may wait for ever.
+/// the last section. `loads` is what was read for the prelude. May block.
 pub fn play<R: Threads + Wait + Sync, G: Gate + Sync>(
     rt: &R,
     alloc: Global,
@@ -64,8 +64,8 @@ pub fn play<R: Threads + Wait + Sync, G: Gate + Sync>(
     })
 }
 
-/// Plays a script on the first pass of a workspace, which is alone again in every case. Where memory is wanting, what was
-/// made so far stays. It may wait for ever.
+/// Plays a script on the first pass of a workspace, which is alone again in every case. When memory runs out, what was
+/// made so far stays. May block.
 fn play_all<R: Threads + Wait + Sync, G: Gate + Sync>(
     rt: &R,
     alloc: Global,
@@ -101,7 +101,7 @@ fn play_all<R: Threads + Wait + Sync, G: Gate + Sync>(
     do_alone(rt, alloc, ide, pass, script.last(), &[], last, gate)
 }
 
-/// Does the lines of the prelude or of the last section, while no other pass is out. It may wait for ever.
+/// Does the lines of the prelude or of the last section, while no other pass is out. May block.
 fn do_alone<R: Wait, G: Gate>(
     rt: &R,
     alloc: Global,

@@ -14,7 +14,7 @@ use std::sync::Wait;
 use transcripts::Answer;
 use write_history::Refusal;
 
-/// Takes every unready file in, or answers that the history is full. It may wait for ever.
+/// Takes every unready file in, or answers that the history is full. May block.
 pub(crate) fn do_settle<R: Wait>(
     rt: &R,
     alloc: Global,

@@ -49,7 +49,7 @@ module _ {W : Type 0} (l s : W → ℕ) where
   ended : (a b n : ℕ) (old mid new : W) → a + b ≡ n → LooksThrough l s a old mid → l new ≤ counted_by b (l mid) → l new ≤ counted_by n (l old)
   ended a b n old mid new sum p few = subst (λ k. l new ≤ k) (ap (counted_by b) p.looks ∙ counted_by_on a b (l old) ∙ ap (λ k. counted_by k (l old)) sum) few
 
-  -- want of memory after looks that saw nothing, where more would lead to the end
+  -- running out of memory after looks that saw nothing, where more would lead to the end
   pub looked_unseen : (a b : ℕ) (old new : W) → a ≤ b → LooksThrough l s a old new → StopsUnseen l s b old new
   looked_unseen a b old new h p = record {
     some = begun a old new p;

@@ -58,7 +58,7 @@ module _ {W F R : Type 0} (l s : W → ℕ) (row : F → R) (all : List F) where
       looked_short l s st X (length rows' / rows_a_look) (length all / rows_a_look) e old new (few_looks rows' left' (joined rows rows' y x left left' next grown is h.made)) early
       (looked_next l s st {X = X} (length rows) (length rows') (Err e) old mid new on (more rows rows' y grown) kept h.looked (subst (λ k. HasLooked {X = X} l s st (Err e) (looks_at k) mid new) count q))
 
-  -- want of memory on the way
+  -- running out of memory on the way
   pub made_short : (rows : List R) (left : List F) (old new : W) → IsMade l s row all rows left old new → StopsUnseen l s (length all / rows_a_look) old new
   made_short rows left old new h = looked_unseen l s (length rows / rows_a_look) (length all / rows_a_look) old new (few_looks rows left h.made) h.looked
 

@@ -95,7 +95,7 @@ reply world (query.Word name) = unless_unready (lowest_unready world) (Words (of
 reply world (query.Outline path) = listing_reply world (id_at world path)
 reply world query.Status = Ok (Counts (count_of is_some world) (count_of is_open world) (count_of is_unready world))
 
--- a refusal is the one that is expected, a call that is stopped owes none, and want of memory never stands for a refusal
+-- a refusal is the one that is expected, a call that is stopped owes none, and running out of memory never stands for a refusal
 abbrev pub IsRefusalOf : Result Answer AskRefusal → AskRefusal → Type 0
 IsRefusalOf expected NoSuchFile = expected ≡ Err NoSuchFile
 IsRefusalOf expected (NotReady file) = expected ≡ Err (NotReady file)

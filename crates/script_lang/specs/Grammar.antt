@@ -238,7 +238,7 @@ pub record IsOpenAtEnd (bytes : List ℕ) (number : ℕ) : Type 0 where
   pub after : All IsInGroup rest
   pub all : BeginScript (front ++ line ∷ rest)
 
--- why bytes were refused: want of memory, their first bad line, or a group that is open at the end
+-- why bytes were refused: running out of memory, their first bad line, or a group that is open at the end
 abbrev pub IsRefused : List ℕ → ScriptRefusal → Type 0
 IsRefused bytes OutOfMemory = Unit {0}
 IsRefused bytes (BadLine number) = IsFirstBadLine bytes number ⊎ IsOpenAtEnd bytes number

@@ -152,7 +152,7 @@ finished_read (Err refusal) = Err refusal
 abbrev pub script_of : List ℕ → Result Parts ScriptRefusal
 script_of bytes = finished_read (read_from start 1 (lines_of bytes))
 
--- an answer other than want of memory is this one
+-- an answer other than `OutOfMemory` is this one
 abbrev pub IsRefusalOf : Result Parts ScriptRefusal → ScriptRefusal → Type 0
 IsRefusalOf expected OutOfMemory = Unit {0}
 IsRefusalOf expected (BadLine number) = expected ≡ Err (BadLine number)

@@ -19,7 +19,7 @@ use write_history::{Change, Changes};
 
 impl SharedIde {
     /// Makes a change other than an intake, and answers with the number of entries of the history, of which its own is the
-    /// last. It offers a hint for the file if it left it unready. It may wait for ever.
+    /// last. It offers a hint for the file if it left it unready. May block.
     pub fn change<R: Wait>(
         &self,
         rt: &R,
@@ -43,7 +43,7 @@ impl SharedIde {
     }
 
     /// Makes the changes of a group together, as one entry, or none of them. No change of them is an intake. It offers a
-    /// hint for the first of its files that it left unready, if it did. It may wait for ever.
+    /// hint for the first of its files that it left unready, if it did. May block.
     pub fn change_group<R: Wait>(
         &self,
         rt: &R,

@@ -19,7 +19,7 @@ use std::sync::Wait;
 
 impl SharedIde {
     /// Takes every unready file in, in order of ids, one entry each, for a line of a script. It answers with the number of
-    /// entries after which no file is unready. It may wait for ever.
+    /// entries after which no file is unready. May block.
     pub fn settle<R: Wait>(
         &self,
         rt: &R,
@@ -38,7 +38,7 @@ impl SharedIde {
     }
 
     /// Takes a hint, if there is one, and does a step of indexing: of the hinted file if it is unready, else of the first
-    /// unready one from a place of its own on. It may wait for ever.
+    /// unready one from a place of its own on. May block.
     pub fn index_step<R: Wait, G: Gate>(
         &self,
         rt: &R,
@@ -58,7 +58,7 @@ impl SharedIde {
     }
 
     /// Makes steps until nothing is to be done and the gate tells it to end, or the history is full, or it has made
-    /// 131,072. Where memory is wanted, what it made so far stays. It may wait for ever.
+    /// 131,072. When memory runs out, what it made so far stays. May block.
     pub fn worker<R: Wait, G: Gate>(
         &self,
         rt: &R,

@@ -17,7 +17,7 @@ use std::sync::Wait;
 
 impl SharedIde {
     /// Answers a question by the whole history of a moment of this call. The gate is told `Reading` while the read is open.
-    /// It may wait for ever.
+    /// May block.
     pub fn ask<R: Wait, G: Gate>(
         &self,
         rt: &R,
@@ -37,7 +37,7 @@ impl SharedIde {
     }
 
     /// Answers a question as `ask` does, but gives way to writes: an attempt that sees that one waits ends, and after
-    /// `attempts` of them the call ends too. An answer comes from a read that looked whether one waits. It may wait for ever.
+    /// `attempts` of them the call ends too. An answer comes from a read that looked whether one waits. May block.
     pub fn soft_ask<R: Wait, G: Gate>(
         &self,
         rt: &R,

@@ -134,7 +134,7 @@ fn path_of(alloc: Global, number: u32) -> Result<Name, AllocError> {
     Ok(Name::from(format!(in alloc; "F{number}.java")?))
 }
 
-/// A text of a file. One that is none, or too long, counts as want of memory.
+/// A text of a file. One that is none, or too long, counts as running out of memory.
 fn text_of(alloc: Global, text: &str) -> Result<SharedText, AllocError> {
     match Text::from_utf8(alloc, text.as_bytes()) {
         Ok(text) => SharedText::new(alloc, text),

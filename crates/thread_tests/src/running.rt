@@ -96,7 +96,7 @@ pub fn fits<R: Threads + Wait + Sync>(
     judge(alloc, &judged, &[], &played)
 }
 
-/// The script that bytes spell. Bytes that are none count as want of memory.
+/// The script that bytes spell. Bytes that are none count as running out of memory.
 pub fn script_of(alloc: Global, bytes: &[u8]) -> Result<Script, AllocError> {
     if !is_within_limit(bytes) {
         return Err(AllocError);
@@ -121,7 +121,7 @@ pub fn loads(alloc: Global) -> Result<Vec<Loaded>, AllocError> {
     Ok(loads)
 }
 
-/// Bytes as a text. Bytes that are none count as want of memory.
+/// Bytes as a text. Bytes that are none count as running out of memory.
 fn text_of(alloc: Global, bytes: &[u8]) -> Result<String, AllocError> {
     match str::from_utf8(bytes) {
         Ok(text) => String::from_str(alloc, text),

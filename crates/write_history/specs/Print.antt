@@ -38,7 +38,7 @@ changes_text changes = group_text changes
 abbrev pub entry_line : ℕ → Entry → List ℕ
 entry_line position entry = decimal position ++ codes " " ++ decimal entry.seat ++ codes " " ++ decimal entry.line ++ codes " " ++ changes_text entry.changes
 
--- why a change is refused; want of memory is no reason that a rule gives
+-- why a change is refused; running out of memory is no reason that a rule gives
 abbrev pub why_text : Refusal → List ℕ
 why_text NoSuchFile = codes "no-such-file"
 why_text PathTaken = codes "path-taken"
