@@ -33,6 +33,26 @@ is printed):
 | `cancelled` only where the lane's pass saw pending writes | `IsGivenUp`: the record's counts of sights rose by at least as many as it was allowed attempts; `Fits`: only where another section runs beside. That these counts are the pass's is `HasSighted` (of `soft_ask`), which alone makes a `Sighted` |
 | what workers made | `RunFits.worked` (`WorkerFits`): intakes without a line, no two of the same file and stamp, as many as it tells; `EndFits` |
 
+## The headline, in reading order
+
+From what a script is to what is printed; each line rests on those above it alone. Who reads these files in this order has read
+all that the headline says.
+
+| what | definitions | file |
+|---|---|---|
+| which bytes spell a script: its prelude, its lanes, its last section | `IsScript`, `Parts` | `script_lang/specs/Grammar.antt`, `Parts.antt` |
+| the world: files by their ids, each with path, content, document and stamp | `World`, `File`, `is_unready` | `write_history/specs/World.antt` |
+| why a change is refused, and which id it gives which file | `refusal_of`, `put_of` | `write_history/specs/Effect.antt` |
+| the world that a history leads to, and that no entry is refused where it stands | `fold`, `IsLegal` | `write_history/specs/Fold.antt` |
+| the words of a text, and its declarations | `words_of`; `listing_of` | `java_tokens/specs/Words.antt`; `decl_parser/specs/Listing.antt` |
+| the answer to a question in a world: it lists the shown texts anew | `reply` | `query_engine/specs/Reply.antt` |
+| what a settle adds to a history | `settled` | `ide_calls/specs/Settle.antt` |
+| what one command adds behind a history and is answered; one thread | `step_of`; `run_of` | `transcripts/specs/Serial.antt` |
+| one record of a run beside others; a section; lanes; workers; the whole run | `IsDone`, `IsGivenUp`; `SectionFits`; `LanesFit`; `WorkerFits`; `RunFits` | `transcripts/specs/Fits.antt` |
+| what was read for the loads | `AreLoadsOf` | `transcripts/specs/Loads.antt` |
+| the bytes that print a history and records | `transcript_of`; `entry_line` | `transcripts/specs/Transcript.antt`; `write_history/specs/Print.antt` |
+| a played script; its transcript; how the program ends | `Plays`; `IsTranscript`, `PlayEnds`, `RunEnds` | `ide_script/specs/Play.antt`; `Run.antt` |
+
 What the proofs over threads speak of stands in sources besides: `src/rule.rt` and `src/plays.rt` of `action_lock`, and
 `src/rule.rt` of `job_queue`, are statements (the rule that holds between any two atomic steps, and what each step tells the
 pass that takes it), to be read with `specs/Rule.antt` and `specs/Steps.antt`. The peeks by which a waiting call looks before
