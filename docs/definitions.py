@@ -35,8 +35,9 @@ is printed):
 
 ## The headline, in reading order
 
-From what a script is to what is printed; each line rests on those above it alone. Who reads these files in this order has read
-all that the headline says.
+From what a script is to what is printed. A file's first lines name what it takes from others; besides the files of this table
+these are mostly texts and names (`ide_text`), documents (`document_buf`), the filter and unready marks (`dumb_mode`), lists of
+declarations (`stub_tree`), the stages of a listing (`decl_parser`), tokens (`java_tokens`), and counts of a pass (`action_lock`).
 
 | what | definitions | file |
 |---|---|---|
