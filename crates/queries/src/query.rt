@@ -15,6 +15,10 @@ pub enum Query {
     Method { name: Name },
     /// Which files have the word, and where in them.
     Word { name: Name },
+    /// Where the name stands as an identifier in code.
+    Usages { name: Name },
+    /// Which types come from a type with the name, through any number of types between.
+    Inheritors { name: Name },
     /// What the file at the path declares.
     Outline { path: Name },
     /// How many files, open documents and unready files there are.
@@ -31,6 +35,8 @@ impl Query {
             Query::Supers { name } => Query::Supers { name: name.copy()? },
             Query::Method { name } => Query::Method { name: name.copy()? },
             Query::Word { name } => Query::Word { name: name.copy()? },
+            Query::Usages { name } => Query::Usages { name: name.copy()? },
+            Query::Inheritors { name } => Query::Inheritors { name: name.copy()? },
             Query::Outline { path } => Query::Outline { path: path.copy()? },
             Query::Status => Query::Status,
         })

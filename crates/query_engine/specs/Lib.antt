@@ -1,4 +1,6 @@
 -- What callers may rest on: the answer to each question, and how often a call looks at its watch.
+pub mod Fits
+pub mod Inheritors
 pub mod Reply
 pub mod Looks
 -- Internal: a file whose rows are being made.
@@ -10,5 +12,6 @@ pub use Rattle.write_history.specs.World
 pub use Rattle.dumb_mode.specs.Filter
 pub use Rattle.decl_parser.specs.Listing
 pub use Rattle.java_tokens.specs.Words
+pub use Rattle.java_tokens.specs.Places
 pub use Rattle.ide_text.specs.Place
 pub use Rattle.action_lock.specs.Counts

@@ -1,13 +1,16 @@
 -- How often a call looks at its watch, and what it sees.
-use Rattle.std.specs.Prelude.{ℕ, ◌≡◌, ◌≤◌, ◌+◌, ◌/◌, ◌%◌, ◌==◌, if◌then◌else◌, length, Result, Ok, Err, max, min}
+use Rattle.std.specs.Prelude.{ℕ, ◌≡◌, ◌≤◌, ◌×◌, ◌+◌, ◌/◌, ◌%◌, ◌==◌, if◌then◌else◌, List, length, map, take, sum, Result, Ok, Err, max, min}
+use Rattle.std.specs.Option.{option_map_or}
 use Rattle.action_lock.specs.Counts.{counted, HasRisen}
-use Rattle.write_history.specs.World.{World}
+use Rattle.write_history.specs.World.{World, lowest_unready}
 use Rattle.queries.specs.declared.query.Query.{Query}
+use Rattle.queries.specs.declared.query.Query.TheVariants as query
+use Rattle.query_engine.specs.declared.answer.PlaceRow.{PlaceRow}
 use Rattle.query_engine.specs.declared.answer.Answer.{Answer}
-use Rattle.query_engine.specs.declared.answer.Answer.TheVariants.{Rows, Outline, Words, Counts}
+use Rattle.query_engine.specs.declared.answer.Answer.TheVariants.{Rows, Outline, Words, Usages, Inheritors, Counts}
 use Rattle.query_engine.specs.declared.answer.AskRefusal.{AskRefusal}
 use Rattle.query_engine.specs.declared.answer.AskRefusal.TheVariants.{NoSuchFile, NotReady, Cancelled, OutOfMemory}
-use Rattle.query_engine.specs.Reply.{reply}
+use Rattle.query_engine.specs.Reply.{reply, of_world, uses_in, types_of}
 
 -- a count of looks after so many more; like `counted`, it goes up to 2^64 - 1 and stands there
 abbrev pub counted_by : ℕ → ℕ → ℕ
@@ -22,6 +25,8 @@ abbrev pub row_count : Answer → ℕ
 row_count (Rows rows) = length rows
 row_count (Outline rows) = length rows
 row_count (Words rows) = length rows
+row_count (Usages name rows) = length rows
+row_count (Inheritors rows) = length rows
 row_count (Counts files docs unready) = 0
 
 -- how often the call with this answer looks after its first look, where no look sees anything: once for each full 256 rows
@@ -33,9 +38,29 @@ later_looks (Err refusal) = 0
 abbrev pub looks_for : Result Answer AskRefusal → ℕ
 looks_for answer = 1 + later_looks answer
 
--- how often a question may look in a world, where no look sees anything: once as the call begins, and once for each full 256 rows
+-- where no file is unready so many, else none
+abbrev pub where_smart : World → ℕ → ℕ
+where_smart world n = option_map_or (λ file. 0) (lowest_unready world) n
+
+-- the first use of a name in each file that uses it
+abbrev pub first_uses : List ℕ → World → List PlaceRow
+first_uses name world = of_world (λ id file. take 1 (uses_in name id file)) world
+
+-- how many names stand behind `extends` and `implements` in all live Java files
+abbrev pub super_count : World → ℕ
+super_count world = sum (map (λ t. length t.1.supers) (types_of world))
+
+-- How often a question may look in a world, where no look sees anything: once as the call begins, and once for each full 256 rows. For
+-- usages once for each file in the answer instead, and for inheritors at most once for each full 256 names of supers.
 abbrev pub MayLook : World → Query → ℕ → Type 0
-MayLook world query n = n ≡ looks_for (reply world query)
+MayLook world (query.Usages name) n = n ≡ 1 + where_smart world (length (first_uses name world))
+MayLook world (query.Inheritors name) n = (1 ≤ n) × (n ≤ 1 + where_smart world (super_count world / rows_a_look))
+MayLook world (query.Class name) n = n ≡ looks_for (reply world (query.Class name))
+MayLook world (query.Supers name) n = n ≡ looks_for (reply world (query.Supers name))
+MayLook world (query.Method name) n = n ≡ looks_for (reply world (query.Method name))
+MayLook world (query.Word name) n = n ≡ looks_for (reply world (query.Word name))
+MayLook world (query.Outline path) n = n ≡ looks_for (reply world (query.Outline path))
+MayLook world query.Status n = n ≡ looks_for (reply world query.Status)
 
 -- how often a call looks when it has made so many rows
 abbrev pub looks_at : ℕ → ℕ

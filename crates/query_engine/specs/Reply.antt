@@ -1,23 +1,26 @@
 -- The answer to a question, by the texts of the files, as if they were all listed anew.
-use Rattle.std.specs.Prelude.{ℕ, ◌≡◌, ◌+◌, Bool, ◌&&◌, ◌==◌, List, [], ◌∷◌, ◌++◌, map, filter, if◌then◌else◌, Option, Some, None, is_some, Result, Ok, Err, IsOk, bytes_eq}
-use Rattle.std.specs.List.{list_any}
+use Rattle.std.specs.Prelude.{ℕ, ◌≡◌, ◌+◌, Bool, List, [], ◌∷◌, ◌++◌, map, filter, if◌then◌else◌, Option, Some, None, is_some, Result, Ok, Err, IsOk}
 use Rattle.std.specs.Option.{option_map_or}
 use Rattle.dumb_mode.specs.Filter.{is_java}
 use Rattle.write_history.specs.World.{World, File, file_of, id_at, shown_text, lowest_unready, count_of, is_open, is_unready}
 use Rattle.ide_text.specs.Place.{line_at, column_at}
 use Rattle.stub_tree.specs.declared.stub.Stub.{Stub}
-use Rattle.stub_tree.specs.declared.stub_kind.StubKind.TheVariants.{Method}
-use Rattle.stub_tree.specs.Stub.{is_type, code_of}
+use Rattle.stub_tree.specs.Stub.{is_type}
 use Rattle.decl_parser.specs.Listing.{listing_of}
 use Rattle.java_tokens.specs.Words.{words_of, mask_in}
+use Rattle.java_tokens.specs.Places.{places_of}
 use Rattle.queries.specs.declared.query.Query.{Query}
 use Rattle.queries.specs.declared.query.Query.TheVariants as query
 use Rattle.query_engine.specs.declared.answer.Row.{Row}
 use Rattle.query_engine.specs.declared.answer.WordRow.{WordRow}
+use Rattle.query_engine.specs.declared.answer.PlaceRow.{PlaceRow}
+use Rattle.query_engine.specs.declared.answer.LevelRow.{LevelRow}
 use Rattle.query_engine.specs.declared.answer.Answer.{Answer}
-use Rattle.query_engine.specs.declared.answer.Answer.TheVariants.{Rows, Outline, Words, Counts}
+use Rattle.query_engine.specs.declared.answer.Answer.TheVariants.{Rows, Outline, Words, Usages, Inheritors, Counts}
 use Rattle.query_engine.specs.declared.answer.AskRefusal.{AskRefusal}
 use Rattle.query_engine.specs.declared.answer.AskRefusal.TheVariants.{NoSuchFile, NotReady, Cancelled, OutOfMemory}
+use Rattle.query_engine.specs.Fits.{is_class, has_super, is_method}
+use Rattle.query_engine.specs.Inheritors.{Listing, inheritors_of}
 
 -- the row of a declaration, by the file's id, its path and its text
 abbrev pub row_of : ℕ → List ℕ → List ℕ → Stub → Row
@@ -60,17 +63,29 @@ of_files rows id (file ∷ files) = of_java rows id file ++ of_files rows (id + 
 abbrev pub of_world : {X : Type 0} → (ℕ → File → List X) → World → List X
 of_world rows world = of_files rows 1 world.files
 
--- a type with the name
-abbrev pub is_class : List ℕ → Stub → Bool
-is_class name stub = is_type stub && bytes_eq name stub.name
+-- the row of a place in a file's text
+abbrev pub place_row : ℕ → List ℕ → List ℕ → ℕ → PlaceRow
+place_row id path text at = record { file = id; path = path; line = line_at text at; column = column_at text at }
 
--- a type that has the name among its supers, however often
-abbrev pub has_super : List ℕ → Stub → Bool
-has_super name stub = is_type stub && list_any (λ super. bytes_eq name super) stub.supers
+-- the rows of a name in a file: one for each identifier of the text that searches see that is spelled so
+abbrev pub uses_in : List ℕ → ℕ → File → List PlaceRow
+uses_in name id file = map (place_row id file.path (shown_text file)) (places_of name (shown_text file))
 
--- a method with the name; a constructor is none
-abbrev pub is_method : List ℕ → Stub → Bool
-is_method name stub = stub.kind == code_of Method && bytes_eq name stub.name
+-- the types that a file lists, each with the file's id
+abbrev pub types_in : ℕ → File → List Listing
+types_in id file = map (λ stub. (id, stub)) (filter is_type (listing_of (shown_text file)))
+
+-- the types that the live Java files of a world list, in order of ids, then of the texts
+abbrev pub types_of : World → List Listing
+types_of world = of_world types_in world
+
+-- the row of a listed type
+abbrev pub listed_row : World → Listing → Row
+listed_row world t = row_of t.0 (option_map_or (λ file. file.path) (file_of world t.0) []) (option_map_or shown_text (file_of world t.0) []) t.1
+
+-- the row of a type that comes from a name, with its level
+abbrev pub level_row : World → ℕ × Listing → LevelRow
+level_row world found = record { level = found.0; row = listed_row world found.1 }
 
 -- an answer that no file may be unready for, or the unready file with the lowest id
 abbrev pub unless_unready : Option ℕ → Answer → Result Answer AskRefusal
@@ -92,6 +107,9 @@ reply world (query.Class name) = unless_unready (lowest_unready world) (Rows (of
 reply world (query.Supers name) = unless_unready (lowest_unready world) (Rows (of_world (rows_in (has_super name)) world))
 reply world (query.Method name) = unless_unready (lowest_unready world) (Rows (of_world (rows_in (is_method name)) world))
 reply world (query.Word name) = unless_unready (lowest_unready world) (Words (of_world (word_in name) world))
+reply world (query.Usages name) = unless_unready (lowest_unready world) (Usages name (of_world (uses_in name) world))
+reply world (query.Inheritors name) =
+    unless_unready (lowest_unready world) (Inheritors (map (level_row world) (inheritors_of name (types_of world))))
 reply world (query.Outline path) = listing_reply world (id_at world path)
 reply world query.Status = Ok (Counts (count_of is_some world) (count_of is_open world) (count_of is_unready world))
 

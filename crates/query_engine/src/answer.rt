@@ -38,7 +38,30 @@ pub struct WordRow {
     pub mask: u8,
 }
 
-/// Rows of an answer: file by file in order of ids, and within a file in the order of its text.
+/// A place in a file's text.
+#[derive(Drop)]
+pub struct PlaceRow {
+    /// The file's id.
+    pub file: u32,
+    /// The file's path.
+    pub path: Name,
+    /// Its line in the text that searches see, from 1.
+    pub line: u32,
+    /// Its column, from 1.
+    pub column: u32,
+}
+
+/// A type that comes from a name.
+#[derive(Drop)]
+pub struct LevelRow {
+    /// The length of the shortest chain of types from the name to it, itself counted.
+    pub level: u32,
+    /// Its declaration.
+    pub row: Row,
+}
+
+/// Rows of an answer: file by file in order of ids, and within a file in the order of its text; rows with levels, level
+/// by level.
 #[derive(Drop)]
 pub struct RowList<T> {
     rows: Vec<T>,
@@ -95,6 +118,13 @@ pub enum Answer {
     Outline { rows: RowList<Row> },
     /// The files that have a word.
     Words { rows: RowList<WordRow> },
+    /// Where a name stands as an identifier.
+    Usages {
+        name: Name,
+        rows: RowList<PlaceRow>,
+    },
+    /// The types that come from a name.
+    Inheritors { rows: RowList<LevelRow> },
     /// How many live files, open documents and unready files there are.
     Counts { files: u32, docs: u32, unready: u32 },
 }
