@@ -1,0 +1,1 @@
+use Rattle.query_engine.proofs.usages.add_uses.Goals as goal
