@@ -1,25 +1,26 @@
 -- Where a name is used in the files of a world, with a look after each file that uses it.
-use Rattle.std.proofs.Common.{ℕ, suc, ◌≡◌, ◌≢◌, ◌≤◌, ◌<◌, ◌+◌, Bool, true, false, not, cond, List, [], ◌∷◌, ◌++◌, map, filter, length, take, get_or, drop, Option, Some, None, option_to_list, IsSome, Err, refl, ap, sym, subst, ◌∙◌, ⊎_elim, append_assoc, append-nil, arith}
+use Rattle.std.proofs.Common.{ℕ, suc, ◌≡◌, ◌≢◌, ◌≤◌, ◌<◌, ◌+◌, Bool, true, false, cond, List, [], ◌∷◌, ◌++◌, map, filter, length, take, get_or, drop, Option, Some, None, option_to_list, Err, refl, ap, sym, subst, ◌∙◌, ⊎_elim, append_assoc, append-nil, arith}
 use Rattle.std.specs.List.{flat_map}
 use Rattle.std.specs.Option.{option_map_or}
 use Rattle.std.proofs.lemmas.Bool.{cases_Bool, cond-true, cond-false}
 use Rattle.std.proofs.lemmas.Grind.{flat_map-append}
-use Rattle.std.proofs.lemmas.List.{length-append, drop_more}
+use Rattle.std.proofs.lemmas.List.{length-append}
 use Rattle.std.proofs.lemmas.List.Elements.{filter-append}
 use Rattle.dumb_mode.specs.Filter.{is_java}
 use Rattle.java_tokens.specs.declared.place.Place.TheVariants.{Code}
 use Rattle.java_tokens.specs.Places.{RiseFrom, places_of, is_in_code}
 use Rattle.java_tokens.specs.Words.{has_bit, words_of, mask_in}
-use Rattle.java_tokens.proofs.PlaceLemmas.{rise-lower}
 use Rattle.write_history.specs.World.{World, File, file_of, shown_text, lowest_unready}
 use Rattle.ide_world.specs.Found.{found, found_from, found_in, masks_in}
 use Rattle.queries.specs.declared.query.Query.TheVariants as query
+use Rattle.query_engine.specs.declared.answer.Answer.TheVariants.{Usages}
 use Rattle.query_engine.specs.declared.answer.AskRefusal.{AskRefusal}
 use Rattle.query_engine.specs.declared.answer.PlaceRow.{PlaceRow}
 use Rattle.query_engine.specs.Reply.{of_files, of_java, of_world, place_row, uses_in}
-use Rattle.query_engine.specs.Looks.{HasLooked, LooksThrough, StopsUnseen, EndsEarly, MayLook, where_smart, first_uses}
-use Rattle.query_engine.specs.Listed.{has_code, uses_at, uses_found, path_at, text_at}
-use Rattle.query_engine.proofs.FoundLemmas.{AreAt, at_all, at_head, at_tail, rows_from}
+use Rattle.query_engine.specs.Looks.{HasLooked, LooksThrough, StopsUnseen, EndsEarly, MayLook, first_uses}
+use Rattle.query_engine.specs.Listed.{has_code, uses_at, uses_found}
+use Rattle.query_engine.proofs.AheadLemmas.{next_left}
+use Rattle.query_engine.proofs.FoundLemmas.{at_all, rows_from}
 use Rattle.query_engine.proofs.LookLemmas.{looked_not, looked_through, looked_on, looked_short, looked_unseen}
 
 -- Rows are made of the first files that were found, and others are left; there was a look for each of the first in whose code the name
@@ -36,7 +37,7 @@ module _ {W R : Type 0} (l s : W → ℕ) (uses : ℕ × ℕ → List R) (all : 
   used_none rows left watch none whole = record {
     number = 0;
     looked = looked_not l s watch;
-    counted = ap (λ (xs : List (ℕ × ℕ)). length (filter has_code xs)) whole;
+    counted = omega (arith, ap (λ (xs : List (ℕ × ℕ)). length (filter has_code xs)) whole);
     made = ap (λ (rs : List R). rs ++ flat_map uses (filter has_code left)) none ∙ ap (λ (xs : List (ℕ × ℕ)). flat_map uses (filter has_code xs)) whole;
   }
 
@@ -97,12 +98,17 @@ module _ {W R : Type 0} (l s : W → ℕ) (uses : ℕ × ℕ → List R) (all : 
     subst (λ (k : ℕ). LooksThrough l s k old new) (omega (arith, h.counted, ap (λ (xs : List (ℕ × ℕ)). length (filter has_code xs)) none)) h.looked,
   )
 
--- the places that are left rise
-pub rise-next : (from len : ℕ) (ats : List ℕ) (i at : ℕ) → i < length ats → at ≡ get_or ats i at → RiseFrom from len (drop i ats)
-    → (from ≤ at) × (at ≤ len) × RiseFrom at len (drop (i + 1) ats)
-rise-next from len ats i at inside is rise =
-    let now = subst (RiseFrom from len) (drop_more ats i at inside ∙ ap (λ n. n ∷ drop (i + 1) ats) (sym is)) rise in
-    (now.0, omega (arith, now.1), rise-lower at (suc at) len (drop (i + 1) ats) (omega arith) now.2)
+-- places that rise, none of them before an offset
+abbrev pub StandBehind : ℕ → ℕ → List ℕ → Type 0
+StandBehind at len ats = (from : ℕ) × (at ≤ from) × RiseFrom from len ats
+
+-- the next place, and those behind it
+pub behind-next : (at len : ℕ) (ats : List ℕ) (i next : ℕ) → i < length ats → next ≡ get_or ats i next → StandBehind at len (drop i ats)
+    → (at ≤ next) × (next ≤ len) × StandBehind next len (drop (i + 1) ats)
+behind-next at len ats i next inside is behind =
+    let (from, before, rise) = behind in
+    let now = subst (RiseFrom from len) (next_left ats i next inside is) rise in
+    (omega (arith, before, now.0), omega (arith, now.1), (suc next, omega arith, now.2))
 
 module _ (unused : (name text : List ℕ) → is_in_code (mask_in (words_of text) name) ≡ false → places_of name text ≡ [])
     (used : (name text : List ℕ) → is_in_code (mask_in (words_of text) name) ≡ true → places_of name text ≢ []) (world : World) (name : List ℕ) where
@@ -147,6 +153,7 @@ module _ (unused : (name text : List ℕ) → is_in_code (mask_in (words_of text
   first id file = take 1 (uses_in name id file)
 
   counted_from : (id : ℕ) (files : List (Option File)) → length (filter has_code (found_from (masks_in name) id files)) ≡ length (of_files first id files)
+  unfolding first
   counted_from id [] = refl
   counted_from id (None ∷ files) = counted_from (id + 1) files
   counted_from id (Some file ∷ files) =
@@ -169,3 +176,10 @@ module _ (unused : (name text : List ℕ) → is_in_code (mask_in (words_of text
       ap (λ (xs : List (ℕ × ℕ)). 1 + length (filter has_code xs)) (ready smart)
       ∙ ap (λ n. 1 + n) (counted_from 1 world.files)
       ∙ sym (ap (λ (o : Option ℕ). 1 + option_map_or (λ file. 0) o (length (first_uses name world))) smart)
+
+  -- the answer that is given
+  pub used_given : (walk : List (ℕ × ℕ)) (copy : List ℕ) (rows : List PlaceRow) → walk ≡ found (masks_in name) world → copy ≡ name
+      → rows ≡ flat_map (uses_found world name) (filter has_code walk) → Usages copy rows ≡ Usages name (of_world (uses_in name) world)
+  used_given walk copy rows ready same made =
+      ap (λ (n : List ℕ). Usages n rows) same
+      ∙ ap (Usages name) (made ∙ ap (λ (xs : List (ℕ × ℕ)). flat_map (uses_found world name) (filter has_code xs)) ready ∙ uses_told)

@@ -1,1 +1,0 @@
-use Rattle.query_engine.proofs.usages.add_uses.Goals as goal
