@@ -7,3 +7,10 @@ pub mod MadeLemmas
 pub mod OutlineLemmas
 pub mod RepliedLemmas
 pub mod ReplyLemmas
+pub mod MemberLemmas
+pub mod ChainLemmas
+pub mod LevelLemmas
+pub mod OrderLemmas
+pub mod MeetLemmas
+pub mod SearchLemmas
+pub mod FinishLemmas
