@@ -1,0 +1,65 @@
+use Rattle.std.proofs.Common.{length, filter, refl, sym, subst, le_refl}
+use Rattle.queries.specs.declared.query.Query.TheVariants as query
+use Rattle.ide_world.specs.Found.{masks_in}
+use Rattle.query_engine.specs.declared.answer.Answer.{Answer}
+use Rattle.query_engine.specs.declared.answer.Answer.TheVariants.{Usages}
+use Rattle.query_engine.specs.declared.answer.AskRefusal.TheVariants.{OutOfMemory}
+use Rattle.query_engine.specs.declared.answer.PlaceRow.{PlaceRow}
+use Rattle.query_engine.specs.declared.answer.RowList.{RowList}
+use Rattle.query_engine.specs.Reply.{of_world, uses_in}
+use Rattle.query_engine.specs.Listed.{AreLive, has_code}
+use Rattle.query_engine.proofs.FoundLemmas.{live_found}
+use Rattle.query_engine.proofs.LookLemmas.{looked_unseen}
+use Rattle.query_engine.proofs.RepliedLemmas.{dumb_replied, early_replied, whole_replied, dumb_uses}
+use Rattle.query_engine.proofs.UsageLemmas.{uses_may, used_given}
+use Rattle.query_engine.proofs.usages.usages.Goals as goal
+
+-- the files in which the name is found are live
+pub use_rows-requires-clause-live : goal.use_rows-requires-clause-live
+use_rows-requires-clause-live g c =
+    let world = c.args.state.now.world in
+    subst (AreLive world) (sym (c.word_rows.ensures.ready c.in_ok-ready.ensures.smart)) (live_found (masks_in c.args.name.now) world)
+
+-- a file is unready
+pub returns-in_err-ready-clause-replied : goal.returns-in_err-ready-clause-replied
+returns-in_err-ready-clause-replied g c =
+    let world = c.args.state.now.world in
+    let name = c.args.name.now in
+    dumb_replied _ _ g.W.Watch.stays world (query.Usages name) (Usages name (of_world (uses_in name) world)) refl
+    c.args.watch.now _ (dumb_uses world name) c.in_err-ready.ensures.dumb c.from_residual.result c.from_residual.ensures.1
+
+-- the rows end early
+pub returns-in_err-rows-clause-replied : goal.returns-in_err-rows-clause-replied
+returns-in_err-rows-clause-replied g c =
+    let world = c.args.state.now.world in
+    let name = c.args.name.now in
+    let law = c.masks_tell_uses.ensures in
+    early_replied _ _ g.W.Watch.stays world (query.Usages name) (Usages name (of_world (uses_in name) world)) refl
+    (RowList PlaceRow) _ _ _ _ c.in_ok-ready.ensures.smart
+    (uses_may law.unused law.used world name c.word_rows.result c.word_rows.ensures.ready c.in_ok-ready.ensures.smart)
+    c.in_err-rows.ensures.early c.in_err-rows.ensures.looked c.from_residual-in_err-rows.result c.from_residual-in_err-rows.ensures.1
+
+-- memory runs out for the name
+pub returns-in_err-copy-clause-replied : goal.returns-in_err-copy-clause-replied
+returns-in_err-copy-clause-replied g c =
+    let world = c.args.state.now.world in
+    let name = c.args.name.now in
+    let law = c.masks_tell_uses.ensures in
+    let looks = length (filter has_code c.word_rows.result) in
+    early_replied _ _ g.W.Watch.stays world (query.Usages name) (Usages name (of_world (uses_in name) world)) refl
+    Answer looks OutOfMemory _ _ c.in_ok-ready.ensures.smart
+    (uses_may law.unused law.used world name c.word_rows.result c.word_rows.ensures.ready c.in_ok-ready.ensures.smart)
+    tt (looked_unseen _ _ _ _ _ _ (le_refl looks) c.in_ok-rows.ensures.looked) c.from_residual-in_err-copy.result c.from_residual-in_err-copy.ensures.1
+
+-- all rows are there
+pub returns-clause-replied : goal.returns-clause-replied
+returns-clause-replied g c =
+    let world = c.args.state.now.world in
+    let name = c.args.name.now in
+    let law = c.masks_tell_uses.ensures in
+    let ready = c.word_rows.ensures.ready in
+    let smart = c.in_ok-ready.ensures.smart in
+    whole_replied _ _ g.W.Watch.stays world (query.Usages name) (Usages name (of_world (uses_in name) world)) refl
+    _ _ _ _ smart (uses_may law.unused law.used world name c.word_rows.result ready smart)
+    (used_given law.unused law.used world name c.word_rows.result _ _ (ready smart) c.in_ok-copy.ensures c.in_ok-rows.ensures.rows)
+    c.in_ok-rows.ensures.looked
