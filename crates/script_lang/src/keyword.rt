@@ -62,11 +62,11 @@ pub(crate) enum NameKeyword {
 pub(crate) fn keyword_of(word: &str) -> Option<Keyword>
     ensures { result ≡ keyword_of (chars word.now) }
 {
-    keyword_spelled(word)
+    keyword_of_bytes(word)
 }
 
 /// The keyword that a word's bytes spell.
-fn keyword_spelled(word: &str) -> Option<Keyword>
+fn keyword_of_bytes(word: &str) -> Option<Keyword>
     ensures { result ≡ keyword_of word.now }
 {
     match word {
@@ -90,11 +90,11 @@ fn keyword_spelled(word: &str) -> Option<Keyword>
 pub(crate) fn query_keyword_of(word: &str) -> Option<QueryKeyword>
     ensures { result ≡ query_keyword_of (chars word.now) }
 {
-    query_keyword_spelled(word)
+    query_keyword_of_bytes(word)
 }
 
 /// The question's keyword that a word's bytes spell.
-fn query_keyword_spelled(word: &str) -> Option<QueryKeyword>
+fn query_keyword_of_bytes(word: &str) -> Option<QueryKeyword>
     ensures { result ≡ query_keyword_of word.now }
 {
     match word {
