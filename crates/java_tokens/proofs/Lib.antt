@@ -8,3 +8,4 @@ pub mod GatherLemmas
 pub mod AsciiWords
 pub mod IdentifierLemmas
 pub mod FrontLemmas
+pub mod PlaceLemmas

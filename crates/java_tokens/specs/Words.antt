@@ -1,5 +1,5 @@
 -- The words of a text: each with where it stands, in code, in comments or in strings.
-use Rattle.std.specs.Prelude.{◌≡◌, ℕ, Bool, not, ◌&&◌, ◌||◌, ◌==◌, if◌then◌else◌, List, [], ◌∷◌, map, filter, fold, bit_or, Option, Some, None, unwrap_or}
+use Rattle.std.specs.Prelude.{◌≡◌, ℕ, Bool, not, ◌&&◌, ◌||◌, ◌==◌, if◌then◌else◌, List, [], ◌∷◌, map, filter, fold, bit_and, bit_or, Option, Some, None, unwrap_or}
 use Rattle.std.specs.List.{flat_map, slice_split}
 use Rattle.std.specs.Ordering.{nat_cmp}
 use Rattle.std.specs.declared.cmp.Ordering.{Ordering}
@@ -22,6 +22,10 @@ abbrev pub bit_of : Place → ℕ
 bit_of Code = 1
 bit_of Comment = 2
 bit_of String = 4
+
+-- the place is among those of a mask
+abbrev pub has_bit : Place → ℕ → Bool
+has_bit place mask = not (bit_and mask (bit_of place) == 0)
 
 -- what no word goes on over
 abbrev pub ends_word : ℕ → Bool

@@ -1,6 +1,6 @@
 //! Where a word of a text may stand.
 ghost use Rattle.std.specs.Prelude.{◌≡◌};
-ghost use Rattle.java_tokens.specs.Words.{bit_of};
+ghost use Rattle.java_tokens.specs.Words.{bit_of, has_bit};
 
 /// Where a word stands.
 #[derive(Clone, Copy, Debug, PartialEq, Eq)]
@@ -19,5 +19,12 @@ impl Place {
         ensures { result ≡ bit_of self }
     {
         self as u8
+    }
+
+    /// Whether the place is among those of a mask.
+    pub fn is_in(self, mask: u8) -> bool
+        ensures { result ≡ has_bit self mask }
+    {
+        mask & self.bit() != 0
     }
 }

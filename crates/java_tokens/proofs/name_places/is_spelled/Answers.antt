@@ -1,0 +1,30 @@
+use Rattle.std.proofs.Common.{◌≡◌, ℕ, suc, ◌<◌, ◌∙◌, Option, Some, OnSome, IfSome, ◌∷◌, length, drop, subst, arith, rules}
+use Rattle.std.specs.Prelude.{is_none}
+use Rattle.std.proofs.lemmas.Str.{IsUtf8-past_char, chars_past_char}
+use Rattle.std.proofs.StrCases.{chars_of_empty}
+use Rattle.java_tokens.proofs.PlaceLemmas.{spelled-next, spelled-end}
+use Rattle.java_tokens.proofs.name_places.is_spelled.Goals as goal
+
+-- the same character stands in both
+pub loop-c-preserved : goal.loop-c-preserved
+loop-c-preserved c =
+    let held = c.loop-c.invariant in
+    let piece = c.args.piece.now in
+    let at = c.loop-c.at in
+    let parts = c.in-Some.ensures.steps.0 in
+    let same : c.get.result ≡ Some c.in-Some.c = search rules in
+    let stands = subst (λ (o : Option ℕ). IfSome o (λ x. drop at piece ≡ x ∷ drop (suc at) piece)) same c.get.ensures.some in
+    let inside = subst (λ (o : Option ℕ). OnSome o (at < length piece)) same c.get.ensures.inside in
+    record {
+      utf8 = IsUtf8-past_char _ _ c.in-Some.c held.utf8 parts;
+      inside = omega (arith, inside);
+      rest = spelled-next _ _ piece at c.in-Some.c (chars_past_char _ _ c.in-Some.c held.utf8 parts) stands ∙ held.rest;
+    }
+
+-- the name has no more characters
+pub returns : goal.returns
+returns c =
+    let none : c.is_none.result ≡ is_none c.get-2.result = search rules in
+    none
+    ∙ spelled-end _ c.args.piece.now c.loop-c.at c.get-2.result (chars_of_empty _ c.in-None.ensures.steps.0.0) c.get-2.ensures.some c.get-2.ensures.none
+    ∙ c.loop-c.invariant.rest
