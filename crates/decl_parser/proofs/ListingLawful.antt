@@ -1,12 +1,12 @@
--- What a level lists continues a lawful list.
-use Rattle.std.proofs.Common.{◌≡◌, ℕ, zero, suc, ◌+◌, ◌≤◌, Bool, true, false, cond, List, [], ◌∷◌, ◌++◌, length, map, refl, arith, inr}
+-- What a level lists continues a list that has a property of each stub, as a lawful list has.
+use Rattle.std.proofs.Common.{◌≡◌, ℕ, zero, suc, ◌+◌, ◌≤◌, ◌<◌, Bool, true, false, cond, List, [], ◌∷◌, ◌++◌, length, map, refl, arith, inr}
 use Rattle.std.specs.Prelude.{Option, None, Some, IfSome}
-use Rattle.std.specs.List.{flat_map}
+use Rattle.std.specs.List.{flat_map, AllPairs}
 use Rattle.ide_text.specs.Text.{max_chars}
 use Rattle.stub_tree.specs.declared.stub.Stub.{Stub}
 use Rattle.stub_tree.specs.declared.stub_kind.StubKind.TheVariants.{Constant}
 use Rattle.stub_tree.specs.Stub.{is_type}
-use Rattle.stub_tree.specs.Lawful.{max_depth, IsLawfulList}
+use Rattle.stub_tree.specs.Lawful.{max_depth, IsLawfulStub, IsLawfulList}
 use Rattle.decl_parser.specs.declared.node.Node.{Node}
 use Rattle.decl_parser.specs.declared.declaration.Holder.{Holder}
 use Rattle.decl_parser.specs.declared.role.Role.TheVariants.{Comma, Semicolon}
@@ -17,7 +17,7 @@ use Rattle.decl_parser.specs.Rule.{Declaration, declaration_of, first_identifier
 use Rattle.decl_parser.specs.Listing.{stub_of, constant_stub, is_enum, declared_stubs, item_stubs, level_stubs, stubs_at}
 use Rattle.decl_parser.proofs.Rising.{cond_keeps, cond_picks, Rises, UnitsRise, ItemsRise, rises-bounds, rises-append, rises-one, rises-plain, rises-header, rises-units, units-bounds, units-lower, items_from-rise}
 use Rattle.decl_parser.proofs.Sound.{IsSound, NamesRise, first-name, declaration-sound}
-use Rattle.decl_parser.proofs.Continuing.{Continues, continues-nil, continues-append, continues-one, continues-type}
+use Rattle.decl_parser.proofs.Continuing.{AreAfter, after-lawful, after-rises, Continues, continues-nil, continues-append, continues-one, continues-type}
 use Rattle.decl_parser.proofs.StubLemmas.{stub-lawful}
 
 module _ (text : List ℕ) where
@@ -73,51 +73,52 @@ module _ (text : List ℕ) where
       (constants-rise lo s.0 hi (piece ++ u.node ∷ []) us
       (rises-append text lo mid s.0 piece (u.node ∷ []) r (rises-one text mid s.0 u.node s.1 (omega arith) s.2)) s.4))
 
-module _ (text : List ℕ) (few : length text ≤ max_chars) where
+module _ (text : List ℕ) (P : Stub → Type 0)
+    (each : (depth lo hi : ℕ) (d : Declaration) → depth ≤ max_depth → hi ≤ length text → IsSound text lo hi d → P (stub_of text depth d)) where
   constant_stubs-continue : (depth lo hi : ℕ) (names : List Node) → depth ≤ max_depth → hi ≤ length text → NamesRise text lo hi names
-      → Continues depth lo hi (map (constant_stub text depth) names)
+      → Continues P depth lo hi (map (constant_stub text depth) names)
   unfolding stub_of
-  constant_stubs-continue depth lo hi [] shallow inside r = continues-nil depth lo hi r
+  constant_stubs-continue depth lo hi [] shallow inside r = continues-nil P depth lo hi r
   constant_stubs-continue depth lo hi (n ∷ ns) shallow inside r =
       let d : Declaration = record { kind = Constant; name = n; behind = [] } in
       let below = r.0.below in
       let above = r.0.above in
       let sound : IsSound text lo hi d = record { name = r.0; behind = omega arith; of_type = inr refl } in
-      continues-append depth lo (suc n.token.at) hi (constant_stub text depth n ∷ []) (map (constant_stub text depth) ns)
-      (continues-one depth lo (suc n.token.at) (constant_stub text depth n) (stub-lawful text few depth lo hi d shallow inside sound) refl above (omega arith))
+      continues-append P depth lo (suc n.token.at) hi (constant_stub text depth n ∷ []) (map (constant_stub text depth) ns)
+      (continues-one P depth lo (suc n.token.at) (constant_stub text depth n) (each depth lo hi d shallow inside sound) refl above (omega arith))
       (constant_stubs-continue depth (suc n.token.at) hi ns shallow inside r.1)
 
   -- what is listed of the members of a type
   abbrev pub MembersContinue : ℕ → (Option Holder → List UnitOf → List Stub) → Type 0
-  MembersContinue depth members = (holder : Option Holder) (lo hi : ℕ) (us : List UnitOf) → hi ≤ length text → UnitsRise text lo hi us → Continues depth lo hi (members holder us)
+  MembersContinue depth members = (holder : Option Holder) (lo hi : ℕ) (us : List UnitOf) → hi ≤ length text → UnitsRise text lo hi us → Continues P depth lo hi (members holder us)
 
   declared-continue : (depth lo mid hi : ℕ) (members : Option Holder → List UnitOf → List Stub) (body : List Node) (found : Option Declaration)
       → depth ≤ max_depth → mid ≤ hi → hi ≤ length text → lo ≤ mid → MembersContinue (suc depth) members → Rises text mid hi body → IfSome found (IsSound text lo mid)
-      → Continues depth lo hi (declared_stubs text depth members body found)
+      → Continues P depth lo hi (declared_stubs text depth members body found)
   unfolding stub_of
-  declared-continue depth lo mid hi members body None shallow le inside bounds below r sound = continues-nil depth lo hi (omega arith)
+  declared-continue depth lo mid hi members body None shallow le inside bounds below r sound = continues-nil P depth lo hi (omega arith)
   declared-continue depth lo mid hi members body (Some d) shallow le inside bounds below r sound =
       let s = stub_of text depth d in
-      let lawful = stub-lawful text few depth lo mid d shallow (omega arith) sound in
+      let lawful = each depth lo mid d shallow (omega arith) sound in
       let before = sound.name.below in
-      let Lists : List Stub → Type 0 = λ ss. Continues depth lo hi (s ∷ ss) in
+      let Lists : List Stub → Type 0 = λ ss. Continues P depth lo hi (s ∷ ss) in
       let holder : Option Holder = Some (record { kind = d.kind; name = d.name }) in
       cond_picks Lists (is_type s) (members holder (units_of body)) []
-      (λ type. continues-type depth lo mid hi s (members holder (units_of body)) lawful refl sound.name.above before type
+      (λ type. continues-type P depth lo mid hi s (members holder (units_of body)) lawful refl sound.name.above before type
       (below holder mid hi (units_of body) inside (rises-units text mid hi body r)))
-      (λ other. continues-one depth lo hi s lawful refl sound.name.above (omega arith))
+      (λ other. continues-one P depth lo hi s lawful refl sound.name.above (omega arith))
 
   items-continue : (depth lo hi : ℕ) (members : Option Holder → List UnitOf → List Stub) (holder : Option Holder) (items : List Item)
       → depth ≤ max_depth → hi ≤ length text → MembersContinue (suc depth) members → ItemsRise text lo hi items
-      → Continues depth lo hi (flat_map (item_stubs text depth members holder) items)
+      → Continues P depth lo hi (flat_map (item_stubs text depth members holder) items)
   unfolding item_stubs
-  items-continue depth lo hi members holder [] shallow inside below r = continues-nil depth lo hi r
+  items-continue depth lo hi members holder [] shallow inside below r = continues-nil P depth lo hi r
   items-continue depth lo hi members holder (i ∷ is) shallow inside below r =
       let mid = r.0 in
       let next = r.1 in
       let rest : next ≤ hi = items-bounds next hi is r.4 in
       let header = rises-header text lo mid i.header r.2 in
-      continues-append depth lo next hi (item_stubs text depth members holder i) (flat_map (item_stubs text depth members holder) is)
+      continues-append P depth lo next hi (item_stubs text depth members holder i) (flat_map (item_stubs text depth members holder) is)
       (declared-continue depth lo mid next members i.body (declaration_of text holder (header_of i.header)) shallow
       (rises-bounds text mid next i.body r.3) (omega arith) (rises-bounds text lo mid i.header r.2) below r.3
       (declaration-sound text holder lo mid (header_of i.header) header))
@@ -132,9 +133,9 @@ module _ (text : List ℕ) (few : length text ≤ max_chars) where
 
   -- a level, as an enum's body and as any other
   level-continue : (left depth lo hi : ℕ) (holder : Option Holder) (us : List UnitOf) → left + depth ≡ suc max_depth → hi ≤ length text → UnitsRise text lo hi us
-      → Continues depth lo hi (level_stubs text left depth holder us)
+      → Continues P depth lo hi (level_stubs text left depth holder us)
   unfolding level_stubs
-  level-continue zero depth lo hi holder us deep inside r = continues-nil depth lo hi (units-bounds text lo hi us r)
+  level-continue zero depth lo hi holder us deep inside r = continues-nil P depth lo hi (units-bounds text lo hi us r)
   level-continue (suc left) depth lo hi holder us deep inside r =
       let members = level_stubs text left (suc depth) in
       let F = item_stubs text depth members holder in
@@ -145,7 +146,7 @@ module _ (text : List ℕ) (few : length text ≤ max_chars) where
     where
       enum_or_not : (enum : Bool) (depth lo hi : ℕ) (members : Option Holder → List UnitOf → List Stub) (holder : Option Holder) (us : List UnitOf)
           → depth ≤ max_depth → hi ≤ length text → MembersContinue (suc depth) members → UnitsRise text lo hi us
-          → Continues depth lo hi (cond enum (map (constant_stub text depth) (constants_after [] us)) []
+          → Continues P depth lo hi (cond enum (map (constant_stub text depth) (constants_after [] us)) []
           ++ flat_map (item_stubs text depth members holder) (items_of (cond enum (behind_semicolon us) us)))
       enum_or_not false depth lo hi members holder us shallow inside below r =
           let bounds = units-bounds text lo hi us r in
@@ -155,13 +156,22 @@ module _ (text : List ℕ) (few : length text ≤ max_chars) where
           let body = constants-rise text lo lo hi [] us (omega arith) r in
           let mid = body.0 in
           let rest = units-bounds text mid hi (behind_semicolon us) body.2 in
-          continues-append depth lo mid hi (map (constant_stub text depth) (constants_after [] us)) (flat_map (item_stubs text depth members holder) (items_of (behind_semicolon us)))
+          continues-append P depth lo mid hi (map (constant_stub text depth) (constants_after [] us)) (flat_map (item_stubs text depth members holder) (items_of (behind_semicolon us)))
           (constant_stubs-continue depth lo mid (constants_after [] us) shallow (omega arith) body.1)
           (items-continue depth mid hi members holder (items_of (behind_semicolon us)) shallow inside below
           (items_from-rise text mid mid hi [] (behind_semicolon us) (omega arith) body.2))
 
-  -- the listing of the nodes of a text is lawful
-  pub listing-lawful : (nodes : List Node) → Rises text 0 (length text) nodes → IsLawfulList (stubs_at text 0 None (units_of nodes))
-  listing-lawful nodes r =
+  -- the listing of the nodes of a text
+  listing-after : (nodes : List Node) → Rises text 0 (length text) nodes → AreAfter P None (stubs_at text 0 None (units_of nodes))
+  listing-after nodes r =
       let listed = level-continue (suc max_depth) 0 0 (length text) None (units_of nodes) (omega arith) (omega arith) (rises-units text 0 (length text) nodes r) in
       (listed None refl).0
+
+-- it is lawful
+pub listing-lawful : (text : List ℕ) → length text ≤ max_chars → (nodes : List Node) → Rises text 0 (length text) nodes → IsLawfulList (stubs_at text 0 None (units_of nodes))
+listing-lawful text few nodes r = after-lawful None (stubs_at text 0 None (units_of nodes)) (listing-after text IsLawfulStub (stub-lawful text few) nodes r)
+
+-- and its offsets rise, however long the text is
+pub listing-rises : (text : List ℕ) (nodes : List Node) → Rises text 0 (length text) nodes → AllPairs (λ a b. a.at < b.at) (stubs_at text 0 None (units_of nodes))
+listing-rises text nodes r =
+    after-rises (λ s. Unit {0}) None (stubs_at text 0 None (units_of nodes)) (listing-after text (λ s. Unit {0}) (λ depth lo hi d shallow inside sound. tt) nodes r)

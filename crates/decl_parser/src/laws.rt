@@ -1,5 +1,6 @@
 //! Laws of the listing: functions that do nothing, whose contracts are the laws.
-ghost use Rattle.std.specs.Prelude.{◌≡◌, ◌≤◌, ℕ, List, All, false, not, filter, length};
+ghost use Rattle.std.specs.Prelude.{◌≡◌, ◌≤◌, ◌<◌, ℕ, List, All, false, not, filter, length};
+ghost use Rattle.std.specs.List.{AllPairs};
 ghost use Rattle.ide_text.specs.Text.{max_chars};
 ghost use Rattle.java_tokens.specs.declared.token.Token.{Token};
 ghost use Rattle.java_tokens.specs.Tokens.{tokens_of};
@@ -15,6 +16,11 @@ ghost use Rattle.decl_parser.specs.Unit.{units_of};
 /// it, and more only behind a type.
 pub fn listings_are_lawful()
     ensures { (text : List ℕ) → length text ≤ max_chars → IsLawfulList (listing_of text) }
+{}
+
+/// The offsets of a listing rise, however long the text is.
+pub fn offsets_rise()
+    ensures { (text : List ℕ) → AllPairs (λ a b. a.at < b.at) (listing_of text) }
 {}
 
 /// Each declaration of a listing is named by an identifier of the text, which stands at its offset.

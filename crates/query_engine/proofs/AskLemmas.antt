@@ -1,18 +1,30 @@
 -- A first look, and what follows it.
-use Rattle.std.proofs.Common.{ℕ, ◌≡◌, ◌≢◌, ◌≤◌, ◌+◌, inl, inr, refl, sym, subst, arith, Result, Err, IsErrAnd}
+use Rattle.std.proofs.Common.{ℕ, ◌≡◌, ◌≢◌, ◌≤◌, ◌+◌, ◌/◌, length, inl, inr, refl, sym, subst, arith, Result, Err, IsErrAnd}
 use Rattle.action_lock.specs.Counts.{counted, HasRisen}
 use Rattle.write_history.specs.World.{World}
 use Rattle.queries.specs.declared.query.Query.{Query}
+use Rattle.queries.specs.declared.query.Query.TheVariants as query
 use Rattle.query_engine.specs.declared.answer.Answer.{Answer}
 use Rattle.query_engine.specs.declared.answer.AskRefusal.{AskRefusal}
 use Rattle.query_engine.specs.declared.answer.AskRefusal.TheVariants.{Cancelled}
 use Rattle.query_engine.specs.Reply.{reply}
-use Rattle.query_engine.specs.Looks.{looks_for, later_looks, HasLooked, HasLookedFor, LooksThrough, EndsEarly}
+use Rattle.query_engine.specs.Looks.{later_looks, where_smart, first_uses, super_count, rows_a_look, MayLook, HasLooked, HasLookedFor, LooksThrough, EndsEarly}
 use Rattle.query_engine.specs.Given.{RepliesTo}
 use Rattle.query_engine.proofs.LookLemmas.{looked_as, looked_on, looked_short, looked_up}
 
 one_of : (n : ℕ) → 1 ≤ 1 + n
 one_of n = omega arith
+
+-- how often a question may look after its first look
+some_looks : (world : World) (query : Query) → (later : ℕ) × MayLook world query (1 + later)
+some_looks world (query.Class name) = (later_looks (reply world (query.Class name)), refl)
+some_looks world (query.Supers name) = (later_looks (reply world (query.Supers name)), refl)
+some_looks world (query.Method name) = (later_looks (reply world (query.Method name)), refl)
+some_looks world (query.Word name) = (later_looks (reply world (query.Word name)), refl)
+some_looks world (query.Usages name) = (where_smart world (length (first_uses name world)), refl)
+some_looks world (query.Inheritors name) = (0, (one_of 0, one_of (where_smart world (super_count world / rows_a_look))))
+some_looks world (query.Outline path) = (later_looks (reply world (query.Outline path)), refl)
+some_looks world query.Status = (later_looks (reply world query.Status), refl)
 
 risen_none : (a b : ℕ) → a ≡ 0 → b ≡ 0 → HasRisen a b → ⊥
 risen_none a b from to (inl less) = omega (arith, from, to, less)
@@ -22,12 +34,14 @@ module _ {W : Type 0} (l s : W → ℕ) (st : W → W → Type 0) (world : World
   -- the first look saw that the work is to end
   pub stopped_first : (X : Type 0) (e : AskRefusal) (r : Result Answer AskRefusal) (old new : W) → e ≡ Cancelled → IsErrAnd r (λ f. f ≡ e)
       → HasLooked {X = X} l s st (Err e) 1 old new → HasLookedFor l s st world query r old new
-  stopped_first X e r old new is told q = record {
-    number = looks_for (reply world query);
-    may = refl;
-    looked = looked_as l s st X Answer (looks_for (reply world query)) r e old new told
-        (looked_short l s st X 1 (looks_for (reply world query)) e old new (one_of (later_looks (reply world query))) (subst EndsEarly (sym is) tt) q);
-  }
+  stopped_first X e r old new is told q =
+      let (later, may) = some_looks world query in
+      record {
+        number = 1 + later;
+        may = may;
+        looked = looked_as l s st X Answer (1 + later) r e old new told
+            (looked_short l s st X 1 (1 + later) e old new (one_of later) (subst EndsEarly (sym is) tt) q);
+      }
 
   -- the first look saw nothing, and the question was replied to
   pub looked_first : (r : Result Answer AskRefusal) (old mid new : W) → ((x y z : W) → st x y → st y z → st x z) → st old mid

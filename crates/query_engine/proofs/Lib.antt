@@ -5,4 +5,5 @@ pub mod FromLemmas
 pub mod LookLemmas
 pub mod MadeLemmas
 pub mod OutlineLemmas
+pub mod RepliedLemmas
 pub mod ReplyLemmas

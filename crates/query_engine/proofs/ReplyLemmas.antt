@@ -10,20 +10,20 @@ use Rattle.query_engine.specs.declared.answer.Answer.TheVariants.{Rows, Words}
 use Rattle.query_engine.specs.declared.answer.AskRefusal.{AskRefusal}
 use Rattle.query_engine.specs.declared.answer.AskRefusal.TheVariants.{NoSuchFile, NotReady, Cancelled, OutOfMemory}
 use Rattle.query_engine.specs.Reply.{reply, unless_unready, of_world, rows_in, word_in, IsRefusalOf}
-use Rattle.query_engine.specs.Looks.{rows_a_look, later_looks, HasLooked, LooksThrough, EndsEarly}
+use Rattle.query_engine.specs.Looks.{rows_a_look, later_looks, looks_for, MayLook, HasLooked, LooksThrough, EndsEarly}
 use Rattle.query_engine.specs.Listed.{row_found, word_found}
 use Rattle.query_engine.specs.Given.{GivesReply, RepliesTo, declared_reply, word_reply}
 use Rattle.query_engine.proofs.FoundLemmas.{stub_rows_found, word_rows_found}
 use Rattle.query_engine.proofs.LookLemmas.{looked_not, looked_told}
 
 -- the refusal in place of an answer, where a file is unready
-unready_reply : (o : Option ℕ) (answer : Answer) (e : AskRefusal) → IsSomeAnd o (λ file. e ≡ NotReady file)
+pub unready_reply : (o : Option ℕ) (answer : Answer) (e : AskRefusal) → IsSomeAnd o (λ file. e ≡ NotReady file)
     → (file : ℕ) × (unless_unready o answer ≡ Err (NotReady file)) × (e ≡ NotReady file)
 unready_reply None answer e h = absurd h
 unready_reply (Some file) answer e h = (file, refl, h)
 
 -- a call that ends early refuses nothing that is answered
-early_refused : (answer : Answer) (e : AskRefusal) → EndsEarly e → IsRefusalOf (Ok answer) e
+pub early_refused : (answer : Answer) (e : AskRefusal) → EndsEarly e → IsRefusalOf (Ok answer) e
 early_refused answer NoSuchFile early = absurd early
 early_refused answer (NotReady file) early = absurd early
 early_refused answer Cancelled early = tt
@@ -70,10 +70,14 @@ module _ {W : Type 0} (l s : W → ℕ) (st : W → W → Type 0) where
 
   -- what gives the reply to a question replies to it
   pub replied : (world : World) (query : Query) (expected : Result Answer AskRefusal) (r : Result Answer AskRefusal) (old new : W) → expected ≡ reply world query
-      → GivesReply l s st expected r old new → RepliesTo l s st world query r old new
-  replied world query expected r old new same given =
+      → MayLook world query (looks_for (reply world query)) → GivesReply l s st expected r old new → RepliesTo l s st world query r old new
+  replied world query expected r old new same may given =
       let all = subst (λ (x : Result Answer AskRefusal). GivesReply l s st x r old new) same given in
-      record { later = later_looks (reply world query); may = refl; looked = all.looked; answer = all.answer; refused = all.refused }
+      record { later = later_looks (reply world query); may = may; looked = all.looked; answer = all.answer; refused = all.refused }
+
+-- the same, where the question is this one
+pub may_look : (world : World) (query this : Query) → query ≡ this → MayLook world this (looks_for (reply world this)) → MayLook world query (looks_for (reply world query))
+may_look world query this is may = subst (λ (q : Query). MayLook world q (looks_for (reply world q))) (sym is) may
 
 -- the looks for rows are those of the answer
 pub looks_counted : {F R : Type 0} (row : F → R) (found : List F) → length found / rows_a_look ≡ length (map row found) / rows_a_look

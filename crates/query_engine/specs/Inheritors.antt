@@ -1,5 +1,5 @@
 -- The types that come from a name: those that name it behind `extends` or `implements`, those that name these, and so on.
-use Rattle.std.specs.Prelude.{ℕ, zero, suc, ◌≡◌, ◌≤◌, ◌<◌, ◌×◌, ◌⊎◌, ◌+◌, Bool, true, not, List, [], ◌∷◌, ◌++◌, length, map, filter, Option, Some, None, All, Contains}
+use Rattle.std.specs.Prelude.{ℕ, zero, suc, ◌≡◌, ◌≤◌, ◌<◌, ◌⊎◌, ◌+◌, Bool, true, not, List, [], ◌∷◌, ◌++◌, length, map, filter, Option, Some, None, All, Contains}
 use Rattle.std.specs.List.{list_any}
 use Rattle.stub_tree.specs.declared.stub.Stub.{Stub}
 use Rattle.query_engine.specs.Fits.{has_super}
@@ -17,7 +17,7 @@ abbrev pub names_of : List Listing → List (List ℕ)
 names_of types = map (λ t. t.1.name) types
 
 -- Level by level: the types of a level name one of the last level's names, and aren't of a level before. At most so many levels.
-pub levels_from : ℕ → ℕ → List (List ℕ) → List Listing → List (ℕ × Listing)
+unfoldable pub levels_from : ℕ → ℕ → List (List ℕ) → List Listing → List (ℕ × Listing)
 levels_from zero level names left = []
 levels_from (suc more) level names left =
     let found = filter (names_any names) left in
@@ -43,13 +43,17 @@ pub record EndsChain (types : List Listing) (name : List ℕ) (len : ℕ) (t : L
   pub chain : List Listing
   pub listed : All (Contains types) chain
   pub linked : IsChain name chain
-  pub len : length chain ≡ len
+  pub many : length chain ≡ len
   pub ends : last_of chain ≡ Some t
 
 -- no chain from the name to the type is shorter
 abbrev pub IsLeast : List Listing → List ℕ → ℕ → Listing → Type 0
 IsLeast types name len t = (other : ℕ) → EndsChain types name other t → len ≤ other
 
+-- one stands before the other: by file, then by offset
+abbrev pub StandsBefore : Listing → Listing → Type 0
+StandsBefore t u = (t.0 < u.0) ⊎ ((t.0 ≡ u.0) × (t.1.at < u.1.at))
+
 -- one stands before the other: by level, then by file, then by offset
 abbrev pub Precedes : ℕ × Listing → ℕ × Listing → Type 0
-Precedes a b = (a.0 < b.0) ⊎ ((a.0 ≡ b.0) × ((a.1.0 < b.1.0) ⊎ ((a.1.0 ≡ b.1.0) × (a.1.1.at < b.1.1.at))))
+Precedes a b = (a.0 < b.0) ⊎ ((a.0 ≡ b.0) × StandsBefore a.1 b.1)

@@ -1,5 +1,5 @@
 -- How often a call looks at its watch, and what it sees.
-use Rattle.std.specs.Prelude.{ℕ, ◌≡◌, ◌≤◌, ◌×◌, ◌+◌, ◌/◌, ◌%◌, ◌==◌, if◌then◌else◌, List, length, map, take, sum, Result, Ok, Err, max, min}
+use Rattle.std.specs.Prelude.{ℕ, ◌≡◌, ◌≤◌, ◌+◌, ◌/◌, ◌%◌, ◌==◌, if◌then◌else◌, List, length, map, take, sum, Result, Ok, Err, max, min}
 use Rattle.std.specs.Option.{option_map_or}
 use Rattle.action_lock.specs.Counts.{counted, HasRisen}
 use Rattle.write_history.specs.World.{World, lowest_unready}

@@ -119,10 +119,7 @@ pub enum Answer {
     /// The files that have a word.
     Words { rows: RowList<WordRow> },
     /// Where a name stands as an identifier.
-    Usages {
-        name: Name,
-        rows: RowList<PlaceRow>,
-    },
+    Usages { name: Name, rows: RowList<PlaceRow> },
     /// The types that come from a name.
     Inheritors { rows: RowList<LevelRow> },
     /// How many live files, open documents and unready files there are.

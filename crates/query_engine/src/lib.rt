@@ -2,14 +2,16 @@
 #![tactic(auto)]
 
 mod answer;
+mod inheritors;
 mod listed_file;
 mod looks;
 mod outline;
 mod question;
 mod ready;
 mod stub_rows;
+mod usages;
 mod word_rows;
 
-pub use answer::{Answer, AskRefusal, Row, RowList, WordRow};
+pub use answer::{Answer, AskRefusal, LevelRow, PlaceRow, Row, RowList, WordRow};
 pub use looks::NoWatch;
 pub use question::{ask, ask_unwatched};

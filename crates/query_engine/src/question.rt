@@ -7,9 +7,11 @@ ghost use Rattle.query_engine.specs.Looks.{HasLookedFor};
 ghost use Rattle.query_engine.specs.Given.{RepliesTo};
 
 use crate::answer::{Answer, AskRefusal};
+use crate::inheritors::inheritors;
 use crate::looks::{NoWatch, look};
 use crate::outline::outline;
 use crate::stub_rows::declared;
+use crate::usages::usages;
 use crate::word_rows::with_word;
 use action_lock::Watch;
 use decl_parser::laws::{listings_are_lawful, names_are_identifiers};
@@ -67,6 +69,8 @@ fn answer<W: Watch>(
         Query::Supers { name } => declared(alloc, state, state.super_rows(name), watch),
         Query::Method { name } => declared(alloc, state, state.method_rows(name), watch),
         Query::Word { name } => with_word(alloc, state, state.word_rows(name), watch),
+        Query::Usages { name } => usages(alloc, state, name, watch),
+        Query::Inheritors { name } => inheritors(alloc, state, name, watch),
         Query::Outline { path } => outline(alloc, state, path, watch),
         Query::Status => Ok(counts(state)),
     }

@@ -1,10 +1,12 @@
-use Rattle.std.proofs.Common.{None, ap, sym, subst, ◌∙◌}
+use Rattle.std.proofs.Common.{None, refl, ap, sym, subst, ◌∙◌}
 use Rattle.ide_world.specs.Found.{masks_in}
-use Rattle.query_engine.specs.Reply.{reply, is_class, has_super, is_method}
+use Rattle.query_engine.specs.Fits.{is_class, has_super, is_method}
+use Rattle.query_engine.specs.Reply.{reply}
 use Rattle.query_engine.specs.Listed.{AreAhead, AreLive}
 use Rattle.query_engine.proofs.FoundLemmas.{ahead_found, live_found}
 use Rattle.query_engine.proofs.LookLemmas.{looked_not}
-use Rattle.query_engine.proofs.ReplyLemmas.{replied, declared_told, word_told}
+use Rattle.query_engine.proofs.RepliedLemmas.{replied_as}
+use Rattle.query_engine.proofs.ReplyLemmas.{replied, may_look, declared_told, word_told}
 use Rattle.query_engine.proofs.question.answer.Goals as goal
 
 pub declared-requires-clause-ahead : goal.declared-requires-clause-ahead
@@ -15,7 +17,7 @@ pub returns-in-Class-clause-replied : goal.returns-in-Class-clause-replied
 returns-in-Class-clause-replied g c =
     replied _ _ g.W.Watch.stays c.args.state.now.world c.args.query.now _ _ _ _
     (declared_told c.args.state.now.world (is_class c.in-Class.name) _ c.type_rows.ensures.ready ∙ sym (ap (reply c.args.state.now.world) c.in-Class.is))
-    c.declared.ensures.answered
+    (may_look c.args.state.now.world c.args.query.now _ c.in-Class.is refl) c.declared.ensures.answered
 
 pub declared-requires-in-Supers-clause-ahead : goal.declared-requires-in-Supers-clause-ahead
 declared-requires-in-Supers-clause-ahead g c = λ smart.
@@ -25,7 +27,7 @@ pub returns-in-Supers-clause-replied : goal.returns-in-Supers-clause-replied
 returns-in-Supers-clause-replied g c =
     replied _ _ g.W.Watch.stays c.args.state.now.world c.args.query.now _ _ _ _
     (declared_told c.args.state.now.world (has_super c.in-Supers.name) _ c.super_rows.ensures.ready ∙ sym (ap (reply c.args.state.now.world) c.in-Supers.is))
-    c.declared-in-Supers.ensures.answered
+    (may_look c.args.state.now.world c.args.query.now _ c.in-Supers.is refl) c.declared-in-Supers.ensures.answered
 
 pub declared-requires-in-Method-clause-ahead : goal.declared-requires-in-Method-clause-ahead
 declared-requires-in-Method-clause-ahead g c = λ smart.
@@ -35,7 +37,7 @@ pub returns-in-Method-clause-replied : goal.returns-in-Method-clause-replied
 returns-in-Method-clause-replied g c =
     replied _ _ g.W.Watch.stays c.args.state.now.world c.args.query.now _ _ _ _
     (declared_told c.args.state.now.world (is_method c.in-Method.name) _ c.method_rows.ensures.ready ∙ sym (ap (reply c.args.state.now.world) c.in-Method.is))
-    c.declared-in-Method.ensures.answered
+    (may_look c.args.state.now.world c.args.query.now _ c.in-Method.is refl) c.declared-in-Method.ensures.answered
 
 pub with_word-requires-clause-live : goal.with_word-requires-clause-live
 with_word-requires-clause-live g c = λ smart.
@@ -45,11 +47,20 @@ pub returns-in-Word-clause-replied : goal.returns-in-Word-clause-replied
 returns-in-Word-clause-replied g c =
     replied _ _ g.W.Watch.stays c.args.state.now.world c.args.query.now _ _ _ _
     (word_told c.args.state.now.world c.in-Word.name _ c.word_rows.ensures.ready ∙ sym (ap (reply c.args.state.now.world) c.in-Word.is))
-    c.with_word.ensures.answered
+    (may_look c.args.state.now.world c.args.query.now _ c.in-Word.is refl) c.with_word.ensures.answered
+
+pub returns-in-Usages-clause-replied : goal.returns-in-Usages-clause-replied
+returns-in-Usages-clause-replied g c =
+    replied_as _ _ g.W.Watch.stays c.args.state.now.world c.args.query.now _ _ _ _ c.in-Usages.is c.usages.ensures.replied
+
+pub returns-in-Inheritors-clause-replied : goal.returns-in-Inheritors-clause-replied
+returns-in-Inheritors-clause-replied g c =
+    replied_as _ _ g.W.Watch.stays c.args.state.now.world c.args.query.now _ _ _ _ c.in-Inheritors.is c.inheritors.ensures.replied
 
 pub returns-in-Outline-clause-replied : goal.returns-in-Outline-clause-replied
 returns-in-Outline-clause-replied g c =
-    replied _ _ g.W.Watch.stays c.args.state.now.world c.args.query.now _ _ _ _ (sym (ap (reply c.args.state.now.world) c.in-Outline.is)) record {
+    replied _ _ g.W.Watch.stays c.args.state.now.world c.args.query.now _ _ _ _ (sym (ap (reply c.args.state.now.world) c.in-Outline.is))
+    (may_look c.args.state.now.world c.args.query.now _ c.in-Outline.is refl) record {
       looked = c.outline.ensures.looked;
       answer = c.outline.ensures.answer;
       refused = c.outline.ensures.refused;
@@ -57,7 +68,8 @@ returns-in-Outline-clause-replied g c =
 
 pub returns-in-Status-clause-replied : goal.returns-in-Status-clause-replied
 returns-in-Status-clause-replied g c =
-    replied _ _ g.W.Watch.stays c.args.state.now.world c.args.query.now _ _ _ _ (sym (ap (reply c.args.state.now.world) c.in-Status.is)) record {
+    replied _ _ g.W.Watch.stays c.args.state.now.world c.args.query.now _ _ _ _ (sym (ap (reply c.args.state.now.world) c.in-Status.is))
+    (may_look c.args.state.now.world c.args.query.now _ c.in-Status.is refl) record {
       looked = looked_not _ _ c.args.watch.now;
       answer = sym c.counts.ensures;
       refused = tt;
