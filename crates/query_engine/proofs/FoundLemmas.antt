@@ -35,18 +35,18 @@ pub live_rest : {X : Type 0} (world : World) (x : ℕ × X) (left left' : List (
 live_rest {X = X} world x left left' next h = All-tail (λ (f : ℕ × X). IsSome (file_of world f.0)) x left' (subst (AreLive world) next h)
 
 -- these files are those of the world from an id on
-AreAt : World → ℕ → List (Option File) → Type 0
+pub AreAt : World → ℕ → List (Option File) → Type 0
 AreAt world id files = (k : ℕ) → file_of world (id + k) ≡ get_or files k None
 
-at_all : (world : World) → AreAt world 1 world.files
+pub at_all : (world : World) → AreAt world 1 world.files
 unfolding AreAt
 at_all world k = let e : 1 + k ≡ suc k = omega arith in ap (file_of world) e
 
-at_head : (world : World) (id : ℕ) (file : Option File) (files : List (Option File)) → AreAt world id (file ∷ files) → file_of world id ≡ file
+pub at_head : (world : World) (id : ℕ) (file : Option File) (files : List (Option File)) → AreAt world id (file ∷ files) → file_of world id ≡ file
 unfolding AreAt
 at_head world id file files h = let e : id ≡ id + 0 = omega arith in ap (file_of world) e ∙ h 0
 
-at_tail : (world : World) (id : ℕ) (file : Option File) (files : List (Option File)) → AreAt world id (file ∷ files) → AreAt world (id + 1) files
+pub at_tail : (world : World) (id : ℕ) (file : Option File) (files : List (Option File)) → AreAt world id (file ∷ files) → AreAt world (id + 1) files
 unfolding AreAt
 at_tail world id file files h k = let e : id + 1 + k ≡ id + suc k = omega arith in ap (file_of world) e ∙ h (suc k)
 
@@ -54,20 +54,21 @@ at_tail world id file files h k = let e : id + 1 + k ≡ id + suc k = omega arit
 live_is : (world : World) (id : ℕ) (file : File) → file_of world id ≡ Some file → IsSome (file_of world id)
 live_is world id file is = subst (λ (o : Option File). IsSome o) (sym is) refl
 
--- the rows of what is found are those of the files, where they are those of each file
-rows_from : {X R : Type 0} (row : ℕ × X → R) (read : List ℕ → List X) (rows : ℕ → File → List R) (world : World)
-    → ((id : ℕ) (file : File) → file_of world id ≡ Some file → map row (map (λ x. (id, x)) (read (shown_text file))) ≡ rows id file)
-    → (id : ℕ) (files : List (Option File)) → AreAt world id files → map row (found_from read id files) ≡ of_files rows id files
-rows_from row read rows world each id [] at = refl
-rows_from row read rows world each id (None ∷ files) at = rows_from row read rows world each (id + 1) files (at_tail world id None files at)
-rows_from {X} {R} row read rows world each id (Some file ∷ files) at =
-    map-append row (map (λ x. (id, x)) (found_in read file)) (found_from read (id + 1) files)
-    ∙ ap (λ rs. rs ++ map row (found_from read (id + 1) files)) (of (is_java file.path))
-    ∙ ap (λ rs. of_java rows id (Some file) ++ rs) (rows_from row read rows world each (id + 1) files (at_tail world id (Some file) files at))
+-- what is made of all that is found is what the files give, where of each file's it is what that file gives
+pub rows_from : {X R : Type 0} (made : List (ℕ × X) → List R) → ((xs ys : List (ℕ × X)) → made (xs ++ ys) ≡ made xs ++ made ys) → made [] ≡ []
+    → (read : List ℕ → List X) (rows : ℕ → File → List R) (world : World)
+    → ((id : ℕ) (file : File) → file_of world id ≡ Some file → made (map (λ x. (id, x)) (read (shown_text file))) ≡ rows id file)
+    → (id : ℕ) (files : List (Option File)) → AreAt world id files → made (found_from read id files) ≡ of_files rows id files
+rows_from made joins none read rows world each id [] at = none
+rows_from made joins none read rows world each id (None ∷ files) at = rows_from made joins none read rows world each (id + 1) files (at_tail world id None files at)
+rows_from {X} {R} made joins none read rows world each id (Some file ∷ files) at =
+    joins (map (λ x. (id, x)) (found_in read file)) (found_from read (id + 1) files)
+    ∙ ap (λ (rs : List R). rs ++ made (found_from read (id + 1) files)) (of (is_java file.path))
+    ∙ ap (λ (rs : List R). of_java rows id (Some file) ++ rs) (rows_from made joins none read rows world each (id + 1) files (at_tail world id (Some file) files at))
   where
-    of : (b : Bool) → map row (map (λ x. (id, x)) (if b then read (shown_text file) else [])) ≡ (if b then rows id file else [])
+    of : (b : Bool) → made (map (λ x. (id, x)) (if b then read (shown_text file) else [])) ≡ (if b then rows id file else [])
     of true = each id file (at_head world id (Some file) files at)
-    of false = refl
+    of false = none
 
 -- the rows of declarations of one file
 stub_rows_of : (world : World) (id : ℕ) (file : File) → file_of world id ≡ Some file → (stubs : List Stub)
@@ -80,7 +81,7 @@ stub_rows_of world id file is (s ∷ stubs) =
 -- the rows of the declarations that are found
 pub stub_rows_found : (fits : Stub → Bool) (world : World) → map (row_found world) (found (stubs_in fits) world) ≡ of_world (rows_in fits) world
 stub_rows_found fits world =
-    rows_from (row_found world) (stubs_in fits) (rows_in fits) world
+    rows_from (map (row_found world)) (map-append (row_found world)) refl (stubs_in fits) (rows_in fits) world
     (λ id file is. stub_rows_of world id file is (filter fits (listing_of (shown_text file)))) 1 world.files (at_all world)
 
 -- the row of a word of one file
@@ -92,7 +93,7 @@ word_rows_of world id file is (Some mask) = ap (λ o. record { file = id; path =
 -- the rows of a word that is found
 pub word_rows_found : (name : List ℕ) (world : World) → map (word_found world) (found (masks_in name) world) ≡ of_world (word_in name) world
 word_rows_found name world =
-    rows_from (word_found world) (masks_in name) (word_in name) world
+    rows_from (map (word_found world)) (map-append (word_found world)) refl (masks_in name) (word_in name) world
     (λ id file is. word_rows_of world id file is (mask_in (words_of (shown_text file)) name)) 1 world.files (at_all world)
 
 -- what is found is of live files

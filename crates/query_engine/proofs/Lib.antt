@@ -7,3 +7,4 @@ pub mod MadeLemmas
 pub mod OutlineLemmas
 pub mod RepliedLemmas
 pub mod ReplyLemmas
+pub mod UsageLemmas

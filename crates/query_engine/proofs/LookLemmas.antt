@@ -35,7 +35,7 @@ module _ {W : Type 0} (l s : W → ℕ) where
   looked_not watch = record { looks = counted_by_none (l watch); unseen = refl }
 
   -- looks that saw nothing, and then others
-  looked_through : (a b n : ℕ) (old mid new : W) → a + b ≡ n → LooksThrough l s a old mid → LooksThrough l s b mid new → LooksThrough l s n old new
+  pub looked_through : (a b n : ℕ) (old mid new : W) → a + b ≡ n → LooksThrough l s a old mid → LooksThrough l s b mid new → LooksThrough l s n old new
   looked_through a b n old mid new sum p q = record {
     looks = q.looks ∙ ap (counted_by b) p.looks ∙ counted_by_on a b (l old) ∙ ap (λ k. counted_by k (l old)) sum;
     unseen = q.unseen ∙ p.unseen;

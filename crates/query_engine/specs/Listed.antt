@@ -1,12 +1,16 @@
 -- A file whose rows are being made, and where its declarations stand.
-use Rattle.std.specs.Prelude.{ℕ, ◌≡◌, ◌≤◌, ◌==◌, if◌then◌else◌, List, [], ◌∷◌, length, Option, Some, IsSome, All}
+use Rattle.std.specs.Prelude.{ℕ, ◌≡◌, ◌≤◌, ◌==◌, if◌then◌else◌, Bool, List, [], ◌∷◌, map, length, Option, Some, IsSome, All}
 use Rattle.std.specs.Option.{option_map_or}
 use Rattle.ide_text.specs.Text.{max_chars}
+use Rattle.java_tokens.specs.declared.place.Place.TheVariants.{Code}
+use Rattle.java_tokens.specs.Places.{places_of}
+use Rattle.java_tokens.specs.Words.{has_bit}
 use Rattle.stub_tree.specs.declared.stub.Stub.{Stub}
 use Rattle.write_history.specs.World.{World, file_of, shown_text}
+use Rattle.query_engine.specs.declared.answer.PlaceRow.{PlaceRow}
 use Rattle.query_engine.specs.declared.answer.Row.{Row}
 use Rattle.query_engine.specs.declared.answer.WordRow.{WordRow}
-use Rattle.query_engine.specs.Reply.{row_of}
+use Rattle.query_engine.specs.Reply.{place_row, row_of}
 
 -- a file by its id, with its path, the text that searches see, and the offset to which its rows are made
 pub record Listed : Type 0 where
@@ -54,6 +58,18 @@ row_found world found = row_of found.0 (path_at world found.0) (text_at world fo
 -- the row of a word of the file with an id
 abbrev pub word_found : World → ℕ × ℕ → WordRow
 word_found world found = record { file = found.0; path = path_at world found.0; mask = found.1 }
+
+-- a word of a file stands in its code, by the word's mask
+abbrev pub has_code : ℕ × ℕ → Bool
+has_code found = has_bit Code found.1
+
+-- the rows of a name in the file with an id
+abbrev pub uses_at : World → List ℕ → ℕ → List PlaceRow
+uses_at world name id = map (place_row id (path_at world id) (text_at world id)) (places_of name (text_at world id))
+
+-- the rows of a name in the file of a word's mask
+abbrev pub uses_found : World → List ℕ → ℕ × ℕ → List PlaceRow
+uses_found world name found = uses_at world name found.0
 
 -- the ids are of live files
 abbrev pub AreLive : {X : Type 0} → World → List (ℕ × X) → Type 0

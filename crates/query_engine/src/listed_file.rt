@@ -1,10 +1,10 @@
 //! A file whose rows are being made.
 ghost use Rattle.std.specs.Prelude.{◌≡◌, ◌≤◌, length, IfOk, IfSome, IsSome};
 ghost use Rattle.write_history.specs.World.{file_of};
-ghost use Rattle.query_engine.specs.Reply.{row_of};
+ghost use Rattle.query_engine.specs.Reply.{place_row, row_of};
 ghost use Rattle.query_engine.specs.Listed.{listed_at, IsListed, offset_in};
 
-use crate::answer::Row;
+use crate::answer::{PlaceRow, Row};
 use ide_text::{LineWalk, Name};
 use ide_world::{State, path, shown};
 use std::alloc::AllocError;
@@ -65,6 +65,22 @@ impl<'a> ListedFile<'a> {
         }
     }
 
+    /// The row of a place that isn't before those before it.
+    pub(crate) fn place(&mut self, at: u32) -> Result<PlaceRow, AllocError>
+        requires ahead { self.old.at ≤ at }
+        requires inside { at ≤ length self.old.text }
+        ensures row { IfOk result (λ row. row ≡ place_row self.old.id self.old.path self.old.text at) }
+        ensures goes_on { self.new ≡ record self.old { at = at } }
+    {
+        let (line, column) = self.walk.line_col(at);
+        Ok(PlaceRow {
+            file: self.id,
+            path: self.path.copy()?,
+            line,
+            column,
+        })
+    }
+
     /// The row of a declaration that stands behind those before it.
     pub(crate) fn row(&mut self, stub: &Stub) -> Result<Row, AllocError>
         requires ahead { self.old.at ≤ stub.now.at }
@@ -72,12 +88,12 @@ impl<'a> ListedFile<'a> {
         ensures row { IfOk result (λ row. row ≡ row_of self.old.id self.old.path self.old.text stub.now) }
         ensures goes_on { self.new ≡ record self.old { at = stub.now.at } }
     {
-        let (line, column) = self.walk.line_col(stub.at);
+        let place = self.place(stub.at)?;
         Ok(Row {
-            file: self.id,
-            path: self.path.copy()?,
-            line,
-            column,
+            file: place.file,
+            path: place.path,
+            line: place.line,
+            column: place.column,
             depth: stub.depth,
             kind: stub.kind,
             name: stub.name.copy()?,
