@@ -22,11 +22,17 @@ use Rattle.java_tokens.proofs.MaskLemmas.{has_masks-words_of}
 use Rattle.java_tokens.proofs.TokenLemmas.{tokens_past-none, tokens_past-next, token_len-inside}
 
 -- a use is put in front of those behind it, and any other token is passed by
-pub places-use : (name text : List ℕ) (t : Token) (ts : List Token) → is_use_of name text t ≡ true → places_among name text (t ∷ ts) ≡ t.at ∷ places_among name text ts
-places-use name text t ts use_of = ap (λ (us : List Token). map (λ u. u.at) us) (cond-true (is_use_of name text t) (t ∷ filter (is_use_of name text) ts) (filter (is_use_of name text) ts) use_of)
+places-use : (name text : List ℕ) (t : Token) (ts : List Token) → is_use_of name text t ≡ true
+    → places_among name text (t ∷ ts) ≡ t.at ∷ places_among name text ts
+places-use name text t ts used =
+    let uses = filter (is_use_of name text) ts in
+    ap (λ (us : List Token). map (λ u. u.at) us) (cond-true (is_use_of name text t) (t ∷ uses) uses used)
 
-pub places-other : (name text : List ℕ) (t : Token) (ts : List Token) → is_use_of name text t ≡ false → places_among name text (t ∷ ts) ≡ places_among name text ts
-places-other name text t ts other = ap (λ (us : List Token). map (λ u. u.at) us) (cond-false (is_use_of name text t) (t ∷ filter (is_use_of name text) ts) (filter (is_use_of name text) ts) other)
+places-other : (name text : List ℕ) (t : Token) (ts : List Token) → is_use_of name text t ≡ false
+    → places_among name text (t ∷ ts) ≡ places_among name text ts
+places-other name text t ts other =
+    let uses = filter (is_use_of name text) ts in
+    ap (λ (us : List Token). map (λ u. u.at) us) (cond-false (is_use_of name text t) (t ∷ uses) uses other)
 
 -- a name and a piece that begin with the same character are the same where the others are
 pub spelled-next : (cs rest piece : List ℕ) (at c : ℕ) → cs ≡ c ∷ rest → drop at piece ≡ c ∷ drop (suc at) piece
@@ -51,7 +57,8 @@ rise-lower low from len [] below rise = tt
 rise-lower low from len (at ∷ ats) below rise = (omega (arith, below, rise.0), rise.1, rise.2)
 
 -- the places among the tokens that are left rise
-places_within : (fuel from : ℕ) (name text : List ℕ) → length text ≤ from + fuel → RiseFrom from (length text) (places_among name text (tokens_past 0 from (drop from text)))
+places_within : (fuel from : ℕ) (name text : List ℕ) → length text ≤ from + fuel
+    → RiseFrom from (length text) (places_among name text (tokens_past 0 from (drop from text)))
 places_within zero from name text enough =
     subst (λ (ts : List Token). RiseFrom from (length text) (places_among name text ts)) (sym (tokens_past-none from _ text refl (omega arith))) tt
 places_within (suc fuel) from name text enough =

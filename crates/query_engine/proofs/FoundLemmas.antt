@@ -60,11 +60,13 @@ pub rows_from : {X R : Type 0} (made : List (ℕ × X) → List R) → ((xs ys :
     → ((id : ℕ) (file : File) → file_of world id ≡ Some file → made (map (λ x. (id, x)) (read (shown_text file))) ≡ rows id file)
     → (id : ℕ) (files : List (Option File)) → AreAt world id files → made (found_from read id files) ≡ of_files rows id files
 rows_from made joins none read rows world each id [] at = none
-rows_from made joins none read rows world each id (None ∷ files) at = rows_from made joins none read rows world each (id + 1) files (at_tail world id None files at)
+rows_from made joins none read rows world each id (None ∷ files) at =
+    rows_from made joins none read rows world each (id + 1) files (at_tail world id None files at)
 rows_from {X} {R} made joins none read rows world each id (Some file ∷ files) at =
     joins (map (λ x. (id, x)) (found_in read file)) (found_from read (id + 1) files)
     ∙ ap (λ (rs : List R). rs ++ made (found_from read (id + 1) files)) (of (is_java file.path))
-    ∙ ap (λ (rs : List R). of_java rows id (Some file) ++ rs) (rows_from made joins none read rows world each (id + 1) files (at_tail world id (Some file) files at))
+    ∙ ap (λ (rs : List R). of_java rows id (Some file) ++ rs)
+    (rows_from made joins none read rows world each (id + 1) files (at_tail world id (Some file) files at))
   where
     of : (b : Bool) → made (map (λ x. (id, x)) (if b then read (shown_text file) else [])) ≡ (if b then rows id file else [])
     of true = each id file (at_head world id (Some file) files at)

@@ -1,10 +1,17 @@
 pub mod AheadLemmas
 pub mod AskLemmas
+pub mod ChainLemmas
+pub mod FinishLemmas
 pub mod FoundLemmas
 pub mod FromLemmas
+pub mod LevelLemmas
 pub mod LookLemmas
 pub mod MadeLemmas
+pub mod MeetLemmas
+pub mod MemberLemmas
+pub mod OrderLemmas
 pub mod OutlineLemmas
 pub mod RepliedLemmas
 pub mod ReplyLemmas
+pub mod SearchLemmas
 pub mod UsageLemmas

@@ -1,5 +1,5 @@
 -- Where a name is used in the files of a world, with a look after each file that uses it.
-use Rattle.std.proofs.Common.{ℕ, suc, ◌≡◌, ◌≢◌, ◌≤◌, ◌<◌, ◌+◌, Bool, true, false, cond, List, [], ◌∷◌, ◌++◌, map, filter, length, take, get_or, drop, Option, Some, None, option_to_list, Err, refl, ap, sym, subst, ◌∙◌, ⊎_elim, append_assoc, append-nil, arith}
+use Rattle.std.proofs.Common.{ℕ, suc, ◌≡◌, ◌≢◌, ◌≤◌, ◌<◌, ◌+◌, Bool, true, false, cond, List, [], ◌∷◌, ◌++◌, map, filter, length, take, get_or, drop, Option, Some, None, option_to_list, refl, ap, sym, subst, ◌∙◌, ⊎_elim, append_assoc, append-nil, arith}
 use Rattle.std.specs.List.{flat_map}
 use Rattle.std.specs.Option.{option_map_or}
 use Rattle.std.proofs.lemmas.Bool.{cases_Bool, cond-true, cond-false}
@@ -14,89 +14,59 @@ use Rattle.write_history.specs.World.{World, File, file_of, shown_text, lowest_u
 use Rattle.ide_world.specs.Found.{found, found_from, found_in, masks_in}
 use Rattle.queries.specs.declared.query.Query.TheVariants as query
 use Rattle.query_engine.specs.declared.answer.Answer.TheVariants.{Usages}
-use Rattle.query_engine.specs.declared.answer.AskRefusal.{AskRefusal}
 use Rattle.query_engine.specs.declared.answer.PlaceRow.{PlaceRow}
 use Rattle.query_engine.specs.Reply.{of_files, of_java, of_world, place_row, uses_in}
-use Rattle.query_engine.specs.Looks.{HasLooked, LooksThrough, StopsUnseen, EndsEarly, MayLook, first_uses}
+use Rattle.query_engine.specs.Looks.{LooksThrough, MayLook, first_uses}
 use Rattle.query_engine.specs.Listed.{has_code, uses_at, uses_found}
 use Rattle.query_engine.proofs.AheadLemmas.{next_left}
 use Rattle.query_engine.proofs.FoundLemmas.{at_all, rows_from}
-use Rattle.query_engine.proofs.LookLemmas.{looked_not, looked_through, looked_on, looked_short, looked_unseen}
+use Rattle.query_engine.proofs.LookLemmas.{looked_through}
+
+-- the masks of a word in files, each with the file's id
+abbrev pub Masks : Type 0
+Masks = List (ℕ × ℕ)
 
 -- Rows are made of the first files that were found, and others are left; there was a look for each of the first in whose code the name
 -- stands.
-pub record IsUsed {W R : Type 0} (l s : W → ℕ) (uses : ℕ × ℕ → List R) (all : List (ℕ × ℕ)) (rows : List R) (left : List (ℕ × ℕ)) (old new : W) : Type 0 where
+pub record IsUsed {W R : Type 0} (l s : W → ℕ) (uses : ℕ × ℕ → List R) (all : Masks) (rows : List R) (left : Masks) (old new : W)
+    : Type 0 where
   pub number : ℕ
   pub looked : LooksThrough l s number old new
   pub counted : number + length (filter has_code left) ≡ length (filter has_code all)
   pub made : rows ++ flat_map uses (filter has_code left) ≡ flat_map uses (filter has_code all)
 
-module _ {W R : Type 0} (l s : W → ℕ) (uses : ℕ × ℕ → List R) (all : List (ℕ × ℕ)) where
-  -- no row yet
-  pub used_none : (rows : List R) (left : List (ℕ × ℕ)) (watch : W) → rows ≡ [] → left ≡ all → IsUsed l s uses all rows left watch watch
-  used_none rows left watch none whole = record {
-    number = 0;
-    looked = looked_not l s watch;
-    counted = omega (arith, ap (λ (xs : List (ℕ × ℕ)). length (filter has_code xs)) whole);
-    made = ap (λ (rs : List R). rs ++ flat_map uses (filter has_code left)) none ∙ ap (λ (xs : List (ℕ × ℕ)). flat_map uses (filter has_code xs)) whole;
-  }
-
+module _ {W R : Type 0} (l s : W → ℕ) (uses : ℕ × ℕ → List R) (all : Masks) where
   -- the next is a file in whose code the name stands, or another
-  next_code : (x : ℕ × ℕ) (left left' : List (ℕ × ℕ)) → left ≡ x ∷ left' → has_code x ≡ true → filter has_code left ≡ x ∷ filter has_code left'
+  next_code : (x : ℕ × ℕ) (left left' : Masks) → left ≡ x ∷ left' → has_code x ≡ true → filter has_code left ≡ x ∷ filter has_code left'
   next_code x left left' next on = ap (filter has_code) next ∙ cond-true (has_code x) (x ∷ filter has_code left') (filter has_code left') on
 
-  next_other : (x : ℕ × ℕ) (left left' : List (ℕ × ℕ)) → left ≡ x ∷ left' → has_code x ≡ false → filter has_code left ≡ filter has_code left'
+  next_other : (x : ℕ × ℕ) (left left' : Masks) → left ≡ x ∷ left' → has_code x ≡ false → filter has_code left ≡ filter has_code left'
   next_other x left left' next off = ap (filter has_code) next ∙ cond-false (has_code x) (x ∷ filter has_code left') (filter has_code left') off
 
   -- a file in whose code the name doesn't stand is passed by
-  pub used_passed : (rows : List R) (x : ℕ × ℕ) (left left' : List (ℕ × ℕ)) (old new : W) → left ≡ x ∷ left' → has_code x ≡ false
+  pub used_passed : (rows : List R) (x : ℕ × ℕ) (left left' : Masks) (old new : W) → left ≡ x ∷ left' → has_code x ≡ false
       → IsUsed l s uses all rows left old new → IsUsed l s uses all rows left' old new
   used_passed rows x left left' old new next off h =
       let same = next_other x left left' next off in
       record {
         number = h.number;
         looked = h.looked;
-        counted = ap (λ (xs : List (ℕ × ℕ)). h.number + length xs) (sym same) ∙ h.counted;
-        made = ap (λ (xs : List (ℕ × ℕ)). rows ++ flat_map uses xs) (sym same) ∙ h.made;
+        counted = ap (λ (xs : Masks). h.number + length xs) (sym same) ∙ h.counted;
+        made = ap (λ (xs : Masks). rows ++ flat_map uses xs) (sym same) ∙ h.made;
       }
 
-  -- one look more
-  one_more : (n : ℕ) (x : ℕ × ℕ) (left left' : List (ℕ × ℕ)) → left ≡ x ∷ left' → has_code x ≡ true
-      → n + length (filter has_code left) ≡ length (filter has_code all) → n + 1 + length (filter has_code left') ≡ length (filter has_code all)
-  one_more n x left left' next on sum = omega (arith, sum, ap length (next_code x left left' next on))
-
   -- the rows of a file more, and the look behind them saw nothing
-  pub used_more : (rows rows' : List R) (x : ℕ × ℕ) (left left' : List (ℕ × ℕ)) (old mid new : W) → left ≡ x ∷ left' → has_code x ≡ true → rows' ≡ rows ++ uses x
+  pub used_more : (rows rows' : List R) (x : ℕ × ℕ) (left left' : Masks) (old mid new : W) → left ≡ x ∷ left' → has_code x ≡ true → rows' ≡ rows ++ uses x
       → IsUsed l s uses all rows left old mid → LooksThrough l s 1 mid new → IsUsed l s uses all rows' left' old new
   used_more rows rows' x left left' old mid new next on grown h q = record {
     number = h.number + 1;
     looked = looked_through l s h.number 1 (h.number + 1) old mid new refl h.looked q;
-    counted = one_more h.number x left left' next on h.counted;
+    counted = omega (arith, h.counted, ap length (next_code x left left' next on));
     made =
         ap (λ (rs : List R). rs ++ flat_map uses (filter has_code left')) grown
         ∙ append_assoc rows (uses x) (flat_map uses (filter has_code left'))
-        ∙ sym (ap (λ (xs : List (ℕ × ℕ)). rows ++ flat_map uses xs) (next_code x left left' next on)) ∙ h.made;
+        ∙ sym (ap (λ (xs : Masks). rows ++ flat_map uses xs) (next_code x left left' next on)) ∙ h.made;
   }
-
-  -- the look behind them ends the call
-  pub used_stopped : (st : W → W → Type 0) (on : (x y z : W) → st x y → st y z → st x z) (X : Type 0) (rows : List R) (x : ℕ × ℕ) (left left' : List (ℕ × ℕ)) (e : AskRefusal) (old mid new : W)
-      → left ≡ x ∷ left' → has_code x ≡ true → EndsEarly e → st old mid → IsUsed l s uses all rows left old mid → HasLooked {X = X} l s st (Err e) 1 mid new
-      → HasLooked {X = X} l s st (Err e) (length (filter has_code all)) old new
-  used_stopped st goes_on X rows x left left' e old mid new next on early kept h q =
-      looked_short l s st X (h.number + 1) (length (filter has_code all)) e old new (omega (arith, one_more h.number x left left' next on h.counted)) early
-      (looked_on l s st {X = X} h.number 1 (h.number + 1) (Err e) old mid new goes_on refl kept h.looked q)
-
-  -- memory runs out on the way
-  pub used_short : (rows : List R) (left : List (ℕ × ℕ)) (old new : W) → IsUsed l s uses all rows left old new → StopsUnseen l s (length (filter has_code all)) old new
-  used_short rows left old new h = looked_unseen l s h.number (length (filter has_code all)) old new (omega (arith, h.counted)) h.looked
-
-  -- all rows
-  pub used_all : (rows : List R) (left : List (ℕ × ℕ)) (old new : W) → left ≡ [] → IsUsed l s uses all rows left old new
-      → (rows ≡ flat_map uses (filter has_code all)) × LooksThrough l s (length (filter has_code all)) old new
-  used_all rows left old new none h = (
-    sym (append-nil rows) ∙ sym (ap (λ (xs : List (ℕ × ℕ)). rows ++ flat_map uses (filter has_code xs)) none) ∙ h.made,
-    subst (λ (k : ℕ). LooksThrough l s k old new) (omega (arith, h.counted, ap (λ (xs : List (ℕ × ℕ)). length (filter has_code xs)) none)) h.looked,
-  )
 
 -- places that rise, none of them before an offset
 abbrev pub StandBehind : ℕ → ℕ → List ℕ → Type 0
@@ -115,13 +85,16 @@ module _ (unused : (name text : List ℕ) → is_in_code (mask_in (words_of text
   -- the rows of the file with an id
   uses_there : (id : ℕ) (file : File) → file_of world id ≡ Some file → uses_at world name id ≡ uses_in name id file
   uses_there id file is =
-      ap (λ (o : Option File). map (place_row id (option_map_or (λ f. f.path) o []) (option_map_or shown_text o [])) (places_of name (option_map_or shown_text o []))) is
+      let rows : List ℕ → List ℕ → List PlaceRow = λ path text. map (place_row id path text) (places_of name text) in
+      ap (λ (o : Option File). rows (option_map_or (λ f. f.path) o []) (option_map_or shown_text o [])) is
 
+  -- the rows of the mask of a file are those of the file
   uses_of : (id : ℕ) (file : File) → file_of world id ≡ Some file → (mask : Option ℕ) → mask_in (words_of (shown_text file)) name ≡ mask
       → flat_map (uses_found world name) (filter has_code (map (λ m. (id, m)) (option_to_list mask))) ≡ uses_in name id file
   uses_of id file is None none = ap (map (place_row id file.path (shown_text file))) (sym (unused name (shown_text file) (ap is_in_code none)))
   uses_of id file is (Some mask) some = ⊎_elim
-      (λ on. ap (flat_map (uses_found world name)) (cond-true (has_bit Code mask) ((id, mask) ∷ []) [] on) ∙ append-nil (uses_at world name id) ∙ uses_there id file is)
+      (λ on. ap (flat_map (uses_found world name)) (cond-true (has_bit Code mask) ((id, mask) ∷ []) [] on)
+      ∙ append-nil (uses_at world name id) ∙ uses_there id file is)
       (λ off. ap (flat_map (uses_found world name)) (cond-false (has_bit Code mask) ((id, mask) ∷ []) [] off)
       ∙ ap (map (place_row id file.path (shown_text file))) (sym (unused name (shown_text file) (ap is_in_code some ∙ off))))
       (cases_Bool (has_bit Code mask))
@@ -130,28 +103,36 @@ module _ (unused : (name text : List ℕ) → is_in_code (mask_in (words_of text
   pub uses_told : flat_map (uses_found world name) (filter has_code (found (masks_in name) world)) ≡ of_world (uses_in name) world
   uses_told =
       rows_from (λ xs. flat_map (uses_found world name) (filter has_code xs))
-      (λ xs ys. ap (flat_map (uses_found world name)) (filter-append has_code xs ys) ∙ flat_map-append (uses_found world name) (filter has_code xs) (filter has_code ys))
+      (λ xs ys. ap (flat_map (uses_found world name)) (filter-append has_code xs ys)
+      ∙ flat_map-append (uses_found world name) (filter has_code xs) (filter has_code ys))
       refl (masks_in name) (uses_in name) world
       (λ id file is. uses_of id file is (mask_in (words_of (shown_text file)) name) refl) 1 world.files (at_all world)
 
+  -- a name that has a place has a first row
   first_of : (ps : List ℕ) (row : ℕ → PlaceRow) → ps ≢ [] → 1 ≡ length (take 1 (map row ps))
   first_of [] row some = absurd (some refl)
   first_of (p ∷ ps) row some = refl
 
+  -- the number of first rows of some places
+  firsts : ℕ → File → List ℕ → ℕ
+  firsts id file ps = length (take 1 (map (place_row id file.path (shown_text file)) ps))
+
   first_there : (id : ℕ) (file : File) (mask : Option ℕ) → mask_in (words_of (shown_text file)) name ≡ mask
       → length (filter has_code (map (λ m. (id, m)) (option_to_list mask))) ≡ length (take 1 (uses_in name id file))
-  first_there id file None none =
-      ap (λ (ps : List ℕ). length (take 1 (map (place_row id file.path (shown_text file)) ps))) (sym (unused name (shown_text file) (ap is_in_code none)))
+  unfolding firsts
+  first_there id file None none = ap (firsts id file) (sym (unused name (shown_text file) (ap is_in_code none)))
   first_there id file (Some mask) some = ⊎_elim
       (λ on. ap length (cond-true (has_bit Code mask) ((id, mask) ∷ []) [] on)
       ∙ first_of (places_of name (shown_text file)) (place_row id file.path (shown_text file)) (used name (shown_text file) (ap is_in_code some ∙ on)))
       (λ off. ap length (cond-false (has_bit Code mask) ((id, mask) ∷ []) [] off)
-      ∙ ap (λ (ps : List ℕ). length (take 1 (map (place_row id file.path (shown_text file)) ps))) (sym (unused name (shown_text file) (ap is_in_code some ∙ off))))
+      ∙ ap (firsts id file) (sym (unused name (shown_text file) (ap is_in_code some ∙ off))))
       (cases_Bool (has_bit Code mask))
 
+  -- the first row of a file that uses the name
   first : ℕ → File → List PlaceRow
   first id file = take 1 (uses_in name id file)
 
+  -- as many files have the name in their code as have a first row
   counted_from : (id : ℕ) (files : List (Option File)) → length (filter has_code (found_from (masks_in name) id files)) ≡ length (of_files first id files)
   unfolding first
   counted_from id [] = refl
@@ -169,17 +150,17 @@ module _ (unused : (name text : List ℕ) → is_in_code (mask_in (words_of text
       of false = refl
 
   -- as many files as use the name are looked after
-  pub uses_may : (walk : List (ℕ × ℕ)) → (lowest_unready world ≡ None → walk ≡ found (masks_in name) world) → lowest_unready world ≡ None
+  pub uses_may : (walk : Masks) → (lowest_unready world ≡ None → walk ≡ found (masks_in name) world) → lowest_unready world ≡ None
       → MayLook world (query.Usages name) (1 + length (filter has_code walk))
   unfolding first
   uses_may walk ready smart =
-      ap (λ (xs : List (ℕ × ℕ)). 1 + length (filter has_code xs)) (ready smart)
+      ap (λ (xs : Masks). 1 + length (filter has_code xs)) (ready smart)
       ∙ ap (λ n. 1 + n) (counted_from 1 world.files)
       ∙ sym (ap (λ (o : Option ℕ). 1 + option_map_or (λ file. 0) o (length (first_uses name world))) smart)
 
   -- the answer that is given
-  pub used_given : (walk : List (ℕ × ℕ)) (copy : List ℕ) (rows : List PlaceRow) → walk ≡ found (masks_in name) world → copy ≡ name
+  pub used_given : (walk : Masks) (copy : List ℕ) (rows : List PlaceRow) → walk ≡ found (masks_in name) world → copy ≡ name
       → rows ≡ flat_map (uses_found world name) (filter has_code walk) → Usages copy rows ≡ Usages name (of_world (uses_in name) world)
   used_given walk copy rows ready same made =
       ap (λ (n : List ℕ). Usages n rows) same
-      ∙ ap (Usages name) (made ∙ ap (λ (xs : List (ℕ × ℕ)). flat_map (uses_found world name) (filter has_code xs)) ready ∙ uses_told)
+      ∙ ap (Usages name) (made ∙ ap (λ (xs : Masks). flat_map (uses_found world name) (filter has_code xs)) ready ∙ uses_told)

@@ -3,7 +3,8 @@ pub mod Fits
 pub mod Inheritors
 pub mod Reply
 pub mod Looks
--- Internal: a file whose rows are being made.
+-- Internal: a search by levels, a file whose rows are being made.
+pub mod Search
 pub mod Listed
 -- What a call gives after its first look
 pub mod Given

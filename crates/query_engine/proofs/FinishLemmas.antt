@@ -1,0 +1,320 @@
+-- What a search by levels has found, before each level and at its end.
+use Rattle.std.proofs.Common.{◌≡◌, ◌≤◌, ◌<◌, ◌⊎◌, inl, inr, ℕ, zero, suc, ◌+◌, ◌==◌, Bool, true, false, cond, ◌&&◌, ◌||◌, if◌then◌else◌, List, [], ◌∷◌, ◌++◌, length, map, filter, Option, Some, None, IfSome, refl, ap, sym, subst, ◌∙◌, append-nil, append_assoc, arith}
+use Rattle.std.specs.Prelude.{not, is_some}
+use Rattle.std.specs.Option.{option_or, option_map_or}
+use Rattle.std.specs.List.{list_any, AllByRecursion}
+use Rattle.std.proofs.lemmas.Bool.{false≢true, eq-eqb, ne_eqb, cases_lt}
+use Rattle.std.proofs.lemmas.List.Elements.{filter-append, filter_agree}
+use Rattle.std.proofs.lemmas.List.Filters.{length-filter_both}
+use Rattle.query_engine.specs.Fits.{has_super}
+use Rattle.query_engine.specs.Inheritors.{Listing, names_any, names_of, levels_from, inheritors_of, StandsBefore}
+use Rattle.query_engine.specs.Search.{Seen, Reached, is_asked}
+use Rattle.query_engine.proofs.OrderLemmas.{all_append, all_each, all_weaker}
+use Rattle.query_engine.proofs.LevelLemmas.{found_in, left_by, tagged}
+use Rattle.query_engine.proofs.MeetLemmas.{leveled}
+use Rattle.query_engine.proofs.SearchLemmas.{or_level, any_agree, any_names, IsAt}
+
+-- the level of a type is this one
+abbrev pub is_level : ℕ → Option ℕ → Bool
+is_level k o = option_map_or (λ l. l == k) o false
+
+-- the types that have no level yet
+abbrev pub without : (Listing → Option ℕ) → List Listing → List Listing
+without F types = filter (λ t. not (is_some (F t))) types
+
+-- the types that have this level
+abbrev pub with_this : ℕ → (Listing → Option ℕ) → List Listing → List Listing
+with_this k F types = filter (λ t. is_level k (F t)) types
+
+-- the levels of types that were found don't fall
+abbrev pub LevelsRise : List (ℕ × Listing) → Type 0
+LevelsRise [] = Unit {0}
+LevelsRise (x ∷ xs) = AllByRecursion (λ y. x.0 ≤ y.0) xs × LevelsRise xs
+
+-- Before a level: what was found makes, with what the levels from here on give, all types that come from the name.
+pub record IsBefore (types : List Listing) (name : List ℕ) (level : ℕ) (names : List (List ℕ)) (asked : List (List ℕ)) (seen : Seen) : Type 0 where
+  pub levels : Listing → Option ℕ
+  pub is : seen ≡ leveled levels types
+  pub lower : (t : Listing) → IfSome (levels t) (λ l. l < level)
+  pub none_more : (other : List ℕ) → is_asked other asked ≡ true → (t : Listing) → has_super other t.1 ≡ true → is_some (levels t) ≡ true
+  pub more : ℕ
+  pub last : List (List ℕ)
+  pub front : List (ℕ × Listing)
+  pub whole : front ++ levels_from more level last (without levels types) ≡ inheritors_of name types
+  pub same : (t : Listing) → names_any last t ≡ names_any names t
+  pub enough : (length (without levels types) ≤ more) ⊎ ((t : Listing) → names_any last t ≡ false)
+  pub each : (k : ℕ) → filter (λ found. found.0 == k) front ≡ tagged k (with_this k levels types)
+  pub rise : LevelsRise front
+  pub below : AllByRecursion (λ found. found.0 < level) front
+
+-- a search ended: these are the levels of all types that come from the name
+pub record IsFound (types : List Listing) (name : List ℕ) (seen : Seen) : Type 0 where
+  pub levels : Listing → Option ℕ
+  pub is : seen ≡ leveled levels types
+  pub each : (k : ℕ) → filter (λ found. found.0 == k) (inheritors_of name types) ≡ tagged k (with_this k levels types)
+  pub rise : LevelsRise (inheritors_of name types)
+
+filter_none : {X : Type 0} (p : X → Bool) (xs : List X) → AllByRecursion (λ x. p x ≡ false) xs → filter p xs ≡ []
+filter_none p [] all = refl
+filter_none p (x ∷ xs) all = ap (λ b. cond b (x ∷ filter p xs) (filter p xs)) all.0 ∙ filter_none p xs all.1
+
+-- two tests one after the other
+filter_two : {X : Type 0} (p q : X → Bool) (xs : List X) → filter p (filter q xs) ≡ filter (λ x. q x && p x) xs
+filter_two p q [] = refl
+filter_two p q (x ∷ xs) = of (q x) (filter_two p q xs)
+  where
+    of : (b : Bool) → filter p (filter q xs) ≡ filter (λ x. q x && p x) xs
+        → filter p (cond b (x ∷ filter q xs) (filter q xs)) ≡ cond (b && p x) (x ∷ filter (λ x. q x && p x) xs) (filter (λ x. q x && p x) xs)
+    of true rest = ap (λ l. cond (p x) (x ∷ l) l) rest
+    of false rest = rest
+
+-- no type names no name
+none_named : (t : Listing) → names_any [] t ≡ false
+none_named t = refl
+
+-- where no type names the names, no level finds a type
+no_level : (more level : ℕ) (names : List (List ℕ)) (left : List Listing) → ((t : Listing) → names_any names t ≡ false) → levels_from more level names left ≡ []
+unfolding levels_from
+no_level zero level names left none = refl
+no_level (suc more) level names left none =
+    ap (λ found. tagged level found ++ levels_from more (level + 1) (names_of found) (left_by names left)) nothing
+    ∙ no_level more (level + 1) [] (left_by names left) none_named
+  where
+    nothing : found_in names left ≡ []
+    nothing = filter_none (names_any names) left (all_each (λ (t : Listing). names_any names t ≡ false) left none)
+
+-- levels of types by the level at hand
+module _ (level : ℕ) where
+  this_level : (o : Option ℕ) (b : Bool) → IfSome o (λ l. l < level) → is_level level (or_level o level b) ≡ (not (is_some o) && b)
+  this_level None true lower = eq-eqb level level refl
+  this_level None false lower = refl
+  this_level (Some l) b lower = ne_eqb l level (λ same. omega (arith, lower, same))
+
+  other_level : (k : ℕ) (o : Option ℕ) (b : Bool) → (k < level) → is_level k (or_level o level b) ≡ is_level k o
+  other_level k (Some l) b less = refl
+  other_level k None true less = ne_eqb level k (λ same. omega (arith, less, same))
+  other_level k None false less = refl
+
+  above_level : (k : ℕ) (o : Option ℕ) (b : Bool) → (level < k) → IfSome o (λ l. l < level) → is_level k (or_level o level b) ≡ false
+  above_level k (Some l) b less lower = ne_eqb l k (λ same. omega (arith, less, lower, same))
+  above_level k None true less lower = ne_eqb level k (λ same. omega (arith, less, same))
+  above_level k None false less lower = refl
+
+  lower_next : (o : Option ℕ) (b : Bool) → IfSome o (λ l. l < level) → IfSome (or_level o level b) (λ l. l < level + 1)
+  lower_next (Some l) b lower = omega (arith, lower)
+  lower_next None true lower = omega arith
+  lower_next None false lower = tt
+
+  still_none : (o : Option ℕ) (b : Bool) → (not (is_some o) && not b) ≡ not (is_some (or_level o level b))
+  still_none (Some l) b = refl
+  still_none None true = refl
+  still_none None false = refl
+
+and_swap : (a b c : Bool) → (a && (b && c)) ≡ ((b && a) && c)
+and_swap true true c = refl
+and_swap true false c = refl
+and_swap false true c = refl
+and_swap false false c = refl
+
+tagged_each : (P : ℕ × Listing → Type 0) (level : ℕ) (ts : List Listing) → ((t : Listing) → P (level, t)) → AllByRecursion P (tagged level ts)
+tagged_each P level [] each = tt
+tagged_each P level (t ∷ ts) each = (each t, tagged_each P level ts each)
+
+tagged_this : (level : ℕ) (ts : List Listing) → filter (λ (found : ℕ × Listing). found.0 == level) (tagged level ts) ≡ tagged level ts
+tagged_this level [] = refl
+tagged_this level (t ∷ ts) =
+    ap (λ b. cond b ((level, t) ∷ filter (λ (found : ℕ × Listing). found.0 == level) (tagged level ts)) (filter (λ (found : ℕ × Listing). found.0 == level) (tagged level ts))) (eq-eqb level level refl)
+    ∙ ap (λ l. (level, t) ∷ l) (tagged_this level ts)
+
+tagged_rise : (level : ℕ) (ts : List Listing) → LevelsRise (tagged level ts)
+tagged_rise level [] = tt
+tagged_rise level (t ∷ ts) = (tagged_each (λ y. level ≤ y.0) level ts (λ t. omega arith), tagged_rise level ts)
+
+rise_append : (level : ℕ) (xs : List (ℕ × Listing)) (ts : List Listing) → LevelsRise xs → AllByRecursion (λ found. found.0 < level) xs → LevelsRise (xs ++ tagged level ts)
+rise_append level [] ts rise below = tagged_rise level ts
+rise_append level (x ∷ xs) ts rise below =
+    let less = below.0 in
+    (all_append (λ (y : ℕ × Listing). x.0 ≤ y.0) xs (tagged level ts) rise.0 (tagged_each (λ (y : ℕ × Listing). x.0 ≤ y.0) level ts (λ t. omega (arith, less))),
+    rise_append level xs ts rise.1 below.1)
+
+below_none : (level k : ℕ) (xs : List (ℕ × Listing)) → level ≤ k → AllByRecursion (λ found. found.0 < level) xs → filter (λ (found : ℕ × Listing). found.0 == k) xs ≡ []
+below_none level k xs le below =
+    filter_none (λ (found : ℕ × Listing). found.0 == k) xs
+    (all_weaker (λ (found : ℕ × Listing). found.0 < level) (λ (found : ℕ × Listing). (found.0 == k) ≡ false) xs (λ found less. ne_eqb found.0 k (λ same. omega (arith, less, same, le))) below)
+
+-- no type has a level
+abbrev no_levels : Listing → Option ℕ
+no_levels t = None
+
+-- the search begins
+pub before_first : (types : List Listing) (name : List ℕ) → IsBefore types name 1 (name ∷ []) [] []
+before_first types name = record {
+  levels = no_levels;
+  is = none types;
+  lower = λ t. tt;
+  none_more = λ other is. absurd (false≢true is);
+  more = length types;
+  last = name ∷ [];
+  front = [];
+  whole = ap (levels_from (length types) 1 (name ∷ [])) (all types);
+  same = λ t. refl;
+  enough = inl (subst (λ (l : List Listing). length l ≤ length types) (sym (all types)) (omega arith));
+  each = λ k. sym (ap (tagged k) (filter_none (λ (t : Listing). false) types (all_each (λ (t : Listing). false ≡ false) types (λ t. refl))));
+  rise = tt;
+  below = tt;
+}
+  where
+    none : (ts : List Listing) → [] ≡ leveled no_levels ts
+    none [] = refl
+    none (t ∷ ts) = none ts
+
+    all : (ts : List Listing) → without no_levels ts ≡ ts
+    all [] = refl
+    all (t ∷ ts) = ap (λ l. t ∷ l) (all ts)
+
+few_none : {X : Type 0} (p : X → Bool) (xs : List X) → length xs ≤ 0 → filter p xs ≡ []
+few_none p [] few = refl
+few_none p (x ∷ xs) few = absurd (omega (arith, few))
+
+tagged_other : (level k : ℕ) (ts : List Listing) → (level ≡ k → ⊥) → filter (λ (found : ℕ × Listing). found.0 == k) (tagged level ts) ≡ []
+tagged_other level k ts apart =
+    filter_none (λ (found : ℕ × Listing). found.0 == k) (tagged level ts) (tagged_each (λ (found : ℕ × Listing). (found.0 == k) ≡ false) level ts (λ t. ne_eqb level k apart))
+
+module _ (types : List Listing) (name : List ℕ) (level : ℕ) (names asked asked' : List (List ℕ)) (seen : Seen) (reached' : Reached)
+    (b : IsBefore types name level names asked seen) (at : IsAt types b.levels level names asked' reached') where
+  left : List Listing
+  left = without b.levels types
+
+  -- a type is found at the level where it had none and names one of the names
+  found_test : (t : Listing) → is_level level (at.levels t) ≡ (not (is_some (b.levels t)) && names_any names t)
+  found_test t = ap (is_level level) (at.is t) ∙ this_level level (b.levels t) (names_any names t) (b.lower t)
+
+  found_same : found_in b.last left ≡ with_this level at.levels types
+  unfolding left
+  found_same =
+      filter_two (names_any b.last) (λ t. not (is_some (b.levels t))) types
+      ∙ filter_agree (λ t. not (is_some (b.levels t)) && names_any b.last t) (λ t. is_level level (at.levels t))
+        (λ t. ap (λ n. not (is_some (b.levels t)) && n) (b.same t) ∙ sym (found_test t)) types
+
+  left_same : left_by b.last left ≡ without at.levels types
+  unfolding left
+  left_same =
+      filter_two (λ t. not (names_any b.last t)) (λ t. not (is_some (b.levels t))) types
+      ∙ filter_agree (λ t. not (is_some (b.levels t)) && not (names_any b.last t)) (λ t. not (is_some (at.levels t)))
+        (λ t. ap (λ n. not (is_some (b.levels t)) && not n) (b.same t) ∙ still_none level (b.levels t) (names_any names t) ∙ ap (λ o. not (is_some o)) (sym (at.is t))) types
+
+  front' : List (ℕ × Listing)
+  front' = b.front ++ tagged level (with_this level at.levels types)
+
+  last' : List (List ℕ)
+  last' = names_of (with_this level at.levels types)
+
+  -- the levels from the next one on
+  record Onward : Type 0 where
+    more : ℕ
+    whole : front' ++ levels_from more (level + 1) last' (without at.levels types) ≡ inheritors_of name types
+    enough : (length (without at.levels types) ≤ more) ⊎ ((t : Listing) → names_any last' t ≡ false)
+
+  -- no type is found
+  none_last : found_in b.last left ≡ [] → (t : Listing) → names_any last' t ≡ false
+  unfolding last' left
+  none_last none t = ap (λ found. names_any (names_of found) t) (sym found_same ∙ none)
+
+  onward : (more : ℕ) → b.front ++ levels_from more level b.last left ≡ inheritors_of name types → (length left ≤ more) ⊎ ((t : Listing) → names_any b.last t ≡ false) → Onward
+  unfolding levels_from front' last' left
+  onward zero whole enough = record {
+    more = 0;
+    whole = append-nil (b.front ++ tagged level (with_this level at.levels types))
+        ∙ ap (λ found. b.front ++ tagged level found) (sym found_same ∙ none enough) ∙ whole;
+    enough = inr (none_last (none enough));
+  }
+    where
+      none : (length left ≤ 0) ⊎ ((t : Listing) → names_any b.last t ≡ false) → found_in b.last left ≡ []
+      none (inl few) = few_none (names_any b.last) left few
+      none (inr nobody) = filter_none (names_any b.last) left (all_each (λ (t : Listing). names_any b.last t ≡ false) left nobody)
+  onward (suc more) whole enough = record {
+    more = more;
+    whole = append_assoc b.front (tagged level (with_this level at.levels types)) (levels_from more (level + 1) (names_of (with_this level at.levels types)) (without at.levels types))
+        ∙ ap (λ found. b.front ++ (tagged level found ++ levels_from more (level + 1) (names_of found) (without at.levels types))) (sym found_same)
+        ∙ ap (λ l. b.front ++ (tagged level (found_in b.last left) ++ levels_from more (level + 1) (names_of (found_in b.last left)) l)) (sym left_same)
+        ∙ whole;
+    enough = fewer enough (found_in b.last left) refl;
+  }
+    where
+      fewer : (length left ≤ suc more) ⊎ ((t : Listing) → names_any b.last t ≡ false) → (found : List Listing) → found_in b.last left ≡ found
+          → (length (without at.levels types) ≤ more) ⊎ ((t : Listing) → names_any last' t ≡ false)
+      fewer enough [] none = inr (none_last none)
+      fewer (inr nobody) (u ∷ us) some = inr (none_last (filter_none (names_any b.last) left (all_each (λ (t : Listing). names_any b.last t ≡ false) left nobody)))
+      fewer (inl few) (u ∷ us) some =
+          let both = length-filter_both (names_any b.last) (λ t. not (names_any b.last t)) (λ t. refl) left in
+          let many : length (found_in b.last left) ≡ suc (length us) = ap length some in
+          let rest : length (left_by b.last left) ≡ length (without at.levels types) = ap length left_same in
+          inl (omega (arith, both, many, few, rest))
+
+  -- what is found at each level
+  each' : (k : ℕ) → filter (λ found. found.0 == k) front' ≡ tagged k (with_this k at.levels types)
+  unfolding front'
+  each' k = filter-append (λ found. found.0 == k) b.front (tagged level (with_this level at.levels types)) ∙ of (cases_lt k level)
+    where
+      later : (k ≡ level) ⊎ (level < k) → filter (λ found. found.0 == k) b.front ++ filter (λ found. found.0 == k) (tagged level (with_this level at.levels types)) ≡ tagged k (with_this k at.levels types)
+      later (inl same) =
+          ap (λ l. l ++ filter (λ found. found.0 == k) (tagged level (with_this level at.levels types))) (below_none level k b.front (omega (arith, same)) b.below)
+          ∙ ap (λ n. filter (λ found. found.0 == n) (tagged level (with_this level at.levels types))) same
+          ∙ tagged_this level (with_this level at.levels types)
+          ∙ ap (λ n. tagged n (with_this n at.levels types)) (sym same)
+      later (inr above) =
+          ap (λ l. l ++ filter (λ found. found.0 == k) (tagged level (with_this level at.levels types))) (below_none level k b.front (omega (arith, above)) b.below)
+          ∙ tagged_other level k (with_this level at.levels types) (λ same. omega (arith, above, same))
+          ∙ ap (tagged k) (sym (filter_none (λ t. is_level k (at.levels t)) types (all_each (λ (t : Listing). is_level k (at.levels t) ≡ false) types
+            (λ t. ap (is_level k) (at.is t) ∙ above_level level k (b.levels t) (names_any names t) above (b.lower t)))))
+
+      of : (k < level) ⊎ (level ≤ k) → filter (λ found. found.0 == k) b.front ++ filter (λ found. found.0 == k) (tagged level (with_this level at.levels types)) ≡ tagged k (with_this k at.levels types)
+      of (inl less) =
+          ap (λ l. filter (λ found. found.0 == k) b.front ++ l) (tagged_other level k (with_this level at.levels types) (λ same. omega (arith, less, same)))
+          ∙ append-nil (filter (λ found. found.0 == k) b.front)
+          ∙ b.each k
+          ∙ ap (tagged k) (filter_agree (λ t. is_level k (b.levels t)) (λ t. is_level k (at.levels t))
+            (λ t. sym (other_level level k (b.levels t) (names_any names t) less) ∙ ap (is_level k) (sym (at.is t))) types)
+      of (inr enough) = later (split (cases_lt level k))
+        where
+          split : (level < k) ⊎ (k ≤ level) → (k ≡ level) ⊎ (level < k)
+          split (inl above) = inr above
+          split (inr few) = inl (omega (arith, enough, few))
+
+  -- a level ends, and the next one begins
+  pub before_next : IsBefore types name (level + 1) reached'.next asked' reached'.seen
+  unfolding front' last' left
+  before_next =
+      let on = onward b.more b.whole b.enough in
+      record {
+        levels = at.levels;
+        is = at.seen;
+        lower = λ t. subst (λ (o : Option ℕ). IfSome o (λ l. l < level + 1)) (sym (at.is t)) (lower_next level (b.levels t) (names_any names t) (b.lower t));
+        none_more = at.none_more;
+        more = on.more;
+        last = last';
+        front = front';
+        whole = on.whole;
+        same = λ t. any_names (λ name. has_super name t.1) (λ t. is_level level (at.levels t)) types
+            ∙ any_agree (λ u. is_level level (at.levels u) && has_super u.1.name t.1) (λ u. names_any names u && (not (is_some (b.levels u)) && has_super u.1.name t.1))
+              (λ u. ap (λ c. c && has_super u.1.name t.1) (found_test u) ∙ sym (and_swap (names_any names u) (not (is_some (b.levels u))) (has_super u.1.name t.1))) types
+            ∙ sym (at.next (λ name. has_super name t.1));
+        enough = on.enough;
+        each = each';
+        rise = rise_append level b.front (with_this level at.levels types) b.rise b.below;
+        below = all_append (λ found. found.0 < level + 1) b.front (tagged level (with_this level at.levels types))
+            (all_weaker (λ found. found.0 < level) (λ found. found.0 < level + 1) b.front (λ found less. omega (arith, less)) b.below)
+            (tagged_each (λ found. found.0 < level + 1) level (with_this level at.levels types) (λ t. omega arith));
+      }
+
+-- no name is left, and the search ends
+pub found_all : (types : List Listing) (name : List ℕ) (level : ℕ) (asked : List (List ℕ)) (seen : Seen) → IsBefore types name level [] asked seen → IsFound types name seen
+found_all types name level asked seen b = record {
+  levels = b.levels;
+  is = b.is;
+  each = λ k. ap (filter (λ found. found.0 == k)) (sym all) ∙ b.each k;
+  rise = subst LevelsRise all b.rise;
+}
+  where
+    all : b.front ≡ inheritors_of name types
+    all = sym (append-nil b.front) ∙ ap (λ l. b.front ++ l) (sym (no_level b.more level b.last (without b.levels types) (λ t. b.same t))) ∙ b.whole
