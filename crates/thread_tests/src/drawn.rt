@@ -38,7 +38,9 @@ pub fn drawn_script(
             push_command(alloc, &mut script, draw)?;
         }
     }
-    script.push_str("finally\nsettle\nstatus\nclass A\nword m\nsupers A\nusages A\ninheritors A\ndelete A.java\nstatus\n")?;
+    script.push_str(
+        "finally\nsettle\nstatus\nclass A\nword m\nsupers A\nusages A\ninheritors A\ndelete A.java\nstatus\n",
+    )?;
     Ok(script)
 }
 
