@@ -9,6 +9,8 @@
     bench/bench.py demo       `ide demo` with 5,000 and 10,000 files
     bench/bench.py one        one file of 1,000,000 characters, of ordinary code and of hostile texts
     bench/bench.py wide       one file, half and whole: a type of 100,000 supers, and 1,000,000 marks without a word
+    bench/bench.py names      usages of a name used 100,000 times, and inheritors: 30,000 types in a chain, 30,000 of
+                              one name, a cycle of 1,000, a name with 10,000 in as many files; each at half and whole
     bench/bench.py creates one --beside OLD
                               the same of another built program too, in turn, with the ratios of this one to it
 
@@ -140,8 +142,59 @@ def wide(supers=100_000, marks=1_000_000):
         rows(f"{n} marks", f'create A.java "{";" * n}"\nsettle\nword a\n')
 
 
+def types(heads):
+    """A file of types, from the names of each and of its super."""
+    body = "".join(f"class {name} extends {super_name}{{}}" for name, super_name in heads)
+    return f'create A.java "{body}"\n'
+
+
+def chain(n):
+    return types((f"T{i + 1}", f"T{i}") for i in range(n))
+
+
+def same(n):
+    """Half of the types have one name and come from A, and the others come from that name."""
+    return types([("B", "A")] * (n // 2) + [("C", "B")] * (n - n // 2))
+
+
+def cycle(n):
+    return types((f"T{(i + 1) % n}", f"T{i}") for i in range(n))
+
+
+def files(n):
+    return "".join(f'create f{i}.java "class T{i} extends A {{}}"\n' for i in range(n))
+
+
+def uses(n):
+    return f'create A.java "{"A " * n}"\n'
+
+
+def uses_in_files(n, each=100):
+    return "".join(f'create f{i}.java "{"A " * each}"\n' for i in range(n // each))
+
+
+def names():
+    """Times one question by asking it some times more."""
+    print("a question about a name: half and whole, and the ratio of the two")
+    measures = [
+        ("inheritors: a chain", chain, 30_000, "inheritors T0", 5),
+        ("inheritors: one name", same, 30_000, "inheritors A", 5),
+        ("inheritors: a cycle", cycle, 1_000, "inheritors T0", 100),
+        ("inheritors: files", files, 10_000, "inheritors A", 10),
+        ("usages: one file", uses, 100_000, "usages A", 5),
+        ("usages: files", uses_in_files, 100_000, "usages A", 5),
+    ]
+    for name, made, count, question, times in measures:
+        taken = []
+        for n in (count // 2, count):
+            base = made(n) + "settle\n"
+            alone, more = run(base), run(base + f"{question}\n" * times)
+            taken.append((more - alone) / times * 1e3)
+        print(f"  {name:22} {count:7} rows  {taken[0]:9.3f} ms  {taken[1]:9.3f} ms  {taken[1] / taken[0]:5.2f}")
+
+
 def main():
-    measures = {"creates": creates, "edits": edits, "one": one, "wide": wide, "limits": limits, "demo": demo}
+    measures = {"creates": creates, "edits": edits, "one": one, "wide": wide, "names": names, "limits": limits, "demo": demo}
     words = sys.argv[1:]
     if "--beside" in words:
         words, BESIDE[:] = words[: words.index("--beside")], words[words.index("--beside") + 1 :]

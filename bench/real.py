@@ -3,6 +3,7 @@
 
     bench/real.py FOLDER              the program of this repository
     bench/real.py --load FOLDER       the same files by `load`, a half and all of them, with 100 questions of all forms
+    bench/real.py --ask FOLDER        usages and inheritors of some names over all files of a folder, beside grep
     bench/real.py FOLDER OLD NEW ..   several built programs in one run, with their ratios to the first
 
 FOLDER is any folder of Java sources. One that everybody can have is the base module of a JDK:
@@ -132,9 +133,48 @@ def load(folder):
         print(f"  {len(some):6} files {size:7.2f} MB  {seconds:7.3f} s {size / seconds:6.1f} MB/s {memory:7.1f} MB")
 
 
+def used_once(paths):
+    """A name that stands once in all files."""
+    seen = {}
+    for path in paths:
+        for name in re.findall(rb"[A-Za-z_$][A-Za-z0-9_$]{9,}", path.read_bytes()):
+            seen[name] = seen.get(name, 0) + 1
+    return next(name.decode() for name in sorted(seen) if seen[name] == 1)
+
+
+def asked(script, question, folder, times):
+    """Milliseconds of one question behind a script, by asking it so often, and how many rows it finds."""
+    with tempfile.NamedTemporaryFile("w", suffix=".ide") as source:
+        source.write(script + f"{question}\n" * times)
+        source.flush()
+        seconds = min(run(PROGRAM, source.name, folder)[0] for _ in range(3))
+        with open(source.name) as lines:
+            out = subprocess.run([PROGRAM], stdin=lines, stdout=subprocess.PIPE, cwd=folder, check=True).stdout
+    rows = re.findall(rb"^\d+ at \d+ rows (\d+)$", out, re.M)
+    return seconds, int(rows[-1]) if rows else 0
+
+
+def ask(folder, times=10):
+    """Times usages and inheritors of some names over all files of a folder, beside grep for the word."""
+    paths = [p for p in sorted(folder.rglob("*.java")) if not re.search(r'[\s":\\]', str(p.relative_to(folder)))]
+    script = "".join(f"load {path.relative_to(folder)}\n" for path in paths) + "settle\n"
+    alone, _ = asked(script, "", folder, 0)
+    size = sum(path.stat().st_size for path in paths) / 1e6
+    print(f"  {len(paths)} files, {size:.2f} MB, loaded and indexed in {alone:.3f} s")
+    questions = [f"usages {name}" for name in ("String", "Override", used_once(paths))]
+    questions += [f"inheritors {name}" for name in ("Object", "Exception", "Comparable")]
+    for question in questions:
+        seconds, rows = asked(script, question, folder, times)
+        command = ["grep", "-rlw", "--include=*.java", question.split()[1], str(folder)]
+        grep = min(used(command, "/dev/null")[0] for _ in range(3))
+        print(f"  {question:28} {(seconds - alone) / times * 1e3:8.2f} ms  {rows:7} rows   grep -rlw {grep * 1e3:8.2f} ms")
+
+
 def main():
     if len(sys.argv) < 2:
         sys.exit(__doc__)
+    if sys.argv[1] == "--ask":
+        return ask(pathlib.Path(sys.argv[2]))
     if sys.argv[1] == "--load":
         return load(pathlib.Path(sys.argv[2]))
     with tempfile.TemporaryDirectory() as scratch:

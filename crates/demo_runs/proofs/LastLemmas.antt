@@ -1,10 +1,11 @@
 -- The last section: its settle goes through, and what it tells is read from what the files show.
 use Rattle.demo_runs.proofs.Words.{ℕ, suc, ◌≡◌, ◌+◌, ◌<◌, ◌≤◌, Bool, true, false, cond, List, [], ◌∷◌, ◌++◌, length, map, filter, codes, refl, ap, sym}
-use Rattle.demo_runs.proofs.Words.{◌∙◌, subst, arith, append_assoc, append-nil, length-append, Some, None, Ok, if◌then◌else◌, Option, option_map, is_some}
+use Rattle.demo_runs.proofs.Words.{◌∙◌, subst, arith, append_assoc, append-nil, length-append, Some, None, Ok, if◌then◌else◌, Option, option_map, option_map_or, is_some}
 use Rattle.demo_runs.proofs.Words.{slice_index_or, AllByRecursion, flat_map, length-map, flat_map-append, get_or-map, is_java, words_of, mask_in, Entry}
-use Rattle.demo_runs.proofs.Words.{Refusal, World, File, file_of, next_id, ids_from, is_open, is_unready, count_of, lowest_unready, unready_ids, stamp_of}
+use Rattle.demo_runs.proofs.Words.{Refusal, World, File, file_of, next_id, shown_text, ids_from, is_open, is_unready, count_of, lowest_unready, unready_ids, stamp_of}
 use Rattle.demo_runs.proofs.Words.{max_entries, list_refusal, ListRefusal, fold, IsLegal, Settled, settled, settled_from, settled_unless, intake_of}
-use Rattle.demo_runs.proofs.Words.{intake_entry, Query, rows_in, word_in, word_row, of_files, of_world, is_class, has_super, is_method, unless_unready}
+use Rattle.demo_runs.proofs.Words.{intake_entry, Query, rows_in, word_in, word_row, uses_in, types_in, types_of, row_of, listed_row, level_row}
+use Rattle.demo_runs.proofs.Words.{Row, Listing, inheritors_of, of_files, of_world, is_class, has_super, is_method, unless_unready}
 use Rattle.demo_runs.proofs.Words.{reply, Answer, Record, answer_of, done_from, last_from, query_step, settle_answer, answer_text, found_text, summary_text}
 use Rattle.demo_runs.proofs.Words.{Question, ask_line, settle_line, IsOfAll, bare, bare_at, IsEdit, takes, acts}
 use Rattle.queries.specs.declared.query.Query.TheVariants as query
@@ -128,6 +129,30 @@ none_passes test [] each = refl
 none_passes test (file ∷ files) each =
     ap (λ b. length (cond b (file ∷ filter test files) (filter test files))) (each 0) ∙ none_passes test files (λ place. each (suc place))
 
+-- the row of a listed type, from what its file shows
+listed_shown : (world : World) (t : Listing) → listed_row (shown world) t ≡ listed_row world t
+listed_shown world t = ap row_in (get_or-map (option_map bare) (None ∷ world.files) t.0 None) ∙ same (file_of world t.0)
+  where
+    row_in : Option File → Row
+    row_in file = row_of t.0 (option_map_or (λ f. f.path) file []) (option_map_or shown_text file []) t.1
+
+    same : (file : Option File) → row_in (option_map bare file) ≡ row_in file
+    same None = refl
+    same (Some file) = refl
+
+levels_shown : (world : World) (found : List (ℕ × Listing)) → map (level_row (shown world)) found ≡ map (level_row world) found
+levels_shown world [] = refl
+levels_shown world (one ∷ others) =
+    ap (λ (row : Row). record { level = one.0; row = row } ∷ map (level_row (shown world)) others) (listed_shown world one.1)
+    ∙ ap (λ rows. level_row world one ∷ rows) (levels_shown world others)
+
+-- the types that come from a name, from what files show
+inheritors_shown : (name : List ℕ) (world : World)
+    → map (level_row (shown world)) (inheritors_of name (types_of (shown world))) ≡ map (level_row world) (inheritors_of name (types_of world))
+inheritors_shown name world =
+    ap (λ types. map (level_row (shown world)) (inheritors_of name types)) (rows_shown types_in (λ id file. refl) 1 world.files)
+    ∙ levels_shown world (inheritors_of name (types_of world))
+
 -- ---- one question
 
 -- what a question about a workspace without unready files is told
@@ -136,6 +161,8 @@ told_of world (query.Class name) = found_text (found.Rows (of_world (rows_in (is
 told_of world (query.Supers name) = found_text (found.Rows (of_world (rows_in (has_super name)) world))
 told_of world (query.Method name) = found_text (found.Rows (of_world (rows_in (is_method name)) world))
 told_of world (query.Word name) = found_text (found.Words (of_world (word_in name) world))
+told_of world (query.Usages name) = found_text (found.Usages name (of_world (uses_in name) world))
+told_of world (query.Inheritors name) = found_text (found.Inheritors (map (level_row world) (inheritors_of name (types_of world))))
 told_of world (query.Outline path) = []
 told_of world query.Status = found_text (found.Counts (count_of is_some world) (count_of is_open world) 0)
 
@@ -154,6 +181,12 @@ module _ (laws : Laws) (world : World) (ready : lowest_unready world ≡ None) (
       ap (λ r. answer_text (answer_of world at r)) (listed found.Rows (rows_in (is_method name)) (λ id file. refl))
   asked (query.Word name) about = ap (λ r. answer_text (answer_of world at r))
       (listed found.Words (word_in name) (λ id file. word_shown id file (mask_in (words_of _) name)))
+  asked (query.Usages name) about =
+      ap (λ r. answer_text (answer_of world at r)) (listed (found.Usages name) (uses_in name) (λ id file. refl))
+  asked (query.Inheritors name) about =
+      ap (λ lowest. answer_text (answer_of world at (unless_unready lowest (found.Inheritors (map (level_row world) (inheritors_of name (types_of world)))))))
+      ready
+      ∙ ap (λ rows. found_text (found.Inheritors rows)) (sym (inheritors_shown name world))
   asked (query.Outline path) about = absurd about
   asked query.Status about =
       ap (λ files. found_text (found.Counts files (count_of is_open world) (count_of is_unready world))) (sym (counts_shown is_some some_shown world.files))

@@ -4,7 +4,7 @@ pub use Rattle.std.proofs.Common.{◌∷◌, ◌++◌, length, map, filter, drop
 pub use Rattle.std.proofs.Common.{append-nil, add-zero, length-append, suc-mul, Some, None, Ok}
 pub use Rattle.std.specs.Prelude.{◌==◌, ◌&&◌, nat_le, nat_lt, if◌then◌else◌, Option, option_map, is_none, is_some, unwrap_or, slice_index_or}
 pub use Rattle.std.specs.Prelude.{bytes_eq, AllPairs}
-pub use Rattle.std.specs.Option.{option_and_then}
+pub use Rattle.std.specs.Option.{option_and_then, option_map_or}
 pub use Rattle.std.specs.List.{AllByRecursion, flat_map}
 pub use Rattle.std.specs.Cmp.Lexicographic.{bytes_decides}
 pub use Rattle.std.proofs.lemmas.Bool.{eqb-true, eqb-false, eq-eqb, le-leb, leb-true, leb-false, lt-leb, cases_lt, cases_order}
@@ -22,7 +22,7 @@ pub use Rattle.write_history.specs.declared.change.Change.TheVariants.{Create, W
 pub use Rattle.write_history.specs.declared.entry.Entry.{Entry}
 pub use Rattle.write_history.specs.declared.refusal.Refusal.{Refusal}
 pub use Rattle.write_history.specs.Path.{is_path}
-pub use Rattle.write_history.specs.World.{World, File, file_of, next_id, id_at, document_at, ids_from, is_open, is_unready, count_of}
+pub use Rattle.write_history.specs.World.{World, File, file_of, next_id, id_at, document_at, shown_text, ids_from, is_open, is_unready, count_of}
 pub use Rattle.write_history.specs.World.{lowest_unready, unready_ids}
 pub use Rattle.write_history.specs.Effect.{Put, put_of, refusal_of, rewritten, taken_in, stamp_of, is_unsaved, max_files, max_entries}
 pub use Rattle.write_history.specs.Fold.{after_put, effect_of, list_refusal, ListRefusal, refusal_or, counted, after_list, fold, fold_from, IsLegal}
@@ -30,7 +30,11 @@ pub use Rattle.write_history.specs.Fold.{IsLegalFrom}
 pub use Rattle.write_history.specs.Stamps.{files_made}
 pub use Rattle.ide_calls.specs.Settle.{Settled, settled, settled_from, settled_unless, entry_of, intake_of, intake_entry}
 pub use Rattle.queries.specs.declared.query.Query.{Query}
-pub use Rattle.query_engine.specs.Reply.{rows_in, word_in, word_row, of_files, of_world, is_class, has_super, is_method, unless_unready, reply}
+pub use Rattle.query_engine.specs.Fits.{is_class, has_super, is_method}
+pub use Rattle.query_engine.specs.Inheritors.{Listing, inheritors_of}
+pub use Rattle.query_engine.specs.declared.answer.Row.{Row}
+pub use Rattle.query_engine.specs.Reply.{rows_in, word_in, word_row, uses_in, types_in, types_of, row_of, listed_row, level_row, of_files, of_world}
+pub use Rattle.query_engine.specs.Reply.{unless_unready, reply}
 pub use Rattle.script_lang.specs.declared.line.Line.{Line}
 pub use Rattle.script_lang.specs.Parts.{Parts}
 pub use Rattle.index_workers.specs.declared.worked.Worked.{Worked}

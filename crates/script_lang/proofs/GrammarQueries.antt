@@ -23,6 +23,8 @@ spelled_name name_key.Class = codes "class"
 spelled_name name_key.Supers = codes "supers"
 spelled_name name_key.Method = codes "method"
 spelled_name name_key.Word = codes "word"
+spelled_name name_key.Usages = codes "usages"
+spelled_name name_key.Inheritors = codes "inheritors"
 
 abbrev pub spelled_query : QueryKeyword → List ℕ
 spelled_query (query_key.OfName keyword) = spelled_name keyword
@@ -30,7 +32,7 @@ spelled_query query_key.Outline = codes "outline"
 
 spelled-query_keyword_of : (word : List ℕ) (keyword : QueryKeyword) → query_keyword_of word ≡ Some keyword → word ≡ spelled_query keyword
 spelled-query_keyword_of word keyword e =
-    look_up-some (λ w k. w ≡ spelled_query k) query_keywords word keyword (refl, (refl, (refl, (refl, (refl, tt))))) e
+    look_up-some (λ w k. w ≡ spelled_query k) query_keywords word keyword (refl, (refl, (refl, (refl, (refl, (refl, (refl, tt))))))) e
 
 -- a question's form
 IsQueryLine-name : (keyword : NameKeyword) (line name : List ℕ) → line ≡ spelled_name keyword ++ space ∷ name → is_word name ≡ true
@@ -39,6 +41,8 @@ IsQueryLine-name name_key.Class line name e whole = (e, whole)
 IsQueryLine-name name_key.Supers line name e whole = (e, whole)
 IsQueryLine-name name_key.Method line name e whole = (e, whole)
 IsQueryLine-name name_key.Word line name e whole = (e, whole)
+IsQueryLine-name name_key.Usages line name e whole = (e, whole)
+IsQueryLine-name name_key.Inheritors line name e whole = (e, whole)
 
 IsQueryLine-with : (keyword : QueryKeyword) (line rest : List ℕ) (q : Query) → line ≡ spelled_query keyword ++ space ∷ rest
     → query_with keyword rest ≡ Some q → IsQueryLine line q
@@ -78,6 +82,8 @@ IsAsked-IsQueryLine line (query.Class name) (e, whole) = asked_name name_key.Cla
 IsAsked-IsQueryLine line (query.Supers name) (e, whole) = asked_name name_key.Supers line name e whole
 IsAsked-IsQueryLine line (query.Method name) (e, whole) = asked_name name_key.Method line name e whole
 IsAsked-IsQueryLine line (query.Word name) (e, whole) = asked_name name_key.Word line name e whole
+IsAsked-IsQueryLine line (query.Usages name) (e, whole) = asked_name name_key.Usages line name e whole
+IsAsked-IsQueryLine line (query.Inheritors name) (e, whole) = asked_name name_key.Inheritors line name e whole
 IsAsked-IsQueryLine line (query.Outline path) (e, is) = inr (query_key.Outline, path, e, ap (option_map query.Outline) (last_path-IsPath path is))
 IsAsked-IsQueryLine line query.Status e = inl (e, refl)
 
@@ -87,6 +93,8 @@ query_of-with (query_key.OfName name_key.Class) rest = refl
 query_of-with (query_key.OfName name_key.Supers) rest = refl
 query_of-with (query_key.OfName name_key.Method) rest = refl
 query_of-with (query_key.OfName name_key.Word) rest = refl
+query_of-with (query_key.OfName name_key.Usages) rest = refl
+query_of-with (query_key.OfName name_key.Inheritors) rest = refl
 query_of-with query_key.Outline rest = refl
 
 pub query_of-IsAsked : (line : List ℕ) (q : Query) → IsAsked line q → query_of line ≡ Some q

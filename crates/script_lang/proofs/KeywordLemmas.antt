@@ -1,16 +1,11 @@
 -- Words that are looked up, by characters and by bytes.
-use Rattle.std.proofs.Common.{◌≡◌, ℕ, true, false, List, [], ◌∷◌, refl, codes}
-use Rattle.std.specs.Str.{chars, IsUtf8, bytes_eq}
+use Rattle.std.proofs.Common.{◌≡◌, ℕ, true, List, [], ◌∷◌, refl, codes}
+use Rattle.std.specs.Str.{chars, IsUtf8}
 use lib.Utf8.{encode, encodes, scalars}
-use Rattle.std.proofs.lemmas.Bool.{false_from_ne_true}
-use Rattle.std.proofs.lemmas.Slice.Eq.{bytes_eq-Decides}
 use Rattle.script_lang.specs.Keywords.{look_up, keywords, query_keywords, keyword_of, query_keyword_of}
 use Rattle.script_lang.specs.Queries.{lone_query}
 use Rattle.script_lang.specs.Contents.{lone_contents, lone_content}
 use Rattle.script_lang.proofs.CharLemmas.{bytes_eq-chars}
-
-pub bytes_eq-false : (w k : List ℕ) → (w ≡ k → ⊥) → bytes_eq w k ≡ false
-bytes_eq-false w k other = false_from_ne_true (bytes_eq w k) (λ e. other ((bytes_eq-Decides w k).0 e))
 
 -- the words of the rows are ASCII
 abbrev AreAscii : {A : Type 0} → List (List ℕ × A) → Type 0
@@ -31,7 +26,7 @@ keyword_of-chars w text =
 
 pub query_keyword_of-chars : (w : List ℕ) → IsUtf8 w → query_keyword_of (chars w) ≡ query_keyword_of w
 unfolding encode
-query_keyword_of-chars w text = look_up-chars query_keywords w text (refl, refl, (refl, refl, (refl, refl, (refl, refl, (refl, refl, tt)))))
+query_keyword_of-chars w text = look_up-chars query_keywords w text (refl, refl, (refl, refl, (refl, refl, (refl, refl, (refl, refl, (refl, refl, (refl, refl, tt)))))))
 
 pub lone_content-chars : (w : List ℕ) → IsUtf8 w → lone_content (chars w) ≡ lone_content w
 unfolding encode

@@ -93,6 +93,8 @@ IsQueryLine line (query.Class name) = HasName (codes "class") line name
 IsQueryLine line (query.Supers name) = HasName (codes "supers") line name
 IsQueryLine line (query.Method name) = HasName (codes "method") line name
 IsQueryLine line (query.Word name) = HasName (codes "word") line name
+IsQueryLine line (query.Usages name) = HasName (codes "usages") line name
+IsQueryLine line (query.Inheritors name) = HasName (codes "inheritors") line name
 IsQueryLine line (query.Outline path) = HasPath (codes "outline") line path
 IsQueryLine line query.Status = line ≡ codes "status"
 

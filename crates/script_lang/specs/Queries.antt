@@ -17,6 +17,8 @@ name_query name_key.Class name = query.Class name
 name_query name_key.Supers name = query.Supers name
 name_query name_key.Method name = query.Method name
 name_query name_key.Word name = query.Word name
+name_query name_key.Usages name = query.Usages name
+name_query name_key.Inheritors name = query.Inheritors name
 
 -- the question of a keyword with what stands behind the space after it
 abbrev pub query_with : QueryKeyword → List ℕ → Option Query

@@ -57,6 +57,13 @@ fn content_of_text(alloc: Global, text: &str) -> Result<Content, AllocError>
 fn lone_content(text: &str) -> Option<Content>
     ensures { result ≡ lone_content (chars text.now) }
 {
+    lone_content_of_bytes(text)
+}
+
+/// What a line of one word is, by its bytes.
+fn lone_content_of_bytes(text: &str) -> Option<Content>
+    ensures { result ≡ lone_content text.now }
+{
     match text {
         "settle" => Some(Content::Holds(Command::Settle)),
         "lane" => Some(Content::Lane),

@@ -54,11 +54,20 @@ pub(crate) enum NameKeyword {
     Supers,
     Method,
     Word,
+    Usages,
+    Inheritors,
 }
 
 /// The keyword that a word spells.
 pub(crate) fn keyword_of(word: &str) -> Option<Keyword>
     ensures { result ≡ keyword_of (chars word.now) }
+{
+    keyword_of_bytes(word)
+}
+
+/// The keyword that a word's bytes spell.
+fn keyword_of_bytes(word: &str) -> Option<Keyword>
+    ensures { result ≡ keyword_of word.now }
 {
     match word {
         "load" => Some(Keyword::OfPath(PathKeyword::Load)),
@@ -81,11 +90,20 @@ pub(crate) fn keyword_of(word: &str) -> Option<Keyword>
 pub(crate) fn query_keyword_of(word: &str) -> Option<QueryKeyword>
     ensures { result ≡ query_keyword_of (chars word.now) }
 {
+    query_keyword_of_bytes(word)
+}
+
+/// The question's keyword that a word's bytes spell.
+fn query_keyword_of_bytes(word: &str) -> Option<QueryKeyword>
+    ensures { result ≡ query_keyword_of word.now }
+{
     match word {
         "class" => Some(QueryKeyword::OfName(NameKeyword::Class)),
         "supers" => Some(QueryKeyword::OfName(NameKeyword::Supers)),
         "method" => Some(QueryKeyword::OfName(NameKeyword::Method)),
         "word" => Some(QueryKeyword::OfName(NameKeyword::Word)),
+        "usages" => Some(QueryKeyword::OfName(NameKeyword::Usages)),
+        "inheritors" => Some(QueryKeyword::OfName(NameKeyword::Inheritors)),
         "outline" => Some(QueryKeyword::Outline),
         _ => None,
     }

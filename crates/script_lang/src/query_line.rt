@@ -10,7 +10,7 @@ use java_tokens::is_word;
 use queries::Query;
 use std::alloc::{AllocError, Global};
 
-/// The question of a line's text, where the line has one of the six forms.
+/// The question of a line's text, where the line has one of the eight forms.
 #[tactic(auto, unfolding(crate::specs::Queries::query_of))]
 pub(crate) fn query_of(alloc: Global, line: &str) -> Result<Option<Query>, AllocError>
     ensures { IfOk result (λ query. query ≡ query_of (chars line.now)) }
@@ -62,5 +62,7 @@ fn name_query(keyword: NameKeyword, name: Name) -> Query
         NameKeyword::Supers => Query::Supers { name },
         NameKeyword::Method => Query::Method { name },
         NameKeyword::Word => Query::Word { name },
+        NameKeyword::Usages => Query::Usages { name },
+        NameKeyword::Inheritors => Query::Inheritors { name },
     }
 }

@@ -40,6 +40,8 @@ fn push_query(out: &mut String, query: &Query) -> Result<(), AllocError> {
         Query::Supers { name } => push_named(out, "supers ", name),
         Query::Method { name } => push_named(out, "method ", name),
         Query::Word { name } => push_named(out, "word ", name),
+        Query::Usages { name } => push_named(out, "usages ", name),
+        Query::Inheritors { name } => push_named(out, "inheritors ", name),
         Query::Outline { path } => push_named(out, "outline ", path),
         Query::Status => out.push_str("status"),
     }

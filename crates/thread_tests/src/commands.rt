@@ -1,6 +1,8 @@
 //! Whether a command's answer is the one that a state gives.
 use crate::replaying::{group_refusal_of, refusal_of};
-use crate::same::{are_same_changes, are_same_rows, are_same_words};
+use crate::same::{
+    are_same_changes, are_same_levels, are_same_places, are_same_rows, are_same_words,
+};
 use ide_text::Name;
 use ide_world::{GroupRefusal, State, path};
 use queries::Query;
@@ -123,6 +125,16 @@ fn is_same(told: &Found, own: &Found) -> bool {
         }
         (Found::Words { rows }, Found::Words { rows: own }) => {
             are_same_words(rows.as_slice(), own.as_slice())
+        }
+        (
+            Found::Usages { name, rows },
+            Found::Usages {
+                name: asked,
+                rows: own,
+            },
+        ) => { name.same(asked) && are_same_places(rows.as_slice(), own.as_slice()) }
+        (Found::Inheritors { rows }, Found::Inheritors { rows: own }) => {
+            are_same_levels(rows.as_slice(), own.as_slice())
         }
         (
             Found::Counts {

@@ -38,7 +38,9 @@ pub fn drawn_script(
             push_command(alloc, &mut script, draw)?;
         }
     }
-    script.push_str("finally\nsettle\nstatus\nclass A\nword m\nsupers A\ndelete A.java\nstatus\n")?;
+    script.push_str(
+        "finally\nsettle\nstatus\nclass A\nword m\nsupers A\nusages A\ninheritors A\ndelete A.java\nstatus\n",
+    )?;
     Ok(script)
 }
 
@@ -131,12 +133,14 @@ fn push_move(alloc: Global, script: &mut String, draw: u32) -> Result<(), AllocE
 fn push_question(alloc: Global, script: &mut String, draw: u32) -> Result<(), AllocError> {
     let name = NAMES[(draw >> 16) as usize % 5];
     let path = PATHS[(draw >> 20) as usize % 6];
-    match (draw >> 12) % 6 {
+    match (draw >> 12) % 8 {
         0 => script.push_str(&format!(in alloc; "class {name}\n")?),
         1 => script.push_str(&format!(in alloc; "supers {name}\n")?),
         2 => script.push_str(&format!(in alloc; "method {name}\n")?),
         3 => script.push_str(&format!(in alloc; "word {name}\n")?),
-        4 => script.push_str(&format!(in alloc; "outline {path}\n")?),
+        4 => script.push_str(&format!(in alloc; "usages {name}\n")?),
+        5 => script.push_str(&format!(in alloc; "inheritors {name}\n")?),
+        6 => script.push_str(&format!(in alloc; "outline {path}\n")?),
         _ => script.push_str("status\n"),
     }
 }

@@ -1,6 +1,6 @@
 //! Whether two values are the same.
 use ide_text::Name;
-use query_engine::{Row, WordRow};
+use query_engine::{LevelRow, PlaceRow, Row, WordRow};
 use write_history::Change;
 
 /// Whether two lists of changes are the same.
@@ -131,4 +131,38 @@ pub fn are_same_words(one: &[WordRow], two: &[WordRow]) -> bool {
 /// Whether two files that have a word are the same.
 fn is_same_word(one: &WordRow, two: &WordRow) -> bool {
     one.file == two.file && one.path.same(&two.path) && one.mask == two.mask
+}
+
+/// Whether two lists of places are the same.
+pub fn are_same_places(one: &[PlaceRow], two: &[PlaceRow]) -> bool {
+    if one.len() != two.len() {
+        return false;
+    }
+    for i in 0..one.len() {
+        if !is_same_place(&one[i], &two[i]) {
+            return false;
+        }
+    }
+    true
+}
+
+/// Whether two places are the same.
+fn is_same_place(one: &PlaceRow, two: &PlaceRow) -> bool {
+    one.file == two.file
+        && one.path.same(&two.path)
+        && one.line == two.line
+        && one.column == two.column
+}
+
+/// Whether two lists of types with levels are the same.
+pub fn are_same_levels(one: &[LevelRow], two: &[LevelRow]) -> bool {
+    if one.len() != two.len() {
+        return false;
+    }
+    for i in 0..one.len() {
+        if one[i].level != two[i].level || !is_same_row(&one[i].row, &two[i].row) {
+            return false;
+        }
+    }
+    true
 }

@@ -8,8 +8,10 @@ use Rattle.stub_tree.specs.declared.stub_kind.StubKind.TheVariants as declares
 use Rattle.stub_tree.specs.Stub.{code_of}
 use Rattle.query_engine.specs.declared.answer.Row.{Row}
 use Rattle.query_engine.specs.declared.answer.WordRow.{WordRow}
+use Rattle.query_engine.specs.declared.answer.PlaceRow.{PlaceRow}
+use Rattle.query_engine.specs.declared.answer.LevelRow.{LevelRow}
 use Rattle.query_engine.specs.declared.answer.Answer.{Answer as Finding}
-use Rattle.query_engine.specs.declared.answer.Answer.TheVariants.{Rows, Outline, Words, Counts}
+use Rattle.query_engine.specs.declared.answer.Answer.TheVariants.{Rows, Outline, Words, Usages, Inheritors, Counts}
 use Rattle.transcripts.specs.declared.record.Answer.{Answer}
 use Rattle.transcripts.specs.declared.record.Answer.TheVariants.{Accepted, Refused, NotText, TooLong, Smart, NotReady, Found, Cancelled}
 use Rattle.transcripts.specs.declared.record.Record.{Record}
@@ -20,8 +22,8 @@ abbrev pub place_if : ℕ → ℕ → List ℕ → List (List ℕ)
 place_if mask bit place = if bit_and mask bit == 0 then [] else place ∷ []
 
 -- the places of a mask: 1 in code, 2 in a comment, 4 in a string
-abbrev pub places_of : ℕ → List (List ℕ)
-places_of mask = place_if mask 1 (codes "code") ++ place_if mask 2 (codes "comment") ++ place_if mask 4 (codes "string")
+abbrev pub mask_places : ℕ → List (List ℕ)
+mask_places mask = place_if mask 1 (codes "code") ++ place_if mask 2 (codes "comment") ++ place_if mask 4 (codes "string")
 
 -- the places joined by `+`
 abbrev pub joined : List (List ℕ) → List ℕ
@@ -31,7 +33,7 @@ joined (place ∷ other ∷ places) = place ++ codes "+" ++ joined (other ∷ pl
 
 -- the text of a mask
 abbrev pub mask_text : ℕ → List ℕ
-mask_text mask = joined (places_of mask)
+mask_text mask = joined (mask_places mask)
 
 -- the line of a file that has a word
 abbrev pub word_line : WordRow → List ℕ
@@ -64,9 +66,13 @@ abbrev pub supers_text : List (List ℕ) → List ℕ
 supers_text [] = []
 supers_text (name ∷ names) = codes " :" ++ flat_map super_text (name ∷ names)
 
+-- a place in a file
+abbrev pub place_text : List ℕ → ℕ → ℕ → List ℕ
+place_text path line column = codes "  " ++ encode_utf8_all path ++ codes ":" ++ decimal line ++ codes ":" ++ decimal column
+
 -- where the name of a declaration stands
-abbrev pub place_text : Row → List ℕ
-place_text row = codes "  " ++ encode_utf8_all row.path ++ codes ":" ++ decimal row.line ++ codes ":" ++ decimal row.column
+abbrev pub name_place_text : Row → List ℕ
+name_place_text row = place_text row.path row.line row.column
 
 -- the kind and the name of a declaration
 abbrev pub declared_text : Row → List ℕ
@@ -74,11 +80,19 @@ declared_text row = codes " " ++ kind_text row.kind ++ codes " " ++ encode_utf8_
 
 -- the line of a declaration that a question found
 abbrev pub found_line : Row → List ℕ
-found_line row = place_text row ++ declared_text row ++ codes "\n"
+found_line row = name_place_text row ++ declared_text row ++ codes "\n"
 
 -- the line of a declaration of a file, indented by its depth, with its supers
 abbrev pub outline_line : Row → List ℕ
-outline_line row = indent row.depth ++ place_text row ++ declared_text row ++ supers_text row.supers ++ codes "\n"
+outline_line row = indent row.depth ++ name_place_text row ++ declared_text row ++ supers_text row.supers ++ codes "\n"
+
+-- the line of a place where a name stands
+abbrev pub usage_line : List ℕ → PlaceRow → List ℕ
+usage_line name row = place_text row.path row.line row.column ++ codes " usage " ++ encode_utf8_all name ++ codes "\n"
+
+-- the line of a type that comes from a name, with its level
+abbrev pub level_line : LevelRow → List ℕ
+level_line found = name_place_text found.row ++ declared_text found.row ++ codes " level " ++ decimal found.level ++ codes "\n"
 
 -- of a group's refusal the place of the refused change
 abbrev pub place_of_refusal : Option ℕ → List ℕ
@@ -121,6 +135,8 @@ abbrev pub found_text : Finding → List ℕ
 found_text (Rows rows) = count_line (length rows) ++ flat_map found_line rows
 found_text (Outline rows) = count_line (length rows) ++ flat_map outline_line rows
 found_text (Words rows) = count_line (length rows) ++ flat_map word_line rows
+found_text (Usages name rows) = count_line (length rows) ++ flat_map (usage_line name) rows
+found_text (Inheritors rows) = count_line (length rows) ++ flat_map level_line rows
 found_text (Counts files docs unready) = counts_line files docs unready
 
 -- an answer without its prefix

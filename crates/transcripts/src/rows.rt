@@ -1,11 +1,11 @@
 //! Printing the rows of answers.
 ghost use Rattle.std.specs.Prelude.{◌≡◌, ◌++◌, ℕ, List, OnOk};
 ghost use Rattle.std.specs.List.{flat_map};
-ghost use Rattle.transcripts.specs.Transcript.{word_line, mask_text, found_line, outline_line, place_text, declared_text, indent, supers_text, super_text, kind_text};
+ghost use Rattle.transcripts.specs.Transcript.{word_line, mask_text, found_line, outline_line, usage_line, level_line, place_text, declared_text, indent, supers_text, super_text, kind_text};
 
 use crate::print::push_text;
 use ide_text::Name;
-use query_engine::{Row, WordRow};
+use query_engine::{LevelRow, PlaceRow, Row, WordRow};
 use std::alloc::{AllocError, Global};
 
 /// Adds the lines of declarations that a question found.
@@ -22,9 +22,62 @@ pub(crate) fn push_rows(alloc: Global, out: &mut Vec<u8>, rows: &[Row]) -> Resul
 fn push_row(alloc: Global, out: &mut Vec<u8>, row: &Row) -> Result<(), AllocError>
     ensures { OnOk result (out.new.items ≡ out.old.items ++ found_line row.now) }
 {
-    push_place(alloc, out, row)?;
+    push_place(alloc, out, &row.path, row.line, row.column)?;
     push_declared(alloc, out, row)?;
     out.extend_from_slice(b"\n")
+}
+
+/// Adds the lines of places where a name stands.
+pub(crate) fn push_usages(
+    alloc: Global,
+    out: &mut Vec<u8>,
+    name: &Name,
+    rows: &[PlaceRow],
+) -> Result<(), AllocError>
+    ensures { OnOk result (out.new.items ≡ out.old.items ++ flat_map (usage_line name.now) rows.now) }
+{
+    for row in rows {
+        push_usage(alloc, out, name, row)?;
+    }
+    Ok(())
+}
+
+/// Adds the line of a place where a name stands.
+fn push_usage(
+    alloc: Global,
+    out: &mut Vec<u8>,
+    name: &Name,
+    row: &PlaceRow,
+) -> Result<(), AllocError>
+    ensures { OnOk result (out.new.items ≡ out.old.items ++ usage_line name.now row.now) }
+{
+    push_place(alloc, out, &row.path, row.line, row.column)?;
+    push_text(out, &format!(in alloc; " usage {name}\n")?)
+}
+
+/// Adds the lines of types that come from a name.
+pub(crate) fn push_levels(
+    alloc: Global,
+    out: &mut Vec<u8>,
+    rows: &[LevelRow],
+) -> Result<(), AllocError>
+    ensures { OnOk result (out.new.items ≡ out.old.items ++ flat_map level_line rows.now) }
+{
+    for found in rows {
+        push_level(alloc, out, found)?;
+    }
+    Ok(())
+}
+
+/// Adds the line of a type that comes from a name.
+fn push_level(alloc: Global, out: &mut Vec<u8>, found: &LevelRow) -> Result<(), AllocError>
+    ensures { OnOk result (out.new.items ≡ out.old.items ++ level_line found.now) }
+{
+    let row = &found.row;
+    let level = found.level;
+    push_place(alloc, out, &row.path, row.line, row.column)?;
+    push_declared(alloc, out, row)?;
+    push_text(out, &format!(in alloc; " level {level}\n")?)
 }
 
 /// Adds the lines of files that have a word.
@@ -65,20 +118,23 @@ fn push_declaration(alloc: Global, out: &mut Vec<u8>, row: &Row) -> Result<(), A
     ensures { OnOk result (out.new.items ≡ out.old.items ++ outline_line row.now) }
 {
     push_indent(out, row.depth)?;
-    push_place(alloc, out, row)?;
+    push_place(alloc, out, &row.path, row.line, row.column)?;
     push_declared(alloc, out, row)?;
     push_supers(alloc, out, row.supers.as_slice())?;
     out.extend_from_slice(b"\n")?;
     Ok(())
 }
 
-/// Adds where the name of a declaration stands.
-fn push_place(alloc: Global, out: &mut Vec<u8>, row: &Row) -> Result<(), AllocError>
-    ensures { OnOk result (out.new.items ≡ out.old.items ++ place_text row.now) }
+/// Adds a place in a file.
+fn push_place(
+    alloc: Global,
+    out: &mut Vec<u8>,
+    path: &Name,
+    line: u32,
+    column: u32,
+) -> Result<(), AllocError>
+    ensures { OnOk result (out.new.items ≡ out.old.items ++ place_text path.now line column) }
 {
-    let path = &row.path;
-    let line = row.line;
-    let column = row.column;
     push_text(out, &format!(in alloc; "  {path}:{line}:{column}")?)
 }
 
