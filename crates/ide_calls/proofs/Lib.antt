@@ -8,3 +8,4 @@ pub mod RuleLemmas
 pub mod FoundLemmas
 pub mod PlanLemmas
 pub mod AcceptedLemmas
+pub mod AheadLemmas

@@ -17,6 +17,7 @@ pub mod Planned
 pub mod Reads
 pub mod Intake
 pub mod Turn
+pub mod Ahead
 -- What these cite from below: prefixes, passes, replies, the world and its changes
 pub use Rattle.list_laws.specs.Fronts
 pub use Rattle.action_lock.specs.Counts

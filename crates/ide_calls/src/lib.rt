@@ -3,6 +3,7 @@
 #![tactic(auto)]
 
 mod accepted;
+mod ahead;
 mod answering;
 mod asking;
 mod change_refusal;
@@ -17,6 +18,7 @@ mod judge;
 mod kept;
 pub mod laws;
 mod lowest;
+mod making;
 mod place;
 mod planning;
 mod question;

@@ -1,11 +1,16 @@
 //! The unready file with the lowest id, which a settle takes in next.
-ghost use Rattle.std.specs.Prelude.{◌≡◌, Some, IfOk};
+ghost use Rattle.std.specs.Prelude.{◌≡◌, ◌==◌, ◌&&◌, Some, IfOk, OnOk};
+ghost use Rattle.std.specs.List.{All};
 ghost use Rattle.write_history.specs.World.{lowest_unready};
+ghost use Rattle.ide_world.specs.Task.{IsOfWorld};
+ghost use Rattle.ide_calls.specs.Ahead.{GoesOnAhead};
 ghost use Rattle.ide_calls.specs.Turn.{IsLowest, IsMadeOf};
 
+use crate::ahead::Ahead;
 use crate::entries::entries;
-use ide_world::{Made, Ready, State, job, make, prepare_intake};
+use ide_world::{Job, Made, Ready, State, job, make, prepare_intake};
 use std::alloc::{AllocError, Global};
+use std::thread::Threads;
 use write_history::MAX_ENTRIES;
 use write_history::laws::unready_files_have_an_order;
 
@@ -21,8 +26,15 @@ pub(crate) enum Lowest {
 }
 
 /// Makes the intake of the unready file with the lowest id ready.
-pub(crate) fn prepare_lowest(alloc: Global, state: &State) -> Result<Lowest, AllocError>
-    ensures { IfOk result (IsLowest state.now.world) }
+pub(crate) fn prepare_lowest<R: Threads>(
+    rt: &R,
+    alloc: Global,
+    state: &State,
+    ahead: &mut Ahead,
+) -> Result<Lowest, AllocError>
+    requires ahead { All (IsOfWorld state.now.world) ahead.old }
+    ensures lowest { IfOk result (IsLowest state.now.world) }
+    ensures ahead { OnOk result (GoesOnAhead state.now.world ahead.old ahead.new) }
 {
     let at = entries(state);
     let Some(id) = state.lowest_unready() else {
@@ -31,7 +43,7 @@ pub(crate) fn prepare_lowest(alloc: Global, state: &State) -> Result<Lowest, All
     if at == MAX_ENTRIES {
         return Ok(Lowest::Full { at });
     }
-    let made = make_lowest(alloc, state, id)?;
+    let made = make_lowest(rt, alloc, state, id, ahead)?;
     let file = made.file;
     let stamp = made.stamp;
     match prepare_intake(alloc, state, made) {
@@ -40,14 +52,35 @@ pub(crate) fn prepare_lowest(alloc: Global, state: &State) -> Result<Lowest, All
     }
 }
 
-/// The index data of the unready file with the lowest id.
-fn make_lowest(alloc: Global, state: &State, id: u32) -> Result<Made, AllocError>
-    requires { lowest_unready state.now.world ≡ Some id }
-    ensures { IfOk result (IsMadeOf state.now.world id) }
+/// The index data of the unready file with the lowest id: those that were made ahead, where they are of this file at its
+/// stamp, else made now. Meanwhile a thread more may begin with files behind it.
+fn make_lowest<R: Threads>(
+    rt: &R,
+    alloc: Global,
+    state: &State,
+    id: u32,
+    ahead: &mut Ahead,
+) -> Result<Made, AllocError>
+    requires unready { lowest_unready state.now.world ≡ Some id }
+    requires ahead { All (IsOfWorld state.now.world) ahead.old }
+    ensures made { IfOk result (IsMadeOf state.now.world id) }
+    ensures ahead { OnOk result (GoesOnAhead state.now.world ahead.old ahead.new) }
 {
     unready_files_have_an_order();
     let Some(job) = job(state, id)? else {
         unreachable!()
     };
-    make(alloc, job)
+    let first = ahead.take(rt);
+    ahead.begin(rt, alloc, state, id)?;
+    match first {
+        Some(made) if is_of(&made, &job) => Ok(made),
+        _ => make(alloc, job),
+    }
+}
+
+/// Whether data are of the file of a job, and made at its stamp.
+fn is_of(made: &Made, job: &Job) -> bool
+    ensures { result ≡ (made.now.file == job.now.file && made.now.stamp == job.now.stamp) }
+{
+    made.file == job.file && made.stamp == job.stamp
 }

@@ -1,24 +1,29 @@
 //! A settle: every unready file is taken in, under one intent.
-ghost use Rattle.std.specs.Prelude.{◌≡◌, Some, IfOk, IfErr, OnErr};
+ghost use Rattle.std.specs.Prelude.{◌≡◌, Some, IfOk, IfErr, OnOk, OnErr};
+ghost use Rattle.std.specs.List.{All};
 ghost use Rattle.action_lock.specs.Advances.{Advances};
 ghost use Rattle.action_lock.specs.Passes.{view_of, IsSamePass, IsPassOf, Intends};
+ghost use Rattle.ide_calls.specs.Ahead.{StaysOfWorld};
 ghost use Rattle.ide_calls.specs.Reads.{HasOnlyLearned};
 ghost use Rattle.ide_calls.specs.Settling.{IsSettled, HasStopped};
 ghost use Rattle.ide_calls.specs.Turn.{HasFoundLowest, HasTurned, GoesThrough, Stops};
 
+use crate::ahead::Ahead;
 use crate::laws::a_settle_goes_by_the_lowest;
 use crate::lowest::{Lowest, prepare_lowest};
 use crate::settle_refusal::SettleRefusal;
 use crate::{IdeHome, write_entry};
 use action_lock::{ActionLock, Pass};
+use ide_world::laws::a_task_stays_of_the_world;
 use std::alloc::{AllocError, Global};
 use std::sync::Wait;
+use std::thread::Threads;
 use write_history::laws::{histories_go_on, unready_files_have_an_order};
 use write_history::{Change, Changes, Entry};
 
 /// Takes every unready file in, in order of ids, one entry each, for a line of a script. It answers with the number of
 /// entries after which no file is unready. May block.
-pub fn settle<R: Wait>(
+pub fn settle<R: Threads + Wait>(
     rt: &R,
     alloc: Global,
     lock: &ActionLock<IdeHome>,
@@ -32,9 +37,11 @@ pub fn settle<R: Wait>(
     ensures err { IfErr result (HasStopped line (view_of pass.old) (view_of pass.new)) }
 {
     let seat = pass.number();
+    let mut ahead = Ahead::new(alloc);
     pass.intent(rt, lock);
-    let answer = settle_now(rt, alloc, lock, pass, seat, line);
+    let answer = settle_now(rt, alloc, lock, pass, seat, line, &mut ahead);
     pass.release(lock);
+    ahead.join_all(rt);
     answer
 }
 
@@ -49,16 +56,18 @@ pub(crate) enum Turn {
 }
 
 /// A settle under the intent that the pass, whose number is `seat`, has.
-fn settle_now<R: Wait>(
+fn settle_now<R: Threads + Wait>(
     rt: &R,
     alloc: Global,
     lock: &ActionLock<IdeHome>,
     pass: &mut Pass<IdeHome>,
     seat: u32,
     line: u32,
+    ahead: &mut Ahead,
 ) -> Result<u64, SettleRefusal>
     requires intends { Intends lock.now pass.old }
     requires own { (view_of pass.old).number ≡ Some seat }
+    requires ahead { All (StaysOfWorld (view_of pass.old).seen) ahead.old }
     ensures pass { Intends lock.now pass.new × IsSamePass pass.old pass.new }
     ensures advances { Advances (view_of pass.old) (view_of pass.new) }
     ensures ok { IfOk result (GoesThrough seat line (view_of pass.old) (view_of pass.new)) }
@@ -67,7 +76,7 @@ fn settle_now<R: Wait>(
     a_settle_goes_by_the_lowest();
     unready_files_have_an_order();
     for _ in rt.forever() {
-        match take_lowest_in(rt, alloc, lock, pass, seat, line) {
+        match take_lowest_in(rt, alloc, lock, pass, seat, line, ahead) {
             Ok(Turn::Taken) => (),
             Ok(Turn::Smart { at }) => return Ok(at),
             Ok(Turn::Full { at }) => return Err(SettleRefusal::HistoryFull { at }),
@@ -78,22 +87,25 @@ fn settle_now<R: Wait>(
 }
 
 /// Takes the unready file with the lowest id in, where there is one and the history has room.
-fn take_lowest_in<R: Wait>(
+fn take_lowest_in<R: Threads + Wait>(
     rt: &R,
     alloc: Global,
     lock: &ActionLock<IdeHome>,
     pass: &mut Pass<IdeHome>,
     seat: u32,
     line: u32,
+    ahead: &mut Ahead,
 ) -> Result<Turn, AllocError>
     requires intends { Intends lock.now pass.old }
     requires own { (view_of pass.old).number ≡ Some seat }
+    requires ahead { All (StaysOfWorld (view_of pass.old).seen) ahead.old }
     ensures pass { Intends lock.now pass.new × IsSamePass pass.old pass.new }
     ensures advances { Advances (view_of pass.old) (view_of pass.new) }
     ensures ok { IfOk result (HasTurned seat line (view_of pass.old) (view_of pass.new)) }
+    ensures ahead { OnOk result (All (StaysOfWorld (view_of pass.new).seen) ahead.new) }
     ensures err { OnErr result (HasOnlyLearned (view_of pass.old) (view_of pass.new)) }
 {
-    match find_lowest(rt, alloc, lock, pass)? {
+    match find_lowest(rt, alloc, lock, pass, ahead)? {
         Lowest::Nothing { at } => Ok(Turn::Smart { at }),
         Lowest::Full { at } => Ok(Turn::Full { at }),
         Lowest::Prepared { file, stamp, ready } => {
@@ -110,20 +122,24 @@ fn take_lowest_in<R: Wait>(
 }
 
 /// Reads under the intent, and makes the intake of the unready file with the lowest id ready.
-fn find_lowest<R: Wait>(
+fn find_lowest<R: Threads + Wait>(
     rt: &R,
     alloc: Global,
     lock: &ActionLock<IdeHome>,
     pass: &mut Pass<IdeHome>,
+    ahead: &mut Ahead,
 ) -> Result<Lowest, AllocError>
-    requires { Intends lock.now pass.old }
+    requires intends { Intends lock.now pass.old }
+    requires ahead { All (StaysOfWorld (view_of pass.old).seen) ahead.old }
     ensures pass { Intends lock.now pass.new × IsSamePass pass.old pass.new }
     ensures learned { HasOnlyLearned (view_of pass.old) (view_of pass.new) }
     ensures ok { IfOk result (HasFoundLowest (view_of pass.old) (view_of pass.new)) }
+    ensures ahead { OnOk result (All (StaysOfWorld (view_of pass.new).seen) ahead.new) }
 {
+    a_task_stays_of_the_world();
     histories_go_on();
     let reading = pass.read(rt, alloc, lock)?;
-    let lowest = prepare_lowest(alloc, reading.share().state());
+    let lowest = prepare_lowest(rt, alloc, reading.share().state(), ahead);
     reading.leave();
     lowest
 }

@@ -12,6 +12,7 @@ use query_engine::{Answer, Row, RowList};
 use shared_ide::SharedIde;
 use std::alloc::{AllocError, Global};
 use std::sync::Wait;
+use std::thread::Threads;
 
 /// Creates the files. How many were created. May block.
 pub fn create_files<R: Wait>(
@@ -33,7 +34,7 @@ pub fn create_files<R: Wait>(
 }
 
 /// Takes in what is still unready, and then finds where the types are declared. May block.
-pub fn find_types<R: Wait>(
+pub fn find_types<R: Threads + Wait>(
     rt: &R,
     alloc: Global,
     ide: &SharedIde,

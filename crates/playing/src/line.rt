@@ -15,11 +15,12 @@ use script_lang::{Command, Line};
 use shared_ide::SharedIde;
 use std::alloc::{AllocError, Global};
 use std::sync::Wait;
+use std::thread::Threads;
 use transcripts::{Answer, Loaded, Record, Records};
 
 /// Does the command of a line, for which this was read, and adds its record. The gate is told `Start` before, but for
 /// seat 0. May block.
-pub(crate) fn do_line<R: Wait, G: Gate>(
+pub(crate) fn do_line<R: Threads + Wait, G: Gate>(
     rt: &R,
     alloc: Global,
     ide: &SharedIde,
@@ -54,7 +55,7 @@ fn tell_start<G: Gate>(gate: &G, seat: u32, line: u32) {
 }
 
 /// Does the command of a line, for which this was read, and answers it. May block.
-fn answer_line<R: Wait, G: Gate>(
+fn answer_line<R: Threads + Wait, G: Gate>(
     rt: &R,
     alloc: Global,
     ide: &SharedIde,

@@ -13,6 +13,7 @@ use script_lang::{Line, Script};
 use shared_ide::SharedIde;
 use std::alloc::{AllocError, Global};
 use std::sync::Wait;
+use std::thread::Threads;
 use transcripts::Records;
 
 /// What the pass of a part is for.
@@ -42,7 +43,7 @@ pub(crate) struct Part {
 }
 
 /// Does what a part is for, and tells the gate that it has ended. May block.
-pub(crate) fn run_part<R: Wait, G: Gate>(
+pub(crate) fn run_part<R: Threads + Wait, G: Gate>(
     rt: &R,
     alloc: Global,
     ide: &SharedIde,
@@ -72,7 +73,7 @@ pub(crate) fn run_part<R: Wait, G: Gate>(
 }
 
 /// Does the lines of a lane. May block.
-fn do_lane<R: Wait, G: Gate>(
+fn do_lane<R: Threads + Wait, G: Gate>(
     rt: &R,
     alloc: Global,
     ide: &SharedIde,

@@ -102,7 +102,7 @@ fn play_all<R: Threads + Wait + Sync, G: Gate + Sync>(
 }
 
 /// Does the lines of the prelude or of the last section, while no other pass is out. May block.
-fn do_alone<R: Wait, G: Gate>(
+fn do_alone<R: Threads + Wait, G: Gate>(
     rt: &R,
     alloc: Global,
     ide: &SharedIde,

@@ -15,13 +15,14 @@ use script_lang::Line;
 use shared_ide::SharedIde;
 use std::alloc::{AllocError, Global};
 use std::sync::Wait;
+use std::thread::Threads;
 use transcripts::{Loaded, Records};
 
 /// Does the commands of a section in order, and adds a record for each. `loads` is what was read for its lines, nothing
 /// where there is no more. `seat` is the pass's number; that of a lane has the gate told `Start` before each command.
 /// `beside` says whether another section runs beside this one: only then may a soft question be given up. When memory
 /// runs out, what was made so far stays. May block.
-pub fn do_section<R: Wait, G: Gate>(
+pub fn do_section<R: Threads + Wait, G: Gate>(
     rt: &R,
     alloc: Global,
     ide: &SharedIde,

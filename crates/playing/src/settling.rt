@@ -11,11 +11,12 @@ use index_workers::IdePass;
 use shared_ide::SharedIde;
 use std::alloc::{AllocError, Global};
 use std::sync::Wait;
+use std::thread::Threads;
 use transcripts::Answer;
 use write_history::Refusal;
 
 /// Takes every unready file in, or answers that the history is full. May block.
-pub(crate) fn do_settle<R: Wait>(
+pub(crate) fn do_settle<R: Threads + Wait>(
     rt: &R,
     alloc: Global,
     ide: &SharedIde,

@@ -16,11 +16,12 @@ use ide_calls::{SettleRefusal, Step};
 use index_workers::{IdePass, Worked};
 use std::alloc::{AllocError, Global};
 use std::sync::Wait;
+use std::thread::Threads;
 
 impl SharedIde {
     /// Takes every unready file in, in order of ids, one entry each, for a line of a script. It answers with the number of
     /// entries after which no file is unready. May block.
-    pub fn settle<R: Wait>(
+    pub fn settle<R: Threads + Wait>(
         &self,
         rt: &R,
         alloc: Global,

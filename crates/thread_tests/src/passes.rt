@@ -12,6 +12,7 @@ use index_workers::IdePass;
 use shared_ide::SharedIde;
 use std::alloc::{AllocError, Global};
 use std::sync::Wait;
+use std::thread::Threads;
 use write_history::Change;
 
 /// A call, or several of one kind, the last of which is answered for all.
@@ -35,7 +36,7 @@ pub enum Action {
 }
 
 /// Does the actions in order. Their answers, each with a semicolon.
-pub fn do_all<R: Wait>(
+pub fn do_all<R: Threads + Wait>(
     rt: &R,
     alloc: Global,
     ide: &SharedIde,
@@ -56,7 +57,7 @@ pub fn do_all<R: Wait>(
 }
 
 /// Does an action, and tells what it was answered. It may block.
-fn act<R: Wait>(
+fn act<R: Threads + Wait>(
     rt: &R,
     alloc: Global,
     ide: &SharedIde,
@@ -152,7 +153,7 @@ fn shown_change(alloc: Global, answer: Result<u64, ChangeRefusal>) -> Result<Str
 }
 
 /// All unready files.
-fn settle<R: Wait>(
+fn settle<R: Threads + Wait>(
     rt: &R,
     alloc: Global,
     ide: &SharedIde,

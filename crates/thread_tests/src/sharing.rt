@@ -163,7 +163,7 @@ fn do_both<R: Threads + Wait + Sync>(
 }
 
 /// What the first pass does beside a lane.
-fn do_first<R: Wait>(
+fn do_first<R: Threads + Wait>(
     rt: &R,
     alloc: Global,
     ide: &SharedIde,
@@ -178,7 +178,7 @@ fn do_first<R: Wait>(
 }
 
 /// What a lane does.
-fn do_lane<R: Wait>(
+fn do_lane<R: Threads + Wait>(
     rt: &R,
     alloc: Global,
     ide: &SharedIde,

@@ -16,6 +16,7 @@ loop-preserved g c =
       pass = made.pass.0;
       same = record { table = made.pass.1.table ∙ before.same.table; seat = made.pass.1.seat ∙ before.same.seat };
       own = made.advances.number ∙ before.own;
+      ahead = c.in-Ok-Taken.ensures.ahead;
       advances = advances_on _ _ _ before.advances made.advances;
       whole = λ x refused rest. before.whole x refused (turn_on c.args.seat c.args.line _ _ turn goes x refused rest);
       part = λ x rest. before.part x (part_on c.args.seat c.args.line _ _ turn goes x rest);

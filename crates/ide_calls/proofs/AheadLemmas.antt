@@ -1,0 +1,114 @@
+-- Index data that are made ahead: what is taken out and added, and that it stays of the world.
+use Rattle.std.proofs.Common.{◌≡◌, ℕ, ◌<◌, ◌≤◌, Bool, true, false, List, [], ◌∷◌, ◌++◌, length, refl, sym, ap, ◌∙◌, subst, append_assoc, Some, None, Option, Result, Ok, Err, IfSome}
+use Rattle.std.specs.Prelude.{OnOk, option_map, if◌then◌else◌}
+use Rattle.std.specs.List.{All, flat_map}
+use Rattle.std.specs.Option.{option_map_or}
+use Rattle.std.specs.declared.alloc.AllocError.{AllocError}
+use Rattle.std.proofs.lemmas.List.{append-nil}
+use Rattle.std.proofs.lemmas.List.Elements.{All-nil, All-append, All-weaker, All-head, All-tail, All-rest, All-same}
+use Rattle.std.proofs.lemmas.List.Concat.{flat_map-append}
+use Rattle.list_laws.specs.Fronts.{IsFront}
+use Rattle.list_laws.proofs.BoolLemmas.{bool_cases}
+use Rattle.write_history.specs.declared.entry.Entry.{Entry}
+use Rattle.write_history.specs.World.{World, File, file_of, is_unready}
+use Rattle.write_history.specs.Effect.{stamp_of}
+use Rattle.write_history.specs.Fold.{fold, IsLegal}
+use Rattle.ide_world.specs.Task.{Task, task_of, task_with_id, IsOfWorld}
+use Rattle.ide_calls.specs.declared.making.Making.{Making}
+use Rattle.ide_calls.specs.Ahead.{tasks_of, IsTask, HasBegun, HasJoined, GoesOnAhead, StaysOfWorld}
+use Rattle.ide_calls.proofs.ReadLemmas.{WorkStays}
+
+-- nothing was taken out or added
+pub goes_not : (world : World) (old : List Task) → GoesOnAhead world old old
+goes_not world old = record {
+  gone = [];
+  kept = old;
+  more = [];
+  before = refl;
+  unready = All-nil (IsTask world);
+  after = sym (append-nil old);
+}
+
+-- the first of the threads was waited for
+pub joined : {Q : Type 0} (f : Q → List Task) (old new : List Making) (making : Making) (done : Option Q) → old ≡ making ∷ new
+    → IfSome done (λ q. f q ≡ tasks_of making) → HasJoined old new (option_map_or f done [])
+joined f old new making None is so = record {
+  lost = tasks_of making;
+  before = ap (flat_map tasks_of) is ∙ ap (λ (l : List Task). l ++ flat_map tasks_of new) (sym (append-nil (tasks_of making)));
+}
+joined f old new making (Some q) is so = record {
+  lost = [];
+  before = ap (flat_map tasks_of) is ∙ ap (λ (l : List Task). l ++ flat_map tasks_of new) (sym so);
+}
+
+-- one thread more was started
+pub begun : (world : World) (made : List Task) (old new : List Making) (making : Making) → new ≡ old ++ making ∷ []
+    → All (IsTask world) (tasks_of making) → HasBegun world (made ++ flat_map tasks_of old) (made ++ flat_map tasks_of new)
+begun world made old new making is unready = record {
+  more = tasks_of making;
+  unready = unready;
+  after = ap (λ (l : List Making). made ++ flat_map tasks_of l) is
+      ∙ ap (λ (l : List Task). made ++ l) (flat_map-append tasks_of old (making ∷ []) ∙ ap (λ (l : List Task). flat_map tasks_of old ++ l) (append-nil (tasks_of making)))
+      ∙ sym (append_assoc made (flat_map tasks_of old) (tasks_of making));
+}
+
+-- the work of an unready file is that of the file at its stamp
+file_task : (id : ℕ) (file : Option File) (task : Task) → is_unready file ≡ true
+    → Some task ≡ (if is_unready file then option_map (task_of id) file else None) → (task.file ≡ id) × (task.stamp ≡ stamp_of file)
+file_task id None task unready is = absurd (cc)
+file_task id (Some file) task unready is =
+    let same : Some task ≡ Some (task_of id file) = rw unready at is in
+    let t : task ≡ task_of id file = cc in
+    (ap (λ (x : Task). x.file) t, ap (λ (x : Task). x.stamp) t)
+
+pub unready_task : (world : World) (id : ℕ) (task : Task) → is_unready (file_of world id) ≡ true → Some task ≡ task_with_id world id
+    → (task.file ≡ id) × (task.stamp ≡ stamp_of (file_of world id))
+unready_task world id = file_task id (file_of world id)
+
+-- what was taken out of a list whose elements have a property has it
+pub first_has : (P : Task → Type 0) (old lost new : List Task) (task : Task) → old ≡ (lost ++ task ∷ []) ++ new → All P old → P task
+first_has P old [] new task is all = All-head P task new (All-same P (task ∷ new) old (sym is) all)
+first_has P old (t ∷ lost) new task is all =
+    first_has P ((lost ++ task ∷ []) ++ new) lost new task refl (All-rest P t ((lost ++ task ∷ []) ++ new) old is all)
+
+-- what is left of such a list has it
+pub rest_has : (P : Task → Type 0) (gone kept : List Task) → All P (gone ++ kept) → All P kept
+rest_has P [] kept all = all
+rest_has P (t ∷ gone) kept all = rest_has P gone kept (All-tail P t (gone ++ kept) all)
+
+-- what stays of the world stays so as the history grows
+pub stays_later : (seen whole : List Entry) (tasks : List Task) → IsFront seen whole → All (StaysOfWorld seen) tasks → All (StaysOfWorld whole) tasks
+stays_later seen whole tasks front = All-weaker (StaysOfWorld seen) (StaysOfWorld whole) (λ task stays later legal.
+    let same : whole ++ later ≡ seen ++ front.0 ++ later = ap (λ (l : List Entry). l ++ later) front.1 in
+    subst (λ (l : List Entry). IsOfWorld (fold l) task) (sym (same ∙ append_assoc seen front.0 later))
+    (stays (front.0 ++ later) (subst IsLegal (same ∙ append_assoc seen front.0 later) legal))) tasks
+
+-- the work of an unready file stays of the world
+task_stays : WorkStays → (seen : List Entry) (tasks : List Task) → All (IsTask (fold seen)) tasks → All (StaysOfWorld seen) tasks
+task_stays law seen = All-weaker (IsTask (fold seen)) (StaysOfWorld seen) (λ task is later legal. law seen later is.id task legal is.work)
+
+-- what stays of the world is of it
+pub of_world_now : (seen : List Entry) (world : World) (tasks : List Task) → IsLegal seen → world ≡ fold seen → All (StaysOfWorld seen) tasks
+    → All (IsOfWorld world) tasks
+of_world_now seen world tasks legal is = All-weaker (StaysOfWorld seen) (IsOfWorld world) (λ task stays.
+    let same = append-nil seen in
+    let now : IsOfWorld (fold seen) task = subst (λ (l : List Entry). IsOfWorld (fold l) task) same (stays [] (subst IsLegal (sym same) legal)) in
+    subst (λ (w : World). IsOfWorld w task) (sym is) now) tasks
+
+-- what is left, and what is added, stay of the world
+pub ahead_stays : WorkStays → (seen : List Entry) (world : World) (old new : List Task) → world ≡ fold seen → All (StaysOfWorld seen) old
+    → GoesOnAhead world old new → All (StaysOfWorld seen) new
+ahead_stays law seen world old new is all goes =
+    let P : Task → Type 0 = StaysOfWorld seen in
+    let left = rest_has P goes.gone goes.kept (All-same P (goes.gone ++ goes.kept) old (sym goes.before) all) in
+    let added = task_stays law seen goes.more (subst (λ (w : World). All (IsTask w) goes.more) is goes.unready) in
+    All-same P new (goes.kept ++ goes.more) goes.after (All-append P goes.kept goes.more left added)
+
+-- the same after a read that found the history `read` and has ended
+pub still_ahead : WorkStays → {V : Type 0} (seen read now : List Entry) (old new : List Task) (world : World) (result : Result V AllocError)
+    → IsFront seen read → now ≡ read → world ≡ fold read → All (StaysOfWorld seen) old → OnOk result (GoesOnAhead world old new)
+    → OnOk result (All (StaysOfWorld now) new)
+still_ahead law seen read now old new world (Err refused) front same is all goes = tt
+still_ahead law seen read now old new world (Ok value) front same is all goes =
+    subst (λ (l : List Entry). All (StaysOfWorld l) new) (sym same)
+    (ahead_stays law read world old new is (stays_later seen read old front all) goes)

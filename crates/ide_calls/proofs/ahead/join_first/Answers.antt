@@ -1,0 +1,8 @@
+use Rattle.std.proofs.Common.{map}
+use Rattle.ide_calls.specs.Intake.{task_of_made}
+use Rattle.ide_calls.proofs.AheadLemmas.{joined}
+use Rattle.ide_calls.proofs.ahead.join_first.Goals as goal
+
+pub returns : goal.returns
+returns g c = joined (λ made. map task_of_made made.items) c.args.makings.now.items c.pop_front.new.self.items c.in_ok-pop_front.field-0 c.join.result
+    c.in_ok-pop_front.ensures.items c.join.ensures

@@ -1,0 +1,114 @@
+//! A part of the work of a settle, as a thread of its own does it: the index data of some files, one after another.
+ghost use Rattle.std.specs.Prelude.{◌≡◌, IfOk, IfSome, map};
+ghost use Rattle.std.specs.List.{All};
+ghost use Rattle.ide_calls.specs.Ahead.{IsTask, tasks_of};
+ghost use Rattle.ide_calls.specs.Choice.{task_of_job};
+ghost use Rattle.ide_calls.specs.Intake.{task_of_made};
+
+use ide_world::{Job, Made, State, job, make};
+use std::alloc::{AllocError, Global};
+use std::collections::VecDeque;
+use std::snapshot::Snapshot;
+use std::thread::{Promise, PromisedHandle, Threads, spawn_with};
+
+/// Files that cost so many characters are enough for one thread: some milliseconds of work.
+const ENOUGH: u32 = 262_144;
+
+/// What a file costs beside its text.
+const FILE: u32 = 256;
+
+/// So many files are enough, whatever their texts.
+const FILES: u32 = ENOUGH / FILE;
+
+/// A thread that makes the data of some files, in order.
+#[derive(Drop)]
+pub(crate) struct Making {
+    thread: PromisedHandle<Result<VecDeque<Made>, AllocError>, OfJobs>,
+}
+
+/// The promise that data are those of these jobs, in order.
+#[derive(Drop)]
+pub(crate) struct OfJobs {
+    jobs: Snapshot<Vec<Job>>,
+}
+
+impl Promise<Result<VecDeque<Made>, AllocError>> for OfJobs {
+    ghost use Rattle.std.specs.Prelude.{◌≡◌, IfOk, map};
+    ghost use Rattle.ide_calls.specs.Choice.{task_of_job};
+    ghost use Rattle.ide_calls.specs.Intake.{task_of_made};
+
+    ghost kept_by = { λ promise result. IfOk result (λ made. map task_of_made made.items ≡ map task_of_job promise.jobs.value.items) };
+}
+
+impl Making {
+    /// A thread that does jobs, or nothing where none can be started.
+    pub(crate) fn start<R: Threads>(rt: &R, alloc: Global, jobs: Vec<Job>) -> Option<Making>
+        ensures { IfSome result (λ making. tasks_of making ≡ map task_of_job jobs.items) }
+    {
+        let promise = OfJobs {
+            jobs: Snapshot::of(&jobs),
+        };
+        match spawn_with(rt, promise, move || make_all(alloc, jobs)) {
+            Ok(thread) => Some(Making { thread }),
+            Err(_) => None,
+        }
+    }
+
+    /// Waits for the thread, and gives the data, or nothing where it found no memory for them.
+    pub(crate) fn join<R: Threads>(self, rt: &R) -> Option<VecDeque<Made>>
+        ensures { IfSome result (λ made. map task_of_made made.items ≡ tasks_of self) }
+    {
+        self.thread.join(rt).ok()
+    }
+}
+
+/// Jobs of unready files in order of ids, and what they cost.
+#[derive(Drop)]
+pub(crate) struct Batch {
+    pub(crate) jobs: Vec<Job>,
+    pub(crate) cost: u32,
+    /// The id behind them.
+    pub(crate) end: u32,
+}
+
+/// The jobs of the unready files from an id on, until they are enough for a thread.
+pub(crate) fn batch_from(alloc: Global, state: &State, from: u32) -> Result<Batch, AllocError>
+    ensures { IfOk result (λ batch. All (IsTask state.now.world) (map task_of_job batch.jobs.items)) }
+{
+    let mut jobs = Vec::new(alloc);
+    let mut cost = 0u32;
+    let mut end = from;
+    for _ in 0..FILES {
+        if ENOUGH <= cost {
+            break;
+        }
+        let Some(job) = job_from(state, end)? else {
+            break;
+        };
+        cost = cost.saturating_add(FILE).saturating_add(job.text.len());
+        end = job.file.saturating_add(1);
+        jobs.push(job)?;
+    }
+    Ok(Batch { jobs, cost, end })
+}
+
+/// The job of the first unready file from an id on, where there is one.
+fn job_from(state: &State, from: u32) -> Result<Option<Job>, AllocError>
+    ensures { IfOk result (λ job. IfSome job (λ j. IsTask state.now.world (task_of_job j))) }
+{
+    match state.first_unready_from(from) {
+        Some(id) if from <= id => job(state, id),
+        _ => Ok(None),
+    }
+}
+
+/// The data of jobs, in order.
+fn make_all(alloc: Global, jobs: Vec<Job>) -> Result<VecDeque<Made>, AllocError>
+    ensures { IfOk result (λ made. map task_of_made made.items ≡ map task_of_job jobs.items) }
+{
+    let mut all = VecDeque::with_capacity(alloc, jobs.len())?;
+    for job in jobs {
+        all.push_back(make(alloc, job)?)?;
+    }
+    Ok(all)
+}
