@@ -8,10 +8,10 @@ use Rattle.atomic_table.proofs.Lists.{set_else}
 use Rattle.action_lock.specs.declared.view.Phase.TheVariants.{Out}
 use Rattle.action_lock.specs.declared.view.Ended.{Ended}
 use Rattle.action_lock.specs.declared.view.View.{View}
-use Rattle.action_lock.specs.Views.{Tally, weight, weight_in, tally, bit, number_count, number_is, leading, numbers, times, spent_view}
-use Rattle.action_lock.specs.Rule.{entries_of, IsSound, IsRecorded, IsGuarded, SeesAll}
+use Rattle.action_lock.specs.Views.{weight, weight_in, here, tally, bit, number_count, number_is, leading, numbers, times, spent_view}
+use Rattle.action_lock.specs.Rule.{entries_of, IsSound, IsRecorded, SeesAll}
 use Rattle.action_lock.specs.Steps.{joined, end_of}
-use Rattle.action_lock.proofs.Placing.{Rule, each_set}
+use Rattle.action_lock.proofs.Placing.{Rule, each_set, placed_same}
 use Rattle.list_laws.specs.Totals.{total}
 use Rattle.list_laws.specs.Fronts.{IsFront, longer}
 use Rattle.list_laws.proofs.TotalLemmas.{total-set, total-append}
@@ -43,15 +43,14 @@ module _ {E : Type 0} where
       let a = length-append v.ended (end_of w.number w ++ w.ended) in let b = length-append (end_of w.number w) w.ended in let c = end_length w.number w in omega arith
 
   -- nothing that is weighed changes, where the other weighs nothing
-  join_tally : (views : List (View E)) (id other : ℕ) (v w both : View E) → get_elem? views id ≡ some v → get_elem? (set views id both) other ≡ some w
-      → weight both ≡ weight v → weight w ≡ weight (spent_view {E = E}) → tally (set (set views id both) other spent_view) ≡ tally views
-  join_tally views id other v w both at there same none_there = λ k. record {
-    visitors = both_same (λ (u : View E). (weight u).visitors) views id other v w both spent_view at there (λ i. (same i).visitors + (sym none_there i).visitors) k;
-    writers = both_same (λ (u : View E). (weight u).writers) views id other v w both spent_view at there (λ i. (same i).writers + (sym none_there i).writers) k;
-    pendings = both_same (λ (u : View E). (weight u).pendings) views id other v w both spent_view at there (λ i. (same i).pendings + (sym none_there i).pendings) k;
-    readers = both_same (λ (u : View E). (weight u).readers) views id other v w both spent_view at there (λ i. (same i).readers + (sym none_there i).readers) k;
-    holders = both_same (λ (u : View E). (weight u).holders) views id other v w both spent_view at there (λ i. (same i).holders + (sym none_there i).holders) k;
-    intents = both_same (λ (u : View E). (weight u).intents) views id other v w both spent_view at there (λ i. (same i).intents + (sym none_there i).intents) k;
+  join_tally : (p : ℕ) (views : List (View E)) (id other : ℕ) (v w both : View E) → get_elem? views id ≡ some v → get_elem? (set views id both) other ≡ some w
+      → weight p both ≡ weight p v → weight p w ≡ weight p (spent_view {E = E}) → tally p (set (set views id both) other spent_view) ≡ tally p views
+  join_tally p views id other v w both at there same none_there = λ k. record {
+    visitors = both_same (λ (u : View E). (weight p u).visitors) views id other v w both spent_view at there (λ i. (same i).visitors + (sym none_there i).visitors) k;
+    writers = both_same (λ (u : View E). (weight p u).writers) views id other v w both spent_view at there (λ i. (same i).writers + (sym none_there i).writers) k;
+    pendings = both_same (λ (u : View E). (weight p u).pendings) views id other v w both spent_view at there (λ i. (same i).pendings + (sym none_there i).pendings) k;
+    readers = both_same (λ (u : View E). (weight p u).readers) views id other v w both spent_view at there (λ i. (same i).readers + (sym none_there i).readers) k;
+    holders = both_same (λ (u : View E). (weight p u).holders) views id other v w both spent_view at there (λ i. (same i).holders + (sym none_there i).holders) k;
   }
 
 module _ {E : Type 0} (number_of : E → ℕ) where
@@ -138,14 +137,16 @@ module _ {E : Type 0} (number_of : E → ℕ) where
             (each_set number_of history drawn vs id both (joined_sound history drawn v w n m has has' (r.each id v at) (r.each other w there') is) r.each);
       }
 
-module _ {H E : Type 0} (number_of : E → ℕ) (stands : H → List E → Type 0) where
+module _ {H S E : Type 0} (number_of : E → ℕ) (stands : H → List E → Type 0) (share_stands : S → List E → Type 0) where
   pub joins : (id : ℕ) (v : View E) (other : ℕ) (w : View E) (n m : ℕ) → v.number ≡ Some n → v.phase ≡ Out → w.number ≡ Some m → 0 < m → w.phase ≡ Out → w.intent ≡ false
-      → Joins (Rule number_of stands) id v other w (joined v w) spent_view
+      → Joins (Rule number_of stands share_stands) id v other w (joined v w) spent_view
   joins id v other w n m has is has' follows is' free s r at apart there =
       let there' : get_elem? s.views other ≡ some w = sym (set_else s.views id other (joined v w) apart) ∙ there in
       record {
         history = r.history;
         drawn = r.drawn;
         recorded = joined_recorded number_of r.history r.drawn s.views r.recorded id v other w n m at there' there has is has' follows;
-        guarded = subst (λ (t : Tally). IsGuarded stands r.history t s.words s.homes) (sym (join_tally s.views id other v w (joined v w) at there refl (λ k. weight_in (is' k) (bit (free k))))) r.guarded;
+        placed = placed_same stands share_stands r.history s (set (set s.views id (joined v w)) other spent_view) r.placed
+            (λ p. join_tally p s.views id other v w (joined v w) at there refl (ap (weight_in (here p w) p) is'))
+            (both_same (λ (u : View E). bit u.intent) s.views id other v w (joined v w) spent_view at there (λ k. bit v.intent + bit (sym free k)));
       }

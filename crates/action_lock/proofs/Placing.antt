@@ -1,16 +1,23 @@
--- What placing a view at a seat leaves of the rule: the numbers and entries stay, and the gate is left to the step.
-use Rattle.std.proofs.Common.{◌≡◌, ◌≢◌, ℕ, ◌+◌, ◌<◌, List, length, get_or, set, sym, ap, ◌∙◌, subst, ⊎_elim, All, eqb}
-use mathlib.Core.Option.{some}
+-- What placing a view at a seat leaves of the rule: a step at one place leaves all the others as they are.
+use Rattle.std.proofs.Common.{◌≡◌, ◌≢◌, ℕ, ◌+◌, ◌<◌, ◌≤◌, Bool, true, false, List, length, get_or, set, refl, sym, ap, ◌∙◌, subst, ⊎_elim, arith, All, eqb, eqb-true}
+use mathlib.Core.Option.{some, none}
 use mathlib.Core.Option as maybe
 use lib.ListN.{get_elem?}
 use lib.Seq.{set-get_or}
+use Rattle.std.proofs.lemmas.Bool.{eqb-false}
 use Rattle.atomic_table.specs.Table.{State}
-use Rattle.atomic_table.proofs.Lists.{at_set}
+use Rattle.atomic_table.proofs.Lists.{at_set, set_else}
+use Rattle.action_lock.specs.declared.slot.Slot.{Slot}
 use Rattle.action_lock.specs.declared.view.Ended.{Ended}
 use Rattle.action_lock.specs.declared.view.View.{View}
-use Rattle.action_lock.specs.Views.{Tally, weight, tally, bit, number_count, number_is, leading, numbers, times}
-use Rattle.action_lock.specs.Rule.{gate_word, IsSound, IsRecorded, IsGuarded, IsKept}
-use Rattle.action_lock.proofs.Tallies.{Bounds, bounds, same_tally}
+use Rattle.action_lock.specs.Slots.{MayKeep}
+use Rattle.action_lock.specs.Words.{word_at, count, intents, home_slot}
+use Rattle.action_lock.specs.Views.{Tally, weight, tally, intending, bit, number_count, number_is, leading, numbers, times}
+use Rattle.action_lock.specs.Rule.{turns, gate_word, IsSound, IsRecorded, IsGuarded, IsHoused, IsPlaced, IsKept}
+use Rattle.action_lock.proofs.Lookups.{there_set, read_there}
+use Rattle.action_lock.proofs.Weights.{weighs_same}
+use Rattle.action_lock.proofs.Tallies.{Bounds, bounds, same_tally, same_intents}
+use Rattle.action_lock.proofs.Guards.{stays, goes_out, comes_home}
 use Rattle.list_laws.specs.Totals.{total}
 use Rattle.list_laws.proofs.TotalLemmas.{total-same}
 
@@ -37,42 +44,113 @@ module _ {E : Type 0} (number_of : E → ℕ) where
       → w.number ≡ v.number → w.ended ≡ v.ended → IsSound number_of history drawn w → IsRecorded number_of history drawn (set vs id w)
   recorded_set history drawn vs r id v w at number ended sound = recorded_as history history drawn vs r id v w at number ended r.known (each_set history drawn vs id w sound r.each)
 
-module _ {H E : Type 0} (number_of : E → ℕ) (stands : H → List E → Type 0) where
-  abbrev pub Rule : State H (View E) → Type 0
-  Rule = IsKept number_of stands
+-- the words of two places are two
+word_apart : (p q : ℕ) → p ≢ q → word_at p ≢ word_at q
+word_apart p q apart e = apart (omega arith)
 
-  -- the gate of a state
-  abbrev pub Gate : List E → State H (View E) → Type 0
-  Gate history s = IsGuarded stands history (tally s.views) s.words s.homes
+module _ {H S E : Type 0} (stands : H → List E → Type 0) (share_stands : S → List E → Type 0) where
+  -- the places where views changed that weigh the same
+  pub placed_same : (history : List E) (s : State (Slot H S) (View E)) (views : List (View E)) → IsPlaced stands share_stands history s
+      → ((p : ℕ) → tally p views ≡ tally p s.views) → intending views ≡ intending s.views → IsPlaced stands share_stands history record { words = s.words; homes = s.homes; views = views }
+  placed_same history s views placed same intents_same = record {
+    each = λ p l. subst (λ t. IsGuarded share_stands history t (get_elem? s.words (word_at p)) (get_elem? s.homes p)) (sym (same p)) (placed.each p l);
+    home = subst (λ t. IsHoused stands history t (get_elem? s.homes home_slot)) (sym (ap (λ (t : Tally). t.writers) (same 0))) placed.home;
+    intents_are = placed.intents_are ∙ ap some (sym intents_same);
+    one_intent = subst (λ n. n ≤ 1) (sym intents_same) placed.one_intent;
+    count_is = placed.count_is;
+  }
+
+module _ {H S E : Type 0} (number_of : E → ℕ) (stands : H → List E → Type 0) (share_stands : S → List E → Type 0) where
+  abbrev pub Rule : State (Slot H S) (View E) → Type 0
+  Rule = IsKept number_of stands share_stands
 
   -- a step that changes no word, no phase and no intent
-  pub quiet : (s : State H (View E)) (r : Rule s) (i id : ℕ) (v w : View E) → get_elem? s.views id ≡ some v
-      → w.number ≡ v.number → w.ended ≡ v.ended → weight w ≡ weight v → IsSound number_of r.history r.drawn w
+  pub quiet : (s : State (Slot H S) (View E)) (r : Rule s) (i id : ℕ) (v w : View E) → get_elem? s.views id ≡ some v
+      → w.number ≡ v.number → w.ended ≡ v.ended → w.phase ≡ v.phase → w.intent ≡ v.intent → IsSound number_of r.history r.drawn w
       → Rule record { words = set s.words i (get_or s.words i 0); homes = s.homes; views = set s.views id w }
-  quiet s r i id v w at number ended same sound = record {
+  quiet s r i id v w at number ended phase intent sound = record {
     history = r.history;
     drawn = r.drawn;
     recorded = recorded_set number_of r.history r.drawn s.views r.recorded id v w at number ended sound;
-    guarded = subst (λ (z : Tally × List ℕ). IsGuarded stands r.history z.0 z.1 s.homes) (λ k. (sym (same_tally s.views id v w at same) k, sym (set-get_or s.words i 0) k)) r.guarded;
+    placed = subst (λ (z : List ℕ). IsPlaced stands share_stands r.history record { words = z; homes = s.homes; views = set s.views id w }) (sym (set-get_or s.words i 0))
+        (placed_same stands share_stands r.history s (set s.views id w) r.placed (λ p. same_tally p s.views id v w at (weighs_same v w phase number p)) (same_intents s.views id v w at intent));
   }
 
-  -- a step that leaves the gate in order
-  pub moved : (s : State H (View E)) (r : Rule s) (id : ℕ) (v w : View E) (words : List ℕ) (homes : List (maybe.Option H)) → get_elem? s.views id ≡ some v
-      → w.number ≡ v.number → w.ended ≡ v.ended → IsSound number_of r.history r.drawn w → IsGuarded stands r.history (tally (set s.views id w)) words homes
-      → Rule record { words = words; homes = homes; views = set s.views id w }
-  moved s r id v w words homes at number ended sound guarded = record {
-    history = r.history;
-    drawn = r.drawn;
-    recorded = recorded_set number_of r.history r.drawn s.views r.recorded id v w at number ended sound;
-    guarded = guarded;
-  }
+  -- the word of a place of a state that keeps the rule
+  pub gate_is : (s : State (Slot H S) (View E)) (r : Rule s) (p : ℕ) → p < 32 → get_or s.words (word_at p) 0 ≡ gate_word (tally p s.views)
+  gate_is s r p l = read_there s.words (word_at p) (gate_word (tally p s.views)) 0 (r.placed.each p l).word_is
 
-  -- the words of a state that keeps the rule
-  pub gate_is : (s : State H (View E)) → Rule s → get_or s.words 0 0 ≡ gate_word (tally s.views)
-  gate_is s r = ap (λ (ws : List ℕ). get_or ws 0 0) r.guarded.words_are
+  pub intents_are : (s : State (Slot H S) (View E)) (r : Rule s) → get_or s.words intents 0 ≡ intending s.views
+  intents_are s r = read_there s.words intents (intending s.views) 0 r.placed.intents_are
 
-  pub intents_are : (s : State H (View E)) → Rule s → get_or s.words 1 0 ≡ (tally s.views).intents
-  intents_are s r = ap (λ (ws : List ℕ). get_or ws 1 0) r.guarded.words_are
+  pub few : (s : State (Slot H S) (View E)) (r : Rule s) (p : ℕ) → Bounds (tally p s.views) (intending s.views)
+  few s r p = bounds p number_of r.history r.drawn s.views r.recorded
 
-  pub few : (s : State H (View E)) (r : Rule s) → Bounds (tally s.views)
-  few s r = bounds number_of r.history r.drawn s.views r.recorded
+  module _ (s : State (Slot H S) (View E)) (r : Rule s) (q : ℕ) (within : q < 32) (id : ℕ) (v w : View E) (at : get_elem? s.views id ≡ some v)
+      (number : w.number ≡ v.number) (ended : w.ended ≡ v.ended) (intent : w.intent ≡ v.intent) (sound : IsSound number_of r.history r.drawn w)
+      (elsewhere : (p : ℕ) → p < 32 → p ≢ q → weight p w ≡ weight p v) (n : ℕ) where
+    -- a step at a place: the others are as they were
+    pub moved_at : (homes : List (maybe.Option (Slot H S))) → ((j : ℕ) → j < 32 → j ≢ q → get_elem? homes j ≡ get_elem? s.homes j)
+        → IsGuarded share_stands r.history (tally q (set s.views id w)) (some n) (get_elem? homes q)
+        → IsHoused stands r.history (tally 0 (set s.views id w)).writers (get_elem? homes home_slot)
+        → Rule record { words = set s.words (word_at q) n; homes = homes; views = set s.views id w }
+    moved_at homes kept guarded housed = record {
+      history = r.history;
+      drawn = r.drawn;
+      recorded = recorded_set number_of r.history r.drawn s.views r.recorded id v w at number ended sound;
+      placed = record {
+        each = λ p l. by_place p l (eqb p q) refl;
+        home = housed;
+        intents_are = set_else s.words (word_at q) intents n (λ e. omega arith) ∙ (r.placed.intents_are ∙ ap some (sym intents_same));
+        one_intent = subst (λ x. x ≤ 1) (sym intents_same) r.placed.one_intent;
+        count_is = set_else s.words (word_at q) count n (λ e. omega arith) ∙ r.placed.count_is;
+      };
+    }
+      where
+        intents_same : intending (set s.views id w) ≡ intending s.views
+        intents_same = same_intents s.views id v w at intent
+
+        by_place : (p : ℕ) → p < 32 → (b : Bool) → eqb p q ≡ b
+            → IsGuarded share_stands r.history (tally p (set s.views id w)) (get_elem? (set s.words (word_at q) n) (word_at p)) (get_elem? homes p)
+        by_place p l true e =
+            subst (λ x. IsGuarded share_stands r.history (tally x (set s.views id w)) (get_elem? (set s.words (word_at q) n) (word_at x)) (get_elem? homes x)) (sym (eqb-true p q e))
+            (subst (λ word. IsGuarded share_stands r.history (tally q (set s.views id w)) word (get_elem? homes q))
+            (sym (there_set s.words (word_at q) (gate_word (tally q s.views)) n (r.placed.each q within).word_is)) guarded)
+        by_place p l false e = let apart : p ≢ q = eqb-false p q e in
+            subst (λ (z : Tally × (maybe.Option ℕ × maybe.Option (maybe.Option (Slot H S)))). IsGuarded share_stands r.history z.0 z.1.0 z.1.1)
+            (λ k. (sym (same_tally p s.views id v w at (elsewhere p l apart)) k, (sym (set_else s.words (word_at q) (word_at p) n (word_apart p q apart)) k, sym (kept p l apart) k)))
+            (r.placed.each p l)
+
+    -- the home value where it was
+    pub home_same : (homes : List (maybe.Option (Slot H S))) → (weight 0 w).writers ≡ (weight 0 v).writers → get_elem? homes home_slot ≡ get_elem? s.homes home_slot
+        → IsHoused stands r.history (tally 0 (set s.views id w)).writers (get_elem? homes home_slot)
+    home_same homes same there = subst (λ (z : ℕ × maybe.Option (maybe.Option (Slot H S))). IsHoused stands r.history z.0 z.1)
+        (λ k. (sym (total-same (λ (u : View E). (weight 0 u).writers) s.views id v w at same) k, sym there k)) r.placed.home
+
+    -- what the place keeps stays
+    pub moved_still : (weight 0 w).writers ≡ (weight 0 v).writers → n ≡ gate_word (tally q (set s.views id w)) → turns (tally q (set s.views id w)) ≤ 1
+        → (0 < (tally q (set s.views id w)).writers → (tally q (set s.views id w)).readers ≡ 0) → (tally q (set s.views id w)).holders ≡ (tally q s.views).holders
+        → Rule record { words = set s.words (word_at q) n; homes = s.homes; views = set s.views id w }
+    moved_still writers is one alone held = moved_at s.homes (λ j l apart. refl)
+        (stays share_stands (tally q (set s.views id w)) n is one alone r.history (tally q s.views) (get_elem? s.words (word_at q)) (get_elem? s.homes q) (r.placed.each q within) held)
+        (home_same s.homes writers refl)
+
+    -- what it keeps goes out
+    pub moved_out : (kept : Slot H S) → get_elem? s.homes q ≡ some (some kept) → (weight 0 w).writers ≡ (weight 0 v).writers → n ≡ gate_word (tally q (set s.views id w))
+        → turns (tally q (set s.views id w)) ≤ 1 → (0 < (tally q (set s.views id w)).writers → (tally q (set s.views id w)).readers ≡ 0) → 0 < (tally q (set s.views id w)).holders
+        → Rule record { words = set s.words (word_at q) n; homes = set s.homes q none; views = set s.views id w }
+    moved_out kept there writers is one alone held = moved_at (set s.homes q none) (λ j l apart. set_else s.homes q j none apart)
+        (goes_out share_stands (tally q (set s.views id w)) n is one alone r.history (get_elem? (set s.homes q none) q) (there_set s.homes q (some kept) none there) held)
+        (home_same (set s.homes q none) writers (set_else s.homes q home_slot none (λ e. omega arith)))
+
+    -- it comes home
+    pub moved_home : (homes : List (maybe.Option (Slot H S))) (kept : Slot H S) → homes ≡ set s.homes q (some kept) → 0 < (tally q s.views).holders → MayKeep share_stands r.history kept
+        → (weight 0 w).writers ≡ (weight 0 v).writers → n ≡ gate_word (tally q (set s.views id w))
+        → turns (tally q (set s.views id w)) ≤ 1 → (0 < (tally q (set s.views id w)).writers → (tally q (set s.views id w)).readers ≡ 0) → (tally q (set s.views id w)).holders ≡ 0
+        → Rule record { words = set s.words (word_at q) n; homes = homes; views = set s.views id w }
+    moved_home homes kept same held stood writers is one alone free =
+        subst (λ hs. Rule record { words = set s.words (word_at q) n; homes = hs; views = set s.views id w }) (sym same)
+        (moved_at (set s.homes q (some kept)) (λ j l apart. set_else s.homes q j (some kept) apart)
+        (comes_home share_stands (tally q (set s.views id w)) n is one alone r.history (get_elem? (set s.homes q (some kept)) q) kept
+        (there_set s.homes q none (some kept) ((r.placed.each q within).away held)) stood free)
+        (home_same (set s.homes q (some kept)) writers (set_else s.homes q home_slot (some kept) (λ e. omega arith))))

@@ -3,7 +3,7 @@ use Rattle.std.proofs.Common.{◌≡◌, ℕ, ◌<◌, Bool, true, List, refl, s
 use Rattle.action_lock.specs.declared.view.Phase.{Phase}
 use Rattle.action_lock.specs.declared.view.Ended.{Ended}
 use Rattle.action_lock.specs.declared.view.View.{View}
-use Rattle.action_lock.specs.Views.{weight_in, bit}
+use Rattle.action_lock.specs.Views.{writes}
 use Rattle.action_lock.specs.Rule.{entries_of, IsSound, SeesAll}
 use Rattle.action_lock.specs.Steps.{Learns, told}
 use Rattle.list_laws.specs.Fronts.{IsFront}
@@ -16,7 +16,7 @@ module _ {E : Type 0} (number_of : E → ℕ) (history : List E) (drawn : ℕ) w
   -- another phase and other marks, and other counts
   pub renewed : (v : View E) (n : ℕ) → v.number ≡ Some n → IsSound number_of history drawn v
       → (phase : Phase) (intent current : Bool) (looks held sights last : ℕ)
-      → (0 < (weight_in phase (bit intent)).pendings → intent ≡ true) → (current ≡ true → (intent ≡ true) × (v.seen ≡ history)) → SeesAll phase (v.seen ≡ history)
+      → (0 < writes phase → intent ≡ true) → (current ≡ true → (intent ≡ true) × (v.seen ≡ history)) → SeesAll phase (v.seen ≡ history)
       → IsSound number_of history drawn (record v { phase = phase; intent = intent; current = current; looks = looks; held = held; sights = sights; last = last })
   renewed v n has sound phase intent current looks held sights last asks is_current entered = record {
     spent = λ none_there. absurd (some_number v.number n has none_there);
@@ -53,7 +53,7 @@ module _ {E : Type 0} (number_of : E → ℕ) (history : List E) (drawn : ℕ) w
 
   -- all of the history is seen
   pub entered : (v : View E) (n : ℕ) → v.number ≡ Some n → IsSound number_of history drawn v
-      → (phase : Phase) (current : Bool) (looks checks earlier last : ℕ) (reads : List ℕ) → (0 < (weight_in phase (bit v.intent)).pendings → v.intent ≡ true) → (current ≡ true → v.intent ≡ true) → SeesAll phase (history ≡ history)
+      → (phase : Phase) (current : Bool) (looks checks earlier last : ℕ) (reads : List ℕ) → (0 < writes phase → v.intent ≡ true) → (current ≡ true → v.intent ≡ true) → SeesAll phase (history ≡ history)
       → IsSound number_of history drawn (record v { phase = phase; current = current; seen = history; reads = reads; looks = looks; checks = checks; earlier_checks = earlier; last = last })
   entered v n has sound phase current looks checks earlier last reads asks intends sees = record {
     spent = λ none_there. absurd (some_number v.number n has none_there);

@@ -6,10 +6,10 @@ use Rattle.std.proofs.lemmas.Bool.Decides.{nat_tests}
 use Rattle.atomic_table.specs.Table.{Splits}
 use Rattle.atomic_table.proofs.Lists.{at_set, at_snoc}
 use Rattle.action_lock.specs.declared.view.View.{View}
-use Rattle.action_lock.specs.Views.{Tally, weight, tally, bit, number_count, number_is, leading, numbers, times}
-use Rattle.action_lock.specs.Rule.{entries_of, IsSound, IsRecorded, IsGuarded}
+use Rattle.action_lock.specs.Views.{weight, tally, bit, number_count, number_is, leading, numbers, times}
+use Rattle.action_lock.specs.Rule.{entries_of, IsSound, IsRecorded}
 use Rattle.action_lock.specs.Steps.{splitting, split_off}
-use Rattle.action_lock.proofs.Placing.{Rule}
+use Rattle.action_lock.proofs.Placing.{Rule, placed_same}
 use Rattle.list_laws.specs.Totals.{total}
 use Rattle.list_laws.proofs.TotalLemmas.{total-same, total-at, total-two, total-append}
 use Rattle.list_laws.proofs.FrontLemmas.{front_all, filter_none, All-weaken}
@@ -28,15 +28,14 @@ module _ {E : Type 0} where
       let a = total-append f (set views id left) (right ∷ []) in let b = total-same f views id v left at same in omega arith
 
   -- nothing that is weighed changes
-  split_tally : (views : List (View E)) (id : ℕ) (v left right : View E) → get_elem? views id ≡ some v → weight left ≡ weight v → weight right ≡ weight (split_off v)
-      → tally (set views id left ++ right ∷ []) ≡ tally views
-  split_tally views id v left right at same none_more = λ k. record {
-    visitors = unchanged (λ (u : View E). (weight u).visitors) views id v left right at (ap (λ t. t.visitors) same) (ap (λ t. t.visitors) none_more) k;
-    writers = unchanged (λ (u : View E). (weight u).writers) views id v left right at (ap (λ t. t.writers) same) (ap (λ t. t.writers) none_more) k;
-    pendings = unchanged (λ (u : View E). (weight u).pendings) views id v left right at (ap (λ t. t.pendings) same) (ap (λ t. t.pendings) none_more) k;
-    readers = unchanged (λ (u : View E). (weight u).readers) views id v left right at (ap (λ t. t.readers) same) (ap (λ t. t.readers) none_more) k;
-    holders = unchanged (λ (u : View E). (weight u).holders) views id v left right at (ap (λ t. t.holders) same) (ap (λ t. t.holders) none_more) k;
-    intents = unchanged (λ (u : View E). (weight u).intents) views id v left right at (ap (λ t. t.intents) same) (ap (λ t. t.intents) none_more) k;
+  split_tally : (p : ℕ) (views : List (View E)) (id : ℕ) (v left right : View E) → get_elem? views id ≡ some v → weight p left ≡ weight p v → weight p right ≡ weight p (split_off v)
+      → tally p (set views id left ++ right ∷ []) ≡ tally p views
+  split_tally p views id v left right at same none_more = λ k. record {
+    visitors = unchanged (λ (u : View E). (weight p u).visitors) views id v left right at (ap (λ t. t.visitors) same) (ap (λ t. t.visitors) none_more) k;
+    writers = unchanged (λ (u : View E). (weight p u).writers) views id v left right at (ap (λ t. t.writers) same) (ap (λ t. t.writers) none_more) k;
+    pendings = unchanged (λ (u : View E). (weight p u).pendings) views id v left right at (ap (λ t. t.pendings) same) (ap (λ t. t.pendings) none_more) k;
+    readers = unchanged (λ (u : View E). (weight p u).readers) views id v left right at (ap (λ t. t.readers) same) (ap (λ t. t.readers) none_more) k;
+    holders = unchanged (λ (u : View E). (weight p u).holders) views id v left right at (ap (λ t. t.holders) same) (ap (λ t. t.holders) none_more) k;
   }
 
 one_more : (n d : ℕ) → bit (nat_lt n d) + bit (eqb d n) ≡ bit (nat_lt n (d + 1))
@@ -128,11 +127,12 @@ module _ {E : Type 0} (number_of : E → ℕ) where
               (at_snoc (set vs id left) right u j e);
         }
 
-module _ {H E : Type 0} (number_of : E → ℕ) (stands : H → List E → Type 0) where
-  pub splits : (id : ℕ) (v : View E) → v.number ≡ Some 0 → v.drawn < 65536 → Splits (Rule number_of stands) id v (splitting v) (split_off v)
+module _ {H S E : Type 0} (number_of : E → ℕ) (stands : H → List E → Type 0) (share_stands : S → List E → Type 0) where
+  pub splits : (id : ℕ) (v : View E) → v.number ≡ Some 0 → v.drawn < 65536 → Splits (Rule number_of stands share_stands) id v (splitting v) (split_off v)
   splits id v leads room s r at = record {
     history = r.history;
     drawn = r.drawn + 1;
     recorded = split_recorded number_of r.history r.drawn s.views r.recorded id v leads at room;
-    guarded = subst (λ (t : Tally). IsGuarded stands r.history t s.words s.homes) (sym (split_tally s.views id v (splitting v) (split_off v) at refl refl)) r.guarded;
+    placed = placed_same stands share_stands r.history s (set s.views id (splitting v) ++ split_off v ∷ []) r.placed (λ p. split_tally p s.views id v (splitting v) (split_off v) at refl refl)
+        (unchanged (λ (u : View E). bit u.intent) s.views id v (splitting v) (split_off v) at refl refl);
   }

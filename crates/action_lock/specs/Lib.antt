@@ -1,6 +1,7 @@
 -- What callers rest on
 pub mod Counts
 pub mod Words
+pub mod Slots
 pub mod Views
 pub mod Advances
 pub mod Passes

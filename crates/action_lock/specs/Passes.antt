@@ -1,11 +1,16 @@
 -- What contracts see of a pass.
-use Rattle.std.specs.Prelude.{◌≡◌, ◌+◌, List, [], ◌∷◌, ◌++◌, length, true, false, Some, None}
+use Rattle.std.specs.Prelude.{◌≡◌, ◌⊎◌, ℕ, ◌+◌, List, [], ◌∷◌, ◌++◌, length, true, false, Some, None}
 use Rattle.action_lock.specs.declared.home.Home.{Ghosts}
 use Rattle.action_lock.specs.declared.view.Phase.{Phase}
-use Rattle.action_lock.specs.declared.view.Phase.TheVariants.{Out, Entering, Reading, Asking, Writing}
+use Rattle.action_lock.specs.declared.view.Phase.TheVariants.{Out, Entering, Lacking, Reading}
 use Rattle.action_lock.specs.declared.view.View.{View}
 use Rattle.action_lock.specs.declared.pass.Pass.{Pass}
 use Rattle.action_lock.specs.declared.lock.ActionLock.{ActionLock}
+use Rattle.action_lock.specs.declared.slot.Slot.{Slot}
+use Rattle.action_lock.specs.declared.slot.Slot.TheVariants.{Home, Share, Empty}
+use Rattle.action_lock.specs.Slots.{shut_hand}
+use Rattle.action_lock.specs.Words.{own_place}
+use Rattle.action_lock.specs.Views.{Writing}
 
 -- the view is that of number 0, and every other number that was given was met into it
 pub record IsLast {E : Type 0} (v : View E) : Type 0 where
@@ -45,14 +50,25 @@ module _ {H E S : Type 0} {g : Ghosts H E S} where
     pub at : IsAt l p Reading
     pub has : HasShare p
 
-  -- the pass is on its way in: it has the home value in hand, which stands for all that it has seen
+  -- the pass is on its way in: it has its place's share in hand, which stands for all that it has seen
   pub record IsEntering (l : ActionLock H E S) (p : Pass H E S g) : Type 0 where
-    pub home : H
+    pub share : S
     pub table : p.seat.table_id ≡ l.table.shared.table_id
     pub phase : (view_of p).phase ≡ Entering
     pub told : (view_of p).olds ≡ []
-    pub hand : p.seat.me.1 ≡ (0, home) ∷ []
-    pub stands : g.stands home (view_of p).seen
+    pub hand : p.seat.me.1 ≡ (own_place (view_of p).number, Share share) ∷ []
+    pub stands : g.share_stands share (view_of p).seen
+
+  -- the pass has found no share at its place, and has the empty slot in hand
+  pub record IsLacking (l : ActionLock H E S) (p : Pass H E S g) : Type 0 where
+    pub table : p.seat.table_id ≡ l.table.shared.table_id
+    pub phase : (view_of p).phase ≡ Lacking
+    pub told : (view_of p).olds ≡ []
+    pub hand : p.seat.me.1 ≡ (own_place (view_of p).number, Empty) ∷ []
+
+  -- the pass has the turn of its place, and what the place keeps in hand: a share, or nothing
+  abbrev pub HasFound : ActionLock H E S → Pass H E S g → Type 0
+  HasFound l p = IsEntering l p ⊎ IsLacking l p
 
   -- the pass is one of this lock and at rest: out, with no intent
   pub record IsPassOf (l : ActionLock H E S) (p : Pass H E S g) : Type 0 where
@@ -65,15 +81,18 @@ module _ {H E S : Type 0} {g : Ghosts H E S} where
     pub out : IsOut l p
     pub intent : (view_of p).intent ≡ true
 
-  -- the pass has set the pending mark, and waits for the readers to leave
-  pub record IsAsking (l : ActionLock H E S) (p : Pass H E S g) : Type 0 where
-    pub at : IsAt l p Asking
-    pub no_share : p.share ≡ None
+  -- the pass is one of this lock and in this phase of a write, with this in hand
+  pub record IsWriting (l : ActionLock H E S) (p : Pass H E S g) (expected : Phase) (hand : List (ℕ × Slot H S)) : Type 0 where
+    pub table : p.seat.table_id ≡ l.table.shared.table_id
+    pub phase : (view_of p).phase ≡ expected
+    pub hand_is : p.seat.me.1 ≡ hand
     pub intent : (view_of p).intent ≡ true
+    pub told : (view_of p).olds ≡ []
+    pub no_share : p.share ≡ None
 
-  -- this home value is in the pass's hand
+  -- this home value is in the pass's hand, before the empty slots of the places that it has shut
   abbrev pub InHand : Pass H E S g → H → Type 0
-  InHand p home = p.seat.me.1 ≡ (0, home) ∷ []
+  InHand p home = p.seat.me.1 ≡ (31, Home home) ∷ shut_hand 31
 
   -- the pass is one of this lock and writes: it has the home value in hand
   pub record Writes (l : ActionLock H E S) (p : Pass H E S g) : Type 0 where

@@ -10,7 +10,7 @@ use Rattle.action_lock.specs.Views.{all_checks}
 use Rattle.action_lock.specs.Steps.{Learns, looked, entering, writing, with_phase}
 
 module _ {E : Type 0} where
-  -- the pass has looked at the gate, and learned nothing else
+  -- the pass has looked at its place's word, and learned nothing else
   pub record HasLooked (v w : View E) : Type 0 where
     pub same : w ≡ record v { looks = w.looks; checks = w.checks; last = w.last; sights = w.sights }
     pub looks : v.looks ≤ w.looks
@@ -36,7 +36,7 @@ module _ {E : Type 0} where
     IsRefused (Turn word) v w = (has_pending word ≡ false) × (has_turn word ≡ true) × (w ≡ looked word v)
     IsRefused OutOfMemory v w = HasFailed v w
 
-  -- the pass was let in, and has looked at the gate in the last of its reads
+  -- the pass was let in, and has looked at its place's word in the last of its reads
   pub record HasChecked (v w : View E) : Type 0 where
     pub earlier : all_checks v ≤ w.earlier_checks
     pub some : 0 < w.checks

@@ -1,22 +1,26 @@
--- The rule: what holds of the words, the home value and all views between any two steps.
-use Rattle.std.specs.Prelude.{◌≡◌, ℕ, ◌+◌, ◌*◌, ◌<◌, ◌≤◌, true, nat_lt, ◌==◌, List, [], ◌∷◌, filter, Some, None, All}
+-- The rule: what holds of the words, the slots and all views between any two steps.
+use Rattle.std.specs.Prelude.{◌≡◌, ℕ, ◌+◌, ◌*◌, ◌%◌, ◌^◌, ◌<◌, ◌≤◌, true, nat_lt, ◌==◌, List, filter, length, Some, None, All}
 use mathlib.Core.Option.{some, none}
 use mathlib.Core.Option as maybe
 use lib.ListN.{get_elem?}
 use Rattle.atomic_table.specs.Table.{State}
+use Rattle.action_lock.specs.declared.slot.Slot.{Slot}
+use Rattle.action_lock.specs.declared.slot.Slot.TheVariants.{Home}
 use Rattle.action_lock.specs.declared.view.Phase.{Phase}
-use Rattle.action_lock.specs.declared.view.Phase.TheVariants.{Out, Entering, Backing, Reading, Asking, Writing}
+use Rattle.action_lock.specs.declared.view.Phase.TheVariants.{Out, Entering, Lacking, Backing, Reading, Marking, Shutting, Opening}
 use Rattle.action_lock.specs.declared.view.Ended.{Ended}
 use Rattle.action_lock.specs.declared.view.View.{View}
-use Rattle.action_lock.specs.Views.{Tally, weight, tally, leading, numbers, times, bit, spent_view}
+use Rattle.action_lock.specs.Slots.{MayKeep}
+use Rattle.action_lock.specs.Words.{count, intents, word_at, home_slot}
+use Rattle.action_lock.specs.Views.{Tally, tally, writes, intending, leading, numbers, times, bit, spent_view}
 use Rattle.list_laws.specs.Totals.{total}
 use Rattle.list_laws.specs.Fronts.{IsFront}
 
--- how many views of such a tally have the turn
+-- how many views have the turn of a place where they weigh so much
 abbrev pub turns : Tally → ℕ
 turns t = t.visitors + t.writers
 
--- the gate word of views that weigh so much
+-- the word of a place where the views weigh so much
 abbrev pub gate_word : Tally → ℕ
 gate_word t = turns t + 2 * t.writers + 4 * t.pendings + 8 * t.readers
 
@@ -24,10 +28,12 @@ gate_word t = turns t + 2 * t.writers + 4 * t.pendings + 8 * t.readers
 abbrev pub SeesAll : Phase → Type 0 → Type 0
 SeesAll Out whole = Unit {0}
 SeesAll Entering whole = whole
+SeesAll Lacking whole = Unit {0}
 SeesAll Backing whole = Unit {0}
 SeesAll Reading whole = whole
-SeesAll Asking whole = Unit {0}
-SeesAll Writing whole = whole
+SeesAll (Marking k) whole = Unit {0}
+SeesAll (Shutting k) whole = whole
+SeesAll (Opening k) whole = whole
 
 module _ {E : Type 0} (number_of : E → ℕ) where
   -- the entries that the pass with this number made
@@ -41,8 +47,8 @@ module _ {E : Type 0} (number_of : E → ℕ) where
       pub spent : v.number ≡ None → v ≡ spent_view
       -- the view of number 0 knows how many numbers were given
       pub counts : v.number ≡ Some 0 → v.drawn ≡ drawn
-      -- only a holder of the intent asks or writes
-      pub asks : 0 < (weight v).pendings → v.intent ≡ true
+      -- only a holder of the intent marks, shuts and opens places
+      pub asks : 0 < writes v.phase → v.intent ≡ true
       -- only a holder of the intent stays current
       pub current_intends : v.current ≡ true → v.intent ≡ true
       -- the history begins with what was seen
@@ -73,28 +79,48 @@ module _ {E : Type 0} (number_of : E → ℕ) where
       -- each view is sound
       pub each : (seat : ℕ) (v : View E) → get_elem? views seat ≡ some v → IsSound v
 
-module _ {H E : Type 0} (stands : H → List E → Type 0) where
-  -- The gate: the words and the home value of views that weigh so much, beside the history
-  pub record IsGuarded (history : List E) (t : Tally) (words : List ℕ) (homes : List (maybe.Option H)) : Type 0 where
-    -- the gate word counts the turn, the writer, the pending mark and the readers, and the intent word the holders of intent
-    pub words_are : words ≡ gate_word t ∷ t.intents ∷ []
+module _ {H S E : Type 0} (share_stands : S → List E → Type 0) where
+  -- A place: its word and its slot, where the views weigh so much, beside the history
+  pub record IsGuarded (history : List E) (t : Tally) (word : maybe.Option ℕ) (slot : maybe.Option (maybe.Option (Slot H S))) : Type 0 where
+    -- the word counts the turn, the writer, the pending mark and the readers
+    pub word_is : word ≡ some (gate_word t)
     -- one view at most has the turn: it enters, goes back or writes
     pub one_turn : turns t ≤ 1
-    -- one view at most has the intent
-    pub one_intent : t.intents ≤ 1
-    -- while one writes, no view is in; and none is on its way in or back, since the writer has the turn
+    -- while the writer has the place shut, no view is in; and none is on its way in or back, since the writer has the turn
     pub write_alone : 0 < t.writers → t.readers ≡ 0
-    -- the home value is at home where no view has it, and then it stands for the history
-    pub at_home : t.holders ≡ 0 → (home : H) × (homes ≡ some home ∷ []) × stands home history
+    -- what the place keeps is at home where no view has it, and then it is a share that stands for the history, or nothing
+    pub at_home : t.holders ≡ 0 → (kept : Slot H S) × (slot ≡ some (some kept)) × MayKeep share_stands history kept
     -- and else it is out
-    pub away : 0 < t.holders → homes ≡ none ∷ []
+    pub away : 0 < t.holders → slot ≡ some none
 
-module _ {H E : Type 0} (number_of : E → ℕ) (stands : H → List E → Type 0) where
-  -- The rule: there is a history, with which the numbers and entries, and the gate, are in order
-  pub record IsKept (s : State H (View E)) : Type 0 where
+module _ {H S E : Type 0} (stands : H → List E → Type 0) where
+  -- The home value: its slot, where so many views have the first place shut, beside the history
+  pub record IsHoused (history : List E) (writers : ℕ) (slot : maybe.Option (maybe.Option (Slot H S))) : Type 0 where
+    -- it is at home where none has, and then it stands for the history
+    pub at_home : writers ≡ 0 → (home : H) × (slot ≡ some (some (Home home))) × stands home history
+    -- and else it is out
+    pub away : 0 < writers → slot ≡ some none
+
+module _ {H S E : Type 0} (stands : H → List E → Type 0) (share_stands : S → List E → Type 0) where
+  -- The words and slots of these views, beside the history
+  pub record IsPlaced (history : List E) (s : State (Slot H S) (View E)) : Type 0 where
+    -- each place is in order
+    pub each : (place : ℕ) → place < 32 → IsGuarded share_stands history (tally place s.views) (get_elem? s.words (word_at place)) (get_elem? s.homes place)
+    -- and so is the home value
+    pub home : IsHoused stands history (tally 0 s.views).writers (get_elem? s.homes home_slot)
+    -- the intent word counts the holders of the intent
+    pub intents_are : get_elem? s.words intents ≡ some (intending s.views)
+    -- one view at most has the intent
+    pub one_intent : intending s.views ≤ 1
+    -- the count word counts the entries, modulo 2^64
+    pub count_is : get_elem? s.words count ≡ some (length history % 2 ^ 64)
+
+module _ {H S E : Type 0} (number_of : E → ℕ) (stands : H → List E → Type 0) (share_stands : S → List E → Type 0) where
+  -- The rule: there is a history, with which the numbers and entries, and the words and slots, are in order
+  pub record IsKept (s : State (Slot H S) (View E)) : Type 0 where
     -- the whole history
     pub history : List E
     -- how many numbers were given
     pub drawn : ℕ
     pub recorded : IsRecorded number_of history drawn s.views
-    pub guarded : IsGuarded stands history (tally s.views) s.words s.homes
+    pub placed : IsPlaced stands share_stands history s

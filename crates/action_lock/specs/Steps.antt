@@ -1,13 +1,16 @@
 -- The table of steps: what each tells the seat that takes it. A step changes one word, and the view of its seat alone.
-use Rattle.std.specs.Prelude.{◌≡◌, ℕ, ◌+◌, ◌<◌, ◌≤◌, Bool, true, false, ◌==◌, if◌then◌else◌, List, [], ◌∷◌, ◌++◌, length, All, Option, Some, None}
-use Rattle.atomic_table.specs.Table.{Me, Step}
+use Rattle.std.specs.Prelude.{◌≡◌, ◌⊎◌, ℕ, ◌+◌, ◌<◌, ◌≤◌, Bool, true, false, ◌==◌, if◌then◌else◌, List, [], ◌∷◌, ◌++◌, length, All, Option, Some, None}
+use Rattle.atomic_table.specs.Table.{Me, Step, rest}
 use Rattle.action_lock.specs.declared.view.Phase.{Phase}
-use Rattle.action_lock.specs.declared.view.Phase.TheVariants.{Out, Entering, Backing, Reading, Asking, Writing}
+use Rattle.action_lock.specs.declared.view.Phase.TheVariants.{Out, Entering, Lacking, Backing, Reading, Marking, Shutting, Opening}
+use Rattle.action_lock.specs.declared.slot.Slot.{Slot}
+use Rattle.action_lock.specs.declared.slot.Slot.TheVariants.{Home, Share, Empty}
 use Rattle.action_lock.specs.declared.view.Ended.{Ended}
 use Rattle.action_lock.specs.declared.view.View.{View}
 use Rattle.action_lock.specs.Counts.{counted}
-use Rattle.action_lock.specs.Words.{has_turn, has_pending}
-use Rattle.action_lock.specs.Views.{numbers, times, fresh, all_checks}
+use Rattle.action_lock.specs.Slots.{HasNoHome, shut_hand}
+use Rattle.action_lock.specs.Words.{own_place, place_of, has_turn, has_pending}
+use Rattle.action_lock.specs.Views.{Writing, numbers, times, fresh, all_checks}
 use Rattle.action_lock.specs.Rule.{entries_of}
 use Rattle.list_laws.specs.Fronts.{IsFront, longer}
 
@@ -15,12 +18,20 @@ use Rattle.list_laws.specs.Fronts.{IsFront, longer}
 abbrev pub sights_after : ℕ → ℕ → ℕ
 sights_after sights found = if has_pending found then counted sights else sights
 
+-- so many places are marked, from the first on: where none is, the seat is out
+abbrev pub marked : ℕ → Phase
+marked k = if k == 0 then Out else Marking k
+
+-- so many places are still shut, where the others were opened from the last on: where all are, the seat writes
+abbrev pub opened : ℕ → Phase
+opened k = if k == 32 then Writing else Opening k
+
 module _ {E : Type 0} where
   -- a try to enter that found this word
   abbrev pub looked : ℕ → View E → View E
   looked found v = record v { looks = v.looks + 1; last = found; sights = sights_after v.sights found }
 
-  -- a look at the gate, in a read, that found this word
+  -- a look at the place's word, in a read, that found this word
   abbrev pub checked : ℕ → View E → View E
   checked found v = record v { looks = v.looks + 1; checks = v.checks + 1; last = found; sights = sights_after v.sights found }
 
@@ -28,7 +39,11 @@ module _ {E : Type 0} where
   abbrev pub backing : ℕ → View E → View E
   backing found v = record v { phase = Backing; looks = v.looks + 1; last = found; sights = sights_after v.sights found }
 
-  -- the look found neither, and has taken the turn and the home value, which stands for what is now seen
+  -- the look found neither, and has taken the turn of a place that keeps no share
+  abbrev pub lacking : ℕ → View E → View E
+  lacking found v = record v { phase = Lacking; looks = v.looks + 1; last = found; sights = sights_after v.sights found }
+
+  -- the look found neither, and has taken the turn and the place's share, which stands for what is now seen
   abbrev pub entering : ℕ → List E → View E → View E
   entering found seen v =
       record v {
@@ -54,9 +69,18 @@ module _ {E : Type 0} where
   abbrev pub held_up : View E → View E
   held_up v = record v { held = v.held + 1 }
 
-  -- the readers have left, and the home value is taken, which stands for what is now seen
+
+  -- the readers of the first place have left, and the home value is taken, which stands for what is now seen
+  abbrev pub shutting : List E → View E → View E
+  shutting seen v = record v { phase = Shutting 1; seen = seen; current = true }
+
+  -- the readers of all places have left, and the home value is taken, which stands for what is now seen
   abbrev pub writing : List E → View E → View E
   writing seen v = record v { phase = Writing; seen = seen; current = true }
+
+  -- there is one entry more, while all places are shut
+  abbrev pub placing : E → View E → View E
+  placing entry v = record v { seen = v.seen ++ entry ∷ []; mine = v.mine ++ entry ∷ [] }
 
   -- the write has ended with one entry more
   abbrev pub finished : E → View E → View E
@@ -113,66 +137,90 @@ module _ {E : Type 0} where
       -- the entries with its number in it are those that it made
       pub mine : (n : ℕ) → v.number ≡ Some n → v.mine ≡ entries_of number_of n seen
 
-  module _ {H : Type 0} where
-    -- a load of the gate word, in a read
-    abbrev pub Looks : Step H → Me H (View E) → ℕ → Me H (View E) → Type 0
+  module _ {H S : Type 0} where
+    -- a load of the place's word, in a read
+    abbrev pub Looks : Step (Slot H S) → Me (Slot H S) (View E) → ℕ → Me (Slot H S) (View E) → Type 0
     Looks st m found m' = m' ≡ (checked found m.0, m.1)
 
     -- a reader leaves, or a turn is given back
-    abbrev pub Exits : Step H → Me H (View E) → ℕ → Me H (View E) → Type 0
+    abbrev pub Exits : Step (Slot H S) → Me (Slot H S) (View E) → ℕ → Me (Slot H S) (View E) → Type 0
     Exits st m found m' = m' ≡ (with_phase Out m.0, m.1)
 
-    -- the home value is given back, and the seat is counted as a reader
-    abbrev pub Holds : Step H → Me H (View E) → ℕ → Me H (View E) → Type 0
+    -- the empty slot and the turn are given back
+    abbrev pub Backs : Step (Slot H S) → Me (Slot H S) (View E) → ℕ → Me (Slot H S) (View E) → Type 0
+    Backs st m found m' = m' ≡ (with_phase Out m.0, [])
+
+    -- the place's share is given back, and the seat is counted as a reader
+    abbrev pub Holds : Step (Slot H S) → Me (Slot H S) (View E) → ℕ → Me (Slot H S) (View E) → Type 0
     Holds st m found m' = m' ≡ (with_phase Reading m.0, [])
 
     -- a load that tells what a join left, and which entries the view has
-    abbrev pub Tells : (E → ℕ) → Step H → Me H (View E) → ℕ → Me H (View E) → Type 0
+    abbrev pub Tells : (E → ℕ) → Step (Slot H S) → Me (Slot H S) (View E) → ℕ → Me (Slot H S) (View E) → Type 0
     Tells number_of st m found m' = (m' ≡ (told m.0, m.1)) × All (λ old. IsFront old m.0.seen) m.0.olds × KnowsItsLists number_of (told m.0)
 
+    -- the seat has taken the turn of its place and what that keeps: a share that stands for the history, or nothing
+    abbrev pub Finds : (E → ℕ) → (S → List E → Type 0) → Me (Slot H S) (View E) → ℕ → Me (Slot H S) (View E) → Type 0
+    Finds number_of share_stands m found m' =
+        ((seen : List E) × (share : S) × Learns number_of m.0 seen × share_stands share seen × (m' ≡ (entering found seen m.0, (own_place m.0.number, Share share) ∷ m.1)))
+        ⊎ (m' ≡ (lacking found m.0, (own_place m.0.number, Empty) ∷ m.1))
+
     -- by what the word had: the pending mark, and the turn
-    abbrev pub EntersAt : (E → ℕ) → (H → List E → Type 0) → Bool → Bool → Me H (View E) → ℕ → Me H (View E) → Type 0
-    EntersAt number_of stands true true m found m' = m' ≡ (looked found m.0, m.1)
-    EntersAt number_of stands true false m found m' = m' ≡ (backing found m.0, m.1)
-    EntersAt number_of stands false true m found m' = m' ≡ (looked found m.0, m.1)
-    EntersAt number_of stands false false m found m' =
-        (seen : List E) × (home : H) × Learns number_of m.0 seen × stands home seen × (m' ≡ (entering found seen m.0, (0, home) ∷ m.1))
+    abbrev pub EntersAt : (E → ℕ) → (S → List E → Type 0) → Bool → Bool → Me (Slot H S) (View E) → ℕ → Me (Slot H S) (View E) → Type 0
+    EntersAt number_of share_stands true true m found m' = m' ≡ (looked found m.0, m.1)
+    EntersAt number_of share_stands true false m found m' = m' ≡ (backing found m.0, m.1)
+    EntersAt number_of share_stands false true m found m' = m' ≡ (looked found m.0, m.1)
+    EntersAt number_of share_stands false false m found m' = Finds number_of share_stands m found m'
 
     -- the step that decides a read
-    abbrev pub Enters : (E → ℕ) → (H → List E → Type 0) → Step H → Me H (View E) → ℕ → Me H (View E) → Type 0
-    Enters number_of stands st m found m' = EntersAt number_of stands (has_pending found) (has_turn found) m found m'
+    abbrev pub Enters : (E → ℕ) → (S → List E → Type 0) → Step (Slot H S) → Me (Slot H S) (View E) → ℕ → Me (Slot H S) (View E) → Type 0
+    Enters number_of share_stands st m found m' = EntersAt number_of share_stands (has_pending found) (has_turn found) m found m'
 
     -- whether the intent was free: then it is taken
-    abbrev pub TakesAt : Bool → Me H (View E) → Me H (View E) → Type 0
+    abbrev pub TakesAt : Bool → Me (Slot H S) (View E) → Me (Slot H S) (View E) → Type 0
     TakesAt true m m' = m' ≡ (with_intent m.0, m.1)
     TakesAt false m m' = m' ≡ (held_up m.0, m.1)
 
     -- the intent word is set, and tells whether it was set before
-    abbrev pub Takes : Step H → Me H (View E) → ℕ → Me H (View E) → Type 0
+    abbrev pub Takes : Step (Slot H S) → Me (Slot H S) (View E) → ℕ → Me (Slot H S) (View E) → Type 0
     Takes st m found m' = TakesAt (found == 0) m m'
 
     -- the intent is given back
-    abbrev pub Releases : Step H → Me H (View E) → ℕ → Me H (View E) → Type 0
+    abbrev pub Releases : Step (Slot H S) → Me (Slot H S) (View E) → ℕ → Me (Slot H S) (View E) → Type 0
     Releases st m found m' = m' ≡ (released m.0, m.1)
 
-    -- the pending mark is set
-    abbrev pub Asks : Step H → Me H (View E) → ℕ → Me H (View E) → Type 0
-    Asks st m found m' = m' ≡ (with_phase Asking m.0, m.1)
+    -- the pending mark of a place is set
+    abbrev pub Marks : Step (Slot H S) → Me (Slot H S) (View E) → ℕ → Me (Slot H S) (View E) → Type 0
+    Marks st m found m' = m' ≡ (with_phase (Marking (place_of st.word + 1)) m.0, m.1)
 
-    -- whether the gate word had the pending mark alone: then the write begins
-    abbrev pub ClaimsAt : (E → ℕ) → (H → List E → Type 0) → Bool → Me H (View E) → Me H (View E) → Type 0
-    ClaimsAt number_of stands true m m' = (seen : List E) × (home : H) × Learns number_of m.0 seen × stands home seen × (m' ≡ (writing seen m.0, (0, home) ∷ m.1))
+    -- whether the word of the first place had the pending mark alone: then the place is shut, and what it kept and the home value are taken
+    abbrev pub ClaimsAt : (E → ℕ) → (H → List E → Type 0) → Bool → Me (Slot H S) (View E) → Me (Slot H S) (View E) → Type 0
+    ClaimsAt number_of stands true m m' =
+        (seen : List E) × (home : H) × (kept : Slot H S) × Learns number_of m.0 seen × stands home seen × HasNoHome kept
+        × (m' ≡ (shutting seen m.0, (32, Home home) ∷ (0, kept) ∷ m.1))
     ClaimsAt number_of stands false m m' = m' ≡ m
 
-    -- the step that begins a write
-    abbrev pub Claims : (E → ℕ) → (H → List E → Type 0) → Step H → Me H (View E) → ℕ → Me H (View E) → Type 0
+    -- the first place is shut
+    abbrev pub Claims : (E → ℕ) → (H → List E → Type 0) → Step (Slot H S) → Me (Slot H S) (View E) → ℕ → Me (Slot H S) (View E) → Type 0
     Claims number_of stands st m found m' = ClaimsAt number_of stands (found == 4) m m'
 
-    -- The write ends: whatever entry it is by which the home value in hand stands for one more than was seen
-    abbrev pub Finishes : (H → List E → Type 0) → Step H → Me H (View E) → ℕ → Me H (View E) → Type 0
-    Finishes stands st m found m' =
-        (home : H) (entry : E) → m.1 ≡ (0, home) ∷ [] → stands home (m.0.seen ++ entry ∷ []) → m' ≡ (finished entry m.0, [])
+    -- whether the word of a place had the pending mark alone: then it is shut, and what it kept is taken
+    abbrev pub ShutsAt : Bool → ℕ → Me (Slot H S) (View E) → Me (Slot H S) (View E) → Type 0
+    ShutsAt true place m m' = (kept : Slot H S) × HasNoHome kept × (m' ≡ (with_phase (Shutting (place + 1)) m.0, (place, kept) ∷ m.1))
+    ShutsAt false place m m' = m' ≡ m
 
-    -- the write ends, and nothing was written
-    abbrev pub Abandons : Step H → Me H (View E) → ℕ → Me H (View E) → Type 0
-    Abandons st m found m' = m' ≡ (with_phase Out m.0, [])
+    -- a place behind the first is shut
+    abbrev pub Shuts : Step (Slot H S) → Me (Slot H S) (View E) → ℕ → Me (Slot H S) (View E) → Type 0
+    Shuts st m found m' = ShutsAt (found == 4) (place_of st.word) m m'
+
+    -- The entry is counted: whatever entry it is by which the home value in hand stands for one more than was seen
+    abbrev pub Places : (H → List E → Type 0) → Step (Slot H S) → Me (Slot H S) (View E) → ℕ → Me (Slot H S) (View E) → Type 0
+    Places stands st m found m' =
+        (home : H) (entry : E) → m.1 ≡ (31, Home home) ∷ shut_hand 31 → stands home (m.0.seen ++ entry ∷ []) → m' ≡ (placing entry m.0, m.1)
+
+    -- a place behind the first is opened, and what it is to keep is given back
+    abbrev pub Opens : Step (Slot H S) → Me (Slot H S) (View E) → ℕ → Me (Slot H S) (View E) → Type 0
+    Opens st m found m' = m' ≡ (with_phase (Opening (place_of st.word)) m.0, rest m.1)
+
+    -- the first place is opened, and what it is to keep and the home value are given back
+    abbrev pub Ends : Step (Slot H S) → Me (Slot H S) (View E) → ℕ → Me (Slot H S) (View E) → Type 0
+    Ends st m found m' = m' ≡ (with_phase Out m.0, [])

@@ -1,12 +1,17 @@
 -- Views: what they weigh in the words, and which numbers they have.
-use Rattle.std.specs.Prelude.{ℕ, ◌+◌, Bool, true, false, ◌==◌, List, [], length, Option, Some, None}
+use Rattle.std.specs.Prelude.{ℕ, ◌+◌, Bool, true, false, ◌==◌, nat_lt, List, [], length, Option, Some, None}
 use Rattle.action_lock.specs.declared.view.Phase.{Phase}
-use Rattle.action_lock.specs.declared.view.Phase.TheVariants.{Out, Entering, Backing, Reading, Asking, Writing}
+use Rattle.action_lock.specs.declared.view.Phase.TheVariants.{Out, Entering, Lacking, Backing, Reading, Marking, Shutting, Opening}
 use Rattle.action_lock.specs.declared.view.Ended.{Ended}
 use Rattle.action_lock.specs.declared.view.View.{View}
+use Rattle.action_lock.specs.Words.{own_place}
 use Rattle.list_laws.specs.Totals.{total}
 
--- what one view weighs, or all of them together
+-- the phase of a seat that writes: it has shut all places
+abbrev pub Writing : Phase
+Writing = Shutting 32
+
+-- what one view weighs at a place, or all of them together
 pub record Tally : Type 0 where
   -- the turn, on the way in or back
   pub visitors : ℕ
@@ -16,24 +21,40 @@ pub record Tally : Type 0 where
   pub pendings : ℕ
   -- a reader who is in
   pub readers : ℕ
-  -- the home value
+  -- what the place keeps
   pub holders : ℕ
-  -- the intent
-  pub intents : ℕ
-
--- what a view in this phase weighs, beside its intent
-abbrev pub weight_in : Phase → ℕ → Tally
-weight_in Out i = record { visitors = 0; writers = 0; pendings = 0; readers = 0; holders = 0; intents = i }
-weight_in Entering i = record { visitors = 1; writers = 0; pendings = 0; readers = 0; holders = 1; intents = i }
-weight_in Backing i = record { visitors = 1; writers = 0; pendings = 0; readers = 0; holders = 0; intents = i }
-weight_in Reading i = record { visitors = 0; writers = 0; pendings = 0; readers = 1; holders = 0; intents = i }
-weight_in Asking i = record { visitors = 0; writers = 0; pendings = 1; readers = 0; holders = 0; intents = i }
-weight_in Writing i = record { visitors = 0; writers = 1; pendings = 1; readers = 0; holders = 1; intents = i }
 
 -- 1 for yes, 0 for no
 abbrev pub bit : Bool → ℕ
 bit true = 1
 bit false = 0
+
+-- 1 where the place is among the first so many
+abbrev pub below : ℕ → ℕ → ℕ
+below place count = bit (nat_lt place count)
+
+-- What a view in this phase weighs at a place, with `here` 1 where the place is its own. One that reads weighs at its own place alone.
+-- One that writes marks the places from the first to the last, shuts them in the same order, and opens them from the last to the first
+abbrev pub weight_in : ℕ → ℕ → Phase → Tally
+weight_in here place Out = record { visitors = 0; writers = 0; pendings = 0; readers = 0; holders = 0 }
+weight_in here place Entering = record { visitors = here; writers = 0; pendings = 0; readers = 0; holders = here }
+weight_in here place Lacking = record { visitors = here; writers = 0; pendings = 0; readers = 0; holders = here }
+weight_in here place Backing = record { visitors = here; writers = 0; pendings = 0; readers = 0; holders = 0 }
+weight_in here place Reading = record { visitors = 0; writers = 0; pendings = 0; readers = here; holders = 0 }
+weight_in here place (Marking k) = record { visitors = 0; writers = 0; pendings = below place k; readers = 0; holders = 0 }
+weight_in here place (Shutting k) = record { visitors = 0; writers = below place k; pendings = 1; readers = 0; holders = below place k }
+weight_in here place (Opening k) = record { visitors = 0; writers = below place k; pendings = below place k; readers = 0; holders = below place k }
+
+-- 1 for the phases of a writer
+abbrev pub writes : Phase → ℕ
+writes Out = 0
+writes Entering = 0
+writes Lacking = 0
+writes Backing = 0
+writes Reading = 0
+writes (Marking k) = 1
+writes (Shutting k) = 1
+writes (Opening k) = 1
 
 -- 1 for a number, 0 for none
 abbrev pub number_count : Option ℕ → ℕ
@@ -46,20 +67,27 @@ number_is n (Some m) = bit (m == n)
 number_is n None = 0
 
 module _ {E : Type 0} where
-  -- what the view weighs
-  abbrev pub weight : View E → Tally
-  weight v = weight_in v.phase (bit v.intent)
+  -- 1 where the place is the view's own
+  abbrev pub here : ℕ → View E → ℕ
+  here place v = bit (own_place v.number == place)
 
-  -- what the views weigh together
-  abbrev pub tally : List (View E) → Tally
-  tally views = record {
-    visitors = total (λ (v : View E). (weight v).visitors) views;
-    writers = total (λ (v : View E). (weight v).writers) views;
-    pendings = total (λ (v : View E). (weight v).pendings) views;
-    readers = total (λ (v : View E). (weight v).readers) views;
-    holders = total (λ (v : View E). (weight v).holders) views;
-    intents = total (λ (v : View E). (weight v).intents) views;
+  -- what the view weighs at a place
+  abbrev pub weight : ℕ → View E → Tally
+  weight place v = weight_in (here place v) place v.phase
+
+  -- what the views weigh there together
+  abbrev pub tally : ℕ → List (View E) → Tally
+  tally place views = record {
+    visitors = total (λ (v : View E). (weight place v).visitors) views;
+    writers = total (λ (v : View E). (weight place v).writers) views;
+    pendings = total (λ (v : View E). (weight place v).pendings) views;
+    readers = total (λ (v : View E). (weight place v).readers) views;
+    holders = total (λ (v : View E). (weight place v).holders) views;
   }
+
+  -- how many views have the intent
+  abbrev pub intending : List (View E) → ℕ
+  intending views = total (λ (v : View E). bit v.intent) views
 
   -- 1 for the view of number 0
   abbrev pub leading : View E → ℕ
@@ -73,7 +101,7 @@ module _ {E : Type 0} where
   abbrev pub times : ℕ → View E → ℕ
   times n v = number_is n v.number + total (λ (e : Ended E). bit (e.number == n)) v.ended
 
-  -- how often it looked at the gate in all its reads
+  -- how often it looked at its place's word in all its reads
   abbrev pub all_checks : View E → ℕ
   all_checks v = v.earlier_checks + v.checks
 

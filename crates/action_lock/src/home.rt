@@ -23,6 +23,10 @@ pub trait Home {
     fn share(&self, alloc: Global) -> Result<Self::Share, AllocError>
         ensures { IfOk result (λ s. (entries : List Self.Entry) → stands self.now entries → share_stands s entries) };
 
+    /// A second share of what a share stands for. A reader keeps it, and leaves the first to its place.
+    fn again(alloc: Global, share: &Self::Share) -> Result<Self::Share, AllocError>
+        ensures { IfOk result (λ s. (entries : List Self.Entry) → share_stands share.now entries → share_stands s entries) };
+
     // A home value stands for one list only.
     ghost one_list: { (home : Self) (xs ys : List Self.Entry) → stands home xs → stands home ys → xs ≡ ys };
 }

@@ -1,5 +1,7 @@
-//! The lock: its words, its home value and the views of its passes.
-ghost use Rattle.std.specs.Prelude.{◌≡◌, ◌≢◌, ◌<◌, ◌↔◌, List, [], ◌∷◌, Some, IfOk, IfErr, MatchResult, IsTrue};
+//! The lock: its words, its slots and the views of its passes.
+ghost use Rattle.std.specs.Prelude.{◌≡◌, ◌≢◌, ◌<◌, ◌↔◌, List, [], ◌∷◌, ◌++◌, length, All, Some, IfOk, IfErr, OnOk, OnErr, MatchResult, IsTrue};
+ghost use Rattle.action_lock.specs.declared.slot.Slot.TheVariants.{Home, Share};
+ghost use Rattle.action_lock.specs.Slots.{HasNoHome, MayKeep};
 ghost use Rattle.action_lock.specs.Steps.{KnowsItsLists, joined, splitting, split_off, told};
 ghost use Rattle.action_lock.specs.Views.{first_view};
 ghost use Rattle.list_laws.specs.Fronts.{IsFront};
@@ -9,18 +11,20 @@ use crate::pass::Pass;
 use crate::plays::{Cut, Glue, Tell};
 use crate::refusal::SplitRefusal;
 use crate::rule::GateRule;
+use crate::slot::Slot;
 use crate::view::View;
-use crate::words::{GATE, HOME};
+use crate::words::{COUNT, HOME, PLACES, WORDS};
 use atomic_table::{Refused, Table};
-use std::alloc::{AllocFailed, Global};
+use std::alloc::{AllocError, AllocFailed, Global};
 
 /// How many numbers a lock has.
 const NUMBERS: u32 = 65536;
 
 /// A lock with reads that go side by side, one write-intent, and writes that come before new reads. It holds a home value, and is used by passes.
 pub struct ActionLock<H: Home> {
-    pub(crate) table: Table<H, View<H::Entry>, (), GateRule<H>, Global>,
-    ghost sized: { (table.shared.table_id.words ≡ 2) × (table.shared.table_id.slots ≡ 1) },
+    pub(crate) table: Table<Slot<H, H::Share>, View<H::Entry>, (), GateRule<H>, Global>,
+    pub(crate) alloc: Global,
+    ghost sized: { (table.shared.table_id.words ≡ 544) × (table.shared.table_id.slots ≡ 33) },
 }
 
 impl<H: Home> ActionLock<H> {
@@ -32,12 +36,16 @@ impl<H: Home> ActionLock<H> {
         ensures ok { IfOk result (λ made. IsPassOf made.0 made.1 × (view_of made.1 ≡ first_view)) }
         ensures err { IfErr result (λ failed. failed.value ≡ home) }
     {
-        let mut slots = Vec::new(alloc);
-        if let Err(failed) = slots.push(home) {
-            slots.destroy_empty();
-            return Err(failed);
+        let Ok(mut slots) = shares_of(alloc, &home) else {
+            return Err(AllocFailed { value: home });
+        };
+        if let Err(AllocFailed { value }) = slots.push(Slot::Home(home)) {
+            discard(slots);
+            return Err(AllocFailed {
+                value: value.into_home(),
+            });
         }
-        match Table::new(alloc, &[0, 0], slots, &()) {
+        match Table::new(alloc, &[0; WORDS], slots, &()) {
             Ok((table, seat)) => {
                 let pass = Pass {
                     seat,
@@ -47,9 +55,11 @@ impl<H: Home> ActionLock<H> {
                     sights: 0,
                     share: None,
                 };
-                Ok((ActionLock { table }, pass))
+                Ok((ActionLock { table, alloc }, pass))
             }
-            Err(Refused { slots }) => Err(AllocFailed { value: only(slots) }),
+            Err(Refused { slots }) => Err(AllocFailed {
+                value: home_behind(slots),
+            }),
         }
     }
 
@@ -100,7 +110,7 @@ impl<H: Home> ActionLock<H> {
         } = other;
         let None = share else { unreachable!() };
         self.table.shared.join_seat::<Glue>(&mut pass.seat, seat);
-        self.table.shared.load::<Tell<H>>(&mut pass.seat, GATE);
+        self.table.shared.load::<Tell<H>>(&mut pass.seat, COUNT);
         pass.met += met + 1;
     }
 
@@ -112,7 +122,7 @@ impl<H: Home> ActionLock<H> {
         ensures last { IsTrue result ↔ IsLast (view_of pass.new) }
         ensures knows { KnowsItsLists H.number_of (view_of pass.new) }
     {
-        self.table.shared.load::<Tell<H>>(&mut pass.seat, GATE);
+        self.table.shared.load::<Tell<H>>(&mut pass.seat, COUNT);
         pass.number == 0 && pass.drawn == pass.met + 1
     }
 
@@ -123,7 +133,7 @@ impl<H: Home> ActionLock<H> {
         ensures stands { H.stands result (view_of pass).seen }
         ensures knows { KnowsItsLists H.number_of (view_of pass) }
     {
-        let ActionLock { table } = self;
+        let ActionLock { table, alloc: _ } = self;
         let Pass {
             seat,
             number: _,
@@ -134,18 +144,64 @@ impl<H: Home> ActionLock<H> {
         } = pass;
         let None = share else { unreachable!() };
         let mut closed = table.close_with(seat);
-        let home = closed.take(HOME);
+        for place in 0..PLACES {
+            closed.take(place).clear();
+        }
+        let home = closed.take(HOME).into_home();
         closed.free();
         home
     }
 }
 
-/// The one element.
-fn only<T>(mut slots: Vec<T>) -> T
-    requires { (value : T) × (slots.items ≡ value ∷ []) }
-    ensures { slots.items ≡ result ∷ [] }
+/// A share for each place.
+fn shares_of<H: Home>(alloc: Global, home: &H) -> Result<Vec<Slot<H, H::Share>>, AllocError>
+    ensures many { IfOk result (λ slots. length slots.items ≡ 32) }
+    ensures keeps { IfOk result (λ slots. (entries : List H.Entry) → H.stands home.now entries → All (MayKeep H.share_stands entries) slots.items) }
+    ensures shares { IfOk result (λ slots. All HasNoHome slots.items) }
 {
-    let value = slots.pop().unwrap();
+    let mut slots = Vec::new(alloc);
+    for made in 0..PLACES {
+        if let Err(refused) = push_share(alloc, home, &mut slots) {
+            discard(slots);
+            return Err(refused);
+        }
+    }
+    Ok(slots)
+}
+
+/// One share more.
+fn push_share<H: Home>(
+    alloc: Global,
+    home: &H,
+    slots: &mut Vec<Slot<H, H::Share>>,
+) -> Result<(), AllocError>
+    ensures ok { OnOk result ((share : H.Share) × (slots.new.items ≡ slots.old.items ++ Share share ∷ []) × ((entries : List H.Entry) → H.stands home.now entries → H.share_stands share entries)) }
+    ensures err { OnErr result (slots.new.items ≡ slots.old.items) }
+{
+    let share = home.share(alloc)?;
+    if let Err(AllocFailed { value }) = slots.push(Slot::Share(share)) {
+        value.clear();
+        return Err(AllocError);
+    }
+    Ok(())
+}
+
+/// Lets shares go.
+fn discard<H, S: Drop>(mut slots: Vec<Slot<H, S>>)
+    requires { All HasNoHome slots.items }
+{
+    while let Some(slot) = slots.pop() {
+        slot.clear();
+    }
     slots.destroy_empty();
-    value
+}
+
+/// The home value, which stands behind shares; these are let go.
+fn home_behind<H, S: Drop>(mut slots: Vec<Slot<H, S>>) -> H
+    requires { (home : H) × (shares : List (Slot H S)) × All HasNoHome shares × (slots.items ≡ shares ++ Home home ∷ []) }
+    ensures { (shares : List (Slot H S)) × (slots.items ≡ shares ++ Home result ∷ []) }
+{
+    let home = slots.pop().unwrap().into_home();
+    discard(slots);
+    home
 }

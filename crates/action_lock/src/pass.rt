@@ -1,14 +1,16 @@
 //! The token by which one thread uses a lock.
-ghost use Rattle.std.specs.Prelude.{◌≡◌, ◌≤◌, Some, None, length};
+ghost use Rattle.std.specs.Prelude.{◌≡◌, ◌<◌, ◌≤◌, Some, None, length};
 ghost use Rattle.std.proofs.Props.{props};
 
 use crate::home::Home;
+use crate::slot::Slot;
 use crate::view::View;
+use crate::words::PLACES;
 use atomic_table::Seat;
 
 /// What one thread knows of a lock, and its right to step on it. It has to be spent: met into another pass, or given to `close`.
 pub struct Pass<H: Home> {
-    pub(crate) seat: Seat<H, View<H::Entry>>,
+    pub(crate) seat: Seat<Slot<H, H::Share>, View<H::Entry>>,
     pub(crate) number: u32,
     // How many numbers it has given, if it is number 0.
     pub(crate) drawn: u32,
@@ -26,6 +28,7 @@ pub struct Pass<H: Home> {
 
 impl<H: Home> Pass<H> {
     ghost use Rattle.action_lock.specs.Passes.{view_of, IsSamePass};
+    ghost use Rattle.action_lock.specs.Words.{own_place};
 
     /// Its number: 0 for the first pass of a lock, then in the order in which passes were split off.
     pub fn number(&self) -> u32
@@ -39,6 +42,14 @@ impl<H: Home> Pass<H> {
         ensures { result ≡ (view_of self.now).sights }
     {
         self.sights
+    }
+
+    /// Its place: passes whose numbers are 32 apart share one.
+    pub(crate) fn place(&self) -> usize
+        ensures own { result ≡ own_place (view_of self.now).number }
+        ensures within { result < 32 }
+    {
+        self.number as usize % PLACES
     }
 
     /// Keeps the share of a read.

@@ -1,5 +1,6 @@
-//! The rule that holds of the lock's words, home value and views between any two steps.
+//! The rule that holds of the lock's words, slots and views between any two steps.
 use crate::home::Home;
+use crate::slot::Slot;
 use crate::view::View;
 use atomic_table::TableRule;
 use std::marker::PhantomData;
@@ -9,11 +10,11 @@ pub struct GateRule<H> {
     home: PhantomData<H>,
 }
 
-impl<H: Home> TableRule<H, View<H::Entry>, ()> for GateRule<H> {
+impl<H: Home> TableRule<Slot<H, H::Share>, View<H::Entry>, ()> for GateRule<H> {
     ghost use Rattle.action_lock.specs.Rule.{IsKept};
     ghost use Rattle.action_lock.specs.Views.{first_view};
 
-    ghost holds = { λ _. IsKept H.number_of H.stands };
+    ghost holds = { λ _. IsKept H.number_of H.stands H.share_stands };
 
     ghost first = { λ _. first_view };
 }

@@ -1,17 +1,18 @@
-//! The steps on the gate word by which a pass reads, one call each.
-ghost use Rattle.std.specs.Prelude.{◌≡◌, ◌<◌, ◌≤◌, [], None, IfOk, IfErr, OnOk, OnErr};
+//! The steps on the word of its place by which a pass reads, one call each.
+ghost use Rattle.std.specs.Prelude.{◌≡◌, ◌<◌, ◌≤◌, [], None, IsTrue, IsFalse, IfOk, IfErr, OnOk, OnErr};
 ghost use Rattle.action_lock.specs.declared.view.Phase.TheVariants.{Out, Backing, Reading};
 ghost use Rattle.action_lock.specs.Words.{has_turn, has_pending};
-ghost use Rattle.action_lock.specs.Passes.{view_of, IsSamePass, IsAt, IsOut, IsInside, IsEntering};
+ghost use Rattle.action_lock.specs.Passes.{view_of, IsSamePass, IsAt, IsOut, IsInside, IsEntering, IsLacking, HasFound};
 ghost use Rattle.action_lock.specs.Reads.{HasRead, HasFailed, HasWaited, IsRefused};
 ghost use Rattle.action_lock.specs.Steps.{EntersAt, checked, with_phase};
 
 use crate::home::Home;
 use crate::lock::ActionLock;
 use crate::pass::Pass;
-use crate::plays::{Enter, Exit, Hold, Look};
+use crate::plays::{Back, Enter, Exit, Hold, Look};
 use crate::refusal::ReadRefusal;
-use crate::words::{GATE, HOME, PENDING, READER, TURN, has_pending, has_turn, sights_after};
+use crate::slot::Slot;
+use crate::words::{PENDING, READER, TURN, has_pending, has_turn, sights_after, word_at};
 use std::alloc::{AllocError, Global};
 use std::hint::spin_loop;
 use std::sync::Wait;
@@ -26,15 +27,16 @@ impl<H: Home> ActionLock<H> {
         requires { IsAt self.now pass.old Out }
         ensures same { IsSamePass pass.old pass.new }
         ensures share { pass.new.share ≡ pass.old.share }
-        ensures told { EntersAt H.number_of H.stands (has_pending result) (has_turn result) pass.old.seat.me result pass.new.seat.me }
+        ensures told { EntersAt H.number_of H.share_stands (has_pending result) (has_turn result) pass.old.seat.me result pass.new.seat.me }
     {
         let shared = &self.table.shared;
-        let found = shared.fetch_or::<Enter<H>>(&mut pass.seat, GATE, TURN);
+        let word = word_at(pass.place());
+        let found = shared.fetch_or::<Enter<H>>(&mut pass.seat, word, TURN);
         pass.sights = sights_after(pass.sights, found);
         found
     }
 
-    /// The home value is given back, and the pass is counted as a reader.
+    /// The place's share is given back, and the pass is counted as a reader.
     pub(crate) fn hold(&self, pass: &mut Pass<H>)
         requires { IsEntering self.now pass.old }
         ensures same { IsSamePass pass.old pass.new }
@@ -42,7 +44,8 @@ impl<H: Home> ActionLock<H> {
         ensures view { pass.new.seat.me ≡ (with_phase Reading (view_of pass.old), []) }
     {
         let shared = &self.table.shared;
-        shared.fetch_add::<Hold>(&mut pass.seat, GATE, READER - TURN);
+        let word = word_at(pass.place());
+        shared.fetch_add::<Hold>(&mut pass.seat, word, READER - TURN);
     }
 
     /// A reader leaves. It has let its share go, so that none is out when a writer comes in.
@@ -54,7 +57,8 @@ impl<H: Home> ActionLock<H> {
         ensures view { pass.new.seat.me ≡ (with_phase Out (view_of pass.old), []) }
     {
         let shared = &self.table.shared;
-        shared.fetch_sub::<Exit>(&mut pass.seat, GATE, READER);
+        let word = word_at(pass.place());
+        shared.fetch_sub::<Exit>(&mut pass.seat, word, READER);
     }
 
     /// The turn is given back, with nothing done.
@@ -65,7 +69,20 @@ impl<H: Home> ActionLock<H> {
         ensures view { pass.new.seat.me ≡ (with_phase Out (view_of pass.old), []) }
     {
         let shared = &self.table.shared;
-        shared.fetch_sub::<Exit>(&mut pass.seat, GATE, TURN);
+        let word = word_at(pass.place());
+        shared.fetch_sub::<Exit>(&mut pass.seat, word, TURN);
+    }
+
+    /// The turn of a place that keeps no share is given back, with the empty slot.
+    fn give_up(&self, pass: &mut Pass<H>)
+        requires { IsLacking self.now pass.old }
+        ensures same { IsSamePass pass.old pass.new }
+        ensures share { pass.new.share ≡ pass.old.share }
+        ensures view { pass.new.seat.me ≡ (with_phase Out (view_of pass.old), []) }
+    {
+        let shared = &self.table.shared;
+        let word = word_at(pass.place());
+        shared.fetch_sub::<Back>(&mut pass.seat, word, TURN);
     }
 
     pub(crate) fn look_at_gate(&self, pass: &mut Pass<H>) -> u64
@@ -76,12 +93,30 @@ impl<H: Home> ActionLock<H> {
         ensures kept { (view_of pass.old).sights ≤ (view_of pass.new).sights }
     {
         let shared = &self.table.shared;
-        let found = shared.load::<Look>(&mut pass.seat, GATE);
+        let word = word_at(pass.place());
+        let found = shared.load::<Look>(&mut pass.seat, word);
         pass.sights = sights_after(pass.sights, found);
         found
     }
 
-    /// A share of the home value that the pass has in hand.
+    /// Whether the place keeps no share.
+    fn lacks(&self, pass: &mut Pass<H>) -> bool
+        requires { HasFound self.now pass.old }
+        ensures same { IsSamePass pass.old pass.new }
+        ensures share { pass.new.share ≡ pass.old.share }
+        ensures view { pass.new.seat.me ≡ pass.old.seat.me }
+        ensures lacks { IsTrue result → IsLacking self.now pass.new }
+        ensures enters { IsFalse result → IsEntering self.now pass.new }
+    {
+        let place = pass.place();
+        match pass.seat.slot_mut(&self.table.shared, place) {
+            Slot::Empty => true,
+            Slot::Share(_) => false,
+            Slot::Home(_) => unreachable!(),
+        }
+    }
+
+    /// A second share of what the pass has in hand.
     fn share_in_hand(&self, alloc: Global, pass: &mut Pass<H>) -> Result<H::Share, AllocError>
         requires { IsEntering self.now pass.old }
         ensures same { IsSamePass pass.old pass.new }
@@ -90,8 +125,12 @@ impl<H: Home> ActionLock<H> {
         ensures kept { pass.new.share ≡ pass.old.share }
         ensures share { IfOk result (λ share. H.share_stands share (view_of pass.old).seen) }
     {
-        let home = pass.seat.slot_mut(&self.table.shared, HOME);
-        home.share(alloc)
+        let place = pass.place();
+        match pass.seat.slot_mut(&self.table.shared, place) {
+            Slot::Share(share) => H::again(alloc, share),
+            Slot::Empty => unreachable!(),
+            Slot::Home(_) => unreachable!(),
+        }
     }
 
     /// One attempt to read, by any pass that is out.
@@ -110,6 +149,10 @@ impl<H: Home> ActionLock<H> {
         }
         if has_turn(found) {
             return Err(ReadRefusal::Turn { word: found });
+        }
+        if self.lacks(pass) {
+            self.give_up(pass);
+            return Err(ReadRefusal::OutOfMemory);
         }
         let share = self.share_in_hand(alloc, pass);
         self.hold(pass);
@@ -137,21 +180,21 @@ impl<H: Home> ActionLock<H> {
             match self.try_enter(alloc, pass) {
                 Ok(()) => return Ok(()),
                 Err(ReadRefusal::OutOfMemory) => return Err(AllocError),
-                Err(ReadRefusal::Pending { word: _ }) => self.pause(),
-                Err(ReadRefusal::Turn { word: _ }) => self.pause(),
+                Err(ReadRefusal::Pending { word: _ }) => self.pause(pass),
+                Err(ReadRefusal::Turn { word: _ }) => self.pause(pass),
             }
         }
         unreachable!()
     }
 
-    /// Looks at the gate until a reader might enter, for a short while, and then lets other threads run. These looks are not counted.
-    pub fn pause(&self) {
-        self.linger(GATE, PENDING | TURN, 0);
+    /// Looks at the pass's place until it might enter, for a short while, and then lets other threads run. These looks are not counted.
+    pub fn pause(&self, pass: &Pass<H>) {
+        self.linger(word_at(pass.place()), PENDING | TURN, 0);
     }
 
     /// Looks at these marks of the word until they are as awaited, for a short while, and then lets other threads run.
     pub(crate) fn linger(&self, word: usize, marks: u64, awaited: u64)
-        requires { word < 2 }
+        requires { word < 544 }
     {
         for _ in 0..SPINS {
             if self.table.shared.peek(word) & marks == awaited {

@@ -4,15 +4,19 @@ use std::collections::LinkedList;
 /// What the seat does.
 pub enum Phase {
     Out,
-    /// It has the turn and the home value, to read.
+    /// It has the turn of its place and the share that the place keeps, to read.
     Entering,
-    /// It has the turn, and gives it back.
+    /// It has the turn of its place, which keeps no share, and the empty slot.
+    Lacking,
+    /// It has the turn of its place, and gives it back.
     Backing,
     Reading,
-    /// It has set the pending mark, and waits for the readers to leave.
-    Asking,
-    /// It has the turn and the home value, to write.
-    Writing,
+    /// It has set the pending mark of so many places, from the first on.
+    Marking(u32),
+    /// It has marked all places, and has shut so many of them, from the first on. With all of them shut, it writes.
+    Shutting(u32),
+    /// It has written, and so many places are still shut.
+    Opening(u32),
 }
 
 /// What a pass that was met has left.
@@ -41,14 +45,14 @@ pub struct View<E> {
     pub sights: u64,
     /// How long what it has seen was at each step that let it in.
     pub reads: LinkedList<u64>,
-    /// How often it looked at the gate or tried to enter.
+    /// How often it looked at its place's word or tried to enter.
     pub looks: u64,
-    /// How often it looked at the gate in its last read, or in the one that goes on.
+    /// How often it looked at its place's word in its last read, or in the one that goes on.
     pub checks: u64,
     /// How often it did in the reads before that.
     pub earlier_checks: u64,
     /// How often it found the intent taken.
     pub held: u64,
-    /// The gate word that it found last.
+    /// The word of its place that it found last.
     pub last: u64,
 }

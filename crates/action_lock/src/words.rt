@@ -1,26 +1,44 @@
-//! The words of the lock's table, and the marks of the gate word.
-ghost use Rattle.std.specs.Prelude.{◌≡◌};
-ghost use Rattle.action_lock.specs.Words.{has_turn, has_pending};
+//! The words and slots of the lock's table, and the marks of a place's word.
+ghost use Rattle.std.specs.Prelude.{◌≡◌, ◌<◌};
+ghost use Rattle.action_lock.specs.Words.{word_at, has_turn, has_pending};
 ghost use Rattle.action_lock.specs.Steps.{sights_after};
 
-/// Where the gate word stands.
-pub(crate) const GATE: usize = 0;
+/// How many places there are.
+pub(crate) const PLACES: usize = 32;
+
+/// The last place.
+pub(crate) const LAST: usize = 31;
+
+/// How many words there are. Those that are used lie 16 apart, so that no two share a cache line.
+pub(crate) const WORDS: usize = 544;
+
+/// Where the count of entries stands.
+pub(crate) const COUNT: usize = 0;
 
 /// Where the intent word stands.
-pub(crate) const INTENT: usize = 1;
+pub(crate) const INTENT: usize = 16;
 
-/// Where the home value stands.
-pub(crate) const HOME: usize = 0;
+/// The slot of the home value.
+pub(crate) const HOME: usize = 32;
 
 pub(crate) const TURN: u64 = 1;
 
 pub(crate) const PENDING: u64 = 4;
 
-/// The word of a write that goes on: the turn, the mark of the writer, and the pending mark.
-pub(crate) const WRITING: u64 = 7;
+/// The word of a place that is shut: the turn, the mark of the writer, and the pending mark.
+pub(crate) const SHUT: u64 = 7;
 
-/// What one reader adds to the gate word.
+/// What one reader adds to the word of its place.
 pub(crate) const READER: u64 = 8;
+
+/// Where the word of a place stands.
+pub(crate) fn word_at(place: usize) -> usize
+    requires { place < 32 }
+    ensures is { result ≡ word_at place }
+    ensures within { result < 544 }
+{
+    16 * place + 32
+}
 
 pub(crate) fn has_turn(word: u64) -> bool
     ensures { result ≡ has_turn word }

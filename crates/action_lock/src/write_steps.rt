@@ -1,14 +1,18 @@
-//! The steps on the intent word, and those on the gate word by which a pass writes, one call each.
-ghost use Rattle.std.specs.Prelude.{◌≡◌, ◌∷◌, ◌++◌, []};
-ghost use Rattle.action_lock.specs.declared.view.Phase.TheVariants.{Out, Asking};
-ghost use Rattle.action_lock.specs.Passes.{view_of, IsSamePass, IsPassOf, Intends, IsAsking, InHand, Writes, HasAdded, HandStands};
-ghost use Rattle.action_lock.specs.Steps.{TakesAt, ClaimsAt, released, finished, with_phase};
+//! The steps on the intent word, and those on the words of the places by which a pass writes, one call each.
+ghost use Rattle.std.specs.Prelude.{◌≡◌, ◌<◌, ◌+◌, ◌∷◌, ◌++◌, []};
+ghost use Rattle.action_lock.specs.declared.slot.Slot.{Slot};
+ghost use Rattle.action_lock.specs.declared.slot.Slot.TheVariants.{Home};
+ghost use Rattle.action_lock.specs.declared.view.Phase.TheVariants.{Out, Marking, Shutting, Opening};
+ghost use Rattle.action_lock.specs.Slots.{MayKeep, shut_hand};
+ghost use Rattle.action_lock.specs.Views.{Writing};
+ghost use Rattle.action_lock.specs.Passes.{view_of, IsSamePass, IsPassOf, Intends, IsWriting, InHand, Writes, HasAdded};
+ghost use Rattle.action_lock.specs.Steps.{TakesAt, ClaimsAt, ShutsAt, released, marked, opened, placing, with_phase};
 
 use crate::home::Home;
 use crate::lock::ActionLock;
 use crate::pass::Pass;
-use crate::plays::{Abandon, Ask, Claim, Finish, Release, Take};
-use crate::words::{GATE, INTENT, PENDING, WRITING};
+use crate::plays::{Claim, End, Mark, Open, Place, Release, Shut, Take};
+use crate::words::{COUNT, INTENT, PENDING, SHUT, word_at};
 
 impl<H: Home> ActionLock<H> {
     /// Asks for the intent, and answers whether it was free.
@@ -34,50 +38,76 @@ impl<H: Home> ActionLock<H> {
         shared.store::<Release>(&mut pass.seat, INTENT, 0);
     }
 
-    /// The pending mark is set: from now on no reader enters.
-    pub(crate) fn ask(&self, pass: &mut Pass<H>)
-        requires { Intends self.now pass.old }
+    /// The pending mark of a place is set: from now on no reader enters by it.
+    pub(crate) fn mark(&self, pass: &mut Pass<H>, place: usize)
+        requires within { place < 32 }
+        requires marks { IsWriting self.now pass.old (marked place) [] }
         ensures same { IsSamePass pass.old pass.new }
         ensures share { pass.new.share ≡ pass.old.share }
-        ensures view { pass.new.seat.me ≡ (with_phase Asking (view_of pass.old), []) }
+        ensures view { pass.new.seat.me ≡ (with_phase (Marking (place + 1)) (view_of pass.old), []) }
     {
         let shared = &self.table.shared;
-        shared.fetch_add::<Ask>(&mut pass.seat, GATE, PENDING);
+        shared.fetch_add::<Mark>(&mut pass.seat, word_at(place), PENDING);
     }
 
-    /// The write begins, if no reader is in. Whether it did.
+    /// The first place is shut and the home value is taken, if no reader is in by this place. Whether it was.
     pub(crate) fn claim(&self, pass: &mut Pass<H>) -> bool
-        requires { IsAsking self.now pass.old }
+        requires { IsWriting self.now pass.old (Marking 32) [] }
         ensures same { IsSamePass pass.old pass.new }
         ensures share { pass.new.share ≡ pass.old.share }
         ensures told { ClaimsAt H.number_of H.stands result pass.old.seat.me pass.new.seat.me }
     {
         let shared = &self.table.shared;
-        let found = shared.compare_exchange::<Claim<H>>(&mut pass.seat, GATE, PENDING, WRITING);
+        let found = shared.compare_exchange::<Claim<H>>(&mut pass.seat, word_at(0), PENDING, SHUT);
         found == PENDING
     }
 
-    /// The home value is given back with one entry more, and the marks are taken back.
-    pub(crate) fn end_write(&self, pass: &mut Pass<H>)
+    /// A place behind the first is shut, if no reader is in by it. Whether it was.
+    pub(crate) fn shut(&self, pass: &mut Pass<H>, place: usize) -> bool
+        requires within { (0 < place) × (place < 32) }
+        requires shuts { IsWriting self.now pass.old (Shutting place) (shut_hand place) }
+        ensures same { IsSamePass pass.old pass.new }
+        ensures share { pass.new.share ≡ pass.old.share }
+        ensures told { ShutsAt result place pass.old.seat.me pass.new.seat.me }
+    {
+        let shared = &self.table.shared;
+        let found = shared.compare_exchange::<Shut>(&mut pass.seat, word_at(place), PENDING, SHUT);
+        found == PENDING
+    }
+
+    /// The entry for which the home value stands is counted.
+    pub(crate) fn place(&self, pass: &mut Pass<H>)
         requires writes { Writes self.now pass.old }
         requires added { HasAdded pass.old }
         ensures same { IsSamePass pass.old pass.new }
         ensures share { pass.new.share ≡ pass.old.share }
-        ensures view { (home : H) (entry : H.Entry) → InHand pass.old home → H.stands home ((view_of pass.old).seen ++ entry ∷ []) → pass.new.seat.me ≡ (finished entry (view_of pass.old), []) }
+        ensures view { (home : H) (entry : H.Entry) → InHand pass.old home → H.stands home ((view_of pass.old).seen ++ entry ∷ []) → pass.new.seat.me ≡ (placing entry (view_of pass.old), pass.old.seat.me.1) }
     {
         let shared = &self.table.shared;
-        shared.store::<Finish<H>>(&mut pass.seat, GATE, 0);
+        shared.fetch_add::<Place<H>>(&mut pass.seat, COUNT, 1);
     }
 
-    /// The home value is given back as it was, and the marks are taken back.
-    pub(crate) fn undo_write(&self, pass: &mut Pass<H>)
-        requires writes { Writes self.now pass.old }
-        requires kept { HandStands pass.old (view_of pass.old).seen }
+    /// A place behind the first is opened, with what it is to keep.
+    pub(crate) fn open(&self, pass: &mut Pass<H>, place: usize)
+        requires within { (0 < place) × (place < 32) }
+        requires opens { (kept : Slot H H.Share) × MayKeep H.share_stands (view_of pass.old).seen kept × IsWriting self.now pass.old (opened (place + 1)) ((place, kept) ∷ shut_hand place) }
+        ensures same { IsSamePass pass.old pass.new }
+        ensures share { pass.new.share ≡ pass.old.share }
+        ensures view { pass.new.seat.me ≡ (with_phase (Opening place) (view_of pass.old), shut_hand place) }
+    {
+        let shared = &self.table.shared;
+        shared.store::<Open>(&mut pass.seat, word_at(place), 0);
+    }
+
+    /// The first place is opened, with what it is to keep, and the home value is given back.
+    pub(crate) fn end(&self, pass: &mut Pass<H>)
+        requires { (home : H) × (kept : Slot H H.Share) × H.stands home (view_of pass.old).seen × MayKeep H.share_stands (view_of pass.old).seen kept
+            × IsWriting self.now pass.old (Opening 1) ((32, Home home) ∷ (0, kept) ∷ []) }
         ensures same { IsSamePass pass.old pass.new }
         ensures share { pass.new.share ≡ pass.old.share }
         ensures view { pass.new.seat.me ≡ (with_phase Out (view_of pass.old), []) }
     {
         let shared = &self.table.shared;
-        shared.store::<Abandon>(&mut pass.seat, GATE, 0);
+        shared.store::<End>(&mut pass.seat, word_at(0), 0);
     }
 }

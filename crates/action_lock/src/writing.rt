@@ -12,7 +12,8 @@ use crate::home::Home;
 use crate::lock::ActionLock;
 use crate::pass::Pass;
 use crate::refusal::IntentRefusal;
-use crate::words::{GATE, HOME, INTENT, PENDING};
+use crate::slot::Slot;
+use crate::words::{INTENT, LAST};
 use std::sync::Wait;
 
 impl<H: Home> Pass<H> {
@@ -48,7 +49,7 @@ impl<H: Home> Pass<H> {
         unreachable!()
     }
 
-    /// Begins to write, as soon as the readers have left; no reader enters meanwhile. May block.
+    /// Begins to write, as soon as the readers of each place have left; no reader enters meanwhile. May block.
     pub fn write<R: Wait>(&mut self, rt: &R, lock: &ActionLock<H>)
         requires { Intends lock.now self.old }
         ensures same { IsSamePass self.old self.new }
@@ -57,14 +58,10 @@ impl<H: Home> Pass<H> {
         ensures claimed { HasClaimed H.number_of (view_of self.old) (view_of self.new) }
         ensures advances { Advances (view_of self.old) (view_of self.new) }
     {
-        lock.ask(self);
-        for _ in rt.forever() {
-            if lock.claim(self) {
-                return;
-            }
-            lock.linger(GATE, u64::MAX, PENDING);
-        }
-        unreachable!()
+        lock.mark_all(self);
+        let home = lock.shut_first(rt, self);
+        lock.shut_others(rt, self);
+        lock.lay(self, home);
     }
 
     /// The home value that the pass has in its hand.
@@ -73,7 +70,11 @@ impl<H: Home> Pass<H> {
         ensures* writes_back { sem 𝓛 (lends_home H.row H.Entry.row H.Share.row H.Home self.entry result) }
         ensures value { InHand self.old result.now }
     {
-        self.seat.slot_mut(&lock.table.shared, HOME)
+        match self.seat.slot_mut(&lock.table.shared, LAST) {
+            Slot::Home(home) => home,
+            Slot::Share(_) => unreachable!(),
+            Slot::Empty => unreachable!(),
+        }
     }
 
     /// Ends the write: the home value stands for one entry more, which has the pass's number. The pass keeps its intent.
@@ -86,7 +87,8 @@ impl<H: Home> Pass<H> {
         ensures view { (home : H) (entry : H.Entry) → InHand self.old home → H.stands home ((view_of self.old).seen ++ entry ∷ []) → view_of self.new ≡ finished entry (view_of self.old) }
         ensures advances { Advances (view_of self.old) (view_of self.new) }
     {
-        lock.end_write(self);
+        lock.place(self);
+        lock.open_all(self);
     }
 
     /// Ends the write with nothing written: the home value stands for what was seen. The pass keeps its intent.
@@ -98,7 +100,7 @@ impl<H: Home> Pass<H> {
         ensures view { view_of self.new ≡ with_phase phase.Out (view_of self.old) }
         ensures advances { Advances (view_of self.old) (view_of self.new) }
     {
-        lock.undo_write(self);
+        lock.open_all(self);
     }
 
     /// Gives the intent back.

@@ -43,7 +43,7 @@ pub fn soft<R: Wait, H: Home, K: Work<H>, G: Gate>(
             Ok(out) => return Ok(out),
             Err(miss) => {
                 spent = spent_after(miss, spent, attempts)?;
-                lock.pause();
+                lock.pause(pass);
             }
         }
     }

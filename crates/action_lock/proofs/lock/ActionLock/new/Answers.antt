@@ -1,5 +1,6 @@
-use Rattle.std.proofs.Common.{◌≡◌, ◌∷◌, [], sym, subst, rules}
+use Rattle.std.proofs.Common.{◌≡◌, ◌++◌, ◌∷◌, [], sym, subst, rules, replicate}
 use Rattle.atomic_table.specs.Table.{opening}
+use Rattle.action_lock.specs.declared.slot.Slot.TheVariants.{Home}
 use Rattle.action_lock.specs.Rule.{IsKept}
 use Rattle.action_lock.specs.Views.{first_view}
 use Rattle.action_lock.proofs.Ends.{opens}
@@ -7,5 +8,7 @@ use Rattle.action_lock.proofs.lock.ActionLock.new.Goals as goal
 
 pub new-requires : goal.new-requires
 new-requires g c =
-    let holds : c.push.new.self.items ≡ c.args.home ∷ [] = search rules in
-    subst (λ slots. IsKept g.H.Home.number_of g.H.Home.stands (opening (0 ∷ 0 ∷ []) slots first_view)) (sym holds) (opens g.H.Home.number_of g.H.Home.stands c.args.home c.requires)
+    let shares = c.in-Ok.slots.items in let made = c.in-Ok.ensures in
+    let holds : c.push.new.self.items ≡ shares ++ Home c.args.home ∷ [] = search rules in
+    subst (λ slots. IsKept g.H.Home.number_of g.H.Home.stands g.H.Home.share_stands (opening (replicate 544 0) slots first_view)) (sym holds)
+    (opens g.H.Home.number_of g.H.Home.stands g.H.Home.share_stands c.args.home shares c.requires made.many (made.keeps _ c.requires))

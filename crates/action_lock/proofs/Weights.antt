@@ -1,0 +1,78 @@
+-- What a view weighs at each place.
+use Rattle.std.proofs.Common.{◌≡◌, ◌≢◌, ℕ, ◌+◌, ◌<◌, ◌≤◌, Bool, true, false, if◌then◌else◌, Option, Some, None, refl, sym, ap, ◌∙◌, arith, eqb, nat_lt, ne_eqb, eqb-true, lt-ltb, ltb-true}
+use Rattle.std.proofs.lemmas.Bool.{eq-eqb, le-ltb, ltb-false}
+use Rattle.action_lock.specs.declared.view.Phase.{Phase}
+use Rattle.action_lock.specs.declared.view.Phase.TheVariants.{Out, Marking, Opening}
+use Rattle.action_lock.specs.declared.view.View.{View}
+use Rattle.action_lock.specs.Words.{own_place}
+use Rattle.action_lock.specs.Views.{Writing, weight_in, weight, below, bit}
+use Rattle.action_lock.specs.Steps.{marked, opened}
+
+-- each pass has one of the 32 places
+pub own_within : (o : Option ℕ) → own_place o < 32
+own_within (Some n) = omega arith
+own_within None = omega arith
+
+pub bit_below : (b : Bool) → bit b ≤ 1
+bit_below true = omega arith
+bit_below false = omega arith
+
+pub below_yes : (p k : ℕ) → p < k → below p k ≡ 1
+below_yes p k l = ap bit (lt-ltb p k l)
+
+pub below_no : (p k : ℕ) → k ≤ p → below p k ≡ 0
+below_no p k l = ap bit (le-ltb p k l)
+
+-- one place more is that place alone
+pub below_other : (p k : ℕ) → p ≢ k → below p (k + 1) ≡ below p k
+below_other p k apart = by_test (nat_lt p k) refl
+  where
+    by_test : (b : Bool) → nat_lt p k ≡ b → below p (k + 1) ≡ below p k
+    by_test true e = let less = ltb-true p k e in below_yes p (k + 1) (omega arith) ∙ sym (below_yes p k less)
+    by_test false e = let most = ltb-false p k e in below_no p (k + 1) (let n = apart in omega arith) ∙ sym (below_no p k most)
+
+-- with no place marked a view weighs what it does when it is out
+pub marked_weighs : (h p k : ℕ) → weight_in h p (marked k) ≡ weight_in h p (Marking k)
+marked_weighs h p k = by_test (eqb k 0) refl
+  where
+    by_test : (b : Bool) → eqb k 0 ≡ b → weight_in h p (if b then Out else Marking k) ≡ weight_in h p (Marking k)
+    by_test true e = let none_marked : k ≡ 0 = eqb-true k 0 e in let zero_there : below p k ≡ 0 = below_no p k (omega arith) in
+        λ i. record { visitors = 0; writers = 0; pendings = sym zero_there i; readers = 0; holders = 0 }
+    by_test false e = refl
+
+-- with all places shut it weighs what it does before the first is opened
+pub opened_weighs : (h p k : ℕ) → p < 32 → weight_in h p (opened k) ≡ weight_in h p (Opening k)
+opened_weighs h p k within = by_test (eqb k 32) refl
+  where
+    by_test : (b : Bool) → eqb k 32 ≡ b → weight_in h p (if b then Writing else Opening k) ≡ weight_in h p (Opening k)
+    by_test true e = let all_shut : k ≡ 32 = eqb-true k 32 e in let one : below p 32 ≡ 1 = below_yes p 32 within in
+        let same : below p 32 ≡ below p k = ap (below p) (sym all_shut) in
+        λ i. record { visitors = 0; writers = same i; pendings = (sym one ∙ same) i; readers = 0; holders = same i }
+    by_test false e = refl
+
+-- one place more is marked
+pub marked_next : (k : ℕ) → marked (k + 1) ≡ Marking (k + 1)
+marked_next k = ap (λ b. if b then Out else Marking (k + 1)) (ne_eqb (k + 1) 0 (λ e. omega arith))
+
+-- a place that isn't the last is opened
+pub opened_next : (k : ℕ) → k < 32 → opened k ≡ Opening k
+opened_next k l = ap (λ b. if b then Writing else Opening k) (ne_eqb k 32 (λ e. omega arith))
+
+module _ {E : Type 0} where
+  -- what a view weighs by its phase, at its own place
+  pub weighs_own : (v : View E) (P : Phase) → v.phase ≡ P → weight (own_place v.number) v ≡ weight_in 1 (own_place v.number) P
+  weighs_own v P is = λ i. weight_in (bit (eq-eqb (own_place v.number) (own_place v.number) refl i)) (own_place v.number) (is i)
+
+  -- and at another
+  pub weighs_else : (v : View E) (P : Phase) (p : ℕ) → v.phase ≡ P → p ≢ own_place v.number → weight p v ≡ weight_in 0 p P
+  weighs_else v P p is apart = λ i. weight_in (bit (ne_eqb (own_place v.number) p (λ e. apart (sym e)) i)) p (is i)
+
+  -- a view of the same number in another phase of a reader weighs the same but at its own place
+  pub else_same : (v w : View E) (P Q : Phase) → v.phase ≡ P → w.phase ≡ Q → w.number ≡ v.number → ((p : ℕ) → weight_in 0 p Q ≡ weight_in 0 p P)
+      → (p : ℕ) → p ≢ own_place v.number → weight p w ≡ weight p v
+  else_same v w P Q is is' number same p apart =
+      weighs_else w Q p is' (λ e. apart (e ∙ ap own_place number)) ∙ (same p ∙ sym (weighs_else v P p is apart))
+
+  -- a view of the same number and phase weighs the same
+  pub weighs_same : (v w : View E) → w.phase ≡ v.phase → w.number ≡ v.number → (p : ℕ) → weight p w ≡ weight p v
+  weighs_same v w phase number p = λ i. weight_in (bit (eqb (own_place (number i)) p)) p (phase i)

@@ -1,0 +1,22 @@
+use Rattle.std.proofs.Common.{[], ◌∷◌, ap, ◌∙◌, sym, rules}
+use Rattle.atomic_table.specs.Table.{rest, turned}
+use Rattle.action_lock.specs.declared.slot.Slot.TheVariants.{Home, Empty}
+use Rattle.action_lock.proofs.Hands.{in_front, front_set, hand_first}
+use Rattle.action_lock.proofs.lock.ActionLock.empty_first.Goals as goal
+
+pub exchange-requires : goal.exchange-requires
+exchange-requires g c = (c.requires.3.table, (Home c.requires.0, in_front _ ((0, c.requires.1) ∷ []) 32 (Home c.requires.0) c.requires.3.hand_is))
+
+pub returns-clause-shuts : goal.returns-clause-shuts
+returns-clause-shuts g c =
+    let kept = c.requires.1 in
+    let first = ap (λ m. m.1) c.exchange.ensures.3 ∙ front_set _ ((0, kept) ∷ []) 32 (Home c.requires.0) Empty c.requires.3.hand_is in
+    let second = ap (λ m. m.1) c.turn.ensures.2 ∙ ap turned first in
+    record {
+      table = search rules;
+      phase = search rules;
+      hand_is = ap (λ m. m.1) c.exchange-2.ensures.3 ∙ (ap (λ l. (0, Empty) ∷ rest l) second ∙ sym hand_first);
+      intent = search rules;
+      told = search rules;
+      no_share = search rules;
+    }

@@ -1,0 +1,18 @@
+use Rattle.std.proofs.Common.{◌≡◌, ◌+◌, ◌<◌}
+use Rattle.action_lock.specs.declared.view.Phase.TheVariants.{Out}
+use Rattle.action_lock.specs.Slots.{shut_hand}
+use Rattle.action_lock.specs.Steps.{opened, with_phase}
+use Rattle.action_lock.specs.Passes.{view_of, IsSamePass, IsWriting}
+use Rattle.action_lock.proofs.lock.ActionLock.open_all.Given as goal
+
+abbrev pub invariant-loop-place : goal.invariant-loop-place
+invariant-loop-place g l = record {
+  within : l.place < 32;
+  same : IsSamePass l.initial.pass l.pass;
+  opens : IsWriting l.self l.pass (opened (l.place + 1)) (shut_hand (l.place + 1));
+  view : with_phase Out (view_of l.pass) ≡ with_phase Out (view_of l.initial.pass);
+  stands : g.H.Home.stands l.home (view_of l.pass).seen;
+}
+
+abbrev pub decreases-loop-place : goal.decreases-loop-place
+decreases-loop-place g l = l.place

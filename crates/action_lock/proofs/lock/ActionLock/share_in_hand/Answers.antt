@@ -1,0 +1,8 @@
+use Rattle.std.proofs.Common.{[], ◌∷◌, ap, ◌∙◌, sym}
+use Rattle.action_lock.specs.declared.slot.Slot.TheVariants.{Share}
+use Rattle.action_lock.proofs.Hands.{in_front}
+use Rattle.action_lock.proofs.lock.ActionLock.share_in_hand.Goals as goal
+
+pub slot_mut-requires : goal.slot_mut-requires
+slot_mut-requires g c = let now = c.requires in
+    (now.table, (Share now.share, in_front _ [] _ (Share now.share) (now.hand ∙ ap (λ p. (p, Share now.share) ∷ []) (sym c.place-place.ensures.own))))

@@ -1,0 +1,13 @@
+use Rattle.std.proofs.Common.{◌≡◌, []}
+use Rattle.action_lock.specs.declared.view.Phase.TheVariants.{Marking}
+use Rattle.action_lock.specs.Passes.{view_of, IsSamePass, IsWriting}
+use Rattle.action_lock.proofs.lock.ActionLock.shut_first.Given as goal
+
+abbrev pub invariant-loop : goal.invariant-loop
+invariant-loop g l = record {
+  can : (goal.iterator-loop g).can_next l.iterator';
+  ends : (goal.iterator-loop g).is_finite l.iterator';
+  same : IsSamePass l.initial.pass l.pass;
+  marks : IsWriting l.self l.pass (Marking 32) [];
+  view : view_of l.pass ≡ view_of l.initial.pass;
+}

@@ -1,0 +1,14 @@
+use Rattle.std.proofs.Common.{◌≡◌, ◌<◌}
+use Rattle.action_lock.specs.declared.view.Phase.TheVariants.{Out, Shutting}
+use Rattle.action_lock.specs.Slots.{shut_hand}
+use Rattle.action_lock.specs.Steps.{with_phase}
+use Rattle.action_lock.specs.Passes.{view_of, IsSamePass, IsWriting}
+use Rattle.action_lock.proofs.lock.ActionLock.shut_others.Given as goal
+
+abbrev pub invariant-loop-place : goal.invariant-loop-place
+invariant-loop-place g l = record {
+  some_shut : 0 < l.place;
+  same : IsSamePass l.initial.pass l.pass;
+  shuts : IsWriting l.self l.pass (Shutting l.place) (shut_hand l.place);
+  view : with_phase Out (view_of l.pass) ≡ with_phase Out (view_of l.initial.pass);
+}

@@ -1,0 +1,23 @@
+-- What the slots of the lock's table hold.
+use Rattle.std.specs.Prelude.{ℕ, zero, suc, List, [], ◌∷◌}
+use Rattle.action_lock.specs.declared.slot.Slot.{Slot}
+use Rattle.action_lock.specs.declared.slot.Slot.TheVariants.{Home, Share, Empty}
+
+module _ {H S : Type 0} where
+  -- it is not the home value
+  abbrev pub HasNoHome : Slot H S → Type 0
+  HasNoHome (Home home) = ⊥
+  HasNoHome (Share share) = Unit {0}
+  HasNoHome Empty = Unit {0}
+
+  -- what a place may keep: a share that stands for these entries, or nothing
+  abbrev pub MayKeep : {E : Type 0} → (S → List E → Type 0) → List E → Slot H S → Type 0
+  MayKeep share_stands entries (Home home) = ⊥
+  MayKeep share_stands entries (Share share) = share_stands share entries
+  MayKeep share_stands entries Empty = Unit {0}
+
+  -- The hand of a seat that has shut so many places, and has let go what they kept: the slots from the last shut to the first,
+  -- and that of the home value, all empty
+  unfoldable pub shut_hand : ℕ → List (ℕ × Slot H S)
+  shut_hand zero = (32, Empty) ∷ []
+  shut_hand (suc k) = (k, Empty) ∷ shut_hand k
