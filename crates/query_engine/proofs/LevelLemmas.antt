@@ -1,12 +1,13 @@
 -- Levels are the lengths of the shortest chains.
-use Rattle.std.proofs.Common.{◌≡◌, ◌≤◌, ◌<◌, ◌⊎◌, inl, inr, ℕ, zero, suc, ◌+◌, Bool, true, false, cond, ◌||◌, List, [], ◌∷◌, ◌++◌, length, map, filter, refl, ap, sym, subst, ◌∙◌, arith}
+use Rattle.std.proofs.Common.{◌≡◌, ◌≤◌, ◌<◌, ◌⊎◌, inl, inr, ℕ, zero, suc, ◌+◌, Bool, true, false, cond, ◌||◌, List, [], ◌∷◌, ◌++◌, length, filter, refl, ap, sym, subst, ◌∙◌, arith}
 use Rattle.std.specs.Prelude.{not}
-use Rattle.std.specs.List.{Contains, list_any}
+use Rattle.std.specs.List.{Contains}
 use Rattle.std.proofs.lemmas.Bool.{false≢true, cases_lt}
 use Rattle.std.proofs.lemmas.List.Elements.{Contains-append_left, Contains-append_right, Contains-append_cases}
 use Rattle.std.proofs.lemmas.List.Filters.{length-filter_both}
 use Rattle.query_engine.specs.Fits.{has_super}
 use Rattle.query_engine.specs.Inheritors.{Listing, names_any, names_of, levels_from, inheritors_of, EndsChain, IsLeast}
+use Rattle.query_engine.specs.Search.{tagged}
 use Rattle.query_engine.proofs.MemberLemmas.{has_none, has_filter, filter_has, any_has, has_any, has_map, map_has}
 use Rattle.query_engine.proofs.ChainLemmas.{chain_one, chain_more, chain_listed, chain_none, chain_first, chain_less}
 
@@ -16,10 +17,6 @@ found_in names left = filter (names_any names) left
 
 abbrev pub left_by : List (List ℕ) → List Listing → List Listing
 left_by names left = filter (λ t. not (names_any names t)) left
-
--- types with their level
-abbrev pub tagged : ℕ → List Listing → List (ℕ × Listing)
-tagged level types = map (λ t. (level, t)) types
 
 -- a type is among those that are found, with this level
 abbrev pub Has : List (ℕ × Listing) → ℕ → Listing → Type 0
@@ -90,7 +87,7 @@ module _ (types : List Listing) (name : List ℕ) where
             let ends : EndsChain types name level u.0 = subst (λ (n : ℕ). EndsChain types name n u.0) (sym is) u.1 in
             let listed : Contains types t = h.listed t (filter_has (λ t. not (names_any names t)) left t behind).0 in
             let there : Contains left u.0 = h.kept u.0 (chain_listed types name level u.0 ends)
-                (λ len less shorter. none_by t behind (len + 1) (omega (arith, less)) (chain_more types name len u.0 t shorter listed u.2)) in
+            (λ len less shorter. none_by t behind (len + 1) (omega (arith, less)) (chain_more types name len u.0 t shorter listed u.2)) in
             let found : Contains (found_in names left) u.0 = has_filter (names_any names) left u.0 there (h.whole u.0 there ends) in
             has_any (λ name. has_super name t.1) (names_of (found_in names left)) u.0.1.name (has_map (λ t. t.1.name) (found_in names left) u.0 found) u.2
 
@@ -183,7 +180,7 @@ module _ (types : List Listing) (name : List ℕ) where
           let both = length-filter_both (names_any names) (λ t. not (names_any names t)) (λ t. refl) left in
           let many : length (found_in names left) ≡ suc (length us) = ap length some in
           let r = rest d (names_of (found_in names left)) (left_by names left) (left_next level names left h) (omega (arith, both, many, few)) t (stays is)
-              (subst (λ (n : ℕ). EndsChain types name n t) (omega arith) chain) in
+          (subst (λ (n : ℕ). EndsChain types name n t) (omega arith) chain) in
           let least = r.1 in
           (r.0, omega (arith, least), Contains-append_right (tagged level (found_in names left)) later (r.0, t) r.2)
 
@@ -191,9 +188,12 @@ module _ (types : List Listing) (name : List ℕ) where
           → ((d : ℕ) (names : List (List ℕ)) (left : List Listing) → AreLeft (level + 1) names left → length left ≤ more
           → (t : Listing) → Contains left t → EndsChain types name (level + 1 + d) t → (j : ℕ) × (j ≤ level + 1 + d) × Has (levels_from more (level + 1) names left) j t)
           → (j : ℕ) × (j ≤ level + d) × Has (tagged level (found_in names left) ++ later) j t
-      of true is d chain rest =
-          (level, omega arith, Contains-append_left (tagged level (found_in names left)) later (level, t)
-          (has_map (λ (t : Listing). (level, t)) (found_in names left) t (has_filter (names_any names) left t there is)))
+      of true is d chain rest = (
+        level,
+        omega arith,
+        Contains-append_left (tagged level (found_in names left)) later (level, t)
+            (has_map (λ (t : Listing). (level, t)) (found_in names left) t (has_filter (names_any names) left t there is)),
+      )
       of false is zero chain rest =
           absurd (false≢true (sym is ∙ h.whole t there (subst (λ (n : ℕ). EndsChain types name n t) (omega arith) chain)))
       of false is (suc d) chain rest = behind (found_in names left) refl is d chain rest
@@ -211,6 +211,6 @@ pub inheritors_whole : (name : List ℕ) (types : List Listing) (len : ℕ) (t :
 inheritors_whole name types zero t chain = absurd (chain_none types name t chain)
 inheritors_whole name types (suc d) t chain =
     let r = found_whole types name (length types) 1 d (name ∷ []) types (all_left types name) (omega arith) t (chain_listed types name (suc d) t chain)
-        (subst (λ (n : ℕ). EndsChain types name n t) (omega arith) chain) in
+    (subst (λ (n : ℕ). EndsChain types name n t) (omega arith) chain) in
     let a = r.1 in
     (r.0, omega (arith, a), r.2)

@@ -1,11 +1,12 @@
 -- Lists in order, and the order of levels.
-use Rattle.std.proofs.Common.{◌≡◌, ◌≤◌, ◌<◌, ◌⊎◌, inl, inr, ℕ, zero, suc, ◌+◌, Bool, true, false, cond, List, [], ◌∷◌, ◌++◌, length, map, filter, refl, arith}
+use Rattle.std.proofs.Common.{◌≤◌, inl, inr, ℕ, zero, suc, ◌+◌, Bool, true, false, cond, List, [], ◌∷◌, ◌++◌, length, filter, refl, arith}
 use Rattle.std.specs.Prelude.{not}
 use Rattle.std.specs.List.{AllByRecursion, AllPairs}
 use Rattle.std.proofs.lemmas.List.Elements.{All-from_recursion}
 use Rattle.std.proofs.lemmas.List.Kept.{AllPairs-cons}
 use Rattle.query_engine.specs.Inheritors.{Listing, names_any, names_of, levels_from, inheritors_of, StandsBefore, Precedes}
-use Rattle.query_engine.proofs.LevelLemmas.{found_in, left_by, tagged}
+use Rattle.query_engine.specs.Search.{tagged}
+use Rattle.query_engine.proofs.LevelLemmas.{found_in, left_by}
 
 module _ {X : Type 0} where
   pub all_filter : (P : X → Type 0) (p : X → Bool) (xs : List X) → AllByRecursion P xs → AllByRecursion P (filter p xs)

@@ -1,5 +1,5 @@
 -- A search by levels finds what the levels are.
-use Rattle.std.proofs.Common.{◌≡◌, ◌≤◌, ◌<◌, ◌⊎◌, inl, inr, ℕ, zero, suc, ◌+◌, Bool, true, false, cond, ◌&&◌, ◌||◌, if◌then◌else◌, List, [], ◌∷◌, ◌++◌, length, map, filter, Option, Some, None, refl, ap, sym, subst, ◌∙◌, append-nil, append_assoc, arith}
+use Rattle.std.proofs.Common.{◌≡◌, ℕ, Bool, true, false, cond, ◌&&◌, ◌||◌, if◌then◌else◌, List, [], ◌∷◌, ◌++◌, filter, Option, Some, None, Result, Ok, Err, OnOk, refl, ap, sym, subst, ◌∙◌, append-nil, append_assoc}
 use Rattle.std.specs.Prelude.{not, is_some}
 use Rattle.std.specs.Option.{option_or}
 use Rattle.std.specs.List.{list_any}
@@ -9,13 +9,16 @@ use Rattle.std.proofs.lemmas.List.Folds.{list_any-append}
 use Rattle.std.proofs.lemmas.Slice.Eq.{bytes_eq-Decides}
 use Rattle.query_engine.specs.Fits.{has_super}
 use Rattle.query_engine.specs.Inheritors.{Listing, names_any, names_of, StandsBefore}
-use Rattle.query_engine.specs.Search.{Seen, Reached, meet_all, is_asked, HasAsked, AskedEach}
+use Rattle.query_engine.specs.Search.{Seen, Reached, meet_all, is_asked, HasAsked, AskedEach, leveled}
 use Rattle.query_engine.proofs.OrderLemmas.{Sorted}
-use Rattle.query_engine.proofs.MeetLemmas.{leveled, stepped, new_names, met_all}
+use Rattle.query_engine.proofs.MeetLemmas.{stepped, new_names, met_all}
 
 -- the name is the other
-bytes_same : (xs ys : List ℕ) → bytes_eq xs ys ≡ true → xs ≡ ys
+pub bytes_same : (xs ys : List ℕ) → bytes_eq xs ys ≡ true → xs ≡ ys
 bytes_same xs ys h = (bytes_eq-Decides xs ys).0 h
+
+pub bytes_itself : (xs : List ℕ) → bytes_eq xs xs ≡ true
+bytes_itself xs = (bytes_eq-Decides xs xs).1 refl
 
 -- a level, or the one at hand where a test is passed
 abbrev pub or_level : Option ℕ → ℕ → Bool → Option ℕ
@@ -144,7 +147,7 @@ module _ (types : List Listing) (sorted : Sorted StandsBefore types) (before : L
         is = λ t. at.is t ∙ kept_level (before t) level (names_any done t) (has_super name t.1) (some t) ∙ ap (or_level (before t) level) (sym (one_more done name t));
         next = λ test. ap (λ r. list_any test r.next) same ∙ at.next test
             ∙ any_agree (λ t. names_any done t && (not (is_some (before t)) && test t.1.name)) (λ t. names_any (done ++ name ∷ []) t && (not (is_some (before t)) && test t.1.name))
-              (λ t. kept_new (before t) level (names_any done t) (has_super name t.1) (test t.1.name) (some t) ∙ ap (λ b. b && (not (is_some (before t)) && test t.1.name)) (sym (one_more done name t))) types;
+            (λ t. kept_new (before t) level (names_any done t) (has_super name t.1) (test t.1.name) (some t) ∙ ap (λ b. b && (not (is_some (before t)) && test t.1.name)) (sym (one_more done name t))) types;
         none_more = λ other is t names. more other t names (bytes_eq other name) refl (sym (has.asks other) ∙ is);
       }
         where
@@ -164,9 +167,9 @@ module _ (types : List Listing) (sorted : Sorted StandsBefore types) (before : L
             ∙ ap (λ b. list_any (λ t. names_any done t && (not (is_some (before t)) && test t.1.name)) types || b) (any_names test (λ t. has_super name t.1 && not (is_some (at.levels t))) types)
             ∙ any_or (λ t. names_any done t && (not (is_some (before t)) && test t.1.name)) (λ t. (has_super name t.1 && not (is_some (at.levels t))) && test t.1.name) types
             ∙ any_agree (λ t. (names_any done t && (not (is_some (before t)) && test t.1.name)) || ((has_super name t.1 && not (is_some (at.levels t))) && test t.1.name))
-              (λ t. names_any (done ++ name ∷ []) t && (not (is_some (before t)) && test t.1.name))
-              (λ t. ap (λ o. (names_any done t && (not (is_some (before t)) && test t.1.name)) || ((has_super name t.1 && not (is_some o)) && test t.1.name)) (at.is t)
-                ∙ next_new (before t) level (names_any done t) (has_super name t.1) (test t.1.name) ∙ ap (λ b. b && (not (is_some (before t)) && test t.1.name)) (sym (one_more done name t))) types;
+            (λ t. names_any (done ++ name ∷ []) t && (not (is_some (before t)) && test t.1.name))
+            (λ t. ap (λ o. (names_any done t && (not (is_some (before t)) && test t.1.name)) || ((has_super name t.1 && not (is_some o)) && test t.1.name)) (at.is t)
+            ∙ next_new (before t) level (names_any done t) (has_super name t.1) (test t.1.name) ∙ ap (λ b. b && (not (is_some (before t)) && test t.1.name)) (sym (one_more done name t))) types;
         none_more = λ other is t names. more other t names (bytes_eq other name) refl (sym (has.asks other) ∙ is);
       }
         where
@@ -189,3 +192,30 @@ module _ (types : List Listing) (sorted : Sorted StandsBefore types) (before : L
   at_all done (name ∷ names) asked reached asked' reached' (a, r, has, rest) at =
       subst (λ (ns : List (List ℕ)). IsAt types before level ns asked' reached') (append_assoc done (name ∷ []) names)
       (at_all (done ++ name ∷ []) names a r asked' reached' rest (at_more done name asked reached a r has at))
+
+-- a name that is new is asked for
+pub asked_new : {X E : Type 0} (r : Result X E) (types : List Listing) (level : ℕ) (name : List ℕ) (asked : List (List ℕ)) (reached : Reached) (asked' : List (List ℕ)) (reached' : Reached) (walk : List Listing)
+    → is_asked name asked ≡ false → ((other : List ℕ) → is_asked other asked' ≡ (bytes_eq other name || is_asked other asked)) → walk ≡ filter (λ t. has_super name t.1) types
+    → OnOk r (reached' ≡ meet_all level reached walk) → OnOk r (HasAsked types level name asked reached asked' reached')
+asked_new (Err e) types level name asked reached asked' reached' walk new asks found met = tt
+asked_new (Ok x) types level name asked reached asked' reached' walk new asks found met = record {
+  asks = asks;
+  met = met ∙ ap (meet_all level reached) found
+      ∙ sym (ap (λ b. if b then reached else meet_all level reached (filter (λ (t : Listing). has_super name t.1) types)) new);
+}
+
+-- and one that isn't, not once more
+pub asked_again : (types : List Listing) (level : ℕ) (name : List ℕ) (asked : List (List ℕ)) (reached : Reached) (asked' : List (List ℕ))
+    → is_asked name asked ≡ true → ((other : List ℕ) → is_asked other asked' ≡ (bytes_eq other name || is_asked other asked)) → HasAsked types level name asked reached asked' reached
+asked_again types level name asked reached asked' again asks = record {
+  asks = asks;
+  met = sym (ap (λ b. if b then reached else meet_all level reached (filter (λ (t : Listing). has_super name t.1) types)) again);
+}
+
+pub not_true : (b : Bool) → true ≡ not b → b ≡ false
+not_true true h = absurd (false≢true (sym h))
+not_true false h = refl
+
+pub not_false : (b : Bool) → false ≡ not b → b ≡ true
+not_false true h = refl
+not_false false h = absurd (false≢true h)
