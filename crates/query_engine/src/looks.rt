@@ -1,4 +1,5 @@
-//! Looks at a watch: one as a call begins, and one after each 256 rows.
+//! Looks at a watch: one as a call begins, and then by what it makes or meets: one after each 256 rows or types, or after
+//! each file.
 ghost use Rattle.std.specs.Prelude.{◌≡◌, ◌<◌, ◌+◌, ◌/◌, ◌%◌, IfErr};
 ghost use Rattle.action_lock.specs.Counts.{counted};
 ghost use Rattle.query_engine.specs.Looks.{rows_a_look, looks_at, HasLooked, EndsEarly};

@@ -1,6 +1,7 @@
 //! What is done in a new workspace, and what it comes to.
+use crate::asked::Asked;
 use crate::calls::{Edit, changed, rows, share_of};
-use crate::{late, looks};
+use crate::{late, looks, reach};
 use ide_calls::IdeHome;
 use std::alloc::{AllocError, Global};
 
@@ -13,8 +14,18 @@ pub enum Course {
         file: u32,
         later: &'static [Edit],
     },
-    /// Files with so many classes of one name are added and asked for.
-    Looks(&'static [u32]),
+    /// Files with so many times a line each are added, and a question is asked after each.
+    Looks {
+        line: &'static str,
+        counts: &'static [u32],
+        asked: Asked,
+    },
+    /// A question about a few files, of which the first is edited.
+    Reached {
+        files: &'static [(&'static str, &'static str)],
+        edits: &'static [Edit],
+        asked: Asked,
+    },
     /// A share is kept between edits.
     Shared {
         earlier: &'static [Edit],
@@ -36,7 +47,16 @@ fn tell(alloc: Global, home: &mut IdeHome, course: Course) -> Result<String, All
             file,
             later,
         } => late::tell(alloc, home, earlier, file, later),
-        Course::Looks(counts) => looks::tell(alloc, home, counts),
+        Course::Looks {
+            line,
+            counts,
+            asked,
+        } => looks::tell(alloc, home, line, counts, asked),
+        Course::Reached {
+            files,
+            edits,
+            asked,
+        } => reach::tell(alloc, home, files, edits, asked),
         Course::Shared { earlier, later } => tell_shared(alloc, home, earlier, later),
     }
 }

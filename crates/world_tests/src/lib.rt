@@ -1,6 +1,9 @@
-//! Tests of the workspace and of the query engine: index data that come late, how often a question looks, and shares.
+//! Tests of the workspace and of the query engine: index data that come late, how often a question looks, shares, and
+//! where a name is used and what comes from it.
 #![tactic(auto)]
 
+#[cfg(test)]
+mod asked;
 #[cfg(test)]
 mod calls;
 #[cfg(test)]
@@ -9,5 +12,7 @@ mod courses;
 mod late;
 #[cfg(test)]
 mod looks;
+#[cfg(test)]
+mod reach;
 #[cfg(test)]
 mod tests;

@@ -1,12 +1,12 @@
 //! How often a question looks while it is answered, and where it is stopped.
+use crate::asked::{Asked, query_of, row_count};
 use crate::calls::{put, share_of, text_of};
 use crate::late::late_intake;
 use action_lock::Watch;
 use ide_calls::IdeHome;
 use ide_text::Name;
 use ide_world::State;
-use queries::Query;
-use query_engine::{Answer, AskRefusal, NoWatch, ask};
+use query_engine::{AskRefusal, NoWatch, ask};
 use std::alloc::{AllocError, Global};
 use write_history::Change;
 
@@ -43,24 +43,36 @@ impl Watch for SecondLook {
     }
 }
 
-/// Adds files with so many classes `N` each, one after another, and tells after each how the question for them goes.
-pub fn tell(alloc: Global, home: &mut IdeHome, counts: &[u32]) -> Result<String, AllocError> {
+/// Adds files with so many times this line each, one after another, and tells after each how a question goes.
+pub fn tell(
+    alloc: Global,
+    home: &mut IdeHome,
+    line: &str,
+    counts: &[u32],
+    asked: Asked,
+) -> Result<String, AllocError> {
     let mut out = String::new(alloc);
     let mut file = 0u32;
     for count in counts {
         file = file.saturating_add(1);
-        add(alloc, home, file, *count)?;
+        add(alloc, home, file, line, *count)?;
         let share = share_of(alloc, home)?;
-        push_looks(alloc, share.state(), &mut out)?;
+        push_looks(alloc, share.state(), asked, &mut out)?;
     }
     Ok(out)
 }
 
 /// Adds the file with this number, which is its id, and takes it in.
-fn add(alloc: Global, home: &mut IdeHome, file: u32, count: u32) -> Result<(), AllocError> {
+fn add(
+    alloc: Global,
+    home: &mut IdeHome,
+    file: u32,
+    line: &str,
+    count: u32,
+) -> Result<(), AllocError> {
     let mut text = String::new(alloc);
     for _ in 0..count {
-        text.push_str("class N {}\n")?;
+        text.push_str(line)?;
     }
     let change = Change::Create {
         path: Name::from(format!(in alloc; "{file}.java")?),
@@ -73,34 +85,37 @@ fn add(alloc: Global, home: &mut IdeHome, file: u32, count: u32) -> Result<(), A
 
 /// Adds how often the question looks, and how many rows it gives, with a watch that sees nothing; and the same with one
 /// that stops it at its second look.
-fn push_looks(alloc: Global, state: &State, out: &mut String) -> Result<(), AllocError> {
+fn push_looks(
+    alloc: Global,
+    state: &State,
+    asked: Asked,
+    out: &mut String,
+) -> Result<(), AllocError> {
     let mut never = NoWatch::new();
-    let rows = class_rows(alloc, state, &mut never)?;
+    let rows = rows_of(alloc, state, asked, &mut never)?;
     let looks = never.looks();
     out.push_str(format!(in alloc; "{looks} looks, {rows:?}; ")?.as_str())?;
     let mut second = SecondLook {
         looks: 0,
         sightings: 0,
     };
-    let rows = class_rows(alloc, state, &mut second)?;
+    let rows = rows_of(alloc, state, asked, &mut second)?;
     let looks = second.looks;
     out.push_str(format!(in alloc; "{looks} looks, {rows:?}\n")?.as_str())
 }
 
-/// How many rows the types named `N` have, or nothing where the question is stopped.
-fn class_rows<W: Watch>(
+/// How many rows the answer has, or nothing where the question is stopped.
+fn rows_of<W: Watch>(
     alloc: Global,
     state: &State,
+    asked: Asked,
     watch: &mut W,
 ) -> Result<Option<usize>, AllocError>
     requires { W.can_look watch.old }
 {
-    let query = Query::Class {
-        name: Name::of(alloc, "N")?,
-    };
-    match ask(alloc, state, &query, watch) {
-        Ok(Answer::Rows { rows }) => Ok(Some(rows.len())),
+    match ask(alloc, state, &query_of(alloc, asked)?, watch) {
+        Ok(answer) => Ok(row_count(&answer)),
         Err(AskRefusal::Cancelled) => Ok(None),
-        _ => Err(AllocError),
+        Err(_) => Err(AllocError),
     }
 }

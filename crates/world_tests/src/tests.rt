@@ -1,10 +1,11 @@
 //! What courses come to.
+use crate::asked::Asked;
 use crate::calls::Edit;
 use crate::courses::{Course, told};
 use std::test::Fail;
 
 /// Courses, and what they come to.
-static COURSES: [(Course, &str); 7] = [
+static COURSES: [(Course, &str); 14] = [
     // Index data go in only at the stamp at which they were made.
     (
         Course::Late {
@@ -56,8 +57,77 @@ static COURSES: [(Course, &str); 7] = [
     ),
     // A question looks as it begins, and after each 256 rows: 255, 256 and 600 of them.
     (
-        Course::Looks(&[255, 1, 344]),
+        Course::Looks {
+            line: "class N {}\n",
+            counts: &[255, 1, 344],
+            asked: Asked::Class("N"),
+        },
         "1 looks, Some(255); 1 looks, Some(255)\n2 looks, Some(256); 2 looks, None\n3 looks, Some(600); 2 looks, None\n",
+    ),
+    // One that asks where a name is used looks as it begins, and after each file that uses it.
+    (
+        Course::Looks {
+            line: "class N {}\n",
+            counts: &[255, 0, 1, 344],
+            asked: Asked::Usages("N"),
+        },
+        "2 looks, Some(255); 2 looks, None\n2 looks, Some(255); 2 looks, None\n3 looks, Some(256); 2 looks, None\n4 looks, Some(600); 2 looks, None\n",
+    ),
+    // A name is used where it stands as an identifier: not in comments and strings, and not in a file that is no Java
+    // file. Where it isn't used in a file that has the word, there is no look for the file.
+    (
+        Course::Reached {
+            files: &[("A.java", "class A { A a; } // A \"A\"")],
+            edits: &[],
+            asked: Asked::Usages("A"),
+        },
+        "A.java:1:7; A.java:1:11; 2 looks",
+    ),
+    (
+        Course::Reached {
+            files: &[("A.java", "class A { A a; } // A \"A\"")],
+            edits: &[],
+            asked: Asked::Usages("class"),
+        },
+        "1 looks",
+    ),
+    (
+        Course::Reached {
+            files: &[
+                ("A.java", "X\n X x X\n"),
+                ("B.java", "/* X */ \"X\" 'X' \"\"\"X\"\"\" XX // X"),
+                ("C.txt", "X"),
+                ("D.java", "\u{e9} X"),
+            ],
+            edits: &[],
+            asked: Asked::Usages("X"),
+        },
+        "A.java:1:1; A.java:2:2; A.java:2:6; D.java:1:3; 3 looks",
+    ),
+    // What a document has committed hides the content, and what it hasn't doesn't.
+    (
+        Course::Reached {
+            files: &[("A.java", "class A {}")],
+            edits: &[Edit::Open, Edit::Insert(0, "A\n")],
+            asked: Asked::Usages("A"),
+        },
+        "A.java:1:7; 2 looks",
+    ),
+    (
+        Course::Reached {
+            files: &[("A.java", "class A {}")],
+            edits: &[Edit::Open, Edit::Insert(0, "A\n"), Edit::Commit],
+            asked: Asked::Usages("A"),
+        },
+        "A.java:1:1; A.java:2:7; 2 looks",
+    ),
+    (
+        Course::Reached {
+            files: &[("A.java", "class A {}")],
+            edits: &[Edit::Open, Edit::Insert(6, "B"), Edit::Commit],
+            asked: Asked::Usages("A"),
+        },
+        "1 looks",
     ),
     // A share answers as the workspace of which it was made, whatever becomes of that.
     (

@@ -1,0 +1,72 @@
+//! Questions about a name, and what their answers show.
+use ide_text::Name;
+use queries::Query;
+use query_engine::{Answer, LevelRow, PlaceRow};
+use std::alloc::{AllocError, Global};
+
+/// A question about a name.
+#[derive(Clone, Copy)]
+pub enum Asked {
+    Class(&'static str),
+    Usages(&'static str),
+    Inheritors(&'static str),
+}
+
+/// The question itself.
+pub fn query_of(alloc: Global, asked: Asked) -> Result<Query, AllocError> {
+    Ok(match asked {
+        Asked::Class(name) => Query::Class {
+            name: Name::of(alloc, name)?,
+        },
+        Asked::Usages(name) => Query::Usages {
+            name: Name::of(alloc, name)?,
+        },
+        Asked::Inheritors(name) => Query::Inheritors {
+            name: Name::of(alloc, name)?,
+        },
+    })
+}
+
+/// The number of rows of an answer, if it has rows.
+pub fn row_count(answer: &Answer) -> Option<usize> {
+    match answer {
+        Answer::Rows { rows } => Some(rows.len()),
+        Answer::Usages { rows, .. } => Some(rows.len()),
+        Answer::Inheritors { rows } => Some(rows.len()),
+        _ => None,
+    }
+}
+
+/// Adds the rows of an answer: of usages the places, of inheritors places and levels.
+pub fn push_rows(alloc: Global, answer: &Answer, out: &mut String) -> Result<(), AllocError> {
+    match answer {
+        Answer::Usages { rows, .. } => push_places(alloc, rows.as_slice(), out),
+        Answer::Inheritors { rows } => push_levels(alloc, rows.as_slice(), out),
+        _ => out.push_str("other rows; "),
+    }
+}
+
+/// Adds places.
+fn push_places(alloc: Global, rows: &[PlaceRow], out: &mut String) -> Result<(), AllocError> {
+    for row in rows {
+        let path = &row.path;
+        let line = row.line;
+        let column = row.column;
+        out.push_str(format!(in alloc; "{path}:{line}:{column}; ")?.as_str())?;
+    }
+    Ok(())
+}
+
+/// Adds types with their levels.
+fn push_levels(alloc: Global, rows: &[LevelRow], out: &mut String) -> Result<(), AllocError> {
+    for found in rows {
+        let path = &found.row.path;
+        let line = found.row.line;
+        let column = found.row.column;
+        let name = &found.row.name;
+        let level = found.level;
+        out.push_str(format!(in alloc; "{path}:{line}:{column} ")?.as_str())?;
+        out.push_str(format!(in alloc; "{name} {level}; ")?.as_str())?;
+    }
+    Ok(())
+}
