@@ -21,7 +21,8 @@ asked_is name (k ∷ ks) =
     ap (λ b. b || list_any (λ k. is_eq (slice_cmp nat_cmp name k.now)) ks) (is_eq-slice_cmp name k.now) ∙ ap (λ b. bytes_eq name k.now || b) (asked_is name ks)
 
 bytes_swap : (xs ys : List ℕ) → bytes_eq xs ys ≡ bytes_eq ys xs
-bytes_swap xs ys = one_answer (bytes_eq xs ys) (bytes_eq ys xs) (bytes_eq-Decides xs ys) ((λ h. sym ((bytes_eq-Decides ys xs).0 h)), (λ h. (bytes_eq-Decides ys xs).1 (sym h)))
+bytes_swap xs ys = one_answer (bytes_eq xs ys) (bytes_eq ys xs) (bytes_eq-Decides xs ys)
+    ((λ h. sym ((bytes_eq-Decides ys xs).0 h)), (λ h. (bytes_eq-Decides ys xs).1 (sym h)))
 
 cond_or : (b c : Bool) → cond b true c ≡ (b || c)
 cond_or true c = refl

@@ -66,7 +66,8 @@ below_sum c c' a a' more rest = omega (arith, more, rest)
 
 module _ (asked asked' : List (List ℕ)) (name : List ℕ) (asks : (other : List ℕ) → is_asked other asked' ≡ (bytes_eq other name || is_asked other asked)) where
   -- a name that wasn't asked for before
-  pub cost_more : is_asked name asked ≡ false → (types : List Listing) → length (filter (λ t. has_super name t.1) types) + asked_supers types asked ≤ asked_supers types asked'
+  pub cost_more : is_asked name asked ≡ false → (types : List Listing)
+      → length (filter (λ t. has_super name t.1) types) + asked_supers types asked ≤ asked_supers types asked'
   cost_more fresh [] = omega arith
   cost_more fresh (t ∷ ts) = of (has_super name t.1) refl (cost_more fresh ts)
     where
@@ -80,9 +81,11 @@ module _ (asked asked' : List (List ℕ)) (name : List ℕ) (asks : (other : Lis
           itself n = ap (λ b. b || is_asked n asked) (bytes_itself n)
 
       of : (b : Bool) → has_super name t.1 ≡ b → length (filter (λ t. has_super name t.1) ts) + asked_supers ts asked ≤ asked_supers ts asked'
-          → length (cond b (t ∷ filter (λ t. has_super name t.1) ts) (filter (λ t. has_super name t.1) ts)) + asked_supers (t ∷ ts) asked ≤ asked_supers (t ∷ ts) asked'
+          → length (cond b (t ∷ filter (λ t. has_super name t.1) ts) (filter (λ t. has_super name t.1) ts)) + asked_supers (t ∷ ts) asked ≤ asked_supers
+          (t ∷ ts) asked'
       of true is rest =
-          let one = filter_one_more (λ n. is_asked n asked) (λ n. is_asked n asked') (λ n. bytes_eq name n) wider (λ n h. ap (λ m. is_asked m asked) (sym (bytes_same name n h)) ∙ fresh) new
+          let one = filter_one_more (λ n. is_asked n asked) (λ n. is_asked n asked') (λ n. bytes_eq name n) wider
+          (λ n h. ap (λ m. is_asked m asked) (sym (bytes_same name n h)) ∙ fresh) new
           t.1.supers (and_second (is_type t.1) (list_any (λ super. bytes_eq name super) t.1.supers) is) in
           more_sum (length (filter (λ t. has_super name t.1) ts)) _ _ (asked_supers ts asked) (asked_supers ts asked') one rest
       of false is rest =
@@ -100,4 +103,5 @@ module _ (asked asked' : List (List ℕ)) (name : List ℕ) (asks : (other : Lis
 -- no more than all names of supers
 pub cost_few : (types : List Listing) (asked : List (List ℕ)) → asked_supers types asked ≤ all_supers types
 cost_few [] asked = omega arith
-cost_few (t ∷ ts) asked = let rest = cost_few ts asked in let few = filter_few (λ name. is_asked name asked) t.1.supers in below_sum _ _ (asked_supers ts asked) (all_supers ts) few rest
+cost_few (t ∷ ts) asked = let rest = cost_few ts asked in let few = filter_few (λ name. is_asked name asked) t.1.supers in
+    below_sum _ _ (asked_supers ts asked) (all_supers ts) few rest

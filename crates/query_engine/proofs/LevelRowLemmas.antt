@@ -54,14 +54,17 @@ ties_level k n = of (cases_lt k n) (cases_lt n k)
     by o p e f = ap (λ a. not (is_lt a) && not (is_lt (nat_cmp n k))) e ∙ ap (λ a. not (is_lt o) && not (is_lt a)) f
 
     of : (k < n) ⊎ (n ≤ k) → (n < k) ⊎ (k ≤ n) → (not (is_lt (nat_cmp k n)) && not (is_lt (nat_cmp n k))) ≡ (n == k)
-    of (inl less) other = by Less Greater (sym (nat_cmp_is k n Less less)) (sym (nat_cmp_is n k Greater less)) ∙ sym (ne_eqb n k (λ same. omega (arith, less, same)))
-    of (inr few) (inl less) = by Greater Less (sym (nat_cmp_is k n Greater less)) (sym (nat_cmp_is n k Less less)) ∙ sym (ne_eqb n k (λ same. omega (arith, less, same)))
+    of (inl less) other = by Less Greater (sym (nat_cmp_is k n Less less)) (sym (nat_cmp_is n k Greater less))
+        ∙ sym (ne_eqb n k (λ same. omega (arith, less, same)))
+    of (inr few) (inl less) = by Greater Less (sym (nat_cmp_is k n Greater less)) (sym (nat_cmp_is n k Less less))
+        ∙ sym (ne_eqb n k (λ same. omega (arith, less, same)))
     of (inr few) (inr enough) =
         let same : n ≡ k = omega (arith, few, enough) in
         by Equal Equal (sym (nat_cmp_is k n Equal (sym same))) (sym (nat_cmp_is n k Equal same)) ∙ sym (eq-eqb n k same)
 
 -- a stable sort keeps the rows of each level
-pub stable_levels : (old new : List LevelRow) → length new ≡ length old → IsStableBy lower old new → (level : ℕ) → with_row_level level new ≡ with_row_level level old
+pub stable_levels : (old new : List LevelRow) → length new ≡ length old → IsStableBy lower old new → (level : ℕ)
+    → with_row_level level new ≡ with_row_level level old
 stable_levels [] [] len stable level = refl
 stable_levels [] (r ∷ rows) len stable level = absurd (omega (arith, len))
 stable_levels (r ∷ rows) new len stable level =
@@ -74,19 +77,22 @@ stable_levels (r ∷ rows) new len stable level =
 none_lower : (level : ℕ) (rows : List LevelRow) → AllByRecursion (λ row. level < row.level) rows → with_row_level level rows ≡ []
 none_lower level [] all = refl
 none_lower level (r ∷ rows) all =
-    ap (λ b. cond b (r ∷ with_row_level level rows) (with_row_level level rows)) (ne_eqb r.level level (λ same. let less = all.0 in omega (arith, less, same))) ∙ none_lower level rows all.1
+    ap (λ b. cond b (r ∷ with_row_level level rows) (with_row_level level rows))
+    (ne_eqb r.level level (λ same. let less = all.0 in omega (arith, less, same))) ∙ none_lower level rows all.1
 
 head_kept : (r : LevelRow) (rows : List LevelRow) → with_row_level r.level (r ∷ rows) ≡ r ∷ with_row_level r.level rows
 head_kept r rows = ap (λ b. cond b (r ∷ with_row_level r.level rows) (with_row_level r.level rows)) (eq-eqb r.level r.level refl)
 
-above : (level : ℕ) (r : LevelRow) (rows : List LevelRow) → level < r.level → AllByRecursion (λ other. r.level ≤ other.level) rows → AllByRecursion (λ row. level < row.level) (r ∷ rows)
+above : (level : ℕ) (r : LevelRow) (rows : List LevelRow) → level < r.level → AllByRecursion (λ other. r.level ≤ other.level) rows
+    → AllByRecursion (λ row. level < row.level) (r ∷ rows)
 above level r rows less all = (less, of rows all)
   where
     of : (rows : List LevelRow) → AllByRecursion (λ other. r.level ≤ other.level) rows → AllByRecursion (λ row. level < row.level) rows
     of [] all = tt
     of (s ∷ rows) all = let le = all.0 in (omega (arith, less, le), of rows all.1)
 
-lower_first : (x y : LevelRow) (xs ys : List LevelRow) → x.level < y.level → RowsRise (y ∷ ys) → with_row_level x.level (x ∷ xs) ≡ with_row_level x.level (y ∷ ys) → ⊥
+lower_first : (x y : LevelRow) (xs ys : List LevelRow) → x.level < y.level → RowsRise (y ∷ ys)
+    → with_row_level x.level (x ∷ xs) ≡ with_row_level x.level (y ∷ ys) → ⊥
 lower_first x y xs ys less rise same =
     let some : x ∷ with_row_level x.level xs ≡ [] = sym (head_kept x xs) ∙ same ∙ none_lower x.level (y ∷ ys) (above x.level y ys less rise.0) in
     let long : suc (length (with_row_level x.level xs)) ≡ 0 = ap length some in
@@ -107,7 +113,8 @@ same_rows [] (y ∷ ys) xs_rise ys_rise same = absurd (no_first y ys (same y.lev
 same_rows (x ∷ xs) [] xs_rise ys_rise same = absurd (no_first x xs (sym (same x.level)))
 same_rows (x ∷ xs) (y ∷ ys) xs_rise ys_rise same = of (cases_lt x.level y.level) (cases_lt y.level x.level) (same_rows xs ys xs_rise.1 ys_rise.1)
   where
-    of : (x.level < y.level) ⊎ (y.level ≤ x.level) → (y.level < x.level) ⊎ (x.level ≤ y.level) → (((level : ℕ) → with_row_level level xs ≡ with_row_level level ys) → xs ≡ ys) → x ∷ xs ≡ y ∷ ys
+    of : (x.level < y.level) ⊎ (y.level ≤ x.level) → (y.level < x.level) ⊎ (x.level ≤ y.level)
+        → (((level : ℕ) → with_row_level level xs ≡ with_row_level level ys) → xs ≡ ys) → x ∷ xs ≡ y ∷ ys
     of (inl less) other rest = absurd (lower_first x y xs ys less ys_rise (same x.level))
     of (inr few) (inl less) rest = absurd (lower_first y x ys xs less xs_rise (sym (same y.level)))
     of (inr few) (inr enough) rest =
@@ -115,7 +122,8 @@ same_rows (x ∷ xs) (y ∷ ys) xs_rise ys_rise same = of (cases_lt x.level y.le
         let firsts : x ∷ with_row_level x.level xs ≡ y ∷ with_row_level x.level ys =
         sym (head_kept x xs) ∙ same x.level ∙ ap (λ b. cond b (y ∷ with_row_level x.level ys) (with_row_level x.level ys)) (eq-eqb y.level x.level level) in
         let heads : x ≡ y = cc in
-        let behind : xs ≡ ys = rest (λ k. tails (x.level == k) (y.level == k) x y (with_row_level k xs) (with_row_level k ys) (ap (λ r. r.level == k) heads) (same k)) in
+        let behind : xs ≡ ys = rest (λ k. tails (x.level == k) (y.level == k) x y (with_row_level k xs) (with_row_level k ys) (ap (λ r. r.level == k) heads)
+        (same k)) in
         cc
 
 module _ (world : World) where
@@ -128,10 +136,13 @@ module _ (world : World) where
       Rest : Type 0
       Rest = with_row_level level (map (seen_row world) (leveled levels ts)) ≡ map (level_row world) (tagged level (with_this level levels ts))
 
-      this : (l : ℕ) (b : Bool) → (l == level) ≡ b → with_row_level level (map (seen_row world) (leveled levels ts)) ≡ map (level_row world) (tagged level (with_this level levels ts))
-          → cond b (level_row world (l, t) ∷ with_row_level level (map (seen_row world) (leveled levels ts))) (with_row_level level (map (seen_row world) (leveled levels ts)))
+      this : (l : ℕ) (b : Bool) → (l == level) ≡ b
+          → with_row_level level (map (seen_row world) (leveled levels ts)) ≡ map (level_row world) (tagged level (with_this level levels ts))
+          → cond b (level_row world (l, t) ∷ with_row_level level (map (seen_row world) (leveled levels ts)))
+          (with_row_level level (map (seen_row world) (leveled levels ts)))
           ≡ map (level_row world) (tagged level (cond b (t ∷ with_this level levels ts) (with_this level levels ts)))
-      this l true e rest = ap (λ n. level_row world (n, t) ∷ with_row_level level (map (seen_row world) (leveled levels ts))) (eqb-true l level e) ∙ ap (λ rows. level_row world (level, t) ∷ rows) rest
+      this l true e rest = ap (λ n. level_row world (n, t) ∷ with_row_level level (map (seen_row world) (leveled levels ts))) (eqb-true l level e)
+          ∙ ap (λ rows. level_row world (level, t) ∷ rows) rest
       this l false e rest = rest
 
       of : (o : Option ℕ) → with_row_level level (map (seen_row world) (leveled levels ts)) ≡ map (level_row world) (tagged level (with_this level levels ts))
@@ -140,7 +151,8 @@ module _ (world : World) where
       of None rest = rest
       of (Some l) rest = this l (l == level) refl rest
 
-  mapped_levels : (level : ℕ) (found : List (ℕ × Listing)) → with_row_level level (map (level_row world) found) ≡ map (level_row world) (filter (λ f. f.0 == level) found)
+  mapped_levels : (level : ℕ) (found : List (ℕ × Listing))
+      → with_row_level level (map (level_row world) found) ≡ map (level_row world) (filter (λ f. f.0 == level) found)
   mapped_levels level [] = refl
   mapped_levels level (f ∷ fs) = of (f.0 == level) (mapped_levels level fs)
     where
@@ -171,12 +183,14 @@ module _ (world : World) where
   listings_of levels (t ∷ ts) = of (levels t) (listings_of levels ts)
     where
       of : (o : Option ℕ) → map seen_listing (leveled levels ts) ≡ filter (λ t. is_some (levels t)) ts
-          → map seen_listing (with_level t o (leveled levels ts)) ≡ cond (is_some o) (t ∷ filter (λ t. is_some (levels t)) ts) (filter (λ t. is_some (levels t)) ts)
+          → map seen_listing (with_level t o (leveled levels ts))
+          ≡ cond (is_some o) (t ∷ filter (λ t. is_some (levels t)) ts) (filter (λ t. is_some (levels t)) ts)
       of None rest = rest
       of (Some l) rest = ap (λ ts. t ∷ ts) rest
 
   -- what a search found stands ahead
-  pub found_ahead : (name : List ℕ) (types : List Listing) (seen : Seen) → IsFound types name seen → Sorted StandsBefore types → AllByRecursion (IsPlaced world) types
+  pub found_ahead : (name : List ℕ) (types : List Listing) (seen : Seen) → IsFound types name seen → Sorted StandsBefore types
+      → AllByRecursion (IsPlaced world) types
       → AreAhead world None (map seen_listing seen)
   found_ahead name types seen found sorted placed =
       subst (AreAhead world None) (sym (ap (map seen_listing) found.is ∙ listings_of found.levels types))

@@ -63,10 +63,12 @@ front_put F t v (u ∷ us) all = of (F u) (front_put F t v us all.1)
     of None rest = rest
     of (Some level) rest =
         let e : Place × (ℕ × Stub) = (place_of u, (level, u.1)) in
-        ap (λ o. match_ordering o ((place_of t, v) ∷ e ∷ leveled F us) ((place_of u, v) ∷ leveled F us) (e ∷ insert_entry place_cmp (leveled F us) (place_of t) v)) (place_less t u all.0)
+        ap (λ o. match_ordering o ((place_of t, v) ∷ e ∷ leveled F us) ((place_of u, v) ∷ leveled F us)
+        (e ∷ insert_entry place_cmp (leveled F us) (place_of t) v)) (place_less t u all.0)
 
 -- one that stands behind another is met as if that weren't there
-meet_behind : (level : ℕ) (e : Place × (ℕ × Stub)) (r : Reached) (u : Listing) → place_cmp (place_of u) e.0 ≡ Greater → meet level (under e r) u ≡ under e (meet level r u)
+meet_behind : (level : ℕ) (e : Place × (ℕ × Stub)) (r : Reached) (u : Listing) → place_cmp (place_of u) e.0 ≡ Greater
+    → meet level (under e r) u ≡ under e (meet level r u)
 meet_behind level e r u behind =
     ap (λ b. if b then under e r else record { seen = insert_entry place_cmp (e ∷ r.seen) (place_of u) (level, u.1); next = r.next ++ u.1.name ∷ [] }) unseen
     ∙ of (is_seen (place_of u) r.seen)
@@ -75,7 +77,8 @@ meet_behind level e r u behind =
     unseen = ap (λ o. is_some (cond (is_eq o) (Some e.1) (lookup (is_at (place_cmp (place_of u))) r.seen))) behind
 
     put : insert_entry place_cmp (e ∷ r.seen) (place_of u) (level, u.1) ≡ e ∷ insert_entry place_cmp r.seen (place_of u) (level, u.1)
-    put = ap (λ o. match_ordering o ((place_of u, (level, u.1)) ∷ e ∷ r.seen) ((e.0, (level, u.1)) ∷ r.seen) (e ∷ insert_entry place_cmp r.seen (place_of u) (level, u.1))) behind
+    put = ap (λ o. match_ordering o ((place_of u, (level, u.1)) ∷ e ∷ r.seen) ((e.0, (level, u.1)) ∷ r.seen)
+        (e ∷ insert_entry place_cmp r.seen (place_of u) (level, u.1))) behind
 
     of : (b : Bool) → (if b then under e r else record { seen = insert_entry place_cmp (e ∷ r.seen) (place_of u) (level, u.1); next = r.next ++ u.1.name ∷ [] })
         ≡ under e (if b then r else record { seen = insert_entry place_cmp r.seen (place_of u) (level, u.1); next = r.next ++ u.1.name ∷ [] })
@@ -93,7 +96,8 @@ new_names F p types = names_of (filter (λ t. p t && not (is_some (F t))) types)
 
 -- all types that pass a test are met at a level: those without a level have it now
 pub met_all : (F : Listing → Option ℕ) (level : ℕ) (p : Listing → Bool) (types : List Listing) (next : List (List ℕ)) → Sorted StandsBefore types
-    → meet_all level (record { seen = leveled F types; next = next }) (filter p types) ≡ record { seen = leveled (stepped F level p) types; next = next ++ new_names F p types }
+    → meet_all level (record { seen = leveled F types; next = next }) (filter p types)
+    ≡ record { seen = leveled (stepped F level p) types; next = next ++ new_names F p types }
 met_all F level p [] next sorted = ap (λ n. record { seen = []; next = n }) (sym (append-nil next))
 met_all F level p (t ∷ ts) next sorted = of (p t) (F t) (λ next. met_all F level p ts next sorted.1)
   where
@@ -103,14 +107,16 @@ met_all F level p (t ∷ ts) next sorted = of (p t) (F t) (λ next. met_all F le
 
     -- the rest, behind the type with a level
     rest_behind : (l : ℕ) (next : List (List ℕ))
-        → meet_all level (record { seen = leveled F ts; next = next }) (filter p ts) ≡ record { seen = leveled (stepped F level p) ts; next = next ++ new_names F p ts }
+        → meet_all level (record { seen = leveled F ts; next = next }) (filter p ts)
+        ≡ record { seen = leveled (stepped F level p) ts; next = next ++ new_names F p ts }
         → meet_all level (record { seen = (place_of t, (l, t.1)) ∷ leveled F ts; next = next }) (filter p ts)
         ≡ record { seen = (place_of t, (l, t.1)) ∷ leveled (stepped F level p) ts; next = next ++ new_names F p ts }
     rest_behind l next rest =
         all_behind level (place_of t, (l, t.1)) (record { seen = leveled F ts; next = next }) (filter p ts) behind ∙ ap (under (place_of t, (l, t.1))) rest
 
     of : (b : Bool) (o : Option ℕ)
-        → ((next : List (List ℕ)) → meet_all level (record { seen = leveled F ts; next = next }) (filter p ts) ≡ record { seen = leveled (stepped F level p) ts; next = next ++ new_names F p ts })
+        → ((next : List (List ℕ)) → meet_all level (record { seen = leveled F ts; next = next }) (filter p ts)
+        ≡ record { seen = leveled (stepped F level p) ts; next = next ++ new_names F p ts })
         → meet_all level (record { seen = with_level t o (leveled F ts); next = next }) (cond b (t ∷ filter p ts) (filter p ts))
         ≡ record {
           seen = with_level t (option_or o (if b then Some level else None)) (leveled (stepped F level p) ts);
@@ -119,7 +125,8 @@ met_all F level p (t ∷ ts) next sorted = of (p t) (F t) (λ next. met_all F le
     of false None rest = rest next
     of false (Some l) rest = rest_behind l next (rest next)
     of true (Some l) rest =
-        ap (λ r. meet_all level r (filter p ts)) (ap (λ o. again (is_some (cond (is_eq o) (Some (l, t.1)) (lookup (is_at (place_cmp (place_of t))) (leveled F ts))))) (place_equal t))
+        ap (λ r. meet_all level r (filter p ts))
+        (ap (λ o. again (is_some (cond (is_eq o) (Some (l, t.1)) (lookup (is_at (place_cmp (place_of t))) (leveled F ts))))) (place_equal t))
         ∙ rest_behind l next (rest next)
       where
         again : Bool → Reached
@@ -131,4 +138,5 @@ met_all F level p (t ∷ ts) next sorted = of (p t) (F t) (λ next. met_all F le
         else record { seen = insert_entry place_cmp (leveled F ts) (place_of t) (level, t.1); next = next ++ t.1.name ∷ [] }) (front_unseen F t ts sorted.0)
         ∙ ap (λ s. record { seen = s; next = next ++ t.1.name ∷ [] }) (front_put F t (level, t.1) ts sorted.0))
         ∙ rest_behind level (next ++ t.1.name ∷ []) (rest (next ++ t.1.name ∷ []))
-        ∙ ap (λ n. record { seen = (place_of t, (level, t.1)) ∷ leveled (stepped F level p) ts; next = n }) (append_assoc next (t.1.name ∷ []) (new_names F p ts))
+        ∙ ap (λ n. record { seen = (place_of t, (level, t.1)) ∷ leveled (stepped F level p) ts; next = n })
+        (append_assoc next (t.1.name ∷ []) (new_names F p ts))

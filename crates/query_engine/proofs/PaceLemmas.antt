@@ -56,8 +56,10 @@ module _ {W F : Type 0} (l s : W → ℕ) (all : List F) where
         looked = looked_through l s _ _ _ old mid new (pace_sum met met' h.more 1 h.after) h.looked q;
       }
 
-  pub met_stop : (st : W → W → Type 0) (on : (x y z : W) → st x y → st y z → st x z) (X : Type 0) (met : ℕ) (x : F) (left left' : List F) (met' : ℕ) (e : AskRefusal) (old mid new : W)
-      → left ≡ x ∷ left' → EndsEarly e → st old mid → HasMet met left met' old mid → HasLooked {X = X} l s st (Err e) ((met' % rows_a_look + 1) / rows_a_look) mid new
+  pub met_stop : (st : W → W → Type 0) (on : (x y z : W) → st x y → st y z → st x z) (X : Type 0) (met : ℕ) (x : F) (left left' : List F) (met' : ℕ)
+      (e : AskRefusal) (old mid new : W)
+      → left ≡ x ∷ left' → EndsEarly e → st old mid → HasMet met left met' old mid
+      → HasLooked {X = X} l s st (Err e) ((met' % rows_a_look + 1) / rows_a_look) mid new
       → HasLooked {X = X} l s st (Err e) ((met % rows_a_look + length all) / rows_a_look) old new
   met_stop st on X met x left left' met' e old mid new next early kept h q =
       let more : length left ≡ suc (length left') = ap length next in
@@ -66,7 +68,8 @@ module _ {W F : Type 0} (l s : W → ℕ) (all : List F) where
       looked_short l s st X _ _ e old new (pace_grows (met % 256) (h.more + 1) (length all) few) early
       (looked_on l s st {X = X} _ _ _ (Err e) old mid new on (pace_sum met met' h.more 1 h.after) kept h.looked q)
 
-  pub met_short : (met : ℕ) (left : List F) (met' : ℕ) (old new : W) → HasMet met left met' old new → StopsUnseen l s ((met % rows_a_look + length all) / rows_a_look) old new
+  pub met_short : (met : ℕ) (left : List F) (met' : ℕ) (old new : W) → HasMet met left met' old new
+      → StopsUnseen l s ((met % rows_a_look + length all) / rows_a_look) old new
   met_short met left met' old new h =
       let sum = h.sum in
       let few : h.more ≤ length all = omega (arith, sum) in
@@ -77,8 +80,10 @@ module _ {W F : Type 0} (l s : W → ℕ) (all : List F) where
   met_end met left met' old new none h =
       let e : length left ≡ 0 = ap length none in
       let sum = h.sum in
-      let whole : h.more ≡ length all = omega (arith, e, sum) in
-      (subst (λ (n : ℕ). met' % rows_a_look ≡ (met + n) % rows_a_look) whole h.after, subst (λ (n : ℕ). LooksThrough l s ((met % rows_a_look + n) / rows_a_look) old new) whole h.looked)
+      let whole : h.more ≡ length all = omega (arith, e, sum) in (
+        subst (λ (n : ℕ). met' % rows_a_look ≡ (met + n) % rows_a_look) whole h.after,
+        subst (λ (n : ℕ). LooksThrough l s ((met % rows_a_look + n) / rows_a_look) old new) whole h.looked,
+      )
 
 on_ok : (A B : Type 0) → {X E : Type 0} (r : Result X E) → A → OnOk r B → OnOk r (A × B)
 on_ok A B (Ok x) a b = (a, b)
@@ -90,7 +95,8 @@ on_err A (Err f) e is = tt
 
 module _ {W : Type 0} (l s : W → ℕ) (st : W → W → Type 0) (types : List Listing) where
   -- nothing is met
-  pub paces_none : {X : Type 0} (x : X) (asked : List (List ℕ)) (met : ℕ) (asked' : List (List ℕ)) (watch : W) → asked_supers types asked ≤ asked_supers types asked'
+  pub paces_none : {X : Type 0} (x : X) (asked : List (List ℕ)) (met : ℕ) (asked' : List (List ℕ)) (watch : W)
+      → asked_supers types asked ≤ asked_supers types asked'
       → Paces l s st types (Ok x) asked met asked' met watch watch
   paces_none x asked met asked' watch more = record {
     more = 0;
@@ -100,7 +106,8 @@ module _ {W : Type 0} (l s : W → ℕ) (st : W → W → Type 0) (types : List 
   }
 
   -- nothing is met, and memory ran out
-  pub paces_wanting : {X : Type 0} (r : Result X AskRefusal) (asked : List (List ℕ)) (met : ℕ) (asked' : List (List ℕ)) (met' : ℕ) (watch : W) → IsErrAnd r (λ f. f ≡ OutOfMemory)
+  pub paces_wanting : {X : Type 0} (r : Result X AskRefusal) (asked : List (List ℕ)) (met : ℕ) (asked' : List (List ℕ)) (met' : ℕ) (watch : W)
+      → IsErrAnd r (λ f. f ≡ OutOfMemory)
       → Paces l s st types r asked met asked' met' watch watch
   paces_wanting {X} r asked met asked' met' watch is = record {
     more = 0;
@@ -121,8 +128,10 @@ module _ {W : Type 0} (l s : W → ℕ) (st : W → W → Type 0) (types : List 
   }
 
   -- one after the other
-  pub paces_on : {X Y : Type 0} (x : Y) (r : Result X AskRefusal) (asked : List (List ℕ)) (met : ℕ) (asked' : List (List ℕ)) (met' : ℕ) (asked'' : List (List ℕ)) (met'' : ℕ) (old mid new : W)
-      → ((x y z : W) → st x y → st y z → st x z) → st old mid → Paces {X = Y} l s st types (Ok x) asked met asked' met' old mid → Paces l s st types r asked' met' asked'' met'' mid new
+  pub paces_on : {X Y : Type 0} (x : Y) (r : Result X AskRefusal) (asked : List (List ℕ)) (met : ℕ) (asked' : List (List ℕ)) (met' : ℕ)
+      (asked'' : List (List ℕ)) (met'' : ℕ) (old mid new : W)
+      → ((x y z : W) → st x y → st y z → st x z) → st old mid → Paces {X = Y} l s st types (Ok x) asked met asked' met' old mid
+      → Paces l s st types r asked' met' asked'' met'' mid new
       → Paces l s st types r asked met asked'' met'' old new
   paces_on x r asked met asked' met' asked'' met'' old mid new on kept p q =
       let first = p.after.0 in
@@ -134,13 +143,15 @@ module _ {W : Type 0} (l s : W → ℕ) (st : W → W → Type 0) (types : List 
         after = both r q.after;
       }
     where
-      both : {X : Type 0} (r : Result X AskRefusal) → OnOk r ((q.more + asked_supers types asked' ≤ asked_supers types asked'') × (met'' % rows_a_look ≡ (met' + q.more) % rows_a_look))
+      both : {X : Type 0} (r : Result X AskRefusal)
+          → OnOk r ((q.more + asked_supers types asked' ≤ asked_supers types asked'') × (met'' % rows_a_look ≡ (met' + q.more) % rows_a_look))
           → OnOk r ((p.more + q.more + asked_supers types asked ≤ asked_supers types asked'') × (met'' % rows_a_look ≡ (met + (p.more + q.more)) % rows_a_look))
       both (Err e) h = tt
       both (Ok y) h = let first = p.after.0 in let second = h.0 in (omega (arith, first, second), pace_met met met' met'' p.more q.more p.after.1 h.1)
 
   -- a call that gives the refusal of another
-  pub paces_as : (X Y : Type 0) (r : Result Y AskRefusal) (e : AskRefusal) (asked : List (List ℕ)) (met : ℕ) (asked' : List (List ℕ)) (met' : ℕ) (old new : W) → IsErrAnd r (λ f. f ≡ e)
+  pub paces_as : (X Y : Type 0) (r : Result Y AskRefusal) (e : AskRefusal) (asked : List (List ℕ)) (met : ℕ) (asked' : List (List ℕ)) (met' : ℕ) (old new : W)
+      → IsErrAnd r (λ f. f ≡ e)
       → Paces {X = X} l s st types (Err e) asked met asked' met' old new → Paces l s st types r asked met asked' met' old new
   paces_as X Y r e asked met asked' met' old new is p = record {
     more = p.more;
@@ -161,7 +172,8 @@ module _ {W : Type 0} (l s : W → ℕ) (st : W → W → Type 0) (types : List 
     looked = p.looked;
   }
 
-  pub looks_few_wanting : {X : Type 0} (r : Result X AskRefusal) (asked asked' : List (List ℕ)) (met' : ℕ) (old new : W) → {Y : Type 0} (x : Y) → IsErrAnd r (λ f. f ≡ OutOfMemory)
+  pub looks_few_wanting : {X : Type 0} (r : Result X AskRefusal) (asked asked' : List (List ℕ)) (met' : ℕ) (old new : W) → {Y : Type 0} (x : Y)
+      → IsErrAnd r (λ f. f ≡ OutOfMemory)
       → Paces {X = Y} l s st types (Ok x) asked 0 asked' met' old new → LooksFew l s st types r old new
   looks_few_wanting {X} r asked asked' met' old new x is p = record {
     number = (0 % rows_a_look + p.more) / rows_a_look;
@@ -170,7 +182,8 @@ module _ {W : Type 0} (l s : W → ℕ) (st : W → W → Type 0) (types : List 
   }
 
   -- the looks of a search that ended
-  pub looks_few_all : {X Y : Type 0} (x : X) (y : Y) (asked asked' : List (List ℕ)) (met' : ℕ) (old new : W) → Paces {X = Y} l s st types (Ok y) asked 0 asked' met' old new → LooksFew {X = X} l s st types (Ok x) old new
+  pub looks_few_all : {X Y : Type 0} (x : X) (y : Y) (asked asked' : List (List ℕ)) (met' : ℕ) (old new : W)
+      → Paces {X = Y} l s st types (Ok y) asked 0 asked' met' old new → LooksFew {X = X} l s st types (Ok x) old new
   looks_few_all x y asked asked' met' old new p = record {
     number = (0 % rows_a_look + p.more) / rows_a_look;
     few = quotient_few p.more (all_supers types) (asked_supers types asked) p.few;

@@ -82,7 +82,8 @@ pub first_may : (world : World) (name : List ℕ) → MayLook world (query.Inher
 first_may world name = (omega arith, one_of (where_smart world (super_count world / rows_a_look)))
 
 -- as many looks as there are full 256 names of supers, at most
-pub few_may : (world : World) (name : List ℕ) (number : ℕ) → lowest_unready world ≡ None → number ≤ all_supers (types_of world) / rows_a_look → MayLook world (query.Inheritors name) (1 + number)
+pub few_may : (world : World) (name : List ℕ) (number : ℕ) → lowest_unready world ≡ None → number ≤ all_supers (types_of world) / rows_a_look
+    → MayLook world (query.Inheritors name) (1 + number)
 few_may world name number smart few = (
   one_of number,
   subst (λ (o : Option ℕ). 1 + number ≤ 1 + option_map_or (λ f. 0) o (super_count world / rows_a_look)) (sym smart)

@@ -36,18 +36,23 @@ listed_all P id (s ∷ stubs) all = (all.0, listed_all P id stubs all.1)
 
 listed_sorted : (id : ℕ) (stubs : List Stub) → Sorted (λ a b. a.at < b.at) stubs → Sorted StandsBefore (map (λ s. (id, s)) stubs)
 listed_sorted id [] sorted = tt
-listed_sorted id (s ∷ stubs) sorted =
-    (listed_all (StandsBefore (id, s)) id stubs (all_weaker (λ (b : Stub). s.at < b.at) (λ b. StandsBefore (id, s) (id, b)) stubs (λ b h. inr (refl, h)) sorted.0), listed_sorted id stubs sorted.1)
+listed_sorted id (s ∷ stubs) sorted = (
+  listed_all (StandsBefore (id, s)) id stubs
+      (all_weaker (λ (b : Stub). s.at < b.at) (λ b. StandsBefore (id, s) (id, b)) stubs (λ b h. inr (refl, h)) sorted.0),
+  listed_sorted id stubs sorted.1,
+)
 
 module _ (rising : (text : List ℕ) → AllPairs (λ a b. a.at < b.at) (listing_of text)) where
   types_above : (id : ℕ) (files : List (Option File)) → AllByRecursion (λ t. id ≤ t.0) (of_files types_in id files)
   types_above id [] = tt
   types_above id (file ∷ files) =
       all_append (λ (t : Listing). id ≤ t.0) (of_java types_in id file) (of_files types_in (id + 1) files) (here file)
-      (all_weaker (λ (t : Listing). id + 1 ≤ t.0) (λ (t : Listing). id ≤ t.0) (of_files types_in (id + 1) files) (λ t above. omega (arith, above)) (types_above (id + 1) files))
+      (all_weaker (λ (t : Listing). id + 1 ≤ t.0) (λ (t : Listing). id ≤ t.0) (of_files types_in (id + 1) files) (λ t above. omega (arith, above))
+      (types_above (id + 1) files))
     where
       one : (b : Bool) (file : File) → AllByRecursion (λ (t : Listing). id ≤ t.0) (if b then types_in id file else [])
-      one true file = listed_all (λ (t : Listing). id ≤ t.0) id (filter is_type (listing_of (shown_text file))) (all_each (λ (s : Stub). id ≤ id) (filter is_type (listing_of (shown_text file))) (λ s. le_refl id))
+      one true file = listed_all (λ (t : Listing). id ≤ t.0) id (filter is_type (listing_of (shown_text file)))
+          (all_each (λ (s : Stub). id ≤ id) (filter is_type (listing_of (shown_text file))) (λ s. le_refl id))
       one false file = tt
 
       here : (file : Option File) → AllByRecursion (λ (t : Listing). id ≤ t.0) (of_java types_in id file)
@@ -64,7 +69,8 @@ module _ (rising : (text : List ℕ) → AllPairs (λ a b. a.at < b.at) (listing
 
       one : (b : Bool) (file : File) → Sorted StandsBefore (if b then types_in id file else [])
       one true file = listed_sorted id (filter is_type (listing_of (shown_text file)))
-          (sorted_filter (λ a b. a.at < b.at) is_type (listing_of (shown_text file)) (pairs_sorted (λ a b. a.at < b.at) (listing_of (shown_text file)) (rising (shown_text file))))
+          (sorted_filter (λ a b. a.at < b.at) is_type (listing_of (shown_text file))
+          (pairs_sorted (λ a b. a.at < b.at) (listing_of (shown_text file)) (rising (shown_text file))))
       one false file = tt
 
       here : (file : Option File) → Sorted StandsBefore (of_java types_in id file)
@@ -72,11 +78,14 @@ module _ (rising : (text : List ℕ) → AllPairs (λ a b. a.at < b.at) (listing
       here (Some file) = one (is_java file.path) file
 
       before : (s : Stub) → AllByRecursion (StandsBefore (id, s)) (of_files types_in (id + 1) files)
-      before s = all_weaker (λ (t : Listing). id + 1 ≤ t.0) (StandsBefore (id, s)) (of_files types_in (id + 1) files) (λ t above. inl (omega (arith, above))) behind
+      before s = all_weaker (λ (t : Listing). id + 1 ≤ t.0) (StandsBefore (id, s)) (of_files types_in (id + 1) files)
+          (λ t above. inl (omega (arith, above))) behind
 
-      each : (b : Bool) (file : File) → AllByRecursion (λ t. AllByRecursion (StandsBefore t) (of_files types_in (id + 1) files)) (if b then types_in id file else [])
+      each : (b : Bool) (file : File)
+          → AllByRecursion (λ t. AllByRecursion (StandsBefore t) (of_files types_in (id + 1) files)) (if b then types_in id file else [])
       each true file = listed_all (λ t. AllByRecursion (StandsBefore t) (of_files types_in (id + 1) files)) id (filter is_type (listing_of (shown_text file)))
-          (all_each (λ (s : Stub). AllByRecursion (StandsBefore (id, s)) (of_files types_in (id + 1) files)) (filter is_type (listing_of (shown_text file))) before)
+          (all_each (λ (s : Stub). AllByRecursion (StandsBefore (id, s)) (of_files types_in (id + 1) files))
+          (filter is_type (listing_of (shown_text file))) before)
       each false file = tt
 
       across : (file : Option File) → AllByRecursion (λ t. AllByRecursion (StandsBefore t) (of_files types_in (id + 1) files)) (of_java types_in id file)
@@ -97,27 +106,33 @@ abbrev pub names_it : List ℕ → Listing → Bool
 names_it name t = has_super name t.1
 
 -- the types of one file that name a name
-namers : (name : List ℕ) (id : ℕ) (stubs : List Stub) → filter (names_it name) (map (λ s. (id, s)) (filter is_type stubs)) ≡ map (λ s. (id, s)) (filter (has_super name) stubs)
+namers : (name : List ℕ) (id : ℕ) (stubs : List Stub)
+    → filter (names_it name) (map (λ s. (id, s)) (filter is_type stubs)) ≡ map (λ s. (id, s)) (filter (has_super name) stubs)
 namers name id [] = refl
 namers name id (s ∷ stubs) = of (is_type s) (list_any (λ super. bytes_eq name super) s.supers) refl (namers name id stubs)
   where
     of : (a b : Bool) → (is_type s && list_any (λ super. bytes_eq name super) s.supers) ≡ (a && b)
         → filter (names_it name) (map (λ s. (id, s)) (filter is_type stubs)) ≡ map (λ s. (id, s)) (filter (has_super name) stubs)
-        → filter (names_it name) (map (λ s. (id, s)) (cond a (s ∷ filter is_type stubs) (filter is_type stubs))) ≡ map (λ s. (id, s)) (cond (a && b) (s ∷ filter (has_super name) stubs) (filter (has_super name) stubs))
+        → filter (names_it name) (map (λ s. (id, s)) (cond a (s ∷ filter is_type stubs) (filter is_type stubs)))
+        ≡ map (λ s. (id, s)) (cond (a && b) (s ∷ filter (has_super name) stubs) (filter (has_super name) stubs))
     of true true is rest =
-        ap (λ c. cond c ((id, s) ∷ filter (names_it name) (map (λ s. (id, s)) (filter is_type stubs))) (filter (names_it name) (map (λ s. (id, s)) (filter is_type stubs)))) is
+        ap (λ c. cond c ((id, s) ∷ filter (names_it name) (map (λ s. (id, s)) (filter is_type stubs)))
+        (filter (names_it name) (map (λ s. (id, s)) (filter is_type stubs)))) is
         ∙ ap (λ l. (id, s) ∷ l) rest
     of true false is rest =
-        ap (λ c. cond c ((id, s) ∷ filter (names_it name) (map (λ s. (id, s)) (filter is_type stubs))) (filter (names_it name) (map (λ s. (id, s)) (filter is_type stubs)))) is ∙ rest
+        ap (λ c. cond c ((id, s) ∷ filter (names_it name) (map (λ s. (id, s)) (filter is_type stubs)))
+        (filter (names_it name) (map (λ s. (id, s)) (filter is_type stubs)))) is ∙ rest
     of false b is rest = rest
 
 -- what the walk over the types that name a name finds
 pub namers_are : (name : List ℕ) (world : World) → found (stubs_in (has_super name)) world ≡ filter (names_it name) (types_of world)
 namers_are name world =
-    rows_from (λ (ts : List Listing). ts) (λ xs ys. refl) refl (stubs_in (has_super name)) (λ id file. map (λ s. (id, s)) (filter (has_super name) (listing_of (shown_text file)))) world
+    rows_from (λ (ts : List Listing). ts) (λ xs ys. refl) refl (stubs_in (has_super name))
+    (λ id file. map (λ s. (id, s)) (filter (has_super name) (listing_of (shown_text file)))) world
     (λ id file is. refl) 1 world.files (at_all world)
     ∙ sym (rows_from (filter (names_it name)) (filter-append (names_it name)) refl (stubs_in is_type)
-    (λ id file. map (λ s. (id, s)) (filter (has_super name) (listing_of (shown_text file)))) world (λ id file is. namers name id (listing_of (shown_text file))) 1 world.files (at_all world))
+    (λ id file. map (λ s. (id, s)) (filter (has_super name) (listing_of (shown_text file)))) world
+    (λ id file is. namers name id (listing_of (shown_text file))) 1 world.files (at_all world))
     ∙ ap (filter (names_it name)) (types_are world)
 
 -- each type of a world is of a live file, and stands in its text
@@ -127,11 +142,13 @@ IsPlaced world t = IsSome (file_of world t.0) × StandsIn (text_at world t.0) 0 
 ahead_each : (world : World) (before : Option Listed) (types : List Listing) → AreAhead world before types → AllByRecursion (IsPlaced world) types
 unfolding IsPlaced
 ahead_each world before [] ahead = tt
-ahead_each world before (t ∷ ts) ahead = ((ahead.0, (λ short. (omega arith, (ahead.1 short).1))), ahead_each world (Some (listed_at world t.0 t.1.at)) ts ahead.2)
+ahead_each world before (t ∷ ts) ahead =
+    ((ahead.0, (λ short. (omega arith, (ahead.1 short).1))), ahead_each world (Some (listed_at world t.0 t.1.at)) ts ahead.2)
 
 pub types_placed : ((text : List ℕ) → length text ≤ max_chars → IsLawfulList (listing_of text)) → ((text : List ℕ) → All (IsNamedIn text) (listing_of text))
     → (world : World) → AllByRecursion (IsPlaced world) (types_of world)
-types_placed lawful named world = subst (AllByRecursion (IsPlaced world)) (types_are world) (ahead_each world None (found (stubs_in is_type) world) (ahead_found lawful named is_type world))
+types_placed lawful named world = subst (AllByRecursion (IsPlaced world)) (types_are world)
+    (ahead_each world None (found (stubs_in is_type) world) (ahead_found lawful named is_type world))
 
 -- types in order stand one ahead of another
 ahead_from : (world : World) (before : Option Listed) (types : List Listing) → Sorted StandsBefore types → AllByRecursion (IsPlaced world) types
@@ -142,7 +159,8 @@ ahead_from world before (t ∷ ts) sorted placed above = (
   placed.0.0,
   (λ short. (above.0, (placed.0.1 short).1)),
   ahead_from world (Some (listed_at world t.0 t.1.at)) ts sorted.1 placed.1
-      (all_weaker (StandsBefore t) (λ (u : Listing). offset_in (Some (listed_at world t.0 t.1.at)) u.0 ≤ u.1.at) ts (λ u h. behind u h (t.0 == u.0) refl) sorted.0),
+      (all_weaker (StandsBefore t) (λ (u : Listing). offset_in (Some (listed_at world t.0 t.1.at)) u.0 ≤ u.1.at) ts
+      (λ u h. behind u h (t.0 == u.0) refl) sorted.0),
 )
   where
     behind : (u : Listing) → StandsBefore t u → (b : Bool) → (t.0 == u.0) ≡ b → (if b then t.1.at else 0) ≤ u.1.at
@@ -157,4 +175,5 @@ ahead_sorted world types sorted placed =
 -- the names of supers, counted
 pub supers_counted : (types : List Listing) → all_supers types ≡ sum (map (λ t. length t.1.supers) types)
 supers_counted [] = refl
-supers_counted (t ∷ ts) = ap (λ n. length t.1.supers + n) (supers_counted ts) ∙ sym (sum_by-cons (λ (n : ℕ). n) (length t.1.supers) (map (λ t. length t.1.supers) ts))
+supers_counted (t ∷ ts) = ap (λ n. length t.1.supers + n) (supers_counted ts)
+    ∙ sym (sum_by-cons (λ (n : ℕ). n) (length t.1.supers) (map (λ t. length t.1.supers) ts))

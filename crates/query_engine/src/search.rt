@@ -25,7 +25,8 @@ struct Search<'a> {
     met: u8,
 }
 
-/// The types that come from a name, where no file is unready.
+/// The types that come from a name, where no file is unready. More levels than `u32` counts are more types than memory
+/// holds.
 pub(crate) fn search_types<'a, W: Watch>(
     alloc: Global,
     state: &'a State,

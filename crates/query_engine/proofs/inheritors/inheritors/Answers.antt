@@ -47,7 +47,8 @@ returns-in_err-rows-clause-replied g c =
     let smart = c.in_ok-ready.ensures.smart in
     early_replied _ _ g.W.Watch.stays world (query.Inheritors name) (Inheritors (map (level_row world) (inheritors_of name (types_of world)))) refl
     Answer looks.number OutOfMemory _ _ smart (few_may world name looks.number smart looks.few) tt
-    (looked_unseen _ _ looks.number looks.number _ _ (le_refl looks.number) looks.looked) c.from_residual-in_err-rows.result c.from_residual-in_err-rows.ensures.1
+    (looked_unseen _ _ looks.number looks.number _ _
+    (le_refl looks.number) looks.looked) c.from_residual-in_err-rows.result c.from_residual-in_err-rows.ensures.1
 
 -- all rows are there
 pub returns-clause-replied : goal.returns-clause-replied

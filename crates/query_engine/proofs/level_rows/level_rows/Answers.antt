@@ -14,6 +14,7 @@ returns-clause-rise c =
 pub returns-clause-same : goal.returns-clause-same
 returns-clause-same c level =
     ap (with_row_level level) c.of.ensures
-    ∙ stable_levels c.in_ok-rows.rows.items c.sort_by.new.self.items (length_permutation c.in_ok-rows.rows.items c.sort_by.new.self.items c.in_ok-sort_by.ensures.permutation)
+    ∙ stable_levels c.in_ok-rows.rows.items c.sort_by.new.self.items
+    (length_permutation c.in_ok-rows.rows.items c.sort_by.new.self.items c.in_ok-sort_by.ensures.permutation)
     (c.in_ok-sort_by.ensures.stable lower (ranks_by nat_cmp_total (λ (row : LevelRow). row.level)) (answers_always _ _ _ (λ a r q k. search rules))) level
     ∙ ap (with_row_level level) c.in_ok-rows.ensures

@@ -16,7 +16,8 @@ loop-name-init g c =
     record {
       can = c.requires.can;
       stays = g.met.W.Watch.stays_itself c.args.watch.now;
-      each = λ asked' reached' h. subst (λ (names : List (List ℕ)). AskedEach types c.args.level names start.asked start.reached asked' reached') c.into_iter-name-iterator.ensures.into_iter_gives.0 h;
+      each = λ asked' reached' h. subst
+          (λ (names : List (List ℕ)). AskedEach types c.args.level names start.asked start.reached asked' reached') c.into_iter-name-iterator.ensures.into_iter_gives.0 h;
       paced = paces_none _ _ g.W.Watch.stays types tt start.asked start.met start.asked c.args.watch.now (le_refl (asked_supers types start.asked));
       long = search rules;
     }
@@ -48,7 +49,8 @@ returns-in_err-ask_types-clause-paced g c =
     let start = c.args.search.now in
     let was = c.loop-name.search in
     let now = c.ask_types.new.search in
-    paces_as _ _ g.W.Watch.stays types (Unit {0}) (Unit {0}) c.from_residual.result _ start.asked start.met now.asked now.met c.args.watch.now c.ask_types.new.watch c.from_residual.ensures.1
+    paces_as _ _ g.W.Watch.stays types (Unit {0})
+    (Unit {0}) c.from_residual.result _ start.asked start.met now.asked now.met c.args.watch.now c.ask_types.new.watch c.from_residual.ensures.1
     (paces_on _ _ g.W.Watch.stays types tt _ start.asked start.met was.asked was.met now.asked now.met c.args.watch.now c.loop-name.watch c.ask_types.new.watch
     g.met.W.Watch.stays_on c.loop-name.invariant.stays c.loop-name.invariant.paced c.in_err-ask_types.ensures.paced)
 
@@ -56,7 +58,8 @@ pub returns-clause-each : goal.returns-clause-each
 returns-clause-each g c =
     let was = c.loop-name.search in
     c.loop-name.invariant.each was.asked was.reached
-    (subst (λ (names : List (List ℕ)). AskedEach (types_of c.args.state.now.world) c.args.level names was.asked was.reached was.asked was.reached) (sym (none_of _ (sym c.loop-name.invariant.long ∙ c.in-None.ensures.steps.0))) (refl, refl))
+    (subst (λ (names : List (List ℕ)). AskedEach (types_of c.args.state.now.world) c.args.level names was.asked was.reached was.asked was.reached)
+    (sym (none_of _ (sym c.loop-name.invariant.long ∙ c.in-None.ensures.steps.0))) (refl, refl))
 
 pub returns-clause-paced : goal.returns-clause-paced
 returns-clause-paced g c = c.loop-name.invariant.paced

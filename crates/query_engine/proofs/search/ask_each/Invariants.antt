@@ -10,8 +10,10 @@ abbrev pub invariant-loop-name : goal.invariant-loop-name
 invariant-loop-name g l = record {
   can : g.W.Watch.can_look l.watch;
   stays : g.W.Watch.stays l.fn.watch l.watch;
-  each : (asked' : List (List ℕ)) (reached' : Reached) → AskedEach (types_of l.fn.state.world) l.fn.level (into_iter_items l.name-iterator) l.search.asked l.search.reached asked' reached'
+  each : (asked' : List (List ℕ)) (reached' : Reached)
+      → AskedEach (types_of l.fn.state.world) l.fn.level (into_iter_items l.name-iterator) l.search.asked l.search.reached asked' reached'
       → AskedEach (types_of l.fn.state.world) l.fn.level l.fn.names.items l.fn.search.asked l.fn.search.reached asked' reached';
-  paced : Paces {X = Unit {0}} g.W.Watch.looks g.W.Watch.sightings g.W.Watch.stays (types_of l.fn.state.world) (Ok tt) l.fn.search.asked l.fn.search.met l.search.asked l.search.met l.fn.watch l.watch;
+  paced : Paces {X = Unit {0}} g.W.Watch.looks g.W.Watch.sightings g.W.Watch.stays (types_of l.fn.state.world)
+      (Ok tt) l.fn.search.asked l.fn.search.met l.search.asked l.search.met l.fn.watch l.watch;
   long : into_iter_len l.name-iterator ≡ length (into_iter_items l.name-iterator);
 }

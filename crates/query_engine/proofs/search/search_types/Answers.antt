@@ -42,7 +42,8 @@ returns-then-is_empty-clause-found g c =
 
 pub returns-then-is_empty-clause-looked : goal.returns-then-is_empty-clause-looked
 returns-then-is_empty-clause-looked g c =
-    looks_few_all _ _ g.W.Watch.stays (types_of c.args.state.now.world) _ tt [] c.loop-level.search.asked c.loop-level.search.met c.args.watch.now c.loop-level.watch c.loop-level.invariant.paced
+    looks_few_all _ _ g.W.Watch.stays
+    (types_of c.args.state.now.world) _ tt [] c.loop-level.search.asked c.loop-level.search.met c.args.watch.now c.loop-level.watch c.loop-level.invariant.paced
 
 pub returns-in_err-ask_each-clause-looked : goal.returns-in_err-ask_each-clause-looked
 returns-in_err-ask_each-clause-looked g c =
@@ -50,7 +51,8 @@ returns-in_err-ask_each-clause-looked g c =
     let was = c.loop-level.search in
     let now = c.ask_each.new.search in
     looks_few _ _ g.W.Watch.stays types c.from_residual-in_err-ask_each.result [] now.asked now.met c.args.watch.now c.ask_each.new.watch
-    (paces_as _ _ g.W.Watch.stays types (Unit {0}) _ c.from_residual-in_err-ask_each.result _ [] 0 now.asked now.met c.args.watch.now c.ask_each.new.watch c.from_residual-in_err-ask_each.ensures.1
+    (paces_as _ _ g.W.Watch.stays types
+    (Unit {0}) _ c.from_residual-in_err-ask_each.result _ [] 0 now.asked now.met c.args.watch.now c.ask_each.new.watch c.from_residual-in_err-ask_each.ensures.1
     (paces_on _ _ g.W.Watch.stays types tt _ [] 0 was.asked was.met now.asked now.met c.args.watch.now c.loop-level.watch c.ask_each.new.watch
     g.met.W.Watch.stays_on c.loop-level.invariant.stays c.loop-level.invariant.paced c.in_err-ask_each.ensures.paced))
 
@@ -85,4 +87,5 @@ loop-level-preserved g c =
 
 pub returns-clause-looked : goal.returns-clause-looked
 returns-clause-looked g c =
-    looks_few_wanting _ _ g.W.Watch.stays (types_of c.args.state.now.world) _ [] c.loop-level.search.asked c.loop-level.search.met c.args.watch.now c.loop-level.watch tt refl c.loop-level.invariant.paced
+    looks_few_wanting _ _ g.W.Watch.stays
+    (types_of c.args.state.now.world) _ [] c.loop-level.search.asked c.loop-level.search.met c.args.watch.now c.loop-level.watch tt refl c.loop-level.invariant.paced

@@ -7,7 +7,8 @@ use Rattle.query_engine.proofs.asked_names.AskedNames.add.Goals as goal
 
 pub returns-clause-fresh : goal.returns-clause-fresh
 returns-clause-fresh c =
-    c.in_ok-insert.ensures.added ∙ ap not (asked_is c.args.name.now c.self.inside.names.keys) ∙ ap (λ names. not (is_asked c.args.name.now names)) c.self.view_is
+    c.in_ok-insert.ensures.added ∙ ap not (asked_is c.args.name.now c.self.inside.names.keys)
+    ∙ ap (λ names. not (is_asked c.args.name.now names)) c.self.view_is
 
 pub returns-clause-asks : goal.returns-clause-asks
 returns-clause-asks c other =
