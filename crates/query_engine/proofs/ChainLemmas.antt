@@ -1,5 +1,5 @@
 -- Chains from a name, longer and shorter by a type at their end.
-use Rattle.std.proofs.Common.{◌≡◌, ◌⊎◌, inl, inr, ℕ, zero, suc, ◌+◌, true, List, [], ◌∷◌, ◌++◌, length, Option, Some, None, All, refl, ap, sym, subst, ◌∙◌, arith}
+use Rattle.std.proofs.Common.{◌≡◌, ℕ, suc, ◌+◌, true, List, [], ◌∷◌, ◌++◌, length, Some, All, refl, ap, sym, subst, ◌∙◌, arith}
 use Rattle.std.specs.List.{Contains}
 use Rattle.std.specs.Prelude.{unwrap_or}
 use Rattle.std.proofs.lemmas.List.{length-append}
@@ -19,7 +19,8 @@ last_push [] u = refl
 last_push (t ∷ []) u = refl
 last_push (t ∷ v ∷ ts) u = last_push (v ∷ ts) u
 
-chain_push : (name : List ℕ) (ts : List Listing) (t u : Listing) → IsChain name ts → last_of ts ≡ Some t → has_super t.1.name u.1 ≡ true → IsChain name (ts ++ u ∷ [])
+chain_push : (name : List ℕ) (ts : List Listing) (t u : Listing) → IsChain name ts → last_of ts ≡ Some t → has_super t.1.name u.1 ≡ true
+    → IsChain name (ts ++ u ∷ [])
 chain_push name [] t u linked last link = absurd (no_last t last)
 chain_push name (v ∷ []) t u linked last link = (linked.0, (subst (λ (w : Listing). has_super w.1.name u.1 ≡ true) (sym (some_is v t last)) link, tt))
 chain_push name (v ∷ w ∷ ts) t u linked last link = (linked.0, chain_push v.1.name (w ∷ ts) t u linked.1 last link)
@@ -43,7 +44,8 @@ record Without (P : Listing → Type 0) (name : List ℕ) (ts : List Listing) (u
   size : length ts ≡ length front + 1
   link : has_super before.1.name u.1 ≡ true
 
-chain_pop : (P : Listing → Type 0) (name : List ℕ) (a b : Listing) (ts : List Listing) (u : Listing) → IsChain name (a ∷ b ∷ ts) → All P (a ∷ b ∷ ts) → last_of (a ∷ b ∷ ts) ≡ Some u
+chain_pop : (P : Listing → Type 0) (name : List ℕ) (a b : Listing) (ts : List Listing) (u : Listing) → IsChain name (a ∷ b ∷ ts) → All P (a ∷ b ∷ ts)
+    → last_of (a ∷ b ∷ ts) ≡ Some u
     → Without P name (a ∷ b ∷ ts) u
 chain_pop P name a b [] u linked all last = record {
   front = a ∷ [];
@@ -109,7 +111,8 @@ module _ (types : List Listing) (name : List ℕ) where
       of (a ∷ b ∷ ts) linked one last = absurd (omega (arith, one))
 
   -- a longer chain without its last type
-  pub chain_less : (len : ℕ) (u : Listing) → EndsChain types name (suc (suc len)) u → (t : Listing) × EndsChain types name (suc len) t × (has_super t.1.name u.1 ≡ true)
+  pub chain_less : (len : ℕ) (u : Listing) → EndsChain types name (suc (suc len)) u
+      → (t : Listing) × EndsChain types name (suc len) t × (has_super t.1.name u.1 ≡ true)
   chain_less len u h = of h.chain h.listed h.linked h.many h.ends
     where
       of : (ts : List Listing) → All (Contains types) ts → IsChain name ts → length ts ≡ suc (suc len) → last_of ts ≡ Some u

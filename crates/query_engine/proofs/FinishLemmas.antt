@@ -1,35 +1,20 @@
 -- What a search by levels has found, before each level and at its end.
-use Rattle.std.proofs.Common.{◌≡◌, ◌≤◌, ◌<◌, ◌⊎◌, inl, inr, ℕ, zero, suc, ◌+◌, ◌==◌, Bool, true, false, cond, ◌&&◌, ◌||◌, if◌then◌else◌, List, [], ◌∷◌, ◌++◌, length, map, filter, Option, Some, None, IfSome, refl, ap, sym, subst, ◌∙◌, append-nil, append_assoc, arith}
+use Rattle.std.proofs.Common.{◌≡◌, ◌≤◌, ◌<◌, ◌⊎◌, inl, inr, ℕ, zero, suc, ◌+◌, ◌==◌, Bool, true, false, cond, ◌&&◌, List, [], ◌∷◌, ◌++◌, length, filter, Option, Some, None, IfSome, refl, ap, sym, subst, ◌∙◌, append-nil, append_assoc, arith}
 use Rattle.std.specs.Prelude.{not, is_some}
-use Rattle.std.specs.Option.{option_or, option_map_or}
-use Rattle.std.specs.List.{list_any, AllByRecursion}
+use Rattle.std.specs.List.{AllByRecursion}
 use Rattle.std.proofs.lemmas.Bool.{false≢true, eq-eqb, ne_eqb, cases_lt}
 use Rattle.std.proofs.lemmas.List.Elements.{filter-append, filter_agree}
 use Rattle.std.proofs.lemmas.List.Filters.{length-filter_both}
 use Rattle.query_engine.specs.Fits.{has_super}
-use Rattle.query_engine.specs.Inheritors.{Listing, names_any, names_of, levels_from, inheritors_of, StandsBefore}
-use Rattle.query_engine.specs.Search.{Seen, Reached, is_asked}
+use Rattle.query_engine.specs.Inheritors.{Listing, names_any, names_of, levels_from, inheritors_of}
+use Rattle.query_engine.specs.Search.{Seen, Reached, is_asked, leveled, is_level, with_this, tagged, LevelsRise, IsFound}
 use Rattle.query_engine.proofs.OrderLemmas.{all_append, all_each, all_weaker}
-use Rattle.query_engine.proofs.LevelLemmas.{found_in, left_by, tagged}
-use Rattle.query_engine.proofs.MeetLemmas.{leveled}
+use Rattle.query_engine.proofs.LevelLemmas.{found_in, left_by}
 use Rattle.query_engine.proofs.SearchLemmas.{or_level, any_agree, any_names, IsAt}
-
--- the level of a type is this one
-abbrev pub is_level : ℕ → Option ℕ → Bool
-is_level k o = option_map_or (λ l. l == k) o false
 
 -- the types that have no level yet
 abbrev pub without : (Listing → Option ℕ) → List Listing → List Listing
 without F types = filter (λ t. not (is_some (F t))) types
-
--- the types that have this level
-abbrev pub with_this : ℕ → (Listing → Option ℕ) → List Listing → List Listing
-with_this k F types = filter (λ t. is_level k (F t)) types
-
--- the levels of types that were found don't fall
-abbrev pub LevelsRise : List (ℕ × Listing) → Type 0
-LevelsRise [] = Unit {0}
-LevelsRise (x ∷ xs) = AllByRecursion (λ y. x.0 ≤ y.0) xs × LevelsRise xs
 
 -- Before a level: what was found makes, with what the levels from here on give, all types that come from the name.
 pub record IsBefore (types : List Listing) (name : List ℕ) (level : ℕ) (names : List (List ℕ)) (asked : List (List ℕ)) (seen : Seen) : Type 0 where
@@ -47,14 +32,7 @@ pub record IsBefore (types : List Listing) (name : List ℕ) (level : ℕ) (name
   pub rise : LevelsRise front
   pub below : AllByRecursion (λ found. found.0 < level) front
 
--- a search ended: these are the levels of all types that come from the name
-pub record IsFound (types : List Listing) (name : List ℕ) (seen : Seen) : Type 0 where
-  pub levels : Listing → Option ℕ
-  pub is : seen ≡ leveled levels types
-  pub each : (k : ℕ) → filter (λ found. found.0 == k) (inheritors_of name types) ≡ tagged k (with_this k levels types)
-  pub rise : LevelsRise (inheritors_of name types)
-
-filter_none : {X : Type 0} (p : X → Bool) (xs : List X) → AllByRecursion (λ x. p x ≡ false) xs → filter p xs ≡ []
+pub filter_none : {X : Type 0} (p : X → Bool) (xs : List X) → AllByRecursion (λ x. p x ≡ false) xs → filter p xs ≡ []
 filter_none p [] all = refl
 filter_none p (x ∷ xs) all = ap (λ b. cond b (x ∷ filter p xs) (filter p xs)) all.0 ∙ filter_none p xs all.1
 
@@ -123,24 +101,30 @@ tagged_each P level (t ∷ ts) each = (each t, tagged_each P level ts each)
 tagged_this : (level : ℕ) (ts : List Listing) → filter (λ (found : ℕ × Listing). found.0 == level) (tagged level ts) ≡ tagged level ts
 tagged_this level [] = refl
 tagged_this level (t ∷ ts) =
-    ap (λ b. cond b ((level, t) ∷ filter (λ (found : ℕ × Listing). found.0 == level) (tagged level ts)) (filter (λ (found : ℕ × Listing). found.0 == level) (tagged level ts))) (eq-eqb level level refl)
+    ap (λ b. cond b ((level, t) ∷ filter (λ (found : ℕ × Listing). found.0 == level) (tagged level ts))
+    (filter (λ (found : ℕ × Listing). found.0 == level) (tagged level ts))) (eq-eqb level level refl)
     ∙ ap (λ l. (level, t) ∷ l) (tagged_this level ts)
 
 tagged_rise : (level : ℕ) (ts : List Listing) → LevelsRise (tagged level ts)
 tagged_rise level [] = tt
 tagged_rise level (t ∷ ts) = (tagged_each (λ y. level ≤ y.0) level ts (λ t. omega arith), tagged_rise level ts)
 
-rise_append : (level : ℕ) (xs : List (ℕ × Listing)) (ts : List Listing) → LevelsRise xs → AllByRecursion (λ found. found.0 < level) xs → LevelsRise (xs ++ tagged level ts)
+rise_append : (level : ℕ) (xs : List (ℕ × Listing)) (ts : List Listing) → LevelsRise xs → AllByRecursion (λ found. found.0 < level) xs
+    → LevelsRise (xs ++ tagged level ts)
 rise_append level [] ts rise below = tagged_rise level ts
 rise_append level (x ∷ xs) ts rise below =
-    let less = below.0 in
-    (all_append (λ (y : ℕ × Listing). x.0 ≤ y.0) xs (tagged level ts) rise.0 (tagged_each (λ (y : ℕ × Listing). x.0 ≤ y.0) level ts (λ t. omega (arith, less))),
-    rise_append level xs ts rise.1 below.1)
+    let less = below.0 in (
+      all_append (λ (y : ℕ × Listing). x.0 ≤ y.0) xs (tagged level ts) rise.0
+          (tagged_each (λ (y : ℕ × Listing). x.0 ≤ y.0) level ts (λ t. omega (arith, less))),
+      rise_append level xs ts rise.1 below.1,
+    )
 
-below_none : (level k : ℕ) (xs : List (ℕ × Listing)) → level ≤ k → AllByRecursion (λ found. found.0 < level) xs → filter (λ (found : ℕ × Listing). found.0 == k) xs ≡ []
+below_none : (level k : ℕ) (xs : List (ℕ × Listing)) → level ≤ k → AllByRecursion (λ found. found.0 < level) xs
+    → filter (λ (found : ℕ × Listing). found.0 == k) xs ≡ []
 below_none level k xs le below =
     filter_none (λ (found : ℕ × Listing). found.0 == k) xs
-    (all_weaker (λ (found : ℕ × Listing). found.0 < level) (λ (found : ℕ × Listing). (found.0 == k) ≡ false) xs (λ found less. ne_eqb found.0 k (λ same. omega (arith, less, same, le))) below)
+    (all_weaker (λ (found : ℕ × Listing). found.0 < level) (λ (found : ℕ × Listing). (found.0 == k) ≡ false) xs
+    (λ found less. ne_eqb found.0 k (λ same. omega (arith, less, same, le))) below)
 
 -- no type has a level
 abbrev no_levels : Listing → Option ℕ
@@ -178,7 +162,8 @@ few_none p (x ∷ xs) few = absurd (omega (arith, few))
 
 tagged_other : (level k : ℕ) (ts : List Listing) → (level ≡ k → ⊥) → filter (λ (found : ℕ × Listing). found.0 == k) (tagged level ts) ≡ []
 tagged_other level k ts apart =
-    filter_none (λ (found : ℕ × Listing). found.0 == k) (tagged level ts) (tagged_each (λ (found : ℕ × Listing). (found.0 == k) ≡ false) level ts (λ t. ne_eqb level k apart))
+    filter_none (λ (found : ℕ × Listing). found.0 == k) (tagged level ts)
+    (tagged_each (λ (found : ℕ × Listing). (found.0 == k) ≡ false) level ts (λ t. ne_eqb level k apart))
 
 module _ (types : List Listing) (name : List ℕ) (level : ℕ) (names asked asked' : List (List ℕ)) (seen : Seen) (reached' : Reached)
     (b : IsBefore types name level names asked seen) (at : IsAt types b.levels level names asked' reached') where
@@ -194,14 +179,15 @@ module _ (types : List Listing) (name : List ℕ) (level : ℕ) (names asked ask
   found_same =
       filter_two (names_any b.last) (λ t. not (is_some (b.levels t))) types
       ∙ filter_agree (λ t. not (is_some (b.levels t)) && names_any b.last t) (λ t. is_level level (at.levels t))
-        (λ t. ap (λ n. not (is_some (b.levels t)) && n) (b.same t) ∙ sym (found_test t)) types
+      (λ t. ap (λ n. not (is_some (b.levels t)) && n) (b.same t) ∙ sym (found_test t)) types
 
   left_same : left_by b.last left ≡ without at.levels types
   unfolding left
   left_same =
       filter_two (λ t. not (names_any b.last t)) (λ t. not (is_some (b.levels t))) types
       ∙ filter_agree (λ t. not (is_some (b.levels t)) && not (names_any b.last t)) (λ t. not (is_some (at.levels t)))
-        (λ t. ap (λ n. not (is_some (b.levels t)) && not n) (b.same t) ∙ still_none level (b.levels t) (names_any names t) ∙ ap (λ o. not (is_some o)) (sym (at.is t))) types
+      (λ t. ap (λ n. not (is_some (b.levels t)) && not n) (b.same t) ∙ still_none level (b.levels t) (names_any names t)
+      ∙ ap (λ o. not (is_some o)) (sym (at.is t))) types
 
   front' : List (ℕ × Listing)
   front' = b.front ++ tagged level (with_this level at.levels types)
@@ -220,7 +206,8 @@ module _ (types : List Listing) (name : List ℕ) (level : ℕ) (names asked ask
   unfolding last' left
   none_last none t = ap (λ found. names_any (names_of found) t) (sym found_same ∙ none)
 
-  onward : (more : ℕ) → b.front ++ levels_from more level b.last left ≡ inheritors_of name types → (length left ≤ more) ⊎ ((t : Listing) → names_any b.last t ≡ false) → Onward
+  onward : (more : ℕ) → b.front ++ levels_from more level b.last left ≡ inheritors_of name types
+      → (length left ≤ more) ⊎ ((t : Listing) → names_any b.last t ≡ false) → Onward
   unfolding levels_from front' last' left
   onward zero whole enough = record {
     more = 0;
@@ -234,7 +221,8 @@ module _ (types : List Listing) (name : List ℕ) (level : ℕ) (names asked ask
       none (inr nobody) = filter_none (names_any b.last) left (all_each (λ (t : Listing). names_any b.last t ≡ false) left nobody)
   onward (suc more) whole enough = record {
     more = more;
-    whole = append_assoc b.front (tagged level (with_this level at.levels types)) (levels_from more (level + 1) (names_of (with_this level at.levels types)) (without at.levels types))
+    whole = append_assoc b.front (tagged level (with_this level at.levels types))
+        (levels_from more (level + 1) (names_of (with_this level at.levels types)) (without at.levels types))
         ∙ ap (λ found. b.front ++ (tagged level found ++ levels_from more (level + 1) (names_of found) (without at.levels types))) (sym found_same)
         ∙ ap (λ l. b.front ++ (tagged level (found_in b.last left) ++ levels_from more (level + 1) (names_of (found_in b.last left)) l)) (sym left_same)
         ∙ whole;
@@ -244,7 +232,8 @@ module _ (types : List Listing) (name : List ℕ) (level : ℕ) (names asked ask
       fewer : (length left ≤ suc more) ⊎ ((t : Listing) → names_any b.last t ≡ false) → (found : List Listing) → found_in b.last left ≡ found
           → (length (without at.levels types) ≤ more) ⊎ ((t : Listing) → names_any last' t ≡ false)
       fewer enough [] none = inr (none_last none)
-      fewer (inr nobody) (u ∷ us) some = inr (none_last (filter_none (names_any b.last) left (all_each (λ (t : Listing). names_any b.last t ≡ false) left nobody)))
+      fewer (inr nobody) (u ∷ us) some = inr
+          (none_last (filter_none (names_any b.last) left (all_each (λ (t : Listing). names_any b.last t ≡ false) left nobody)))
       fewer (inl few) (u ∷ us) some =
           let both = length-filter_both (names_any b.last) (λ t. not (names_any b.last t)) (λ t. refl) left in
           let many : length (found_in b.last left) ≡ suc (length us) = ap length some in
@@ -256,25 +245,30 @@ module _ (types : List Listing) (name : List ℕ) (level : ℕ) (names asked ask
   unfolding front'
   each' k = filter-append (λ found. found.0 == k) b.front (tagged level (with_this level at.levels types)) ∙ of (cases_lt k level)
     where
-      later : (k ≡ level) ⊎ (level < k) → filter (λ found. found.0 == k) b.front ++ filter (λ found. found.0 == k) (tagged level (with_this level at.levels types)) ≡ tagged k (with_this k at.levels types)
+      later : (k ≡ level) ⊎ (level < k)
+          → filter (λ found. found.0 == k) b.front ++ filter (λ found. found.0 == k) (tagged level (with_this level at.levels types))
+          ≡ tagged k (with_this k at.levels types)
       later (inl same) =
-          ap (λ l. l ++ filter (λ found. found.0 == k) (tagged level (with_this level at.levels types))) (below_none level k b.front (omega (arith, same)) b.below)
+          ap (λ l. l ++ filter (λ found. found.0 == k) (tagged level (with_this level at.levels types)))
+          (below_none level k b.front (omega (arith, same)) b.below)
           ∙ ap (λ n. filter (λ found. found.0 == n) (tagged level (with_this level at.levels types))) same
           ∙ tagged_this level (with_this level at.levels types)
           ∙ ap (λ n. tagged n (with_this n at.levels types)) (sym same)
       later (inr above) =
-          ap (λ l. l ++ filter (λ found. found.0 == k) (tagged level (with_this level at.levels types))) (below_none level k b.front (omega (arith, above)) b.below)
+          ap (λ l. l ++ filter (λ found. found.0 == k) (tagged level (with_this level at.levels types)))
+          (below_none level k b.front (omega (arith, above)) b.below)
           ∙ tagged_other level k (with_this level at.levels types) (λ same. omega (arith, above, same))
           ∙ ap (tagged k) (sym (filter_none (λ t. is_level k (at.levels t)) types (all_each (λ (t : Listing). is_level k (at.levels t) ≡ false) types
-            (λ t. ap (is_level k) (at.is t) ∙ above_level level k (b.levels t) (names_any names t) above (b.lower t)))))
+          (λ t. ap (is_level k) (at.is t) ∙ above_level level k (b.levels t) (names_any names t) above (b.lower t)))))
 
-      of : (k < level) ⊎ (level ≤ k) → filter (λ found. found.0 == k) b.front ++ filter (λ found. found.0 == k) (tagged level (with_this level at.levels types)) ≡ tagged k (with_this k at.levels types)
+      of : (k < level) ⊎ (level ≤ k) → filter (λ found. found.0 == k) b.front ++ filter (λ found. found.0 == k)
+          (tagged level (with_this level at.levels types)) ≡ tagged k (with_this k at.levels types)
       of (inl less) =
           ap (λ l. filter (λ found. found.0 == k) b.front ++ l) (tagged_other level k (with_this level at.levels types) (λ same. omega (arith, less, same)))
           ∙ append-nil (filter (λ found. found.0 == k) b.front)
           ∙ b.each k
           ∙ ap (tagged k) (filter_agree (λ t. is_level k (b.levels t)) (λ t. is_level k (at.levels t))
-            (λ t. sym (other_level level k (b.levels t) (names_any names t) less) ∙ ap (is_level k) (sym (at.is t))) types)
+          (λ t. sym (other_level level k (b.levels t) (names_any names t) less) ∙ ap (is_level k) (sym (at.is t))) types)
       of (inr enough) = later (split (cases_lt level k))
         where
           split : (level < k) ⊎ (k ≤ level) → (k ≡ level) ⊎ (level < k)
@@ -296,8 +290,10 @@ module _ (types : List Listing) (name : List ℕ) (level : ℕ) (names asked ask
         front = front';
         whole = on.whole;
         same = λ t. any_names (λ name. has_super name t.1) (λ t. is_level level (at.levels t)) types
-            ∙ any_agree (λ u. is_level level (at.levels u) && has_super u.1.name t.1) (λ u. names_any names u && (not (is_some (b.levels u)) && has_super u.1.name t.1))
-              (λ u. ap (λ c. c && has_super u.1.name t.1) (found_test u) ∙ sym (and_swap (names_any names u) (not (is_some (b.levels u))) (has_super u.1.name t.1))) types
+            ∙ any_agree (λ u. is_level level (at.levels u) && has_super u.1.name t.1)
+            (λ u. names_any names u && (not (is_some (b.levels u)) && has_super u.1.name t.1))
+            (λ u. ap (λ c. c && has_super u.1.name t.1) (found_test u)
+            ∙ sym (and_swap (names_any names u) (not (is_some (b.levels u))) (has_super u.1.name t.1))) types
             ∙ sym (at.next (λ name. has_super name t.1));
         enough = on.enough;
         each = each';
@@ -308,7 +304,8 @@ module _ (types : List Listing) (name : List ℕ) (level : ℕ) (names asked ask
       }
 
 -- no name is left, and the search ends
-pub found_all : (types : List Listing) (name : List ℕ) (level : ℕ) (asked : List (List ℕ)) (seen : Seen) → IsBefore types name level [] asked seen → IsFound types name seen
+pub found_all : (types : List Listing) (name : List ℕ) (level : ℕ) (asked : List (List ℕ)) (seen : Seen) → IsBefore types name level [] asked seen
+    → IsFound types name seen
 found_all types name level asked seen b = record {
   levels = b.levels;
   is = b.is;

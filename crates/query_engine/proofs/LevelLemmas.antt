@@ -1,12 +1,13 @@
 -- Levels are the lengths of the shortest chains.
-use Rattle.std.proofs.Common.{◌≡◌, ◌≤◌, ◌<◌, ◌⊎◌, inl, inr, ℕ, zero, suc, ◌+◌, Bool, true, false, cond, ◌||◌, List, [], ◌∷◌, ◌++◌, length, map, filter, refl, ap, sym, subst, ◌∙◌, arith}
+use Rattle.std.proofs.Common.{◌≡◌, ◌≤◌, ◌<◌, ◌⊎◌, inl, inr, ℕ, zero, suc, ◌+◌, Bool, true, false, cond, ◌||◌, List, [], ◌∷◌, ◌++◌, length, filter, refl, ap, sym, subst, ◌∙◌, arith}
 use Rattle.std.specs.Prelude.{not}
-use Rattle.std.specs.List.{Contains, list_any}
+use Rattle.std.specs.List.{Contains}
 use Rattle.std.proofs.lemmas.Bool.{false≢true, cases_lt}
 use Rattle.std.proofs.lemmas.List.Elements.{Contains-append_left, Contains-append_right, Contains-append_cases}
 use Rattle.std.proofs.lemmas.List.Filters.{length-filter_both}
 use Rattle.query_engine.specs.Fits.{has_super}
-use Rattle.query_engine.specs.Inheritors.{Listing, names_any, names_of, levels_from, inheritors_of, EndsChain, IsLeast}
+use Rattle.query_engine.specs.Inheritors.{Listing, names_any, names_of, levels_from, inheritors_of, IsOnLevel, EndsChain, IsLeast}
+use Rattle.query_engine.specs.Search.{tagged}
 use Rattle.query_engine.proofs.MemberLemmas.{has_none, has_filter, filter_has, any_has, has_any, has_map, map_has}
 use Rattle.query_engine.proofs.ChainLemmas.{chain_one, chain_more, chain_listed, chain_none, chain_first, chain_less}
 
@@ -16,14 +17,6 @@ found_in names left = filter (names_any names) left
 
 abbrev pub left_by : List (List ℕ) → List Listing → List Listing
 left_by names left = filter (λ t. not (names_any names t)) left
-
--- types with their level
-abbrev pub tagged : ℕ → List Listing → List (ℕ × Listing)
-tagged level types = map (λ t. (level, t)) types
-
--- a type is among those that are found, with this level
-abbrev pub Has : List (ℕ × Listing) → ℕ → Listing → Type 0
-Has found level t = Contains found (level, t)
 
 not_false : (b : Bool) → not b ≡ true → b ≡ false
 not_false true h = absurd (false≢true h)
@@ -90,7 +83,7 @@ module _ (types : List Listing) (name : List ℕ) where
             let ends : EndsChain types name level u.0 = subst (λ (n : ℕ). EndsChain types name n u.0) (sym is) u.1 in
             let listed : Contains types t = h.listed t (filter_has (λ t. not (names_any names t)) left t behind).0 in
             let there : Contains left u.0 = h.kept u.0 (chain_listed types name level u.0 ends)
-                (λ len less shorter. none_by t behind (len + 1) (omega (arith, less)) (chain_more types name len u.0 t shorter listed u.2)) in
+            (λ len less shorter. none_by t behind (len + 1) (omega (arith, less)) (chain_more types name len u.0 t shorter listed u.2)) in
             let found : Contains (found_in names left) u.0 = has_filter (names_any names) left u.0 there (h.whole u.0 there ends) in
             has_any (λ name. has_super name t.1) (names_of (found_in names left)) u.0.1.name (has_map (λ t. t.1.name) (found_in names left) u.0 found) u.2
 
@@ -102,7 +95,8 @@ module _ (types : List Listing) (name : List ℕ) where
           let n = any_has (λ name. has_super name t.1) (names_of (found_in names left)) is in
           let u = map_has (λ t. t.1.name) (found_in names left) n.0 n.1 in
           let was = filter_has (names_any names) left u.0 u.1 in
-          chain_more types name level u.0 t (h.sound u.0 (h.listed u.0 was.0) was.1) listed (subst (λ (name : List ℕ). has_super name t.1 ≡ true) (sym u.2) n.2);
+          chain_more types name level u.0 t (h.sound u.0 (h.listed u.0 was.0) was.1) listed
+          (subst (λ (name : List ℕ). has_super name t.1 ≡ true) (sym u.2) n.2);
       whole = by_level;
       listed = λ t behind. h.listed t (filter_has (λ t. not (names_any names t)) left t behind).0;
       later = none_by;
@@ -111,21 +105,24 @@ module _ (types : List Listing) (name : List ℕ) where
           has_filter (λ t. not (names_any names t)) left t there (of t listed none (true_or (names_any names t)));
     }
       where
-        of : (t : Listing) → Contains types t → ((len : ℕ) → len < level + 1 → EndsChain types name len t → ⊥) → (names_any names t ≡ true) ⊎ (names_any names t ≡ false) → not (names_any names t) ≡ true
+        of : (t : Listing) → Contains types t → ((len : ℕ) → len < level + 1 → EndsChain types name len t → ⊥)
+            → (names_any names t ≡ true) ⊎ (names_any names t ≡ false) → not (names_any names t) ≡ true
         of t listed none (inl is) = absurd (none level (omega arith) (h.sound t listed is))
         of t listed none (inr is) = false_not (names_any names t) is
 
   -- each type that is found ends a chain of its level, and no shorter one; its level is within
-  pub found_sound : (more level : ℕ) (names : List (List ℕ)) (left : List Listing) → AreLeft level names left → (j : ℕ) (t : Listing) → Has (levels_from more level names left) j t
+  pub found_sound : (more level : ℕ) (names : List (List ℕ)) (left : List Listing) → AreLeft level names left → (j : ℕ) (t : Listing)
+      → IsOnLevel (levels_from more level names left) j t
       → EndsChain types name j t × IsLeast types name j t × (level ≤ j) × (j < level + more)
   unfolding levels_from
   found_sound zero level names left h j t found = absurd (has_none (j, t) found)
   found_sound (suc more) level names left h j t found =
-      of (Contains-append_cases (tagged level (found_in names left)) (levels_from more (level + 1) (names_of (found_in names left)) (left_by names left)) (j, t) found)
+      of (Contains-append_cases (tagged level (found_in names left)) (levels_from more (level + 1) (names_of (found_in names left)) (left_by names left))
+      (j, t) found)
       (found_sound more (level + 1) (names_of (found_in names left)) (left_by names left) (left_next level names left h) j t)
     where
-      of : Has (tagged level (found_in names left)) j t ⊎ Has (levels_from more (level + 1) (names_of (found_in names left)) (left_by names left)) j t
-          → (Has (levels_from more (level + 1) (names_of (found_in names left)) (left_by names left)) j t
+      of : IsOnLevel (tagged level (found_in names left)) j t ⊎ IsOnLevel (levels_from more (level + 1) (names_of (found_in names left)) (left_by names left)) j t
+          → (IsOnLevel (levels_from more (level + 1) (names_of (found_in names left)) (left_by names left)) j t
           → EndsChain types name j t × IsLeast types name j t × (level + 1 ≤ j) × (j < level + 1 + more))
           → EndsChain types name j t × IsLeast types name j t × (level ≤ j) × (j < level + suc more)
       of (inr later) rest = let r = rest later in let a = r.2 in let b = r.3 in (r.0, r.1, omega (arith, a), omega (arith, b))
@@ -158,7 +155,7 @@ module _ (types : List Listing) (name : List ℕ) where
 
   -- a type that is left and to which a chain leads is found, at no more than its length, where as many levels as types are left may come
   pub found_whole : (more level d : ℕ) (names : List (List ℕ)) (left : List Listing) → AreLeft level names left → length left ≤ more
-      → (t : Listing) → Contains left t → EndsChain types name (level + d) t → (j : ℕ) × (j ≤ level + d) × Has (levels_from more level names left) j t
+      → (t : Listing) → Contains left t → EndsChain types name (level + d) t → (j : ℕ) × (j ≤ level + d) × IsOnLevel (levels_from more level names left) j t
   unfolding levels_from
   found_whole zero level d names left h few t there chain = let inside = there.1 in absurd (omega (arith, inside, few))
   found_whole (suc more) level d names left h few t there chain =
@@ -173,8 +170,9 @@ module _ (types : List Listing) (name : List ℕ) where
       -- a level that finds no type is the last, and one that finds some leaves fewer
       behind : (found : List Listing) → found_in names left ≡ found → names_any names t ≡ false → (d : ℕ) → EndsChain types name (level + suc d) t
           → ((d : ℕ) (names : List (List ℕ)) (left : List Listing) → AreLeft (level + 1) names left → length left ≤ more
-          → (t : Listing) → Contains left t → EndsChain types name (level + 1 + d) t → (j : ℕ) × (j ≤ level + 1 + d) × Has (levels_from more (level + 1) names left) j t)
-          → (j : ℕ) × (j ≤ level + suc d) × Has (tagged level (found_in names left) ++ later) j t
+          → (t : Listing) → Contains left t → EndsChain types name (level + 1 + d) t
+          → (j : ℕ) × (j ≤ level + 1 + d) × IsOnLevel (levels_from more (level + 1) names left) j t)
+          → (j : ℕ) × (j ≤ level + suc d) × IsOnLevel (tagged level (found_in names left) ++ later) j t
       behind [] none is d chain rest =
           absurd (none_left d (level + 1) (names_of (found_in names left)) (left_by names left) (left_next level names left h)
           (λ t. ap (λ (found : List Listing). names_any (names_of found) t) none) t (stays is)
@@ -183,23 +181,27 @@ module _ (types : List Listing) (name : List ℕ) where
           let both = length-filter_both (names_any names) (λ t. not (names_any names t)) (λ t. refl) left in
           let many : length (found_in names left) ≡ suc (length us) = ap length some in
           let r = rest d (names_of (found_in names left)) (left_by names left) (left_next level names left h) (omega (arith, both, many, few)) t (stays is)
-              (subst (λ (n : ℕ). EndsChain types name n t) (omega arith) chain) in
+          (subst (λ (n : ℕ). EndsChain types name n t) (omega arith) chain) in
           let least = r.1 in
           (r.0, omega (arith, least), Contains-append_right (tagged level (found_in names left)) later (r.0, t) r.2)
 
       of : (b : Bool) → names_any names t ≡ b → (d : ℕ) → EndsChain types name (level + d) t
           → ((d : ℕ) (names : List (List ℕ)) (left : List Listing) → AreLeft (level + 1) names left → length left ≤ more
-          → (t : Listing) → Contains left t → EndsChain types name (level + 1 + d) t → (j : ℕ) × (j ≤ level + 1 + d) × Has (levels_from more (level + 1) names left) j t)
-          → (j : ℕ) × (j ≤ level + d) × Has (tagged level (found_in names left) ++ later) j t
-      of true is d chain rest =
-          (level, omega arith, Contains-append_left (tagged level (found_in names left)) later (level, t)
-          (has_map (λ (t : Listing). (level, t)) (found_in names left) t (has_filter (names_any names) left t there is)))
+          → (t : Listing) → Contains left t → EndsChain types name (level + 1 + d) t
+          → (j : ℕ) × (j ≤ level + 1 + d) × IsOnLevel (levels_from more (level + 1) names left) j t)
+          → (j : ℕ) × (j ≤ level + d) × IsOnLevel (tagged level (found_in names left) ++ later) j t
+      of true is d chain rest = (
+        level,
+        omega arith,
+        Contains-append_left (tagged level (found_in names left)) later (level, t)
+            (has_map (λ (t : Listing). (level, t)) (found_in names left) t (has_filter (names_any names) left t there is)),
+      )
       of false is zero chain rest =
           absurd (false≢true (sym is ∙ h.whole t there (subst (λ (n : ℕ). EndsChain types name n t) (omega arith) chain)))
       of false is (suc d) chain rest = behind (found_in names left) refl is d chain rest
 
 -- each type that comes from a name ends a chain of its level, and no shorter one; no level is higher than there are types
-pub inheritors_sound : (name : List ℕ) (types : List Listing) (level : ℕ) (t : Listing) → Has (inheritors_of name types) level t
+pub inheritors_sound : (name : List ℕ) (types : List Listing) (level : ℕ) (t : Listing) → IsOnLevel (inheritors_of name types) level t
     → EndsChain types name level t × IsLeast types name level t × (level ≤ length types)
 inheritors_sound name types level t found =
     let r = found_sound types name (length types) 1 (name ∷ []) types (all_left types name) level t found in
@@ -207,10 +209,11 @@ inheritors_sound name types level t found =
     (r.0, r.1, omega (arith, a))
 
 -- and each type that ends a chain comes from it
-pub inheritors_whole : (name : List ℕ) (types : List Listing) (len : ℕ) (t : Listing) → EndsChain types name len t → (level : ℕ) × (level ≤ len) × Has (inheritors_of name types) level t
+pub inheritors_whole : (name : List ℕ) (types : List Listing) (len : ℕ) (t : Listing) → EndsChain types name len t
+    → (level : ℕ) × (level ≤ len) × IsOnLevel (inheritors_of name types) level t
 inheritors_whole name types zero t chain = absurd (chain_none types name t chain)
 inheritors_whole name types (suc d) t chain =
     let r = found_whole types name (length types) 1 d (name ∷ []) types (all_left types name) (omega arith) t (chain_listed types name (suc d) t chain)
-        (subst (λ (n : ℕ). EndsChain types name n t) (omega arith) chain) in
+    (subst (λ (n : ℕ). EndsChain types name n t) (omega arith) chain) in
     let a = r.1 in
     (r.0, omega (arith, a), r.2)

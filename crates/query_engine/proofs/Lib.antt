@@ -1,10 +1,14 @@
 pub mod AheadLemmas
 pub mod AskLemmas
+pub mod AskedLemmas
+pub mod PaceLemmas
 pub mod ChainLemmas
+pub mod CostLemmas
 pub mod FinishLemmas
 pub mod FoundLemmas
 pub mod FromLemmas
 pub mod LevelLemmas
+pub mod LevelRowLemmas
 pub mod LookLemmas
 pub mod MadeLemmas
 pub mod MeetLemmas
@@ -14,4 +18,5 @@ pub mod OutlineLemmas
 pub mod RepliedLemmas
 pub mod ReplyLemmas
 pub mod SearchLemmas
+pub mod TypesLemmas
 pub mod UsageLemmas

@@ -1,5 +1,5 @@
 -- What lists have, through a filter and a map.
-use Rattle.std.proofs.Common.{◌≡◌, ◌<◌, ◌⊎◌, inl, inr, ℕ, zero, suc, Bool, true, false, cond, ◌||◌, List, [], ◌∷◌, ◌++◌, length, map, filter, refl, ap, sym, subst, ◌∙◌, arith}
+use Rattle.std.proofs.Common.{◌≡◌, ◌⊎◌, inl, inr, zero, suc, Bool, true, false, cond, ◌||◌, List, [], ◌∷◌, map, filter, refl, ap, sym, subst, ◌∙◌, arith}
 use Rattle.std.specs.List.{Contains, list_any}
 use Rattle.std.proofs.lemmas.Bool.{false≢true}
 
@@ -36,7 +36,8 @@ module _ {X : Type 0} where
       later : Contains ys x × (p x ≡ true) → Contains (y ∷ ys) x × (p x ≡ true)
       later found = (has_tail y x ys found.0, found.1)
 
-      of : (b : Bool) → p y ≡ b → (Contains (filter p ys) x → Contains ys x × (p x ≡ true)) → Contains (cond b (y ∷ filter p ys) (filter p ys)) x → Contains (y ∷ ys) x × (p x ≡ true)
+      of : (b : Bool) → p y ≡ b → (Contains (filter p ys) x → Contains ys x × (p x ≡ true)) → Contains (cond b (y ∷ filter p ys) (filter p ys)) x
+          → Contains (y ∷ ys) x × (p x ≡ true)
       of true e rest h = here (has_cases y x (filter p ys) h)
         where
           here : (y ≡ x) ⊎ Contains (filter p ys) x → Contains (y ∷ ys) x × (p x ≡ true)
@@ -49,7 +50,8 @@ module _ {X : Type 0} where
   any_has p [] h = absurd (false≢true h)
   any_has p (y ∷ ys) h = of (p y) refl h (any_has p ys)
     where
-      of : (b : Bool) → p y ≡ b → (b || list_any p ys) ≡ true → (list_any p ys ≡ true → (x : X) × Contains ys x × (p x ≡ true)) → (x : X) × Contains (y ∷ ys) x × (p x ≡ true)
+      of : (b : Bool) → p y ≡ b → (b || list_any p ys) ≡ true → (list_any p ys ≡ true → (x : X) × Contains ys x × (p x ≡ true))
+          → (x : X) × Contains (y ∷ ys) x × (p x ≡ true)
       of true e h rest = (y, has_head y ys, e)
       of false e h rest = let found = rest h in (found.0, has_tail y found.0 ys found.1, found.2)
 

@@ -1,11 +1,12 @@
 -- Lists in order, and the order of levels.
-use Rattle.std.proofs.Common.{◌≡◌, ◌≤◌, ◌<◌, ◌⊎◌, inl, inr, ℕ, zero, suc, ◌+◌, Bool, true, false, cond, List, [], ◌∷◌, ◌++◌, length, map, filter, refl, arith}
+use Rattle.std.proofs.Common.{◌≤◌, inl, inr, ℕ, zero, suc, ◌+◌, Bool, true, false, cond, List, [], ◌∷◌, ◌++◌, length, filter, refl, arith}
 use Rattle.std.specs.Prelude.{not}
 use Rattle.std.specs.List.{AllByRecursion, AllPairs}
 use Rattle.std.proofs.lemmas.List.Elements.{All-from_recursion}
 use Rattle.std.proofs.lemmas.List.Kept.{AllPairs-cons}
 use Rattle.query_engine.specs.Inheritors.{Listing, names_any, names_of, levels_from, inheritors_of, StandsBefore, Precedes}
-use Rattle.query_engine.proofs.LevelLemmas.{found_in, left_by, tagged}
+use Rattle.query_engine.specs.Search.{tagged}
+use Rattle.query_engine.proofs.LevelLemmas.{found_in, left_by}
 
 module _ {X : Type 0} where
   pub all_filter : (P : X → Type 0) (p : X → Bool) (xs : List X) → AllByRecursion P xs → AllByRecursion P (filter p xs)
@@ -57,17 +58,21 @@ tagged_all P level (t ∷ ts) all = (all.0, tagged_all P level ts all.1)
 
 tagged_sorted : (level : ℕ) (ts : List Listing) → Sorted StandsBefore ts → Sorted Precedes (tagged level ts)
 tagged_sorted level [] sorted = tt
-tagged_sorted level (t ∷ ts) sorted =
-    (tagged_all (Precedes (level, t)) level ts (all_weaker (StandsBefore t) (λ u. Precedes (level, t) (level, u)) ts (λ u h. inr (refl, h)) sorted.0), tagged_sorted level ts sorted.1)
+tagged_sorted level (t ∷ ts) sorted = (
+  tagged_all (Precedes (level, t)) level ts (all_weaker (StandsBefore t) (λ u. Precedes (level, t) (level, u)) ts (λ u h. inr (refl, h)) sorted.0),
+  tagged_sorted level ts sorted.1,
+)
 
 -- no type that is found has a lower level
 levels_above : (more level : ℕ) (names : List (List ℕ)) (left : List Listing) → AllByRecursion (λ found. level ≤ found.0) (levels_from more level names left)
 unfolding levels_from
 levels_above zero level names left = tt
 levels_above (suc more) level names left =
-    all_append (λ found. level ≤ found.0) (tagged level (found_in names left)) (levels_from more (level + 1) (names_of (found_in names left)) (left_by names left))
+    all_append (λ found. level ≤ found.0) (tagged level (found_in names left))
+    (levels_from more (level + 1) (names_of (found_in names left)) (left_by names left))
     (tagged_all (λ found. level ≤ found.0) level (found_in names left) (all_each (λ (t : Listing). level ≤ level) (found_in names left) (λ t. omega arith)))
-    (all_weaker (λ found. level + 1 ≤ found.0) (λ found. level ≤ found.0) (levels_from more (level + 1) (names_of (found_in names left)) (left_by names left)) (λ found above. omega (arith, above))
+    (all_weaker (λ found. level + 1 ≤ found.0) (λ found. level ≤ found.0) (levels_from more (level + 1) (names_of (found_in names left)) (left_by names left))
+    (λ found above. omega (arith, above))
     (levels_above more (level + 1) (names_of (found_in names left)) (left_by names left)))
 
 levels_sorted : (more level : ℕ) (names : List (List ℕ)) (left : List Listing) → Sorted StandsBefore left → Sorted Precedes (levels_from more level names left)
@@ -76,10 +81,14 @@ levels_sorted zero level names left sorted = tt
 levels_sorted (suc more) level names left sorted =
     sorted_append Precedes (tagged level (found_in names left)) (levels_from more (level + 1) (names_of (found_in names left)) (left_by names left))
     (tagged_sorted level (found_in names left) (sorted_filter StandsBefore (names_any names) left sorted))
-    (levels_sorted more (level + 1) (names_of (found_in names left)) (left_by names left) (sorted_filter StandsBefore (λ t. not (names_any names t)) left sorted))
-    (tagged_all (λ a. AllByRecursion (Precedes a) (levels_from more (level + 1) (names_of (found_in names left)) (left_by names left))) level (found_in names left)
-    (all_each (λ (t : Listing). AllByRecursion (Precedes (level, t)) (levels_from more (level + 1) (names_of (found_in names left)) (left_by names left))) (found_in names left)
-    (λ t. all_weaker (λ found. level + 1 ≤ found.0) (Precedes (level, t)) (levels_from more (level + 1) (names_of (found_in names left)) (left_by names left)) (λ found above. inl (omega (arith, above)))
+    (levels_sorted more (level + 1) (names_of (found_in names left)) (left_by names left)
+    (sorted_filter StandsBefore (λ t. not (names_any names t)) left sorted))
+    (tagged_all (λ a. AllByRecursion (Precedes a) (levels_from more (level + 1) (names_of (found_in names left)) (left_by names left))) level
+    (found_in names left)
+    (all_each (λ (t : Listing). AllByRecursion (Precedes (level, t)) (levels_from more (level + 1) (names_of (found_in names left)) (left_by names left)))
+    (found_in names left)
+    (λ t. all_weaker (λ found. level + 1 ≤ found.0) (Precedes (level, t)) (levels_from more (level + 1) (names_of (found_in names left)) (left_by names left))
+    (λ found above. inl (omega (arith, above)))
     (levels_above more (level + 1) (names_of (found_in names left)) (left_by names left)))))
 
 -- the types that come from a name stand in order, each once

@@ -7,11 +7,13 @@ use Rattle.queries.specs.declared.query.Query.TheVariants as query
 use Rattle.query_engine.specs.declared.answer.Answer.{Answer}
 use Rattle.query_engine.specs.declared.answer.AskRefusal.{AskRefusal}
 use Rattle.query_engine.specs.declared.answer.AskRefusal.TheVariants.{NotReady}
-use Rattle.query_engine.specs.Reply.{reply, unless_unready, IsRefusalOf}
+use Rattle.query_engine.specs.Reply.{reply, types_of, unless_unready, IsRefusalOf}
 use Rattle.query_engine.specs.Looks.{rows_a_look, where_smart, first_uses, super_count, MayLook, HasLooked, LooksThrough, EndsEarly}
+use Rattle.query_engine.specs.Search.{all_supers}
 use Rattle.query_engine.specs.Given.{RepliesTo}
 use Rattle.query_engine.proofs.LookLemmas.{looked_not, looked_as}
 use Rattle.query_engine.proofs.ReplyLemmas.{early_refused}
+use Rattle.query_engine.proofs.TypesLemmas.{supers_counted}
 
 -- a file is unready, and is told
 unready_of : (o : Option ℕ) (e : AskRefusal) → IsSomeAnd o (λ file. e ≡ NotReady file) → (file : ℕ) × (o ≡ Some file) × (e ≡ NotReady file)
@@ -78,3 +80,15 @@ dumb_uses world name file is = ap (λ o. 1 + option_map_or (λ f. 0) o (length (
 -- the first look is one that the question may take
 pub first_may : (world : World) (name : List ℕ) → MayLook world (query.Inheritors name) (1 + 0)
 first_may world name = (omega arith, one_of (where_smart world (super_count world / rows_a_look)))
+
+-- as many looks as there are full 256 names of supers, at most
+pub few_may : (world : World) (name : List ℕ) (number : ℕ) → lowest_unready world ≡ None → number ≤ all_supers (types_of world) / rows_a_look
+    → MayLook world (query.Inheritors name) (1 + number)
+few_may world name number smart few = (
+  one_of number,
+  subst (λ (o : Option ℕ). 1 + number ≤ 1 + option_map_or (λ f. 0) o (super_count world / rows_a_look)) (sym smart)
+      (more_of number (super_count world / rows_a_look) (subst (λ (n : ℕ). number ≤ n / rows_a_look) (supers_counted (types_of world)) few)),
+)
+  where
+    more_of : (m n : ℕ) → m ≤ n → 1 + m ≤ 1 + n
+    more_of m n h = omega (arith, h)

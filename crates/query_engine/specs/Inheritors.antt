@@ -27,6 +27,10 @@ levels_from (suc more) level names left =
 abbrev pub inheritors_of : List ℕ → List Listing → List (ℕ × Listing)
 inheritors_of name types = levels_from (length types) 1 (name ∷ []) types
 
+-- the type is among those that were found, with this level
+abbrev pub IsOnLevel : List (ℕ × Listing) → ℕ → Listing → Type 0
+IsOnLevel found level t = Contains {X = ℕ × Listing} found (level, t)
+
 -- a chain from a name: its first type names it, and each other one names the type before it
 abbrev pub IsChain : List ℕ → List Listing → Type 0
 IsChain name [] = Unit {0}

@@ -5,7 +5,9 @@ pub mod Reply
 pub mod Looks
 -- Internal: a search by levels, a file whose rows are being made.
 pub mod Search
+pub mod Paces
 pub mod Listed
+pub mod Leveled
 -- What a call gives after its first look
 pub mod Given
 -- What these cite from below: the world, listings, words, places in texts, and counts of looks.

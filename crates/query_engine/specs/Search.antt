@@ -1,14 +1,15 @@
 -- A search for the types that come from a name, level by level.
-use Rattle.std.specs.Prelude.{ℕ, ◌≡◌, ◌+◌, Bool, ◌||◌, if◌then◌else◌, List, [], ◌∷◌, ◌++◌, map, filter, sum, Option, Some, None, is_some}
+use Rattle.std.specs.Prelude.{ℕ, ◌≡◌, ◌≤◌, ◌+◌, ◌==◌, Bool, false, ◌||◌, if◌then◌else◌, List, [], ◌∷◌, ◌++◌, length, map, filter, Option, Some, None, is_some}
+use Rattle.std.specs.Option.{option_map_or}
 use Rattle.std.specs.declared.cmp.Ordering.{Ordering}
-use Rattle.std.specs.List.{list_any, fold, count_by}
+use Rattle.std.specs.List.{list_any, fold, AllByRecursion}
 use Rattle.std.specs.Map.{lookup}
 use Rattle.std.specs.Str.{bytes_eq}
 use Rattle.std.specs.Ordering.{nat_cmp, ordering_then}
 use Rattle.std.specs.BTreeMap.{insert_entry, is_at}
 use Rattle.stub_tree.specs.declared.stub.Stub.{Stub}
 use Rattle.query_engine.specs.Fits.{has_super}
-use Rattle.query_engine.specs.Inheritors.{Listing}
+use Rattle.query_engine.specs.Inheritors.{Listing, inheritors_of}
 
 -- where a declaration stands: a file's id and an offset
 abbrev pub Place : Type 0
@@ -59,3 +60,47 @@ abbrev pub AskedEach : List Listing → ℕ → List (List ℕ) → List (List �
 AskedEach types level [] asked reached asked' reached' = (asked' ≡ asked) × (reached' ≡ reached)
 AskedEach types level (name ∷ names) asked reached asked' reached' =
     (a : List (List ℕ)) × (r : Reached) × HasAsked types level name asked reached a r × AskedEach types level names a r asked' reached'
+
+-- how many of the names behind `extends` and `implements` of these types were asked for
+abbrev pub asked_supers : List Listing → List (List ℕ) → ℕ
+asked_supers [] asked = 0
+asked_supers (t ∷ types) asked = length (filter (λ name. is_asked name asked) t.1.supers) + asked_supers types asked
+
+-- how many names stand behind `extends` and `implements` of these types
+abbrev pub all_supers : List Listing → ℕ
+all_supers [] = 0
+all_supers (t ∷ types) = length t.1.supers + all_supers types
+
+-- a type at the front of what was found, where it has a level
+abbrev pub with_level : Listing → Option ℕ → Seen → Seen
+with_level t None rest = rest
+with_level t (Some level) rest = (place_of t, (level, t.1)) ∷ rest
+
+-- those of the types that have a level
+abbrev pub leveled : (Listing → Option ℕ) → List Listing → Seen
+leveled levels [] = []
+leveled levels (t ∷ types) = with_level t (levels t) (leveled levels types)
+
+-- the level of a type is this one
+abbrev pub is_level : ℕ → Option ℕ → Bool
+is_level level other = option_map_or (λ l. l == level) other false
+
+-- the types that have this level
+abbrev pub with_this : ℕ → (Listing → Option ℕ) → List Listing → List Listing
+with_this level levels types = filter (λ t. is_level level (levels t)) types
+
+-- types with their level
+abbrev pub tagged : ℕ → List Listing → List (ℕ × Listing)
+tagged level types = map (λ t. (level, t)) types
+
+-- the levels of types that were found don't fall
+abbrev pub LevelsRise : List (ℕ × Listing) → Type 0
+LevelsRise [] = Unit {0}
+LevelsRise (x ∷ xs) = AllByRecursion (λ y. x.0 ≤ y.0) xs × LevelsRise xs
+
+-- a search ended: what it found are the types that come from the name, each with its level
+pub record IsFound (types : List Listing) (name : List ℕ) (seen : Seen) : Type 0 where
+  pub levels : Listing → Option ℕ
+  pub is : seen ≡ leveled levels types
+  pub each : (level : ℕ) → filter (λ found. found.0 == level) (inheritors_of name types) ≡ tagged level (with_this level levels types)
+  pub rise : LevelsRise (inheritors_of name types)

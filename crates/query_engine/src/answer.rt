@@ -85,6 +85,13 @@ impl<T: Drop> RowList<T> {
         }
     }
 
+    /// These rows.
+    pub(crate) fn of(rows: Vec<T>) -> RowList<T>
+        ensures { result ≡ rows.items }
+    {
+        RowList { rows }
+    }
+
     /// Puts a row at the end. On an error the list is as before.
     pub(crate) fn push(&mut self, row: T) -> Result<(), AllocError>
         ensures ok { OnOk result (self.new ≡ self.old ++ row ∷ []) }

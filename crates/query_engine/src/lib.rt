@@ -2,12 +2,17 @@
 #![tactic(auto)]
 
 mod answer;
+mod asked_names;
 mod inheritors;
+pub mod laws;
+mod level_rows;
 mod listed_file;
 mod looks;
 mod outline;
 mod question;
+mod reached;
 mod ready;
+mod search;
 mod stub_rows;
 mod usages;
 mod word_rows;

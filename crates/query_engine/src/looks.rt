@@ -1,7 +1,8 @@
-//! Looks at a watch: one as a call begins, and then by what it makes: one after each 256 rows, or after each file.
-ghost use Rattle.std.specs.Prelude.{◌≡◌, ◌<◌, IfErr};
+//! Looks at a watch: one as a call begins, and then by what it makes or meets: one after each 256 rows or types, or after
+//! each file.
+ghost use Rattle.std.specs.Prelude.{◌≡◌, ◌<◌, ◌+◌, ◌/◌, ◌%◌, IfErr};
 ghost use Rattle.action_lock.specs.Counts.{counted};
-ghost use Rattle.query_engine.specs.Looks.{looks_at, HasLooked, EndsEarly};
+ghost use Rattle.query_engine.specs.Looks.{rows_a_look, looks_at, HasLooked, EndsEarly};
 
 use crate::answer::AskRefusal;
 use action_lock::Watch;
@@ -82,4 +83,17 @@ pub(crate) fn look_after<W: Watch>(rows: usize, watch: &mut W) -> Result<(), Ask
     } else {
         Ok(())
     }
+}
+
+/// Looks where one more, beside so many since the last look, makes 256.
+pub(crate) fn look_after_another<W: Watch>(met: &mut u8, watch: &mut W) -> Result<(), AskRefusal>
+    requires { W.can_look watch.old }
+    ensures again { W.can_look watch.new }
+    ensures stays { W.stays watch.old watch.new }
+    ensures met { met.new ≡ (met.old + 1) % rows_a_look }
+    ensures looked { HasLooked W.looks W.sightings W.stays result ((met.old % rows_a_look + 1) / rows_a_look) watch.old watch.new }
+    ensures early { IfErr result EndsEarly }
+{
+    *met = met.wrapping_add(1);
+    if *met == 0 { look(watch) } else { Ok(()) }
 }

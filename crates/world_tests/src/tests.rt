@@ -5,7 +5,7 @@ use crate::courses::{Course, told};
 use std::test::Fail;
 
 /// Courses, and what they come to.
-static COURSES: [(Course, &str); 14] = [
+static COURSES: [(Course, &str); 19] = [
     // Index data go in only at the stamp at which they were made.
     (
         Course::Late {
@@ -128,6 +128,62 @@ static COURSES: [(Course, &str); 14] = [
             asked: Asked::Usages("A"),
         },
         "1 looks",
+    ),
+    // Types that come from a name, level by level, with a look after each 256 postings.
+    (
+        Course::Looks {
+            line: "class T extends N {}\n",
+            counts: &[255, 1, 344],
+            asked: Asked::Inheritors("N"),
+        },
+        "1 looks, Some(255); 1 looks, Some(255)\n2 looks, Some(256); 2 looks, None\n3 looks, Some(600); 2 looks, None\n",
+    ),
+    (
+        Course::Reached {
+            files: &[(
+                "A.java",
+                "class B extends A {} class C extends B {} class A extends C {}",
+            )],
+            edits: &[],
+            asked: Asked::Inheritors("A"),
+        },
+        "A.java:1:7 B 1; A.java:1:28 C 2; A.java:1:49 A 3; 1 looks",
+    ),
+    (
+        Course::Reached {
+            files: &[("A.java", "class A extends A {}")],
+            edits: &[],
+            asked: Asked::Inheritors("A"),
+        },
+        "A.java:1:7 A 1; 1 looks",
+    ),
+    // Two types of one name, of which one comes from it; by level, then file, then place; no file but Java files.
+    (
+        Course::Reached {
+            files: &[
+                ("A.java", "class N extends R {}\nclass M extends N {}"),
+                (
+                    "B.java",
+                    "class K extends N {} class N {}\n class P extends K implements R {}",
+                ),
+                ("C.txt", "class Z extends R {}"),
+            ],
+            edits: &[],
+            asked: Asked::Inheritors("R"),
+        },
+        "A.java:1:7 N 1; B.java:2:8 P 1; A.java:2:7 M 2; B.java:1:7 K 2; 1 looks",
+    ),
+    (
+        Course::Reached {
+            files: &[("A.java", "class B extends A {}")],
+            edits: &[
+                Edit::Open,
+                Edit::Insert(0, "class X extends B {}\n"),
+                Edit::Commit,
+            ],
+            asked: Asked::Inheritors("A"),
+        },
+        "A.java:2:7 B 1; A.java:1:7 X 2; 1 looks",
     ),
     // A share answers as the workspace of which it was made, whatever becomes of that.
     (
