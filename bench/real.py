@@ -2,7 +2,8 @@
 """Times the built program `ide` on scripts of real Java sources.
 
     bench/real.py FOLDER              the program of this repository
-    bench/real.py --load FOLDER       the same files by `load`, a half and all of them, with 100 questions of all forms
+    bench/real.py --load FOLDER       the same files by `load`, a half and all of them, with 100 questions of all forms;
+                                      OLD NEW .. may follow here too
     bench/real.py --ask FOLDER        usages and inheritors of some names over all files of a folder, beside grep
     bench/real.py FOLDER OLD NEW ..   several built programs in one run, with their ratios to the first
 
@@ -14,7 +15,8 @@ FOLDER is any folder of Java sources. One that everybody can have is the base mo
 Its files are parted into scripts of at most 16,700,000 bytes: a `create` line for each file, a `settle`, and `word` for
 100 of the words. Each program takes each script three times, in turn; the least time counts, and the most memory
 (the peak resident set). Run `./ide < examples/first.ide` once before, so that the program is built. Times on shared
-machines say little by themselves: read the ratios.
+machines say little by themselves: read the ratios. A settle makes index data on all processors: `taskset -c 0` before
+the command gives it one.
 """
 import os
 import pathlib
@@ -99,7 +101,12 @@ def compare(script, programs):
     """Times each program on a script, in turn, and prints a row for each."""
     size = script.stat().st_size / 1e6
     print(f"script {script.stem}: {size:.2f} MB")
-    turns = [[run(program, script) for program in programs] for _ in range(3)]
+    rows(script, programs, size)
+
+
+def rows(script, programs, size, folder=None):
+    """Times each program on a script, in turn, in a folder. A row for each, with its ratios to the first."""
+    turns = [[run(program, script, folder) for program in programs] for _ in range(3)]
     first = None
     for at, program in enumerate(programs):
         seconds = min(turn[at][0] for turn in turns)
@@ -120,17 +127,16 @@ def loads(folder, paths):
     return "".join(f"load {name}\n" for name in names) + "settle\n" + "\n".join(asks[:100] + ["status", ""])
 
 
-def load(folder):
+def load(folder, programs):
     """Times loads of a half of the files of a folder, and of all of them."""
     paths = [p for p in sorted(folder.rglob("*.java")) if not re.search(r'[\s":\\]', str(p.relative_to(folder)))]
     for some in (paths[::2], paths):
         size = sum(path.stat().st_size for path in some) / 1e6
+        print(f"{len(some)} files: {size:.2f} MB")
         with tempfile.NamedTemporaryFile("w", suffix=".ide") as script:
             script.write(loads(folder, some))
             script.flush()
-            turns = [run(PROGRAM, script.name, folder) for _ in range(3)]
-        seconds, memory = min(turn[0] for turn in turns), max(turn[1] for turn in turns)
-        print(f"  {len(some):6} files {size:7.2f} MB  {seconds:7.3f} s {size / seconds:6.1f} MB/s {memory:7.1f} MB")
+            rows(script.name, programs, size, folder)
 
 
 def used_once(paths):
@@ -176,7 +182,7 @@ def main():
     if sys.argv[1] == "--ask":
         return ask(pathlib.Path(sys.argv[2]))
     if sys.argv[1] == "--load":
-        return load(pathlib.Path(sys.argv[2]))
+        return load(pathlib.Path(sys.argv[2]), sys.argv[3:] or [PROGRAM])
     with tempfile.TemporaryDirectory() as scratch:
         for script in make(pathlib.Path(sys.argv[1]), pathlib.Path(scratch)):
             compare(script, sys.argv[2:] or [PROGRAM])

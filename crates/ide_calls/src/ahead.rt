@@ -11,11 +11,11 @@ use std::collections::VecDeque;
 use std::marker::Model;
 use std::thread::{Threads, available_parallelism};
 
-/// Files that cost less together are left to the thread that takes them in.
-const LEAST: u32 = 32_768;
+/// A batch that costs less isn't worth a thread: it is left to the one that takes the files in.
+const LEAST_COST: u32 = 32_768;
 
-/// The most threads at once.
-const MOST: usize = 16;
+/// The most threads at once. Each holds one batch, so this bounds the memory.
+const MOST_THREADS: usize = 16;
 
 /// Data that are made and threads that make more, in order of ids: seen by contracts as the work that they are of.
 #[derive(Drop)]
@@ -24,7 +24,7 @@ pub(crate) struct Ahead {
     makings: VecDeque<Making>,
     /// No thread has a file from this id on.
     end: u32,
-    /// How many threads there may be at once, where that is known.
+    /// How many threads there may be at once, where that is known: none once no further batch is worth one.
     threads: Option<usize>,
 }
 
@@ -52,8 +52,8 @@ impl Ahead {
         }
     }
 
-    /// Starts a thread for the next unready files behind this one, where there are enough of them and processors for more
-    /// than one thread.
+    /// Starts one thread more, for a batch of unready files behind this one and behind those of other threads, where that
+    /// is worth a thread and there is a processor for it.
     pub(crate) fn begin<R: Threads>(
         &mut self,
         rt: &R,
@@ -67,7 +67,7 @@ impl Ahead {
             return Ok(());
         }
         let batch = batch_from(alloc, state, self.end.max(file.saturating_add(1)))?;
-        if batch.cost < LEAST || !self.may_start(rt) {
+        if batch.cost < LEAST_COST || !self.may_start(rt) {
             self.threads = Some(0);
             return Ok(());
         }
@@ -88,7 +88,7 @@ impl Ahead {
         }
     }
 
-    /// Whether a thread may be started. The processors are counted at the first call.
+    /// Whether there may be threads. The processors are counted at the first call, which costs some system calls.
     fn may_start<R: Threads>(&mut self, rt: &R) -> bool
         ensures { self.new ≡ self.old }
     {
@@ -98,7 +98,7 @@ impl Ahead {
         self.threads != Some(0)
     }
 
-    /// The first of the data, made by a thread that has ended by then, or nothing where there are none.
+    /// The first of the data, for which it may wait for a thread to end. Nothing where there are none.
     pub(crate) fn take<R: Threads>(&mut self, rt: &R) -> Option<Made>
         ensures { HasTakenFirst self.old self.new result }
     {
@@ -109,7 +109,7 @@ impl Ahead {
         self.made.pop_front()
     }
 
-    /// Waits for all threads.
+    /// Waits for the threads that are left.
     pub(crate) fn join_all<R: Threads>(self, rt: &R) {
         for making in self.makings {
             drop(making.join(rt));
@@ -127,7 +127,7 @@ fn join_first<R: Threads>(rt: &R, makings: &mut VecDeque<Making>) -> Option<VecD
 /// How many threads a settle starts at once: none on one processor.
 fn threads_for<R: Threads>(rt: &R) -> usize {
     match available_parallelism(rt) {
-        Ok(count) if 1 < count.get() => count.get().min(MOST),
+        Ok(count) if 1 < count.get() => count.get().min(MOST_THREADS),
         _ => 0,
     }
 }

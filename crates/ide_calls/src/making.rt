@@ -1,4 +1,4 @@
-//! A part of the work of a settle, as a thread of its own does it: the index data of some files, one after another.
+//! A batch of unready files, whose index data a thread of its own makes for a settle.
 ghost use Rattle.std.specs.Prelude.{◌≡◌, IfOk, IfSome, map};
 ghost use Rattle.std.specs.List.{All};
 ghost use Rattle.ide_calls.specs.Ahead.{IsTask, tasks_of};
@@ -11,16 +11,16 @@ use std::collections::VecDeque;
 use std::snapshot::Snapshot;
 use std::thread::{Promise, PromisedHandle, Threads, spawn_with};
 
-/// Files that cost so many characters are enough for one thread: some milliseconds of work.
-const ENOUGH: u32 = 262_144;
+/// What a batch costs at least where there are files enough, in characters: some milliseconds of work.
+const BATCH_COST: u32 = 262_144;
 
 /// What a file costs beside its text.
-const FILE: u32 = 256;
+const FILE_COST: u32 = 256;
 
-/// So many files are enough, whatever their texts.
-const FILES: u32 = ENOUGH / FILE;
+/// The most files of a batch.
+const MOST_FILES: u32 = BATCH_COST / FILE_COST;
 
-/// A thread that makes the data of some files, in order.
+/// A thread that makes the data of a batch, in order.
 #[derive(Drop)]
 pub(crate) struct Making {
     thread: PromisedHandle<Result<VecDeque<Made>, AllocError>, OfJobs>,
@@ -62,30 +62,32 @@ impl Making {
     }
 }
 
-/// Jobs of unready files in order of ids, and what they cost.
+/// Jobs of unready files in order of ids, and what they cost in characters.
 #[derive(Drop)]
 pub(crate) struct Batch {
     pub(crate) jobs: Vec<Job>,
     pub(crate) cost: u32,
-    /// The id behind them.
+    /// The id behind the last of them.
     pub(crate) end: u32,
 }
 
-/// The jobs of the unready files from an id on, until they are enough for a thread.
+/// The jobs of the unready files from an id on, until they are enough for a batch. Logarithmic for each.
 pub(crate) fn batch_from(alloc: Global, state: &State, from: u32) -> Result<Batch, AllocError>
     ensures { IfOk result (λ batch. All (IsTask state.now.world) (map task_of_job batch.jobs.items)) }
 {
     let mut jobs = Vec::new(alloc);
     let mut cost = 0u32;
     let mut end = from;
-    for _ in 0..FILES {
-        if ENOUGH <= cost {
+    for _ in 0..MOST_FILES {
+        if BATCH_COST <= cost {
             break;
         }
         let Some(job) = job_from(state, end)? else {
             break;
         };
-        cost = cost.saturating_add(FILE).saturating_add(job.text.len());
+        cost = cost
+            .saturating_add(FILE_COST)
+            .saturating_add(job.text.len());
         end = job.file.saturating_add(1);
         jobs.push(job)?;
     }

@@ -22,7 +22,8 @@ use write_history::laws::{histories_go_on, unready_files_have_an_order};
 use write_history::{Change, Changes, Entry};
 
 /// Takes every unready file in, in order of ids, one entry each, for a line of a script. It answers with the number of
-/// entries after which no file is unready. May block.
+/// entries after which no file is unready. On more than one processor, index data of the files to come are made on
+/// threads of their own meanwhile. May block.
 pub fn settle<R: Threads + Wait>(
     rt: &R,
     alloc: Global,

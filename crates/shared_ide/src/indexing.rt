@@ -20,7 +20,8 @@ use std::thread::Threads;
 
 impl SharedIde {
     /// Takes every unready file in, in order of ids, one entry each, for a line of a script. It answers with the number of
-    /// entries after which no file is unready. May block.
+    /// entries after which no file is unready. On more than one processor, index data of the files to come are made on
+    /// threads of their own meanwhile. May block.
     pub fn settle<R: Threads + Wait>(
         &self,
         rt: &R,

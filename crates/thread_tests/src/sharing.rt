@@ -192,7 +192,7 @@ fn do_lane<R: Threads + Wait>(
     part.said = do_all(rt, alloc, ide, lane, part.actions, stage);
 }
 
-pub static SHARINGS: [Sharing; 4] = [
+pub static SHARINGS: [Sharing; 5] = [
     // The file is written while its index data are made.
     Sharing {
         before: &[Action::Create(1)],
@@ -226,6 +226,15 @@ pub static SHARINGS: [Sharing; 4] = [
             "at 1 accepted; at 2 taken; at 3 taken; at 3 idle; ",
             "at 1 accepted; at 3 taken; at 2 taken; at 3 idle; ",
         ],
+    },
+    // A settle of so many files that several threads make their data.
+    Sharing {
+        before: &[Action::Create(3000), Action::Settle, Action::Steps(1)],
+        one: &[],
+        two: &[],
+        after: &[],
+        holds: &[],
+        said: &["at 3000 accepted; at 6000 smart; at 6000 idle; "],
     },
     // A settle of two files for one of which the history has room.
     Sharing {
