@@ -145,10 +145,12 @@ module _ {H S E : Type 0} (number_of : E → ℕ) (stands : H → List E → Typ
       (λ j w e none_left. no_weight number_of r.history r.drawn (λ (u : View E). (weight 0 u).writers) refl w w.number refl (r.recorded.each j w e) none_left)
       ∙ ap (λ P. (weight_in (here 0 v) 0 P).writers) is in
       let home = r.placed.home.at_home none_writes in
-      let whole = seen_whole number_of r.history r.drawn s.views r.recorded id v at leads full in
-      (record {
-        home = home.0;
-        home_there = there 32 (Home home.0) home.1;
-        home_stands = subst (stands home.0) (sym whole) home.2;
-        others = λ p l. let kept = (r.placed.each p l).at_home (none_held p) in (kept.0, there p kept.0 kept.1, no_home share_stands r.history kept.0 kept.2);
-      }, knows number_of r.history r.drawn s.views r.recorded id v at)
+      let whole = seen_whole number_of r.history r.drawn s.views r.recorded id v at leads full in (
+        record {
+          home = home.0;
+          home_there = there 32 (Home home.0) home.1;
+          home_stands = subst (stands home.0) (sym whole) home.2;
+          others = λ p l. let kept = (r.placed.each p l).at_home (none_held p) in (kept.0, there p kept.0 kept.1, no_home share_stands r.history kept.0 kept.2);
+        },
+        knows number_of r.history r.drawn s.views r.recorded id v at,
+      )

@@ -69,7 +69,6 @@ module _ {E : Type 0} where
   abbrev pub held_up : View E → View E
   held_up v = record v { held = v.held + 1 }
 
-
   -- the readers of the first place have left, and the home value is taken, which stands for what is now seen
   abbrev pub shutting : List E → View E → View E
   shutting seen v = record v { phase = Shutting 1; seen = seen; current = true }

@@ -21,6 +21,7 @@ use std::alloc::{AllocError, AllocFailed, Global};
 const NUMBERS: u32 = 65536;
 
 /// A lock with reads that go side by side, one write-intent, and writes that come before new reads. It holds a home value, and is used by passes.
+/// Each of its 32 places has a word for its readers, and keeps a share for them.
 pub struct ActionLock<H: Home> {
     pub(crate) table: Table<Slot<H, H::Share>, View<H::Entry>, (), GateRule<H>, Global>,
     pub(crate) alloc: Global,
@@ -30,7 +31,8 @@ pub struct ActionLock<H: Home> {
 impl<H: Home> ActionLock<H> {
     ghost use Rattle.action_lock.specs.Passes.{view_of, IsSamePass, IsPassOf, IsLast};
 
-    /// A lock over a home value that stands for no entry yet, and its first pass. Where there is no memory, the home value comes back.
+    /// A lock over a home value that stands for no entry yet, with a share of it at each place, and its first pass. Where there is no memory, the
+    /// home value comes back.
     pub fn new(alloc: Global, home: H) -> Result<(ActionLock<H>, Pass<H>), AllocFailed<H>>
         requires { H.stands home [] }
         ensures ok { IfOk result (λ made. IsPassOf made.0 made.1 × (view_of made.1 ≡ first_view)) }

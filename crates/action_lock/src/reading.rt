@@ -40,7 +40,7 @@ impl<H: Home> Pass<H> {
         Ok(Reading { lock, pass: self })
     }
 
-    /// Reads as soon as the gate lets it in. May block.
+    /// Reads as soon as its place lets it in. May block.
     pub fn read<'a, R: Wait>(
         &'a mut self,
         rt: &R,

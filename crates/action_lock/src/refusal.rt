@@ -9,11 +9,11 @@ pub enum SplitRefusal {
 /// Why a try to read is refused.
 #[derive(Clone, Copy, Debug, PartialEq, Eq)]
 pub enum ReadRefusal {
-    /// A write waits or goes on: the gate word had the pending mark.
+    /// A write waits or goes on: the word of the pass's place had the pending mark.
     Pending { word: u64 },
-    /// Another seat has the turn: the gate word had it, and no pending mark.
+    /// Another seat has the turn: the word of the pass's place had it, and no pending mark.
     Turn { word: u64 },
-    /// There was no memory for a share.
+    /// There was no memory for a share, or there was none when the place was opened last.
     OutOfMemory,
 }
 

@@ -12,12 +12,15 @@ clear-requires g c = subst HasNoHome (sym (front_same _ (shut_hand c.args.place)
 
 pub open-requires-clause-opens : goal.open-requires-clause-opens
 open-requires-clause-opens g c =
-    let kept = c.kept_of-kept.result in
-    (kept, subst (λ m. MayKeep g.H.Home.share_stands m.0.seen kept) (sym c.exchange.ensures.3) (c.kept_of-kept.ensures _ c.requires.stands), record {
-      table = search rules;
-      phase = search rules;
-      hand_is = ap (λ m. m.1) c.exchange.ensures.3 ∙ front_set _ (shut_hand c.args.place) c.args.place Empty kept (c.requires.shuts.hand_is ∙ hand_next c.args.place);
-      intent = search rules;
-      told = search rules;
-      no_share = search rules;
-    })
+    let kept = c.kept_of-kept.result in (
+      kept,
+      subst (λ m. MayKeep g.H.Home.share_stands m.0.seen kept) (sym c.exchange.ensures.3) (c.kept_of-kept.ensures _ c.requires.stands),
+      record {
+        table = search rules;
+        phase = search rules;
+        hand_is = ap (λ m. m.1) c.exchange.ensures.3 ∙ front_set _ (shut_hand c.args.place) c.args.place Empty kept (c.requires.shuts.hand_is ∙ hand_next c.args.place);
+        intent = search rules;
+        told = search rules;
+        no_share = search rules;
+      },
+    )

@@ -30,12 +30,17 @@ end-requires g c =
     let kept = c.kept_of-kept.result in
     let first = ap (λ m. m.1) c.exchange.ensures.3 ∙ front_set _ ((32, Empty) ∷ []) 0 Empty kept (c.requires.shuts.hand_is ∙ hand_first) in
     let second = ap (λ m. m.1) c.turn.ensures.2 ∙ ap turned first in
-    let same = ap (λ m. m.0.seen) c.exchange-2.ensures.3 ∙ (ap (λ m. m.0.seen) c.turn.ensures.2 ∙ ap (λ m. m.0.seen) c.exchange.ensures.3) in
-    (c.args.home, kept, subst (g.H.Home.stands c.args.home) (sym same) c.requires.stands, subst (λ seen. MayKeep g.H.Home.share_stands seen kept) (sym same) (c.kept_of-kept.ensures _ c.requires.stands), record {
-      table = search rules;
-      phase = search rules;
-      hand_is = ap (λ m. m.1) c.exchange-2.ensures.3 ∙ front_set _ ((0, kept) ∷ []) 32 Empty (Home c.args.home) second;
-      intent = search rules;
-      told = search rules;
-      no_share = search rules;
-    })
+    let same = ap (λ m. m.0.seen) c.exchange-2.ensures.3 ∙ (ap (λ m. m.0.seen) c.turn.ensures.2 ∙ ap (λ m. m.0.seen) c.exchange.ensures.3) in (
+      c.args.home,
+      kept,
+      subst (g.H.Home.stands c.args.home) (sym same) c.requires.stands,
+      subst (λ seen. MayKeep g.H.Home.share_stands seen kept) (sym same) (c.kept_of-kept.ensures _ c.requires.stands),
+      record {
+        table = search rules;
+        phase = search rules;
+        hand_is = ap (λ m. m.1) c.exchange-2.ensures.3 ∙ front_set _ ((0, kept) ∷ []) 32 Empty (Home c.args.home) second;
+        intent = search rules;
+        told = search rules;
+        no_share = search rules;
+      },
+    )

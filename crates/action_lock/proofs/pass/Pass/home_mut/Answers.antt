@@ -11,5 +11,7 @@ slot_mut-requires g c = (c.requires.table, (Home c.requires.home, in_front _ (sh
 
 pub returns : goal.returns
 returns g c =
-    rw c.in-Home.is ((refl, λ w. one_pass _ _ _ _ _ _ _ _ _ _ _ _ _ _ _ _),
-      record { writes_back = tt; value = in_hand _ _ _ c.requires.hand (c.slot_mut.ensures.value ∙ ap (λ x. (31, x) ∷ rest c.args.self.now.seat.me.1) c.in-Home.is) })
+    rw c.in-Home.is (
+      (refl, λ w. one_pass _ _ _ _ _ _ _ _ _ _ _ _ _ _ _ _),
+      record { writes_back = tt; value = in_hand _ _ _ c.requires.hand (c.slot_mut.ensures.value ∙ ap (λ x. (31, x) ∷ rest c.args.self.now.seat.me.1) c.in-Home.is) },
+    )
