@@ -20,4 +20,4 @@ pub record StandsForHistory (inside : Inside) : Type 0 where
 
 -- the world of a share
 abbrev pub world_of : ShareInside → World
-world_of inside = (arc_value inside.kept).state.world
+world_of inside = (arc_value (arc_value inside.block).kept).state.world

@@ -6,7 +6,7 @@ ghost use Rattle.write_history.specs.Fold.{fold, IsLegal};
 ghost use Rattle.ide_world.specs.Ready.{IsReadyFor, Makes, hinted};
 
 use crate::kept::Kept;
-use crate::share::IdeShare;
+use crate::share::{Block, IdeShare};
 use action_lock::Home;
 use ide_world::{Ready, empty, install, reserve};
 use std::alloc::{AllocError, Global};
@@ -107,9 +107,19 @@ impl Home for IdeHome {
 
     ghost one_list = { λ home xs ys p q. sym p.0 ∙ q.0 };
 
-    fn share(&self, _alloc: Global) -> Result<IdeShare, AllocError> {
-        Ok(IdeShare {
+    fn share(&self, alloc: Global) -> Result<IdeShare, AllocError> {
+        let block = Block {
             kept: Arc::try_clone(&self.kept)?,
+            apart: [0; 14],
+        };
+        Ok(IdeShare {
+            block: Arc::new(alloc, block)?,
+        })
+    }
+
+    fn again(_alloc: Global, share: &IdeShare) -> Result<IdeShare, AllocError> {
+        Ok(IdeShare {
+            block: Arc::try_clone(&share.block)?,
         })
     }
 }

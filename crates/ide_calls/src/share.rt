@@ -6,10 +6,18 @@ use ide_world::State;
 use std::marker::Model;
 use std::sync::Arc;
 
-/// A share of the workspace, seen by contracts as the world that its state stands for. It costs one count.
+/// A share of the workspace, seen by contracts as the world that its state stands for. The shares of one place of the
+/// lock have a block of their own between them, so that readers of different places don't meet in one count.
 #[derive(Drop)]
 pub struct IdeShare {
+    pub(crate) block: Arc<Block>,
+}
+
+/// What the shares of one place have in common. It is so large that the counts of no two blocks share a cache line.
+#[derive(Drop)]
+pub(crate) struct Block {
     pub(crate) kept: Arc<Kept>,
+    pub(crate) apart: [u64; 14],
 }
 
 impl Model for IdeShare {
@@ -27,6 +35,6 @@ impl IdeShare {
     pub fn state(&self) -> &State
         ensures { result.now.world ≡ self.now }
     {
-        &self.kept.state
+        &self.block.kept.state
     }
 }
