@@ -1,7 +1,6 @@
 pub mod AheadLemmas
 pub mod AskLemmas
 pub mod AskedLemmas
-pub mod PaceLemmas
 pub mod ChainLemmas
 pub mod CostLemmas
 pub mod FinishLemmas
@@ -15,8 +14,10 @@ pub mod MeetLemmas
 pub mod MemberLemmas
 pub mod OrderLemmas
 pub mod OutlineLemmas
+pub mod PaceLemmas
 pub mod RepliedLemmas
 pub mod ReplyLemmas
 pub mod SearchLemmas
+pub mod TagLemmas
 pub mod TypesLemmas
 pub mod UsageLemmas
