@@ -4,7 +4,7 @@ ghost use Rattle.action_lock.specs.Passes.{IsPassOf, view_of};
 ghost use Rattle.action_lock.specs.Views.{first_view};
 
 use crate::board::Board;
-use action_lock::{ActionLock, Pass};
+use action_lock::{ActionLock, Home, Pass};
 use std::alloc::Global;
 
 /// A lock over an empty board, and its first pass.
@@ -41,11 +41,8 @@ pub fn begun_with_three(
     }
 }
 
-/// The board, where every other pass has been met; or else the lock and the pass again.
-pub fn ended(
-    lock: ActionLock<Board>,
-    mut pass: Pass<Board>,
-) -> Result<Board, (ActionLock<Board>, Pass<Board>)>
+/// The home value, where every other pass has been met; or else the lock and the pass again.
+pub fn ended<H: Home>(lock: ActionLock<H>, mut pass: Pass<H>) -> Result<H, (ActionLock<H>, Pass<H>)>
     requires { IsPassOf lock pass }
 {
     if lock.is_last(&mut pass) {
@@ -56,11 +53,11 @@ pub fn ended(
 }
 
 /// The same where one other pass is still to be met.
-pub fn ended_with_two(
-    lock: ActionLock<Board>,
-    mut first: Pass<Board>,
-    second: Pass<Board>,
-) -> Result<Board, (ActionLock<Board>, Pass<Board>)>
+pub fn ended_with_two<H: Home>(
+    lock: ActionLock<H>,
+    mut first: Pass<H>,
+    second: Pass<H>,
+) -> Result<H, (ActionLock<H>, Pass<H>)>
     requires first { IsPassOf lock first }
     requires second { IsPassOf lock second × ((view_of second).number ≢ Some 0) }
 {

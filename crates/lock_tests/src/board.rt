@@ -56,6 +56,10 @@ impl Home for Board {
     fn share(&self, _alloc: Global) -> Result<Arc<Vec<Note>>, AllocError> {
         Arc::try_clone(&self.notes)
     }
+
+    fn again(_alloc: Global, share: &Arc<Vec<Note>>) -> Result<Arc<Vec<Note>>, AllocError> {
+        Arc::try_clone(share)
+    }
 }
 
 fn copied(alloc: Global, notes: &[Note]) -> Result<Vec<Note>, AllocError>

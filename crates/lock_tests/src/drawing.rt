@@ -1,5 +1,5 @@
 //! Every number of a lock, drawn and met again.
-ghost use Rattle.std.specs.Prelude.{◌≡◌, ◌<◌, Some};
+ghost use Rattle.std.specs.Prelude.{◌≡◌, ◌≢◌, ◌<◌, Some, IfSome};
 ghost use Rattle.action_lock.specs.Passes.{IsPassOf, view_of};
 
 use crate::board::Board;
@@ -19,4 +19,25 @@ pub fn draw(lock: &ActionLock<Board>, first: &mut Pass<Board>, times: u32) -> Op
         }
     }
     None
+}
+
+/// The pass whose number is so many behind the next.
+pub fn drawn_behind(
+    lock: &ActionLock<Board>,
+    first: &mut Pass<Board>,
+    skipped: u32,
+) -> Option<Pass<Board>>
+    requires pass { IsPassOf lock.now first.old }
+    requires leads { ((view_of first.old).number ≡ Some 0) × (0 < (view_of first.old).drawn) }
+    ensures pass { IsPassOf lock.now first.new }
+    ensures leads { ((view_of first.new).number ≡ Some 0) × (0 < (view_of first.new).drawn) }
+    ensures made { IfSome result (λ new. IsPassOf lock.now new × ((view_of new).number ≢ Some 0)) }
+{
+    if draw(lock, first, skipped).is_some() {
+        return None;
+    }
+    match lock.split(first) {
+        Ok(pass) => Some(pass),
+        Err(_) => None,
+    }
 }

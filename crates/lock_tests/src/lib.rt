@@ -12,6 +12,8 @@ mod count;
 #[cfg(test)]
 mod drawing;
 #[cfg(test)]
+mod lacking;
+#[cfg(test)]
 mod lanes;
 #[cfg(test)]
 mod looking;
@@ -22,7 +24,11 @@ mod reads;
 #[cfg(test)]
 mod refusals;
 #[cfg(test)]
+mod scarce;
+#[cfg(test)]
 mod scenes;
+#[cfg(test)]
+mod sharing;
 #[cfg(test)]
 mod side_by_side;
 #[cfg(test)]

@@ -38,6 +38,11 @@ impl Room {
         self.came.fetch_add(1, Ordering::SeqCst);
     }
 
+    /// Whether all are in.
+    pub fn has_filled(&self) -> bool {
+        self.came.load(Ordering::SeqCst) >= self.awaited
+    }
+
     /// Waits until all are in. Whether that was before the turns ran out.
     pub fn is_full(&self) -> bool {
         for _ in 0..TURNS {

@@ -2,10 +2,13 @@
 use crate::begun::{
     begun, begun_with_three, begun_with_two, ended, ended_with_three, ended_with_two,
 };
+use crate::drawing::drawn_behind;
+use crate::lacking::{begun_scarce, comes_back, lack_until_a_write, one_place_lacks};
 use crate::lanes::{Lane, run_all};
 use crate::scenes::{
     numbers_run_out, read_at_once, reads_alone, threads_wait, write_stops_readers, writes_follow,
 };
+use crate::sharing::share_a_place;
 use crate::side_by_side::{Room, read_three};
 
 #[test]
@@ -149,4 +152,78 @@ fn lanes_write_in_threads_of_their_own(rt: HostRuntime) {
         Err((_lock, _pass)) => panic!(rt; "all have been met"),
     };
     assert!(rt; by_second && by_third && board.notes.len() == 2);
+}
+
+#[test]
+fn numbers_32_apart_share_a_place(rt: HostRuntime) {
+    let alloc = rt.alloc();
+    let Some((lock, mut first)) = begun(alloc) else {
+        panic!(rt; "no memory for the lock")
+    };
+    let Some(mut one) = drawn_behind(&lock, &mut first, 0) else {
+        panic!(rt; "no number")
+    };
+    let Some(mut two) = drawn_behind(&lock, &mut first, 31) else {
+        panic!(rt; "no number")
+    };
+    let Some(mut witness) = drawn_behind(&lock, &mut first, 31) else {
+        panic!(rt; "no number")
+    };
+    let right = share_a_place(
+        &rt,
+        alloc,
+        &lock,
+        &mut first,
+        &mut one,
+        &mut two,
+        &mut witness,
+    );
+    assert!(rt; right && one.number() == 1 && two.number() == 33 && witness.number() == 65);
+    lock.meet(witness, &mut first);
+    let _board = match ended_with_three(lock, first, one, two) {
+        Ok(board) => board,
+        Err((_lock, _pass)) => panic!(rt; "all have been met"),
+    };
+}
+
+#[test]
+fn a_lock_needs_a_share_for_each_place(rt: HostRuntime) {
+    let first = match comes_back(rt.alloc(), 0) {
+        Ok(back) => back,
+        Err((_lock, _pass)) => panic!(rt; "all have been met"),
+    };
+    let last = match comes_back(rt.alloc(), 31) {
+        Ok(back) => back,
+        Err((_lock, _pass)) => panic!(rt; "all have been met"),
+    };
+    assert!(rt; first && last);
+}
+
+#[test]
+fn places_without_a_share_lack_until_the_next_write(rt: HostRuntime) {
+    let alloc = rt.alloc();
+    let Some((lock, mut first, mut second)) = begun_scarce(alloc, 32, 32) else {
+        panic!(rt; "no memory for the lock")
+    };
+    let right = lack_until_a_write(&rt, alloc, &lock, &mut first, &mut second);
+    assert!(rt; right);
+    let home = match ended_with_two(lock, first, second) {
+        Ok(home) => home,
+        Err((_lock, _pass)) => panic!(rt; "all have been met"),
+    };
+    assert!(rt; home.count == 2);
+}
+
+#[test]
+fn one_place_lacks_alone(rt: HostRuntime) {
+    let alloc = rt.alloc();
+    let Some((lock, mut first, mut second)) = begun_scarce(alloc, 63, 1) else {
+        panic!(rt; "no memory for the lock")
+    };
+    let right = one_place_lacks(&rt, alloc, &lock, &mut first, &mut second);
+    assert!(rt; right);
+    let _home = match ended_with_two(lock, first, second) {
+        Ok(home) => home,
+        Err((_lock, _pass)) => panic!(rt; "all have been met"),
+    };
 }
