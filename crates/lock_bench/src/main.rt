@@ -5,6 +5,7 @@ mod counter;
 mod mode;
 mod ours;
 mod plain;
+mod play;
 mod readers;
 mod start;
 
