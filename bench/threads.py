@@ -1,7 +1,8 @@
 #!/usr/bin/env python3
 """Times the built program `ide` with lanes and workers on threads.
 
-    bench/threads.py                  lanes that edit and ask, lanes that ask beside one that edits, and demos with 0 and 4 workers
+    bench/threads.py                  lanes that edit and ask, lanes that ask, alone and beside one that edits, and
+                                      demos with 0 and 4 workers
     bench/threads.py FOLDER           also the Java files of a folder loaded and indexed, with 0, 1 and 3 workers
 
 For FOLDER see bench/real.py. The least time of three runs counts, and the processor seconds of that run: where they are
@@ -16,6 +17,7 @@ import tempfile
 from real import PROGRAM, used
 
 COMMANDS = 40_000
+ASKS = 5_000
 
 
 def measure(words, script, folder=None):
@@ -59,13 +61,19 @@ def lanes():
 
 
 def askers():
-    print("1 and 4 lanes that ask for an outline, 40,000 times each, beside one that writes 10,000 times")
-    edits = "lane\n" + 'write A.java "class A { void m() {} }"\n' * 10_000
-    asks = "lane\n" + "outline B.java\n" * 40_000
-    for count in (1, 4):
-        script = 'create A.java "class A {}"\ncreate B.java "class B { void n() {} }"\n' + edits + asks * count
-        found = measure(["play"], script)
-        row(f"{count} asking lanes", found, f" {40_000 * count / found[0]:9.0f} reads a second")
+    """Lanes that ask for the outline of a text of 22,000 characters, alone and beside a lane that writes another file."""
+    body = "int x = 1; " * 2_000
+    prelude = f'create A.java "class A {{}}"\ncreate B.java "class B {{ void n() {{ {body}}} }}"\n'
+    ask = "lane\n" + "outline B.java\n" * ASKS
+    edit = "lane\n" + 'write A.java "class A { void m() {} }"\n' * 4 * ASKS
+    for edits, beside in (("", "alone"), (edit, f"beside one that writes {4 * ASKS} times")):
+        print(f"1, 2 and 4 lanes that ask for an outline, {ASKS} times each, {beside}")
+        first = None
+        for count in (1, 2, 4):
+            found = measure(["play"], prelude + edits + ask * count)
+            rate = ASKS * count / found[0]
+            first = first or rate
+            row(f"{count} asking lanes", found, f" {rate:9.0f} questions a second, {rate / first:4.2f}")
 
 
 def demos():
