@@ -10,7 +10,7 @@
     bench/bench.py one        one file of 1,000,000 characters, of ordinary code and of hostile texts
     bench/bench.py wide       one file, half and whole: a type of 100,000 supers, and 1,000,000 marks without a word
     bench/bench.py names      usages of a name used 100,000 times, and inheritors: 30,000 types in a chain, 30,000 of
-                              one name, a cycle of 1,000, a name with 10,000 in as many files; each at half and whole
+                              one name, a cycle of 1,000, a name with 20,000 in as many files; each at half and whole
     bench/bench.py creates one --beside OLD
                               the same of another built program too, in turn, with the ratios of this one to it
 
@@ -45,6 +45,14 @@ def measured(program, script, words=()):
         source.flush()
         turns = [STARTER.apply(used, ([program, *words], source.name)) for _ in range(3)]
     return min(turn[0] for turn in turns), max(turn[2] for turn in turns)
+
+
+def processor(script):
+    """Processor seconds that this repository's program takes on a script; the least of four runs."""
+    with tempfile.NamedTemporaryFile("w", suffix=".ide") as source:
+        source.write(script)
+        source.flush()
+        return min(STARTER.apply(used, ([PROGRAM], source.name))[1] for _ in range(4))
 
 
 def run(script, words=()):
@@ -175,21 +183,20 @@ def uses_in_files(n, each=100):
 
 def names():
     """Times one question by asking it some times more."""
-    print("a question about a name: half and whole, and the ratio of the two")
+    print("processor milliseconds of a question about a name: half and whole, and the ratio of the two")
     measures = [
-        ("inheritors: a chain", chain, 30_000, "inheritors T0", 5),
-        ("inheritors: one name", same, 30_000, "inheritors A", 5),
-        ("inheritors: a cycle", cycle, 1_000, "inheritors T0", 100),
-        ("inheritors: files", files, 10_000, "inheritors A", 10),
-        ("usages: one file", uses, 100_000, "usages A", 5),
-        ("usages: files", uses_in_files, 100_000, "usages A", 5),
+        ("inheritors: a chain", chain, 30_000, "inheritors T0", 20),
+        ("inheritors: one name", same, 30_000, "inheritors A", 20),
+        ("inheritors: a cycle", cycle, 1_000, "inheritors T0", 400),
+        ("inheritors: files", files, 20_000, "inheritors A", 20),
+        ("usages: one file", uses, 100_000, "usages A", 20),
+        ("usages: files", uses_in_files, 100_000, "usages A", 20),
     ]
     for name, made, count, question, times in measures:
         taken = []
         for n in (count // 2, count):
             base = made(n) + "settle\n"
-            alone, more = run(base), run(base + f"{question}\n" * times)
-            taken.append((more - alone) / times * 1e3)
+            taken.append((processor(base + f"{question}\n" * times) - processor(base)) / times * 1e3)
         print(f"  {name:22} {count:7} rows  {taken[0]:9.3f} ms  {taken[1]:9.3f} ms  {taken[1] / taken[0]:5.2f}")
 
 

@@ -18,6 +18,7 @@ Its files are parted into scripts of at most 16,700,000 bytes: a `create` line f
 machines say little by themselves: read the ratios. A settle makes index data on all processors: `taskset -c 0` before
 the command gives it one.
 """
+import collections
 import os
 import pathlib
 import re
@@ -140,39 +141,39 @@ def load(folder, programs):
 
 
 def used_once(paths):
-    """A name that stands once in all files."""
-    seen = {}
+    """The name of a method that stands once in all files."""
+    seen = collections.Counter()
     for path in paths:
-        for name in re.findall(rb"[A-Za-z_$][A-Za-z0-9_$]{9,}", path.read_bytes()):
-            seen[name] = seen.get(name, 0) + 1
-    return next(name.decode() for name in sorted(seen) if seen[name] == 1)
+        seen.update(re.findall(rb"[A-Za-z_$][A-Za-z0-9_$]*", path.read_bytes()))
+    named = (name for path in paths for name in re.findall(rb"void (\w{9,})\(", path.read_bytes()))
+    return next(name.decode() for name in named if seen[name] == 1)
 
 
 def asked(script, question, folder, times):
-    """Milliseconds of one question behind a script, by asking it so often, and how many rows it finds."""
+    """Processor seconds of a script with one question behind it, so often, and how many rows it finds."""
     with tempfile.NamedTemporaryFile("w", suffix=".ide") as source:
         source.write(script + f"{question}\n" * times)
         source.flush()
-        seconds = min(run(PROGRAM, source.name, folder)[0] for _ in range(3))
+        seconds = min(used([PROGRAM], source.name, folder)[1] for _ in range(3))
         with open(source.name) as lines:
             out = subprocess.run([PROGRAM], stdin=lines, stdout=subprocess.PIPE, cwd=folder, check=True).stdout
     rows = re.findall(rb"^\d+ at \d+ rows (\d+)$", out, re.M)
     return seconds, int(rows[-1]) if rows else 0
 
 
-def ask(folder, times=10):
+def ask(folder):
     """Times usages and inheritors of some names over all files of a folder, beside grep for the word."""
     paths = [p for p in sorted(folder.rglob("*.java")) if not re.search(r'[\s":\\]', str(p.relative_to(folder)))]
     script = "".join(f"load {path.relative_to(folder)}\n" for path in paths) + "settle\n"
     alone, _ = asked(script, "", folder, 0)
     size = sum(path.stat().st_size for path in paths) / 1e6
-    print(f"  {len(paths)} files, {size:.2f} MB, loaded and indexed in {alone:.3f} s")
-    questions = [f"usages {name}" for name in ("String", "Override", used_once(paths))]
-    questions += [f"inheritors {name}" for name in ("Object", "Exception", "Comparable")]
-    for question in questions:
+    print(f"  {len(paths)} files, {size:.2f} MB, loaded and indexed in {alone:.3f} s of processors")
+    questions = [("usages String", 20), ("usages Override", 20), (f"usages {used_once(paths)}", 200)]
+    questions += [(f"inheritors {name}", 60) for name in ("Object", "Exception", "Comparable")]
+    for question, times in questions:
         seconds, rows = asked(script, question, folder, times)
         command = ["grep", "-rlw", "--include=*.java", question.split()[1], str(folder)]
-        grep = min(used(command, "/dev/null")[0] for _ in range(3))
+        grep = min(used(command, "/dev/null")[1] for _ in range(3))
         print(f"  {question:28} {(seconds - alone) / times * 1e3:8.2f} ms  {rows:7} rows   grep -rlw {grep * 1e3:8.2f} ms")
 
 
