@@ -1,0 +1,143 @@
+-- How the code reads a text: by the character at an offset and what is left behind it.
+use Rattle.std.proofs.Common.{◌≡◌, ℕ, suc, ◌+◌, ◌<◌, ◌≤◌, Bool, true, false, cond, ◌==◌, ◌&&◌, ◌||◌, List, [], ◌∷◌, length, drop, get_or, drop-cons, Some, refl, sym, ap, ◌∙◌, subst, ⊎_elim, arith}
+use Rattle.std.specs.List.{slice_get}
+use Rattle.std.proofs.lemmas.Option.{slice_get_within, get_or_from_slice_get}
+use Rattle.std.proofs.lemmas.Bool.{true≢false, and_parts, or_parts, cases_lt}
+use Rattle.std.proofs.Math.Bool.{and-true}
+use Rattle.std.proofs.Math.ListN.{drop_of_length-le}
+use Rattle.list_laws.proofs.BoolLemmas.{bool_cases}
+use Rattle.property_index.specs.Characters.{line_feed, backslash, ends_key, stops_key, meant_by}
+use Rattle.property_index.specs.Lines.{Placed, Line, placed_from, trimmed, logical_lines}
+use Rattle.property_index.specs.Keys.{key_in, listed_key, keys_in}
+use Rattle.property_index.specs.Rest.{left_of, lines_left, inside_from, width_at, is_at_end, is_join}
+use Rattle.property_index.proofs.LineLemmas.{inside-end, inside-break, inside-char, inside-pair, inside-join, inside-last, behind-trimmed}
+
+-- what is left of a text begins with the character at the offset
+pub left_next : (text : List ℕ) (at c : ℕ) → slice_get text at ≡ Some c → left_of text at ≡ record { code = c; at = at } ∷ left_of text (suc at)
+left_next text at c found =
+    ap (placed_from at) (drop-cons text at 0 (slice_get_within text at c found) ∙ ap (λ x. x ∷ drop (suc at) text) (get_or_from_slice_get text at c 0 found))
+
+module _ (text : List ℕ) (at : ℕ) where
+  -- at an offset either nothing is left, also behind it, or a character stands there
+  by_left : (P : Line → Line → Type 0) → P [] [] → ((c : ℕ) → at < length text → P (record { code = c; at = at } ∷ left_of text (suc at)) (left_of text (suc at)))
+      → P (left_of text at) (left_of text (suc at))
+  by_left P none some =
+      ⊎_elim
+      (λ inside. subst (λ cs. P cs (left_of text (suc at))) (sym (ap (placed_from at) (drop-cons text at 0 inside))) (some (get_or text at 0) inside))
+      (λ past. subst (λ cs. P cs (left_of text (suc at))) (sym (ap (placed_from at) (drop_of_length-le text past)))
+      (let further : length text ≤ suc at = omega (arith, past) in subst (λ cs. P [] cs) (sym (ap (placed_from (suc at)) (drop_of_length-le text further))) none))
+      (cases_lt at (length text))
+
+-- what is left two characters on
+two_on : (text : List ℕ) (at : ℕ) → left_of text (at + 2) ≡ left_of text (suc (suc at))
+two_on text at = let same : at + 2 ≡ suc (suc at) = omega arith in ap (left_of text) same
+
+-- the lines behind a logical line stay the same behind a character of it, with the one that it takes
+abbrev behind : Line → List Line
+behind left = (inside_from left).1
+
+behind-backslash : (text : List ℕ) (at : ℕ) (c : Placed) → (c.code == backslash) ≡ true
+    → behind (left_of text (suc (suc at))) ≡ behind (c ∷ left_of text (suc at))
+behind-backslash text at c is_one =
+    by_left text (suc at) (λ cs rest. behind rest ≡ behind (c ∷ cs))
+    (ap (λ l. l.1) inside-end ∙ sym (ap (λ l. l.1) (inside-last c is_one)))
+    (λ d _. bool_cases (d == line_feed) (λ _. behind (left_of text (suc (suc at))) ≡ behind (c ∷ record { code = d; at = suc at } ∷ left_of text (suc (suc at))))
+    (λ is_break. sym (behind-trimmed _) ∙ sym (ap (λ l. l.1) (inside-join c _ _ is_one is_break)))
+    (λ in_line. sym (ap (λ l. l.1) (inside-pair c _ _ is_one in_line))))
+
+pub behind-char : (text : List ℕ) (at c : ℕ) → left_of text at ≡ record { code = c; at = at } ∷ left_of text (suc at) → (c == line_feed) ≡ false
+    → (n : ℕ) → n ≡ width_at c → behind (left_of text (at + n)) ≡ behind (left_of text at)
+behind-char text at c stands in_line n wide =
+    ap (λ m. behind (left_of text (at + m))) wide
+    ∙ bool_cases (c == backslash) (λ b. behind (left_of text (at + cond b 2 1)) ≡ behind (record { code = c; at = at } ∷ left_of text (suc at)))
+    (λ is_one. ap behind (two_on text at) ∙ behind-backslash text at _ is_one)
+    (λ other.
+    let next : at + 1 ≡ suc at = omega arith in
+    ap (λ m. behind (left_of text m)) next ∙ sym (ap (λ l. l.1) (inside-char _ _ in_line other)))
+    ∙ sym (ap behind stands)
+
+pub behind-break : (text : List ℕ) (at c : ℕ) → left_of text at ≡ record { code = c; at = at } ∷ left_of text (suc at) → (c == line_feed) ≡ true
+    → lines_left (left_of text (at + 1)) ≡ behind (left_of text at)
+behind-break text at c stands is_break =
+    let next : at + 1 ≡ suc at = omega arith in
+    ap (λ m. lines_left (left_of text m)) next ∙ sym (ap (λ l. l.1) (ap inside_from stands ∙ inside-break _ _ is_break))
+
+pub behind-end : (left : Line) → left ≡ [] → lines_left left ≡ behind left
+unfolding lines_left logical_lines
+behind-end left none = ap lines_left none ∙ sym (ap (λ l. l.1) (ap inside_from none ∙ inside-end))
+
+-- past a backslash that ends its natural line the logical line goes on behind white space
+pub join_next : (text : List ℕ) (at to : ℕ) → is_join (left_of text at) ≡ true → left_of text to ≡ trimmed (left_of text (at + 2))
+    → inside_from (left_of text to) ≡ inside_from (left_of text at)
+join_next text at to joins goes =
+    ap inside_from (goes ∙ ap trimmed (two_on text at))
+    ∙ by_left text at (λ left rest. is_join left ≡ true → inside_from (trimmed (left_of text (suc (suc at)))) ≡ inside_from left)
+    (λ no. absurd (true≢false (sym no)))
+    (λ c _ joins. 
+    let both = and_parts _ _ joins in
+    by_left text (suc at) (λ cs rest. is_at_end cs ≡ true → inside_from (trimmed rest) ≡ inside_from (record { code = c; at = at } ∷ cs))
+    (λ _. inside-end ∙ sym (inside-last _ both.0))
+    (λ d _ ends. sym (inside-join _ _ _ both.0 ends))
+    both.1)
+    joins
+
+pub join_inside : (text : List ℕ) (at : ℕ) → is_join (left_of text at) ≡ true → at < length text
+join_inside text at = by_left text at (λ left rest. is_join left ≡ true → at < length text) (λ none. absurd (true≢false (sym none))) (λ c inside _. inside)
+
+-- no character of a key is left
+pub key-end : (left : Line) → left ≡ [] → key_in (inside_from left).0 ≡ []
+unfolding key_in
+key-end left none = ap (λ l. key_in l.0) (ap inside_from none ∙ inside-end)
+
+pub key-stops : (c : Placed) (cs : Line) → (c.code == backslash) ≡ false → stops_key c.code ≡ true → key_in (inside_from (c ∷ cs)).0 ≡ []
+unfolding key_in
+key-stops c cs other stops =
+    bool_cases (c.code == line_feed) (λ b. (b || ends_key c.code) ≡ true → key_in (inside_from (c ∷ cs)).0 ≡ [])
+    (λ is_break _. ap (λ l. key_in l.0) (inside-break c cs is_break))
+    (λ in_line ends. ap (λ l. key_in l.0) (inside-char c cs in_line other) ∙ rw other (rw ends refl))
+    stops
+
+-- a key's character that no backslash took
+pub key-char : (c : Placed) (cs : Line) → (c.code == backslash) ≡ false → stops_key c.code ≡ false
+    → key_in (inside_from (c ∷ cs)).0 ≡ c.code ∷ key_in (inside_from cs).0
+unfolding key_in
+key-char c cs other goes_on =
+    let both = or_parts _ _ goes_on in
+    ap (λ l. key_in l.0) (inside-char c cs both.0 other) ∙ rw other (rw both.1 refl)
+
+-- and one that a backslash took
+pub key-pair : (b c : Placed) (cs : Line) → (b.code == backslash) ≡ true → (c.code == line_feed) ≡ false
+    → key_in (inside_from (b ∷ c ∷ cs)).0 ≡ meant_by c.code ∷ key_in (inside_from cs).0
+unfolding key_in
+key-pair b c cs is_one in_line = ap (λ l. key_in l.0) (inside-pair b c cs is_one in_line) ∙ rw is_one refl
+
+-- the offset of a logical line's first character is where the line goes on
+module _ (text : List ℕ) (at : ℕ) where
+  abbrev IsHere : Line → Type 0
+  IsHere line = keys_in line ≡ listed_key (key_in line) at
+
+  none_here : IsHere []
+  unfolding key_in
+  none_here = refl
+
+  some_here : (c : ℕ) (cs : Line) → IsHere (record { code = c; at = at } ∷ cs)
+  some_here c cs = refl
+
+  pair_here : (c : ℕ) → (c == backslash) ≡ true → is_join (record { code = c; at = at } ∷ left_of text (suc at)) ≡ false
+      → IsHere (inside_from (record { code = c; at = at } ∷ left_of text (suc at))).0
+  pair_here c is_one =
+      by_left text (suc at) (λ cs rest. is_join (record { code = c; at = at } ∷ cs) ≡ false → IsHere (inside_from (record { code = c; at = at } ∷ cs)).0)
+      (λ _. subst (λ x. IsHere x.0) (sym (inside-last _ is_one)) none_here)
+      (λ d _. bool_cases (d == line_feed) (λ b. ((c == backslash) && b) ≡ false → IsHere (inside_from (record { code = c; at = at } ∷ record { code = d; at = suc at } ∷ left_of text (suc (suc at)))).0)
+      (λ _ apart. absurd (true≢false (sym is_one ∙ sym (and-true (c == backslash)) ∙ apart)))
+      (λ in_line _. subst (λ x. IsHere x.0) (sym (inside-pair _ _ _ is_one in_line)) (some_here c _)))
+
+  pub keys-here : is_join (left_of text at) ≡ false → IsHere (inside_from (left_of text at)).0
+  keys-here =
+      by_left text at (λ left rest. is_join left ≡ false → IsHere (inside_from left).0)
+      (λ _. subst (λ x. IsHere x.0) (sym inside-end) none_here)
+      (λ c _ apart. bool_cases (c == line_feed) (λ _. IsHere (inside_from (record { code = c; at = at } ∷ left_of text (suc at))).0)
+      (λ is_break. subst (λ x. IsHere x.0) (sym (inside-break _ _ is_break)) none_here)
+      (λ in_line. bool_cases (c == backslash) (λ _. IsHere (inside_from (record { code = c; at = at } ∷ left_of text (suc at))).0)
+      (λ is_one. pair_here c is_one apart)
+      (λ other. subst (λ x. IsHere x.0) (sym (inside-char _ _ in_line other)) (some_here c _))))
