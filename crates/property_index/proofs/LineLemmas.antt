@@ -235,14 +235,13 @@ lines-comment c (line ∷ lines) visible begins =
     ap (λ b. lines_with (cond b (trimmed line) (c ∷ line)) lines) visible
     ∙ ap (λ b. cond b (logical_lines lines) (listed (joined (c ∷ line) (continued lines) (logical_lines lines)))) begins
 
-pub left-comment : (c : Placed) (cs : Line) → is_white_space c.code ≡ false → begins_comment c.code ≡ true → lines_left (c ∷ cs) ≡ lines_left (past_line (c ∷ cs))
+pub left-comment : (c : Placed) (cs : Line) → is_white_space c.code ≡ false → begins_comment c.code ≡ true → lines_left (c ∷ cs) ≡ lines_left (past_line cs)
 unfolding lines_left
 left-comment c cs visible begins =
     let in_line = comment_is_no_break c.code begins in
     ap logical_lines (natural-char c cs in_line)
     ∙ lines-comment c (natural_lines cs) visible begins
     ∙ ap logical_lines (others-past cs)
-    ∙ sym (ap (λ b. logical_lines (natural_lines (cond b cs (past_line cs)))) in_line)
 
 -- and any other character begins one
 lines-visible : (c : Placed) (lines : List Line) → is_white_space c.code ≡ false → begins_comment c.code ≡ false

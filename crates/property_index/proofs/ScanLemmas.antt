@@ -1,16 +1,16 @@
 -- How the code reads a text: by the character at an offset and what is left behind it.
-use Rattle.std.proofs.Common.{◌≡◌, ℕ, suc, ◌+◌, ◌<◌, ◌≤◌, Bool, true, false, cond, ◌==◌, ◌&&◌, ◌||◌, List, [], ◌∷◌, length, drop, get_or, drop-cons, Some, refl, sym, ap, ◌∙◌, subst, ⊎_elim, arith}
-use Rattle.std.specs.List.{slice_get}
+use Rattle.std.proofs.Common.{◌≡◌, ℕ, suc, ◌+◌, ◌<◌, ◌≤◌, Bool, true, false, cond, ◌==◌, ◌&&◌, ◌||◌, List, [], ◌∷◌, ◌++◌, length, drop, get_or, drop-cons, Some, refl, sym, ap, ◌∙◌, subst, ⊎_elim, arith, append_assoc}
+use Rattle.std.specs.List.{slice_get, flat_map}
 use Rattle.std.proofs.lemmas.Option.{slice_get_within, get_or_from_slice_get}
 use Rattle.std.proofs.lemmas.Bool.{true≢false, and_parts, or_parts, cases_lt}
 use Rattle.std.proofs.Math.Bool.{and-true}
 use Rattle.std.proofs.Math.ListN.{drop_of_length-le}
 use Rattle.list_laws.proofs.BoolLemmas.{bool_cases}
-use Rattle.property_index.specs.Characters.{line_feed, backslash, ends_key, stops_key, meant_by}
-use Rattle.property_index.specs.Lines.{Placed, Line, placed_from, trimmed, logical_lines}
-use Rattle.property_index.specs.Keys.{key_in, listed_key, keys_in}
-use Rattle.property_index.specs.Rest.{left_of, lines_left, inside_from, width_at, is_at_end, is_join}
-use Rattle.property_index.proofs.LineLemmas.{inside-end, inside-break, inside-char, inside-pair, inside-join, inside-last, behind-trimmed}
+use Rattle.property_index.specs.Characters.{line_feed, backslash, is_white_space, is_blank, begins_comment, ends_key, stops_key, meant_by}
+use Rattle.property_index.specs.Lines.{Placed, Line, placed_from, trimmed, logical_lines, listed}
+use Rattle.property_index.specs.Keys.{key_in, listed_key, keys_in, keys_left}
+use Rattle.property_index.specs.Rest.{left_of, past_line, lines_left, inside_from, width_at, is_at_end, is_join}
+use Rattle.property_index.proofs.LineLemmas.{inside-end, inside-break, inside-char, inside-pair, inside-join, inside-last, behind-trimmed, left-white, left-break, left-comment, left-visible}
 
 -- what is left of a text begins with the character at the offset
 pub left_next : (text : List ℕ) (at c : ℕ) → slice_get text at ≡ Some c → left_of text at ≡ record { code = c; at = at } ∷ left_of text (suc at)
@@ -141,3 +141,89 @@ module _ (text : List ℕ) (at : ℕ) where
       (λ in_line. bool_cases (c == backslash) (λ _. IsHere (inside_from (record { code = c; at = at } ∷ left_of text (suc at))).0)
       (λ is_one. pair_here c is_one apart)
       (λ other. subst (λ x. IsHere x.0) (sym (inside-char _ _ in_line other)) (some_here c _))))
+
+-- the keys of what is left are those of its logical lines
+keys_left-lines : (left : Line) → keys_left left ≡ flat_map keys_in (lines_left left)
+unfolding lines_left
+keys_left-lines left = refl
+
+-- a line that gives no key may be left out
+pub left-blank : (text : List ℕ) (at c : ℕ) → left_of text at ≡ record { code = c; at = at } ∷ left_of text (suc at) → is_blank c ≡ true
+    → keys_left (left_of text (at + 1)) ≡ keys_left (left_of text at)
+left-blank text at c stands blank =
+    let next : at + 1 ≡ suc at = omega arith in
+    let first : Placed = record { code = c; at = at } in
+    let left = left_of text (suc at) in
+    ap (λ n. keys_left (left_of text n)) next
+    ∙ keys_left-lines left
+    ∙ ap (flat_map keys_in) (bool_cases (c == line_feed) (λ b. (b || is_white_space c) ≡ true → lines_left left ≡ lines_left (first ∷ left))
+    (λ is_break _. sym (left-break first left is_break))
+    (λ _ white. sym (left-white first left white))
+    blank)
+    ∙ sym (keys_left-lines (first ∷ left))
+    ∙ sym (ap keys_left stands)
+
+pub left-past_comment : (text : List ℕ) (at c to : ℕ) → left_of text at ≡ record { code = c; at = at } ∷ left_of text (suc at) → is_blank c ≡ false → begins_comment c ≡ true
+    → left_of text to ≡ past_line (left_of text (at + 1)) → keys_left (left_of text to) ≡ keys_left (left_of text at)
+left-past_comment text at c to stands visible begins goes =
+    let next : at + 1 ≡ suc at = omega arith in
+    let first : Placed = record { code = c; at = at } in
+    let left = left_of text (suc at) in
+    ap keys_left (goes ∙ ap (λ n. past_line (left_of text n)) next)
+    ∙ keys_left-lines (past_line left)
+    ∙ ap (flat_map keys_in) (sym (left-comment first left (or_parts _ _ visible).1 begins))
+    ∙ sym (keys_left-lines (first ∷ left))
+    ∙ sym (ap keys_left stands)
+
+-- and any other character begins a logical line
+pub left-key : (text : List ℕ) (at c : ℕ) → left_of text at ≡ record { code = c; at = at } ∷ left_of text (suc at) → is_blank c ≡ false → begins_comment c ≡ false
+    → flat_map keys_in (listed (inside_from (left_of text at))) ≡ keys_left (left_of text at)
+left-key text at c stands visible other =
+    let first : Placed = record { code = c; at = at } in
+    let left = left_of text (suc at) in
+    let parts = or_parts _ _ visible in
+    ap (λ l. flat_map keys_in (listed (inside_from l))) stands
+    ∙ ap (flat_map keys_in) (sym (left-visible first left parts.0 parts.1 other))
+    ∙ sym (keys_left-lines (first ∷ left))
+    ∙ sym (ap keys_left stands)
+
+-- the key of a logical line, and then those of the lines behind it
+pub keys-added : (text : List ℕ) (from at end to : ℕ) (old new : List (List ℕ × ℕ)) (key : List ℕ)
+    → inside_from (left_of text at) ≡ inside_from (left_of text from)
+    → is_join (left_of text at) ≡ false
+    → key ≡ key_in (inside_from (left_of text at)).0
+    → (inside_from (left_of text end)).1 ≡ (inside_from (left_of text at)).1
+    → new ≡ old ++ listed_key key at
+    → lines_left (left_of text to) ≡ (inside_from (left_of text end)).1
+    → new ++ keys_left (left_of text to) ≡ old ++ flat_map keys_in (listed (inside_from (left_of text from)))
+keys-added text from at end to old new key same apart is_key behind grown goes =
+    let first : listed_key key at ≡ keys_in (inside_from (left_of text from)).0 =
+        ap (λ k. listed_key k at) is_key ∙ sym (keys-here text at apart) ∙ ap (λ (l : Line × List Line). keys_in l.0) same in
+    let others : keys_left (left_of text to) ≡ flat_map keys_in (inside_from (left_of text from)).1 =
+        keys_left-lines (left_of text to) ∙ ap (flat_map keys_in) (goes ∙ behind ∙ ap (λ (l : Line × List Line). l.1) same) in
+    ap (λ (l : List (List ℕ × ℕ)). l ++ keys_left (left_of text to)) (grown ∙ ap (λ l. old ++ l) first)
+    ∙ append_assoc old (keys_in (inside_from (left_of text from)).0) (keys_left (left_of text to))
+    ∙ ap (λ l. old ++ (keys_in (inside_from (left_of text from)).0 ++ l)) others
+
+-- the key so far, with one more character
+pub key-turn : (so_far now here rest after all : List ℕ) (meant : ℕ) → now ≡ so_far ++ meant ∷ [] → here ≡ meant ∷ rest → after ≡ rest → so_far ++ here ≡ all → now ++ after ≡ all
+key-turn so_far now here rest after all meant grown begins same whole =
+    ap (λ (l : List ℕ). l ++ after) grown
+    ∙ append_assoc so_far (meant ∷ []) after
+    ∙ ap (λ (l : List ℕ). so_far ++ meant ∷ l) same
+    ∙ sym (ap (λ (l : List ℕ). so_far ++ l) begins)
+    ∙ whole
+
+-- a key's character in place
+pub key-taken : (text : List ℕ) (at b c : ℕ) → left_of text at ≡ record { code = b; at = at } ∷ left_of text (suc at) → (b == backslash) ≡ true
+    → left_of text (at + 1) ≡ record { code = c; at = at + 1 } ∷ left_of text (suc (at + 1)) → is_join (left_of text at) ≡ false
+    → inside_from (left_of text at) ≡ (record { code = b; at = at } ∷ record { code = c; at = at + 1 } ∷ (inside_from (left_of text (at + 2))).0, (inside_from (left_of text (at + 2))).1)
+key-taken text at b c first is_one second apart =
+    let next : suc at ≡ at + 1 = omega arith in
+    let further : suc (at + 1) ≡ at + 2 = omega arith in
+    let whole : left_of text at ≡ record { code = b; at = at } ∷ record { code = c; at = at + 1 } ∷ left_of text (at + 2) =
+        first ∙ ap (λ n. record { code = b; at = at } ∷ left_of text n) next ∙ ap (λ (l : Line). record { code = b; at = at } ∷ l) second
+        ∙ ap (λ n. record { code = b; at = at } ∷ record { code = c; at = at + 1 } ∷ left_of text n) further in
+    let in_line : (c == line_feed) ≡ false =
+        sym (ap (λ t. t && (c == line_feed)) is_one) ∙ sym (ap is_join whole) ∙ apart in
+    ap inside_from whole ∙ inside-pair _ _ _ is_one in_line

@@ -1,6 +1,7 @@
 //! The keys of a text.
-ghost use Rattle.std.specs.Prelude.{◌≡◌, ◌<◌, ◌++◌, ◌∷◌, suc, IfOk, OnOk, length};
+ghost use Rattle.std.specs.Prelude.{◌≡◌, ◌<◌, ◌≤◌, ◌++◌, ◌∷◌, suc, IfOk, OnOk, length};
 ghost use Rattle.std.specs.List.{flat_map};
+ghost use Rattle.ide_text.specs.Text.{max_chars};
 ghost use Rattle.property_index.specs.Keys.{keys_in, keys_left, keys_of, listed_key};
 ghost use Rattle.property_index.specs.Lines.{listed};
 ghost use Rattle.property_index.specs.Rest.{inside_from, left_of};
@@ -33,13 +34,15 @@ fn add_line(
 ) -> Result<u32, AllocError>
     requires stands { left_of text.now at ≡ record { code = first; at = at } ∷ left_of text.now (suc at) }
     requires inside { at < length text.now }
-    ensures added { IfOk result (λ end. keys.new.items ++ keys_left (left_of text.now end) ≡ keys.old.items ++ keys_left (left_of text.now at)) }
+    requires few { length text.now ≤ max_chars }
+    ensures added { IfOk result (λ end. keys.new.items ++ keys_left (left_of text.now end)
+        ≡ keys.old.items ++ keys_left (left_of text.now at)) }
     ensures forward { IfOk result (λ end. at < end) }
 {
     if is_blank(first) {
         Ok(at + 1)
     } else if begins_comment(first) {
-        Ok(past_line(text, at))
+        Ok(past_line(text, at + 1))
     } else {
         add_key(keys, text, at)
     }
