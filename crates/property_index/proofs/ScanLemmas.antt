@@ -1,6 +1,10 @@
 -- How the code reads a text: by the character at an offset and what is left behind it.
-use Rattle.std.proofs.Common.{◌≡◌, ℕ, suc, ◌+◌, ◌<◌, ◌≤◌, Bool, true, false, cond, ◌==◌, ◌&&◌, ◌||◌, List, [], ◌∷◌, ◌++◌, length, drop, get_or, drop-cons, Some, refl, sym, ap, ◌∙◌, subst, ⊎_elim, arith, append_assoc}
+use Rattle.std.proofs.Common.{◌≡◌, ℕ, suc, ◌+◌, ◌<◌, ◌≤◌, Bool, true, false, cond, ◌==◌, ◌&&◌, ◌||◌, List, [], ◌∷◌, ◌++◌, length, drop, get_or, drop-cons, Some, refl, sym, ap, ◌∙◌, subst, ⊎_elim, arith, append_assoc, append-nil}
 use Rattle.std.specs.List.{slice_get, flat_map}
+use Rattle.std.specs.Char.{encode_utf8}
+use Rattle.std.specs.Str.{chars, IsUtf8}
+use Rattle.std.proofs.Math.Utf8.{scalar}
+use Rattle.std.proofs.lemmas.Str.{chars-append, chars-encodes}
 use Rattle.std.proofs.lemmas.Option.{slice_get_within, get_or_from_slice_get}
 use Rattle.std.proofs.lemmas.Bool.{true≢false, and_parts, or_parts, cases_lt}
 use Rattle.std.proofs.Math.Bool.{and-true}
@@ -105,12 +109,6 @@ key-char c cs other goes_on =
     let both = or_parts _ _ goes_on in
     ap (λ l. key_in l.0) (inside-char c cs both.0 other) ∙ rw other (rw both.1 refl)
 
--- and one that a backslash took
-pub key-pair : (b c : Placed) (cs : Line) → (b.code == backslash) ≡ true → (c.code == line_feed) ≡ false
-    → key_in (inside_from (b ∷ c ∷ cs)).0 ≡ meant_by c.code ∷ key_in (inside_from cs).0
-unfolding key_in
-key-pair b c cs is_one in_line = ap (λ l. key_in l.0) (inside-pair b c cs is_one in_line) ∙ rw is_one refl
-
 -- the offset of a logical line's first character is where the line goes on
 module _ (text : List ℕ) (at : ℕ) where
   abbrev IsHere : Line → Type 0
@@ -214,7 +212,7 @@ key-turn so_far now here rest after all meant grown begins same whole =
     ∙ sym (ap (λ (l : List ℕ). so_far ++ l) begins)
     ∙ whole
 
--- a key's character in place
+-- what a logical line has where a backslash took a character
 pub key-taken : (text : List ℕ) (at b c : ℕ) → left_of text at ≡ record { code = b; at = at } ∷ left_of text (suc at) → (b == backslash) ≡ true
     → left_of text (at + 1) ≡ record { code = c; at = at + 1 } ∷ left_of text (suc (at + 1)) → is_join (left_of text at) ≡ false
     → inside_from (left_of text at) ≡ (record { code = b; at = at } ∷ record { code = c; at = at + 1 } ∷ (inside_from (left_of text (at + 2))).0, (inside_from (left_of text (at + 2))).1)
@@ -227,3 +225,23 @@ key-taken text at b c first is_one second apart =
     let in_line : (c == line_feed) ≡ false =
         sym (ap (λ t. t && (c == line_feed)) is_one) ∙ sym (ap is_join whole) ∙ apart in
     ap inside_from whole ∙ inside-pair _ _ _ is_one in_line
+
+-- a key's character that a backslash took
+pub key-pair : (text : List ℕ) (at b c : ℕ) → left_of text at ≡ record { code = b; at = at } ∷ left_of text (suc at) → (b == backslash) ≡ true
+    → left_of text (at + 1) ≡ record { code = c; at = at + 1 } ∷ left_of text (suc (at + 1)) → is_join (left_of text at) ≡ false
+    → key_in (inside_from (left_of text at)).0 ≡ meant_by c ∷ key_in (inside_from (left_of text (at + 2))).0
+unfolding key_in
+key-pair text at b c first is_one second apart = ap (λ (l : Line × List Line). key_in l.0) (key-taken text at b c first is_one second apart) ∙ rw is_one refl
+
+-- no key is left where nothing is
+pub keys-end : (left : Line) → left ≡ [] → keys_left left ≡ []
+unfolding logical_lines
+keys-end left none = ap keys_left none
+
+-- a string with one more character
+pub chars-push : (old new : List ℕ) (c : ℕ) → IsUtf8 old → scalar c ≡ true → new ≡ old ++ encode_utf8 c → chars new ≡ chars old ++ c ∷ []
+chars-push old new c utf8 is_scalar grown =
+    ap chars grown
+    ∙ chars-append old (encode_utf8 c) utf8
+    ∙ ap (λ cs. chars old ++ chars cs) (sym (append-nil (encode_utf8 c)))
+    ∙ ap (λ cs. chars old ++ cs) (chars-encodes (c ∷ []) (ap (λ t. t && true) is_scalar))

@@ -13,6 +13,7 @@ use ide_text::{Name, Text};
 use std::alloc::{AllocError, Global};
 
 /// The keys of a text, each with the offset of its first character, in order. Linear in the text.
+#[tactic(auto, unfolding(crate::specs::Keys::keys_of))]
 pub fn property_keys(alloc: Global, text: &Text) -> Result<Vec<(Name, u32)>, AllocError>
     ensures { IfOk result (λ keys. keys.items ≡ keys_of text.now) }
 {
