@@ -73,9 +73,14 @@ joined-in : (lo mid hi : ℕ) (line : Line) (onward : Line × List Line) (others
     → LinesIn mid hi (listed onward) → LinesIn mid hi others → LinesIn lo hi (listed (joined line onward others))
 joined-in lo mid hi line onward others below all on other =
     bool_cases (goes_on line) (λ b. LinesIn lo hi (listed (cond b (without_last line ++ onward.0, onward.1) (line, others))))
-    (λ _. (on.0, omega (arith, below, on.1), all_in-append lo on.0 (without_last line) onward.0
-    (all_in-wider lo lo mid on.0 (without_last line) (omega arith) on.1 (all_in-take lo mid (length line - 1) line all))
-    (all_in-wider mid lo on.0 on.0 onward.0 below (omega arith) on.2), on.3))
+    (λ _. (
+      on.0,
+      omega (arith, below, on.1),
+      all_in-append lo on.0 (without_last line) onward.0
+          (all_in-wider lo lo mid on.0 (without_last line) (omega arith) on.1 (all_in-take lo mid (length line - 1) line all))
+          (all_in-wider mid lo on.0 on.0 onward.0 below (omega arith) on.2),
+      on.3,
+    ))
     (λ _. (mid, below, all, other))
 
 mutual

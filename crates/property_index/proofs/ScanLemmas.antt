@@ -77,7 +77,7 @@ join_next text at to joins goes =
     ap inside_from (goes ∙ ap trimmed (two_on text at))
     ∙ by_left text at (λ left rest. is_join left ≡ true → inside_from (trimmed (left_of text (suc (suc at)))) ≡ inside_from left)
     (λ no. absurd (true≢false (sym no)))
-    (λ c _ joins. 
+    (λ c _ joins.
     let both = and_parts _ _ joins in
     by_left text (suc at) (λ cs rest. is_at_end cs ≡ true → inside_from (trimmed rest) ≡ inside_from (record { code = c; at = at } ∷ cs))
     (λ _. inside-end ∙ sym (inside-last _ both.0))
@@ -196,9 +196,9 @@ pub keys-added : (text : List ℕ) (from at end to : ℕ) (old new : List (List 
     → new ++ keys_left (left_of text to) ≡ old ++ flat_map keys_in (listed (inside_from (left_of text from)))
 keys-added text from at end to old new key same apart is_key behind grown goes =
     let first : listed_key key at ≡ keys_in (inside_from (left_of text from)).0 =
-        ap (λ k. listed_key k at) is_key ∙ sym (keys-here text at apart) ∙ ap (λ (l : Line × List Line). keys_in l.0) same in
+    ap (λ k. listed_key k at) is_key ∙ sym (keys-here text at apart) ∙ ap (λ (l : Line × List Line). keys_in l.0) same in
     let others : keys_left (left_of text to) ≡ flat_map keys_in (inside_from (left_of text from)).1 =
-        keys_left-lines (left_of text to) ∙ ap (flat_map keys_in) (goes ∙ behind ∙ ap (λ (l : Line × List Line). l.1) same) in
+    keys_left-lines (left_of text to) ∙ ap (flat_map keys_in) (goes ∙ behind ∙ ap (λ (l : Line × List Line). l.1) same) in
     ap (λ (l : List (List ℕ × ℕ)). l ++ keys_left (left_of text to)) (grown ∙ ap (λ l. old ++ l) first)
     ∙ append_assoc old (keys_in (inside_from (left_of text from)).0) (keys_left (left_of text to))
     ∙ ap (λ l. old ++ (keys_in (inside_from (left_of text from)).0 ++ l)) others
@@ -220,10 +220,10 @@ key-taken text at b c first is_one second apart =
     let next : suc at ≡ at + 1 = omega arith in
     let further : suc (at + 1) ≡ at + 2 = omega arith in
     let whole : left_of text at ≡ record { code = b; at = at } ∷ record { code = c; at = at + 1 } ∷ left_of text (at + 2) =
-        first ∙ ap (λ n. record { code = b; at = at } ∷ left_of text n) next ∙ ap (λ (l : Line). record { code = b; at = at } ∷ l) second
-        ∙ ap (λ n. record { code = b; at = at } ∷ record { code = c; at = at + 1 } ∷ left_of text n) further in
+    first ∙ ap (λ n. record { code = b; at = at } ∷ left_of text n) next ∙ ap (λ (l : Line). record { code = b; at = at } ∷ l) second
+    ∙ ap (λ n. record { code = b; at = at } ∷ record { code = c; at = at + 1 } ∷ left_of text n) further in
     let in_line : (c == line_feed) ≡ false =
-        sym (ap (λ t. t && (c == line_feed)) is_one) ∙ sym (ap is_join whole) ∙ apart in
+    sym (ap (λ t. t && (c == line_feed)) is_one) ∙ sym (ap is_join whole) ∙ apart in
     ap inside_from whole ∙ inside-pair _ _ _ is_one in_line
 
 -- a key's character that a backslash took
