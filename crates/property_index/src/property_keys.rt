@@ -1,0 +1,50 @@
+//! The keys of a text, and the index that finds them.
+ghost use Rattle.std.specs.Prelude.{◌≡◌, ◌++◌, IfOk, OnOk};
+ghost use Rattle.property_index.specs.Keys.{keys_of};
+
+use crate::key_scan::read_key;
+use crate::line_scan::{begins_logical_line, past_line, past_logical_line, past_white_space};
+use file_index::{Indexer, KeyRows};
+use ide_text::{Name, Text};
+use std::alloc::{AllocError, Global};
+
+/// The keys of a text, each with the offset of its first character, in order. Linear in the text.
+pub fn property_keys(alloc: Global, text: &Text) -> Result<Vec<(Name, u32)>, AllocError>
+    ensures { IfOk result (λ keys. keys.items ≡ keys_of text.now) }
+{
+    todo
+}
+
+/// Finds the property keys of a text: under each key the offsets at which it stands.
+#[derive(Clone, Copy, Drop)]
+pub struct PropertyKeys;
+
+impl Indexer for PropertyKeys {
+    type Input = Text;
+
+    type Key = Name;
+
+    type Value = u32;
+
+    ghost use Rattle.property_index.specs.Keys.{key_rows};
+
+    ghost rows_of = { λ text. key_rows text };
+
+    ghost rows_version = { 1 };
+
+    fn version(&self) -> u8 {
+        1
+    }
+
+    fn rows(&self, alloc: Global, text: &Text) -> Result<KeyRows<Name, u32>, AllocError> {
+        KeyRows::from_rows(property_keys(alloc, text)?)
+    }
+
+    fn copy_key(&self, _alloc: Global, key: &Name) -> Result<Name, AllocError> {
+        key.copy()
+    }
+
+    fn copy_value(&self, _alloc: Global, at: &u32) -> Result<u32, AllocError> {
+        Ok(*at)
+    }
+}
