@@ -1,19 +1,11 @@
-//! The keys of a text, and the index that finds them.
-ghost use Rattle.std.specs.Prelude.{◌≡◌, ◌++◌, IfOk, OnOk};
-ghost use Rattle.property_index.specs.Keys.{keys_of};
+//! The index of property keys.
+ghost use Rattle.std.specs.Prelude.{◌≡◌, IfOk};
 
-use crate::key_scan::read_key;
-use crate::line_scan::{begins_logical_line, past_line, past_logical_line, past_white_space};
+use crate::listing::property_keys;
 use file_index::{Indexer, KeyRows};
 use ide_text::{Name, Text};
 use std::alloc::{AllocError, Global};
 
-/// The keys of a text, each with the offset of its first character, in order. Linear in the text.
-pub fn property_keys(alloc: Global, text: &Text) -> Result<Vec<(Name, u32)>, AllocError>
-    ensures { IfOk result (λ keys. keys.items ≡ keys_of text.now) }
-{
-    todo
-}
 
 /// Finds the property keys of a text: under each key the offsets at which it stands.
 #[derive(Clone, Copy, Drop)]
