@@ -1,6 +1,7 @@
 //! A table of words with what they ask for, where there is memory enough.
 use crate::tables::command_words;
 use command_line::{Request, WordsRefusal, request_of};
+use ide_text::Name;
 use std::test::Fail;
 
 /// The words behind the program's name, and what they ask for.
@@ -9,7 +10,7 @@ struct Case {
     gives: Result<Request, WordsRefusal>,
 }
 
-static CASES: [Case; 43] = [
+static CASES: [Case; 50] = [
     // The subcommands, and their defaults.
     Case {
         words: &[],
@@ -109,7 +110,15 @@ static CASES: [Case; 43] = [
         words: &["demo", "--workers", "9"],
         gives: Err(WordsRefusal::Usage),
     },
+    Case {
+        words: &["check", "t", "--workers", "9"],
+        gives: Err(WordsRefusal::Usage),
+    },
     // Numbers out of form.
+    Case {
+        words: &["check", "t", "--workers", "01"],
+        gives: Err(WordsRefusal::Usage),
+    },
     Case {
         words: &["demo", "--seed", "01"],
         gives: Err(WordsRefusal::Usage),
@@ -176,6 +185,26 @@ static CASES: [Case; 43] = [
         gives: Err(WordsRefusal::Usage),
     },
     Case {
+        words: &["check"],
+        gives: Err(WordsRefusal::Usage),
+    },
+    Case {
+        words: &["check", "a", "b"],
+        gives: Err(WordsRefusal::Usage),
+    },
+    Case {
+        words: &["check", "-t"],
+        gives: Err(WordsRefusal::Usage),
+    },
+    Case {
+        words: &["check", "t", "--path", "t"],
+        gives: Err(WordsRefusal::Usage),
+    },
+    Case {
+        words: &["--workers", "1", "check", "t"],
+        gives: Err(WordsRefusal::Usage),
+    },
+    Case {
         words: &["--workers", "0"],
         gives: Err(WordsRefusal::Usage),
     },
@@ -217,6 +246,61 @@ static CASES: [Case; 43] = [
         gives: Err(WordsRefusal::Usage),
     },
 ];
+
+/// Words of `check`, and what it is to read with how many workers.
+struct CheckCase {
+    words: &'static [&'static str],
+    path: &'static str,
+    workers: u32,
+}
+
+static CHECK_CASES: [CheckCase; 6] = [
+    CheckCase {
+        words: &["check", "t"],
+        path: "t",
+        workers: 0,
+    },
+    CheckCase {
+        words: &["check", "out/a b.txt", "--workers", "8"],
+        path: "out/a b.txt",
+        workers: 8,
+    },
+    CheckCase {
+        words: &["check", "--workers=1", "check"],
+        path: "check",
+        workers: 1,
+    },
+    CheckCase {
+        words: &["check", "--", "--workers"],
+        path: "--workers",
+        workers: 0,
+    },
+    CheckCase {
+        words: &["check", "é\u{1F600}"],
+        path: "é\u{1F600}",
+        workers: 0,
+    },
+    CheckCase {
+        words: &["check", ""],
+        path: "",
+        workers: 0,
+    },
+];
+
+#[test]
+fn words_of_check(rt: HostRuntime) -> Result<(), Fail> {
+    for case in CHECK_CASES.iter() {
+        let words = command_words(rt.alloc(), case.words)?;
+        let path = Name::of(rt.alloc(), case.path)?;
+        let wanted = Request::Check {
+            path,
+            workers: case.workers,
+        };
+        let request = request_of(rt.alloc(), words.as_slice());
+        assert_eq!(rt; request, Ok(wanted), "{:?}", case.words);
+    }
+    Ok(())
+}
 
 #[test]
 fn words_and_requests(rt: HostRuntime) -> Result<(), Fail> {
