@@ -1,0 +1,4 @@
+pub mod BlockLemmas
+pub mod PlainLemmas
+pub mod FoundBlocks
+pub mod RecordBlocks
