@@ -8,9 +8,13 @@ use Rattle.std.proofs.lemmas.Bool.{and_parts, cond_both, eqb-true, ltb-true, ltb
 use Rattle.std.proofs.lemmas.List.Folds.{list_all-append}
 use Rattle.transcript_check.specs.Blocks.{line_break, space, begins_with_space, EndsOnce, IsBlock}
 
--- no byte is a line break
+-- none of some bytes is this one
+abbrev pub is_free : ℕ → List ℕ → Bool
+is_free other bytes = list_all (λ byte. not (byte == other)) bytes
+
+-- none is a line break
 abbrev pub is_plain : List ℕ → Bool
-is_plain bytes = list_all (λ byte. not (byte == line_break)) bytes
+is_plain bytes = is_free line_break bytes
 
 -- what passes is no line break
 is_other : (byte : ℕ) → not (byte == line_break) ≡ true → byte ≢ line_break
@@ -22,24 +26,31 @@ plain-append front back plain rest =
     list_all-append (λ byte. not (byte == line_break)) front back ∙ ap (λ b. b && is_plain back) plain ∙ rest
 
 -- a byte before a text
+free-cons : (other byte : ℕ) (bytes : List ℕ) → byte ≢ other → is_free other bytes ≡ true → is_free other (byte ∷ bytes) ≡ true
+free-cons other byte bytes differs free = ap (λ b. not b && is_free other bytes) (ne_eqb byte other differs) ∙ free
+
 plain-cons : (byte : ℕ) (bytes : List ℕ) → byte ≢ line_break → is_plain bytes ≡ true → is_plain (byte ∷ bytes) ≡ true
-plain-cons byte bytes other plain = ap (λ b. not b && is_plain bytes) (ne_eqb byte line_break other) ∙ plain
+plain-cons byte bytes differs plain = free-cons line_break byte bytes differs plain
 
 -- a digit
 glyph-by : (P : ℕ → Type 0) (d : ℕ) → ((n : ℕ) → 48 ≤ n → P n) → P (digit_glyph false d)
 glyph-by P d above = cond_both (nat_lt d 10) (48 + d) (87 + d) P (λ _. above (48 + d) (omega arith)) (λ _. above (87 + d) (omega arith))
 
-plain-digits : (k n : ℕ) (acc : List ℕ) → is_plain acc ≡ true → is_plain (digits_onto k 10 false n acc) ≡ true
-plain-digits zero n acc plain = plain
-plain-digits (suc k) n acc plain =
-    let more : is_plain (digit_glyph false (n % 10) ∷ acc) ≡ true =
-        glyph-by (λ g. is_plain (g ∷ acc) ≡ true) (n % 10) (λ g above. plain-cons g acc (λ e. omega arith) plain) in
-    cond_both (n / 10 == 0) _ _ (λ l. is_plain l ≡ true) (λ _. more) (λ _. plain-digits k (n / 10) (digit_glyph false (n % 10) ∷ acc) more)
+free-digits : (other : ℕ) → other < 48 → (k n : ℕ) (acc : List ℕ) → is_free other acc ≡ true → is_free other (digits_onto k 10 false n acc) ≡ true
+free-digits other low zero n acc free = free
+free-digits other low (suc k) n acc free =
+    let more : is_free other (digit_glyph false (n % 10) ∷ acc) ≡ true =
+        glyph-by (λ g. is_free other (g ∷ acc) ≡ true) (n % 10) (λ g above. free-cons other g acc (λ e. omega arith) free) in
+    cond_both (n / 10 == 0) _ _ (λ l. is_free other l ≡ true) (λ _. more) (λ _. free-digits other low k (n / 10) (digit_glyph false (n % 10) ∷ acc) more)
 
--- a number has no line break
-pub plain-decimal : (n : ℕ) → is_plain (decimal n) ≡ true
+-- a number has digits alone
+pub free-decimal : (other : ℕ) → other < 48 → (n : ℕ) → is_free other (decimal n) ≡ true
 unfolding digits
-plain-decimal n = plain-digits 64 n [] refl
+free-decimal other low n = free-digits other low 64 n [] refl
+
+-- so it has no line break
+pub plain-decimal : (n : ℕ) → is_plain (decimal n) ≡ true
+plain-decimal n = free-decimal line_break (omega arith) n
 
 -- what begins with another byte than a space
 pub record BeginsOtherwise (text : List ℕ) : Type 0 where
