@@ -2,3 +2,5 @@ pub mod TextLemmas
 pub mod StepLemmas
 pub mod Texts
 pub mod CursorLemmas
+pub mod WorkerLemmas
+pub mod SideLemmas
