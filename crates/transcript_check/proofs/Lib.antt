@@ -4,3 +4,5 @@ pub mod Texts
 pub mod CursorLemmas
 pub mod WorkerLemmas
 pub mod SideLemmas
+pub mod IntakeLemmas
+pub mod PhaseLemmas
