@@ -6,3 +6,5 @@ pub mod WorkerLemmas
 pub mod SideLemmas
 pub mod IntakeLemmas
 pub mod PhaseLemmas
+pub mod MiddleLemmas
+pub mod SerialLemmas
