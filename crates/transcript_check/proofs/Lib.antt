@@ -8,3 +8,4 @@ pub mod IntakeLemmas
 pub mod PhaseLemmas
 pub mod MiddleLemmas
 pub mod SerialLemmas
+pub mod CheckedLemmas
