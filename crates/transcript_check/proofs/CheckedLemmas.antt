@@ -22,9 +22,9 @@ use Rattle.transcript_check.specs.Section.{Cursor}
 use Rattle.transcript_check.specs.Phase.{Sides, Reached, is_seat, phase_from, cursors_of, after_lanes}
 use Rattle.transcript_check.specs.Checked.{entry_texts, record_texts, texts_behind, are_texts, after_prelude, entries_behind, ends_so, sides_of, goes_on_so, begins_so, are_checked, AreTextsOfRun}
 use Rattle.transcript_check.proofs.TextLemmas.{seat_in-entry}
-use Rattle.transcript_check.proofs.Texts.{text_is}
+use Rattle.transcript_check.proofs.Texts.{text_is, texts_of_section}
 use Rattle.transcript_check.proofs.StepLemmas.{Laws}
-use Rattle.transcript_check.proofs.CursorLemmas.{AreFew, some_some}
+use Rattle.transcript_check.proofs.CursorLemmas.{AreFew, some_some, first_seat, own_seated}
 use Rattle.transcript_check.proofs.WorkerLemmas.{AreWorkers, WorkersFrom, workers_from, workers_all, workers_none}
 use Rattle.transcript_check.proofs.SideLemmas.{CursorsFit, AreSeated}
 use Rattle.transcript_check.proofs.IntakeLemmas.{FileLaws}
@@ -173,3 +173,94 @@ checked_sound laws loads script workers entries records checked =
           ∙ (ap (λ (ts : List (List ℕ)). ts ++ record_texts last.records) (sym (map-append record_text prelude.records lanes.records))
           ∙ sym (map-append record_text (prelude.records ++ lanes.records) last.records))));
     }
+
+-- ALL THAT A RUN PRINTED IS CHECKED
+
+-- a section that made all of a history behind its beginning was done as on one thread
+pub IsSerial : Type 0
+IsSerial = (seat : ℕ) (low high : Mark) (lines : List Line) (loads : List Loaded) (earlier records : List Record) (start own : List Entry)
+    → low.seen ≡ length start → SectionFits false (start ++ own) seat low lines loads records own high
+    → done_from seat (record { history = start; records = earlier }) lines loads ≡ record { history = start ++ own; records = earlier ++ records }
+
+-- the last section's first entry has a seat that is nobody else's
+stops_before : (laws : Laws) (sides : Sides) (history : List Entry) (low high : Mark) (lines : List Line) (records : List Record) (closing : List Entry) (position : ℕ) → position < 2 ^ 64
+    → SectionFits false history 0 low lines [] records closing high → StopsBefore sides (entry_texts position closing)
+stops_before laws sides history low high lines records [] position short fits = tt
+stops_before laws sides history low high lines records (e ∷ closing) position short fits =
+    let texts = texts_of_section false history 0 low high lines records (e ∷ closing) fits in
+    let seat : e.seat ≡ 0 = first_seat 0 e closing (own_seated laws false history 0 lines low.seen (record_texts records) (e ∷ closing) texts) in
+    ap (is_seat sides) (seat_in-entry position e short (omega arith) ∙ seat)
+
+-- the last section goes on from where the others came
+ends_is : (script : Parts) (lower closing : List Entry) (records : List Record) (left : List (List ℕ))
+    → last_from lower script.last ≡ record { history = lower ++ closing; records = records } → left ≡ record_texts records
+    → ends_so script lower (entry_texts (length lower + 1) closing) left ≡ true
+ends_is script lower closing records left last left_is =
+    let here : List (List ℕ) = entry_texts (length lower + 1) closing in
+    subst (λ (d : Done). (are_texts (entry_texts (length lower + 1) (entries_behind (length lower) d.history)) here && are_texts (record_texts d.records) left) ≡ true)
+    (sym last)
+    (and_from (are_texts (entry_texts (length lower + 1) (entries_behind (length lower) (lower ++ closing))) here) (are_texts (record_texts records) left)
+    (subst (λ (es : List Entry). are_texts (entry_texts (length lower + 1) es) here ≡ true) (sym (drop_behind lower closing)) (are_same here))
+    (subst (λ (ts : List (List ℕ)). are_texts (record_texts records) ts ≡ true) (sym left_is) (are_same (record_texts records))))
+
+pub checked_complete : (laws : Laws) (files : FileLaws) → IsSerial → (loads : List Loaded) (script : Parts) (workers : ℕ) (entries records : List (List ℕ))
+    → length script.lanes + workers < 2 ^ 64 → (run : AreTextsOfRun loads script workers entries records) → AreFew run.ended.history
+    → are_checked loads script workers entries records ≡ true
+unfolding IsSerial
+checked_complete laws files alone loads script workers entries records small run few =
+    let fits : RunFits loads script run.told run.ended = run.fits in
+    let opening : List Entry = fits.opening in
+    let middle : List Entry = fits.middle in
+    let lower : List Entry = opening ++ middle in
+    let closing : List Entry = fits.closing in
+    let sides : Sides = sides_of script workers opening in
+    let whole : run.ended.history ≡ lower ++ closing = fits.history in
+    let legal : IsLegal lower = laws.shorter lower closing (subst IsLegal whole fits.legal) in
+    let long = ap length whole in
+    let long' = length-append lower closing in
+    let lower_few : AreFew lower = omega arith in
+    let nothing : opening ++ [] ≡ opening = append-nil opening in
+    let last_fits : SectionFits false (lower ++ closing) 0 fits.last_begins script.last [] run.ended.last closing fits.last_end =
+    subst (λ (es : List Entry). SectionFits false es 0 fits.last_begins script.last [] run.ended.last closing fits.last_end) whole fits.last in
+    let first : after_prelude loads script ≡ record { history = opening; records = fits.prelude_records } =
+    alone 0 (mark_at 0) fits.prelude_end script.prelude loads [] fits.prelude_records [] opening refl fits.prelude in
+    let last : last_from lower script.last ≡ record { history = lower ++ closing; records = run.ended.last } =
+    alone 0 fits.last_begins fits.last_end script.last [] [] run.ended.last lower closing fits.last_behind last_fits in
+    let entries_left : List (List ℕ) = entry_texts (length (opening ++ []) + 1) middle ++ entry_texts (length lower + 1) closing in
+    let records_left : List (List ℕ) = record_texts fits.lanes_records ++ record_texts run.ended.last in
+    let entries_are : entries ≡ entry_texts 1 opening ++ entries_left =
+    run.entries_are ∙ (ap (entry_texts 1) whole ∙ (entry_texts-append 1 (length lower + 1) lower closing (omega arith)
+    ∙ (ap (λ (ts : List (List ℕ)). ts ++ entry_texts (length lower + 1) closing) (entry_texts-append 1 (length opening + 1) opening middle (omega arith))
+    ∙ (append_assoc (entry_texts 1 opening) (entry_texts (length opening + 1) middle) (entry_texts (length lower + 1) closing)
+    ∙ ap (λ (es : List Entry). entry_texts 1 opening ++ (entry_texts (length es + 1) middle ++ entry_texts (length lower + 1) closing)) (sym nothing))))) in
+    let records_are : records ≡ record_texts fits.prelude_records ++ records_left =
+    run.records_are ∙ (ap (λ (rs : List Record). record_texts (rs ++ run.ended.last)) fits.records
+    ∙ (map-append record_text (fits.prelude_records ++ fits.lanes_records) run.ended.last
+    ∙ (ap (λ (ts : List (List ℕ)). ts ++ record_texts run.ended.last) (map-append record_text fits.prelude_records fits.lanes_records)
+    ∙ append_assoc (record_texts fits.prelude_records) (record_texts fits.lanes_records) (record_texts run.ended.last)))) in
+    let lanes : LanesFit sides.beside lower (mark_at (length opening)) 1 script.lanes middle fits.lanes_records =
+    subst (λ (n : ℕ). LanesFit (run_beside (length script.lanes) n) lower (mark_at (length opening)) 1 script.lanes middle fits.lanes_records) run.count fits.lanes in
+    let side = sides_of_lanes sides.beside lower opening 1 script.lanes middle fits.lanes_records (record_texts run.ended.last) lanes in
+    let seats : AllSeats sides middle =
+    all_seats sides (length script.lanes + length run.told) middle (ap (λ (n : ℕ). length script.lanes + n) (sym run.count)) fits.seats in
+    let workers_go : WorkersFrom (length script.lanes) [] middle =
+    workers_from (length script.lanes) [] middle (λ seat past. workers_are lower (length opening) sides middle run.told run.count seats fits.worked seat past) in
+    let goes : phase_from sides [] (cursors_of 1 script.lanes records_left) entries_left ≡ Some (record { added = middle; left = entry_texts (length lower + 1) closing }) =
+    complete laws files sides small lower lower_few legal middle [] (cursors_of 1 script.lanes records_left) (entry_texts (length lower + 1) closing)
+    (ap (λ (es : List Entry). es ++ middle) (sym nothing))
+    (cursors_seated 1 (suc (length script.lanes)) script.lanes records_left (omega arith))
+    (stops_before_closing laws sides (lower ++ closing) fits.last_begins fits.last_end script.last run.ended.last lower closing (omega arith) last_fits) seats workers_go
+    (subst (λ (es : List Entry). CursorsFit sides.beside lower es (cursors_of 1 script.lanes records_left) middle) (sym nothing) side.fits) in
+    subst (λ (d : Done). begins_so script workers d.history (texts_behind (entry_texts 1 d.history) entries) (texts_behind (record_texts d.records) records) ≡ true) (sym first)
+    (subst (λ (o : Option (List (List ℕ))). begins_so script workers opening o (texts_behind (record_texts fits.prelude_records) records) ≡ true)
+    (sym (ap (texts_behind (entry_texts 1 opening)) entries_are ∙ is_behind (entry_texts 1 opening) entries_left))
+    (subst (λ (o : Option (List (List ℕ))). begins_so script workers opening (Some entries_left) o ≡ true)
+    (sym (ap (texts_behind (record_texts fits.prelude_records)) records_are ∙ is_behind (record_texts fits.prelude_records) records_left))
+    (subst (λ (o : Option Reached). goes_on_so script opening o (after_lanes script.lanes records_left) ≡ true) (sym goes)
+    (ends_is script lower closing run.ended.last (after_lanes script.lanes records_left) last side.left))))
+  where
+    stops_before_closing : (laws : Laws) (sides : Sides) (history : List Entry) (low high : Mark) (lines : List Line) (told : List Record) (lower closing : List Entry)
+        → length lower + length closing < 2 ^ 64 → SectionFits false history 0 low lines [] told closing high → StopsBefore sides (entry_texts (length lower + 1) closing)
+    stops_before_closing laws sides history low high lines told lower [] short fits = tt
+    stops_before_closing laws sides history low high lines told lower (e ∷ closing) short fits =
+        stops_before laws sides history low high lines told (e ∷ closing) (length lower + 1) (omega arith) fits

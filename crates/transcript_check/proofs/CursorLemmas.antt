@@ -142,6 +142,18 @@ module _ (laws : Laws) (beside : Bool) (history : List Entry) (seat : ℕ) where
       (subst (λ (n : ℕ). TextsFit beside history seat n lines fits.later fits.made_later) given.1.between_is fits.rest) in
       let nothing = ap length given.1.nothing in omega arith)) fits.first
 
+  -- all entries of a section have its seat
+  pub own_seated : (lines : List Line) (len : ℕ) (texts : List (List ℕ)) (own : List Entry) → TextsFit beside history seat len lines texts own → made_by seat own ≡ own
+  own_seated [] len texts own fits = subst (λ (es : List Entry). made_by seat es ≡ es) (sym fits.1) refl
+  own_seated (line ∷ lines) len texts own fits =
+      let made : made_by seat fits.made ≡ fits.made = ⊎_elim
+      (λ (late : DoneLate history seat line len fits.made fits.text fits.between). made_seated late.start line fits.made fits.text late.done)
+      (λ (given : (beside ≡ true) × WasGivenUp seat line len fits.made fits.text fits.between).
+      subst (λ (es : List Entry). made_by seat es ≡ es) (sym given.1.nothing) refl) fits.first in
+      let rest = own_seated lines fits.between fits.later fits.made_later fits.rest in
+      subst (λ (es : List Entry). made_by seat es ≡ es) (sym fits.own_is)
+      (filter-append (λ (x : Entry). eqb x.seat seat) fits.made fits.made_later ∙ λ i. made i ++ rest i)
+
   -- a settle that has begun is a line that was done behind what the section had seen
   pub loosen : (here : List Entry) (settling : Bool) (lines : List Line) (texts : List (List ℕ)) (own : List Entry)
       → StateFits beside history here seat true lines texts own → StateFits beside history here seat settling lines texts own
