@@ -9,3 +9,4 @@ pub mod PhaseLemmas
 pub mod MiddleLemmas
 pub mod SerialLemmas
 pub mod CheckedLemmas
+pub mod ChangeLemmas

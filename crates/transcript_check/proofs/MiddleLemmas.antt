@@ -2,9 +2,8 @@
 use Rattle.std.proofs.Common.{ℕ, zero, suc, ◌≡◌, ◌≢◌, ◌+◌, ◌≤◌, ◌<◌, Bool, true, false, cond, ◌&&◌, List, [], ◌∷◌, ◌++◌, length, map, take, drop, take-append-drop, refl, sym, ap, ◌∙◌, subst, append_assoc, length-append, arith, ◌⊎◌, inl, inr, ⊎_elim, eqb, leb}
 use Rattle.std.specs.List.{All}
 use Rattle.std.proofs.lemmas.List.{append-nil, map-append}
-use Rattle.std.proofs.lemmas.Bool.{and_parts, and_from, leb-true, le-leb, cases_lt}
-use Rattle.list_laws.proofs.FrontLemmas.{All-cons, filter_none}
-use Rattle.std.proofs.lemmas.Bool.{ne_eqb}
+use Rattle.std.proofs.lemmas.Bool.{both_ways, and_parts, and_from, and_right, leb-true, le-leb, lt-leb, cases_lt}
+use Rattle.list_laws.proofs.FrontLemmas.{All-cons}
 use Rattle.write_history.specs.declared.entry.Entry.{Entry}
 use Rattle.script_lang.specs.declared.line.Line.{Line}
 use Rattle.index_workers.specs.declared.worked.End.TheVariants.{Turns}
@@ -17,6 +16,7 @@ use Rattle.transcript_check.specs.Section.{Cursor}
 use Rattle.transcript_check.specs.Phase.{Sides, is_seat, cursors_of, after_lanes}
 use Rattle.transcript_check.specs.Checked.{record_texts}
 use Rattle.transcript_check.proofs.Texts.{DoneLate, WasGivenUp, FirstFits, TextsFit, texts_of_section, RecordsFit, section_of_texts}
+use Rattle.transcript_check.proofs.StepLemmas.{made_by-other}
 use Rattle.transcript_check.proofs.WorkerLemmas.{AreWorkers}
 use Rattle.transcript_check.proofs.SideLemmas.{CursorsFit, AreSeated}
 use Rattle.transcript_check.proofs.PhaseLemmas.{AllSeats}
@@ -145,20 +145,15 @@ workers_told history low seat entries (worked ∷ told) fit s above below = ⊎_
     subst (λ (n : ℕ). AreWorkers n entries) same (record { intakes = fit.0.intakes; apart = fit.0.apart }))) (cases_lt seat s)
 
 -- who has no seat here has made nothing
-none_past : (sides : Sides) (es : List Entry) (seat : ℕ) → AllSeats sides es → sides.lanes + sides.workers < seat → made_by seat es ≡ []
-none_past sides es seat seats past = filter_none (λ (e : Entry). eqb e.seat seat) es (by es seats)
-  where
-    by : (es : List Entry) → AllSeats sides es → All (λ (e : Entry). eqb e.seat seat ≡ false) es
-    by [] seats = λ k d less. absurd (omega arith)
-    by (e ∷ es) seats =
-        let parts = and_parts (leb 1 e.seat) (leb e.seat (sides.lanes + sides.workers)) seats.0 in
-        let below = leb-true e.seat (sides.lanes + sides.workers) parts.1 in
-        All-cons (λ (x : Entry). eqb x.seat seat ≡ false) e es (ne_eqb e.seat seat (λ same. absurd (omega arith))) (by es seats.1)
+pub none_outside : (sides : Sides) (seat : ℕ) (es : List Entry) → AllSeats sides es → is_seat sides seat ≡ false → made_by seat es ≡ []
+none_outside sides seat [] seats outside = refl
+none_outside sides seat (e ∷ es) seats outside =
+    made_by-other seat e es (λ same. both_ways (is_seat sides seat) outside (ap (is_seat sides) (sym same) ∙ seats.0)) ∙ none_outside sides seat es seats.1 outside
 
 pub workers_are : (history : List Entry) (low : ℕ) (sides : Sides) (entries : List Entry) (told : List Worked) → length told ≡ sides.workers
     → AllSeats sides entries → WorkersFit history low (1 + sides.lanes) entries told → (s : ℕ) → sides.lanes < s → AreWorkers s entries
 workers_are history low sides entries told count seats fit s past = ⊎_elim
-    (λ (beyond : sides.lanes + sides.workers < s). (let none = none_past sides entries s seats beyond in
+    (λ (beyond : sides.lanes + sides.workers < s). (let none = none_outside sides s entries seats (and_right (leb 1 s) (leb s (sides.lanes + sides.workers)) (lt-leb s (sides.lanes + sides.workers) beyond)) in
     record { intakes = subst (All (IsIntakeBy s)) (sym none) (λ k d less. absurd (omega arith));
       apart = subst AreApart (sym none) (λ i j d less within. absurd (omega arith)) }))
     (λ (within : s ≤ sides.lanes + sides.workers). workers_told history low (1 + sides.lanes) entries told fit s (omega arith) (omega arith))
