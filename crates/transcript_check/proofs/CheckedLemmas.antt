@@ -177,7 +177,7 @@ checked_sound laws loads script workers entries records checked =
 -- ALL THAT A RUN PRINTED IS CHECKED
 
 -- a section that made all of a history behind its beginning was done as on one thread
-pub IsSerial : Type 0
+abbrev pub IsSerial : Type 0
 IsSerial = (seat : ℕ) (low high : Mark) (lines : List Line) (loads : List Loaded) (earlier records : List Record) (start own : List Entry)
     → low.seen ≡ length start → SectionFits false (start ++ own) seat low lines loads records own high
     → done_from seat (record { history = start; records = earlier }) lines loads ≡ record { history = start ++ own; records = earlier ++ records }
@@ -206,7 +206,6 @@ ends_is script lower closing records left last left_is =
 pub checked_complete : (laws : Laws) (files : FileLaws) → IsSerial → (loads : List Loaded) (script : Parts) (workers : ℕ) (entries records : List (List ℕ))
     → length script.lanes + workers < 2 ^ 64 → (run : AreTextsOfRun loads script workers entries records) → AreFew run.ended.history
     → are_checked loads script workers entries records ≡ true
-unfolding IsSerial
 checked_complete laws files alone loads script workers entries records small run few =
     let fits : RunFits loads script run.told run.ended = run.fits in
     let opening : List Entry = fits.opening in
