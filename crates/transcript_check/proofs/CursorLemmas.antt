@@ -70,7 +70,7 @@ stand history before behind start made parts late front =
       whole = front.1;
     }
 
-one_more : (here : List Entry) (e : Entry) → length (here ++ e ∷ []) ≡ length here + 1
+pub one_more : (here : List Entry) (e : Entry) → length (here ++ e ∷ []) ≡ length here + 1
 one_more here e = length-append here (e ∷ [])
 
 same_head : {e f : Entry} {es fs : List Entry} → e ∷ es ≡ f ∷ fs → e ≡ f
@@ -85,17 +85,17 @@ text_head h = cc
 text_tail : {t u : List ℕ} {ts us : List (List ℕ)} → t ∷ ts ≡ u ∷ us → ts ≡ us
 text_tail h = cc
 
-none_some : {X : Type 0} {x : X} → None ≡ Some x → ⊥
+pub none_some : {X : Type 0} {x : X} → None ≡ Some x → ⊥
 none_some h = cc
 
-some_some : {X : Type 0} {x y : X} → Some x ≡ Some y → x ≡ y
+pub some_some : {X : Type 0} {x y : X} → Some x ≡ Some y → x ≡ y
 some_some h = cc
 
-nil_cons : {X : Type 0} {x : X} {xs : List X} → [] ≡ x ∷ xs → ⊥
+pub nil_cons : {X : Type 0} {x : X} {xs : List X} → [] ≡ x ∷ xs → ⊥
 nil_cons h = cc
 
 -- where all of a list that is not empty has a seat, the first has it
-first_seat : (seat : ℕ) (e : Entry) (es : List Entry) → made_by seat (e ∷ es) ≡ e ∷ es → e.seat ≡ seat
+pub first_seat : (seat : ℕ) (e : Entry) (es : List Entry) → made_by seat (e ∷ es) ≡ e ∷ es → e.seat ≡ seat
 first_seat seat e es all = bool_cases (eqb e.seat seat) (λ b. cond b (e ∷ made_by seat es) (made_by seat es) ≡ e ∷ es → e.seat ≡ seat)
     (λ yes h. eqb-true e.seat seat yes)
     (λ none h. let long = ap length h in let few = count_le (λ (x : Entry). eqb x.seat seat) es in absurd (omega arith)) all
@@ -141,6 +141,18 @@ module _ (laws : Laws) (beside : Bool) (history : List Entry) (seat : ℕ) where
       let rest = few_own lines fits.later fits.made_later before behind parts
       (subst (λ (n : ℕ). TextsFit beside history seat n lines fits.later fits.made_later) given.1.between_is fits.rest) in
       let nothing = ap length given.1.nothing in omega arith)) fits.first
+
+  -- all entries of a section have its seat
+  pub own_seated : (lines : List Line) (len : ℕ) (texts : List (List ℕ)) (own : List Entry) → TextsFit beside history seat len lines texts own → made_by seat own ≡ own
+  own_seated [] len texts own fits = subst (λ (es : List Entry). made_by seat es ≡ es) (sym fits.1) refl
+  own_seated (line ∷ lines) len texts own fits =
+      let made : made_by seat fits.made ≡ fits.made = ⊎_elim
+      (λ (late : DoneLate history seat line len fits.made fits.text fits.between). made_seated late.start line fits.made fits.text late.done)
+      (λ (given : (beside ≡ true) × WasGivenUp seat line len fits.made fits.text fits.between).
+      subst (λ (es : List Entry). made_by seat es ≡ es) (sym given.1.nothing) refl) fits.first in
+      let rest = own_seated lines fits.between fits.later fits.made_later fits.rest in
+      subst (λ (es : List Entry). made_by seat es ≡ es) (sym fits.own_is)
+      (filter-append (λ (x : Entry). eqb x.seat seat) fits.made fits.made_later ∙ λ i. made i ++ rest i)
 
   -- a settle that has begun is a line that was done behind what the section had seen
   pub loosen : (here : List Entry) (settling : Bool) (lines : List Line) (texts : List (List ℕ)) (own : List Entry)
@@ -326,7 +338,7 @@ module _ (laws : Laws) (beside : Bool) (history : List Entry) (seat : ℕ) where
       subst (λ (es : List Entry). DoneBehind history es seat line made text) same done
 
   -- the next entry is another's: the section isn't in the middle of a settle, and fits behind that entry
-  other_forth : (here : List Entry) (settling : Bool) (lines : List Line) (texts : List (List ℕ)) (e : Entry) (es own : List Entry)
+  pub other_forth : (here : List Entry) (settling : Bool) (lines : List Line) (texts : List (List ℕ)) (e : Entry) (es own : List Entry)
       → StopsAt beside here seat settling lines texts → history ≡ here ++ e ∷ es → (e.seat ≡ seat → ⊥)
       → StateFits beside history here seat settling lines texts own
       → (settling ≡ false) × StateFits beside history (here ++ e ∷ []) seat false lines texts own
@@ -433,7 +445,7 @@ module _ (laws : Laws) (beside : Bool) (history : List Entry) (seat : ℕ) where
             (subst (TextsFit beside history seat between lines texts) (sym (ap (λ (es : List Entry). es ++ own) none)) rest);
       }
 
-  own_forth : (here : List Entry) (settling : Bool) (lines : List Line) (texts : List (List ℕ)) (e : Entry) (es : List Entry)
+  pub own_forth : (here : List Entry) (settling : Bool) (lines : List Line) (texts : List (List ℕ)) (e : Entry) (es : List Entry)
       → StopsAt beside here seat settling lines texts → history ≡ here ++ e ∷ es → e.seat ≡ seat
       → StateFits beside history here seat settling lines texts (made_by seat (e ∷ es))
       → GoesOn here lines texts e (made_by seat es)
@@ -476,7 +488,7 @@ module _ (laws : Laws) (beside : Bool) (history : List Entry) (seat : ℕ) where
   pub own_back : (here : List Entry) (settling : Bool) (lines : List Line) (texts : List (List ℕ)) (m : Made) (own : List Entry)
       → made_from here seat lines texts ≡ Some m → IsFront (here ++ m.entry ∷ []) history
       → CursorFits beside history (here ++ m.entry ∷ []) m.cursor own
-      → (m.cursor.seat ≡ seat) × (m.entry.seat ≡ seat) × StateFits beside history here seat settling lines texts (m.entry ∷ own)
+      → StateFits beside history here seat settling lines texts (m.entry ∷ own)
   own_back here settling [] texts m own makes front fits = absurd (none_some makes)
   own_back here settling (line ∷ lines) [] m own makes front fits = absurd (none_some makes)
   own_back here settling (line ∷ lines) (text ∷ texts) m own makes front fits =
@@ -484,9 +496,6 @@ module _ (laws : Laws) (beside : Bool) (history : List Entry) (seat : ℕ) where
       let over : Cursor = record { seat = seat; lines = lines; texts = texts; settling = false } in
       let told : Bool = bytes_eq (told_text seat line.number (line_step here seat line).answer) text in
       let made = was_made (is_settle line.command) told on_the_way over (line_step here seat line).added m makes in
-      let seated : made_by seat (m.entry ∷ made.more) ≡ m.entry ∷ made.more =
-      subst (λ (xs : List Entry). made_by seat xs ≡ xs) made.added_is (stepped here line).seated in
-      let own_seat = first_seat seat m.entry made.more seated in
       ⊎_elim (λ (how : (is_settle line.command ≡ true) × (m.cursor ≡ on_the_way)). (
       let behind : CursorFits beside history (here ++ m.entry ∷ []) on_the_way own = subst (λ (c : Cursor). CursorFits beside history (here ++ m.entry ∷ []) c own) how.1 fits in
       let moved : (here ++ m.entry ∷ []) ++ behind.made ≡ here ++ m.entry ∷ behind.made = append_assoc here (m.entry ∷ []) behind.made in
@@ -499,10 +508,10 @@ module _ (laws : Laws) (beside : Bool) (history : List Entry) (seat : ℕ) where
             (sym (ap (λ (s : Step). s.added) settles) ∙ made.added_is) (sym later ∙ behind.first.0.step);
         told = behind.first.0.told;
       } in
-      (ap (λ (c : Cursor). c.seat) how.1, own_seat, loosen here settling (line ∷ lines) (text ∷ texts) (m.entry ∷ own)
+      loosen here settling (line ∷ lines) (text ∷ texts) (m.entry ∷ own)
       (record { text = behind.text; made = m.entry ∷ behind.made; between = behind.between; later = behind.later; made_later = behind.made_later;
         texts_are = behind.texts_are; own_is = ap (λ (xs : List Entry). m.entry ∷ xs) behind.own_is;
-        first = (done, behind.first.1 ∙ ap length moved); rest = behind.rest }))))
+        first = (done, behind.first.1 ∙ ap length moved); rest = behind.rest })))
       (λ (how : (is_settle line.command ≡ false) × (told ≡ true) × (m.cursor ≡ over)). (
       let none = step_one laws seat Nothing here line.number line.command m.entry made.more how.0 made.added_is in
       let added : (line_step here seat line).added ≡ m.entry ∷ [] = made.added_is ∙ ap (λ (xs : List Entry). m.entry ∷ xs) none in
@@ -514,9 +523,31 @@ module _ (laws : Laws) (beside : Bool) (history : List Entry) (seat : ℕ) where
         step = λ i. record { added = added i; answer = (line_step here seat line).answer };
         told = text_is (told_text seat line.number (line_step here seat line).answer) text how.1;
       } in
-      (ap (λ (c : Cursor). c.seat) how.2, own_seat, loosen here settling (line ∷ lines) (text ∷ texts) (m.entry ∷ own)
+      loosen here settling (line ∷ lines) (text ∷ texts) (m.entry ∷ own)
       (record { text = text; made = m.entry ∷ []; between = length (here ++ m.entry ∷ []); later = texts; made_later = own; texts_are = refl; own_is = refl;
-        first = (done, refl); rest = rest })))) made.how
+        first = (done, refl); rest = rest }))) made.how
+
+  -- the next record of a section may fit later, where it isn't in the middle of a settle
+  pub other_back : (here : List Entry) (settling : Bool) (lines : List Line) (texts : List (List ℕ)) (e : Entry) (own : List Entry) → settling ≡ false
+      → StateFits beside history (here ++ e ∷ []) seat settling lines texts own → StateFits beside history here seat settling lines texts own
+  other_back here false lines texts e own quiet fits =
+      let grown = one_more here e in sooner lines (length (here ++ e ∷ [])) (length here) texts own (omega arith) fits
+  other_back here true lines texts e own quiet fits = absurd (both_ways true quiet refl)
+
+  -- a section keeps its seat, which its entry has
+  pub made_seat : (here : List Entry) (lines : List Line) (texts : List (List ℕ)) (m : Made) → made_from here seat lines texts ≡ Some m
+      → (m.cursor.seat ≡ seat) × (m.entry.seat ≡ seat)
+  made_seat here [] texts m makes = absurd (none_some makes)
+  made_seat here (line ∷ lines) [] m makes = absurd (none_some makes)
+  made_seat here (line ∷ lines) (text ∷ texts) m makes =
+      let made = was_made (is_settle line.command) (bytes_eq (told_text seat line.number (line_step here seat line).answer) text)
+      (record { seat = seat; lines = line ∷ lines; texts = text ∷ texts; settling = true }) (record { seat = seat; lines = lines; texts = texts; settling = false })
+      (line_step here seat line).added m makes in
+      (⊎_elim (λ (how : (is_settle line.command ≡ true) × (m.cursor ≡ record { seat = seat; lines = line ∷ lines; texts = text ∷ texts; settling = true })).
+      ap (λ (c : Cursor). c.seat) how.1)
+      (λ (how : (is_settle line.command ≡ false) × (bytes_eq (told_text seat line.number (line_step here seat line).answer) text ≡ true)
+      × (m.cursor ≡ record { seat = seat; lines = lines; texts = texts; settling = false })). ap (λ (c : Cursor). c.seat) how.2) made.how,
+      first_seat seat m.entry made.more (subst (λ (xs : List Entry). made_by seat xs ≡ xs) made.added_is (stepped here line).seated))
 
   -- an entry that a section makes isn't refused where it stands
   pub made_lawful : (here : List Entry) (lines : List Line) (texts : List (List ℕ)) (m : Made) → made_from here seat lines texts ≡ Some m

@@ -6,3 +6,11 @@ pub mod TextLemmas
 pub mod StepLemmas
 pub mod Texts
 pub mod CursorLemmas
+pub mod WorkerLemmas
+pub mod SideLemmas
+pub mod IntakeLemmas
+pub mod PhaseLemmas
+pub mod MiddleLemmas
+pub mod SerialLemmas
+pub mod CheckedLemmas
+pub mod ChangeLemmas

@@ -10,7 +10,7 @@ use Rattle.write_history.specs.declared.refusal.Refusal.{Refusal}
 use Rattle.write_history.specs.declared.refusal.Refusal.TheVariants as why
 use Rattle.write_history.specs.Path.{is_path}
 use Rattle.write_history.specs.World.{lowest_unready, unready_ids}
-use Rattle.write_history.specs.Fold.{ListRefusal, fold, fold_from, list_refusal, after_list, IsLegal}
+use Rattle.write_history.specs.Fold.{ListRefusal, fold, fold_from, list_refusal, after_list, IsLegal, IsLegalFrom}
 use Rattle.ide_calls.specs.Settle.{Settled, all_settled, refused_for, with_entry, entry_of, intake_of, intake_entry, settled_unless, settled_from, settled}
 use Rattle.script_lang.specs.declared.command.Command.{Command}
 use Rattle.script_lang.specs.declared.command.Command.TheVariants as command
@@ -33,6 +33,7 @@ use Rattle.transcript_check.proofs.TextLemmas.{at_of}
 pub record Laws : Type 0 where
   pub goes_on : (earlier later : List Entry) → fold (earlier ++ later) ≡ fold_from (fold earlier) later
   pub legal : (entries : List Entry) (entry : Entry) → IsLegal entries → list_refusal (fold entries) entry.changes ≡ None → IsLegal (entries ++ entry ∷ [])
+  pub rest : (earlier later : List Entry) → IsLegal (earlier ++ later) → IsLegalFrom (fold earlier) later
   pub shorter : (earlier later : List Entry) → IsLegal (earlier ++ later) → IsLegal earlier
   pub settle_over : (history : List Entry) (seat line : ℕ) → lowest_unready (fold history) ≡ None → settled history seat line ≡ all_settled
   pub settle_ends : (history : List Entry) (seat line id : ℕ) (why : Refusal) → lowest_unready (fold history) ≡ Some id

@@ -1,12 +1,13 @@
 -- A transcript is checked: the prelude, then lanes and workers side by side, then the last section, each from where the one before came.
-use Rattle.std.specs.Prelude.{ℕ, ◌+◌, ◌&&◌, Bool, true, false, List, [], ◌∷◌, ◌++◌, map, length, drop, Option, Some, None, if◌then◌else◌, bytes_eq}
+use Rattle.std.specs.Prelude.{ℕ, ◌≡◌, ◌+◌, ◌&&◌, Bool, true, false, List, [], ◌∷◌, ◌++◌, map, length, drop, Option, Some, None, if◌then◌else◌, bytes_eq}
 use Rattle.write_history.specs.declared.entry.Entry.{Entry}
 use Rattle.write_history.specs.Print.{entry_line}
 use Rattle.script_lang.specs.Parts.{Parts}
 use Rattle.transcripts.specs.declared.loaded.Loaded.{Loaded}
 use Rattle.transcripts.specs.declared.record.Record.{Record}
-use Rattle.transcripts.specs.Serial.{Done, done_from, last_from}
-use Rattle.transcripts.specs.Fits.{run_beside}
+use Rattle.index_workers.specs.declared.worked.Worked.{Worked}
+use Rattle.transcripts.specs.Serial.{Done, Ended, done_from, last_from}
+use Rattle.transcripts.specs.Fits.{run_beside, RunFits}
 use Rattle.transcripts.specs.Transcript.{record_text}
 use Rattle.transcript_check.specs.Phase.{Sides, Reached, phase_from, cursors_of, after_lanes}
 
@@ -70,3 +71,12 @@ are_checked loads script workers entries records =
     begins_so script workers (after_prelude loads script).history
     (texts_behind (entry_texts 1 (after_prelude loads script).history) entries)
     (texts_behind (record_texts (after_prelude loads script).records) records)
+
+-- these are the texts of the entries and records of a run of the script with so many workers, where this was read for its prelude
+pub record AreTextsOfRun (loads : List Loaded) (script : Parts) (workers : ℕ) (entries records : List (List ℕ)) : Type 0 where
+  pub told : List Worked
+  pub ended : Ended
+  pub count : length told ≡ workers
+  pub fits : RunFits loads script told ended
+  pub entries_are : entries ≡ entry_texts 1 ended.history
+  pub records_are : records ≡ record_texts (ended.records ++ ended.last)
