@@ -19,6 +19,8 @@ pub enum Query {
     Usages { name: Name },
     /// Which types come from a type with the name, through any number of types between.
     Inheritors { name: Name },
+    /// Where property files have the key.
+    Key { key: Name },
     /// What the file at the path declares.
     Outline { path: Name },
     /// How many files, open documents and unready files there are.
@@ -37,6 +39,7 @@ impl Query {
             Query::Word { name } => Query::Word { name: name.copy()? },
             Query::Usages { name } => Query::Usages { name: name.copy()? },
             Query::Inheritors { name } => Query::Inheritors { name: name.copy()? },
+            Query::Key { key } => Query::Key { key: key.copy()? },
             Query::Outline { path } => Query::Outline { path: path.copy()? },
             Query::Status => Query::Status,
         })

@@ -116,6 +116,7 @@ BeginsPlain-query (query_key.OfName name_key.Method) rest = record { first = _; 
 BeginsPlain-query (query_key.OfName name_key.Word) rest = record { first = _; rest = _; begins = refl; ascii = lit< tt; other = refl }
 BeginsPlain-query (query_key.OfName name_key.Usages) rest = record { first = _; rest = _; begins = refl; ascii = lit< tt; other = refl }
 BeginsPlain-query (query_key.OfName name_key.Inheritors) rest = record { first = _; rest = _; begins = refl; ascii = lit< tt; other = refl }
+BeginsPlain-query query_key.Key rest = record { first = _; rest = _; begins = refl; ascii = lit< tt; other = refl }
 BeginsPlain-query query_key.Outline rest = record { first = _; rest = _; begins = refl; ascii = lit< tt; other = refl }
 
 lone_content-keyword : (keyword : Keyword) (rest : List ℕ) → lone_content (spelled keyword ++ space ∷ rest) ≡ None
@@ -139,6 +140,7 @@ lone_content-query (query_key.OfName name_key.Method) rest = refl
 lone_content-query (query_key.OfName name_key.Word) rest = refl
 lone_content-query (query_key.OfName name_key.Usages) rest = refl
 lone_content-query (query_key.OfName name_key.Inheritors) rest = refl
+lone_content-query query_key.Key rest = refl
 lone_content-query query_key.Outline rest = refl
 
 -- what is read of a command's line

@@ -8,6 +8,7 @@ use Rattle.script_lang.specs.Fields.{space, parts_at_space, last_path}
 use Rattle.script_lang.specs.Grammar.{IsQueryLine}
 use Rattle.script_lang.specs.Keywords.{query_keywords, query_keyword_of}
 use Rattle.script_lang.specs.Queries.{name_query, query_with, query_of_parts, query_of}
+use Rattle.script_lang.specs.Quotes.{text_of_field}
 use Rattle.queries.specs.declared.query.Query.{Query}
 use Rattle.queries.specs.declared.query.Query.TheVariants as query
 use Rattle.script_lang.specs.declared.keyword.QueryKeyword.{QueryKeyword}
@@ -15,6 +16,7 @@ use Rattle.script_lang.specs.declared.keyword.QueryKeyword.TheVariants as query_
 use Rattle.script_lang.specs.declared.keyword.NameKeyword.{NameKeyword}
 use Rattle.script_lang.specs.declared.keyword.NameKeyword.TheVariants as name_key
 use Rattle.script_lang.proofs.GrammarFields.{AreParts-parts_at_space, last_path-some, last_path-IsPath, look_up-some}
+use Rattle.script_lang.proofs.GrammarQuotes.{IsQuoted-text_of_field, text_of_field-IsQuoted}
 use Rattle.script_lang.proofs.OptionLemmas.{option_map-some, option_and_then-some}
 
 -- the word of a keyword
@@ -28,11 +30,12 @@ spelled_name name_key.Inheritors = codes "inheritors"
 
 abbrev pub spelled_query : QueryKeyword → List ℕ
 spelled_query (query_key.OfName keyword) = spelled_name keyword
+spelled_query query_key.Key = codes "key"
 spelled_query query_key.Outline = codes "outline"
 
 spelled-query_keyword_of : (word : List ℕ) (keyword : QueryKeyword) → query_keyword_of word ≡ Some keyword → word ≡ spelled_query keyword
 spelled-query_keyword_of word keyword e =
-    look_up-some (λ w k. w ≡ spelled_query k) query_keywords word keyword (refl, (refl, (refl, (refl, (refl, (refl, (refl, tt))))))) e
+    look_up-some (λ w k. w ≡ spelled_query k) query_keywords word keyword (refl, (refl, (refl, (refl, (refl, (refl, (refl, (refl, tt)))))))) e
 
 -- a question's form
 IsQueryLine-name : (keyword : NameKeyword) (line name : List ℕ) → line ≡ spelled_name keyword ++ space ∷ name → is_word name ≡ true
@@ -49,6 +52,9 @@ IsQueryLine-with : (keyword : QueryKeyword) (line rest : List ℕ) (q : Query) �
 IsQueryLine-with (query_key.OfName keyword) line rest q e read =
     let made = cond_some (is_word rest) (name_query keyword rest) q read in
     subst (IsQueryLine line) made.1 (IsQueryLine-name keyword line rest e made.0)
+IsQueryLine-with query_key.Key line rest q e read =
+    let made = option_map-some query.Key (text_of_field rest) q read in
+    subst (IsQueryLine line) made.2 (rest, e, IsQuoted-text_of_field rest made.0 made.1)
 IsQueryLine-with query_key.Outline line rest q e read =
     let made = option_map-some query.Outline (last_path rest) q read in
     let found = last_path-some rest made.0 made.1 in
@@ -84,6 +90,8 @@ IsAsked-IsQueryLine line (query.Method name) (e, whole) = asked_name name_key.Me
 IsAsked-IsQueryLine line (query.Word name) (e, whole) = asked_name name_key.Word line name e whole
 IsAsked-IsQueryLine line (query.Usages name) (e, whole) = asked_name name_key.Usages line name e whole
 IsAsked-IsQueryLine line (query.Inheritors name) (e, whole) = asked_name name_key.Inheritors line name e whole
+IsAsked-IsQueryLine line (query.Key key) (field, e, quoted) =
+    inr (query_key.Key, field, e, ap (option_map query.Key) (text_of_field-IsQuoted field key quoted))
 IsAsked-IsQueryLine line (query.Outline path) (e, is) = inr (query_key.Outline, path, e, ap (option_map query.Outline) (last_path-IsPath path is))
 IsAsked-IsQueryLine line query.Status e = inl (e, refl)
 
@@ -95,6 +103,7 @@ query_of-with (query_key.OfName name_key.Method) rest = refl
 query_of-with (query_key.OfName name_key.Word) rest = refl
 query_of-with (query_key.OfName name_key.Usages) rest = refl
 query_of-with (query_key.OfName name_key.Inheritors) rest = refl
+query_of-with query_key.Key rest = refl
 query_of-with query_key.Outline rest = refl
 
 pub query_of-IsAsked : (line : List ℕ) (q : Query) → IsAsked line q → query_of line ≡ Some q

@@ -26,7 +26,9 @@ keyword_of-chars w text =
 
 pub query_keyword_of-chars : (w : List ℕ) → IsUtf8 w → query_keyword_of (chars w) ≡ query_keyword_of w
 unfolding encode
-query_keyword_of-chars w text = look_up-chars query_keywords w text (refl, refl, (refl, refl, (refl, refl, (refl, refl, (refl, refl, (refl, refl, (refl, refl, tt)))))))
+query_keyword_of-chars w text =
+    look_up-chars query_keywords w text
+    (refl, refl, (refl, refl, (refl, refl, (refl, refl, (refl, refl, (refl, refl, (refl, refl, (refl, refl, tt))))))))
 
 pub lone_content-chars : (w : List ℕ) → IsUtf8 w → lone_content (chars w) ≡ lone_content w
 unfolding encode

@@ -71,6 +71,10 @@ HasPathAndText keyword line path text =
 abbrev pub HasName : List ℕ → List ℕ → List ℕ → Type 0
 HasName keyword line name = (line ≡ spaced (keyword ∷ name ∷ [])) × IsTrue (is_word name)
 
+-- a line is a keyword and a text in quotes
+abbrev pub HasText : List ℕ → List ℕ → List ℕ → Type 0
+HasText keyword line text = (field : List ℕ) × (line ≡ spaced (keyword ∷ field ∷ [])) × IsQuoted field text
+
 -- a line's characters are the form of a change; an intake has no form, since index data go in by a settle alone
 abbrev pub IsChangeLine : List ℕ → Change → Type 0
 IsChangeLine line (change.Create path text) = HasPathAndText (codes "create") line path text
@@ -95,6 +99,7 @@ IsQueryLine line (query.Method name) = HasName (codes "method") line name
 IsQueryLine line (query.Word name) = HasName (codes "word") line name
 IsQueryLine line (query.Usages name) = HasName (codes "usages") line name
 IsQueryLine line (query.Inheritors name) = HasName (codes "inheritors") line name
+IsQueryLine line (query.Key key) = HasText (codes "key") line key
 IsQueryLine line (query.Outline path) = HasPath (codes "outline") line path
 IsQueryLine line query.Status = line ≡ codes "status"
 

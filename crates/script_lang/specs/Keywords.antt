@@ -5,7 +5,7 @@ use Rattle.script_lang.specs.declared.keyword.Keyword.TheVariants.{OfPath, OfTex
 use Rattle.script_lang.specs.declared.keyword.PathKeyword.TheVariants.{Load, Delete, Open, Commit, Save, Close}
 use Rattle.script_lang.specs.declared.keyword.TextKeyword.TheVariants.{Create, Write}
 use Rattle.script_lang.specs.declared.keyword.QueryKeyword.{QueryKeyword}
-use Rattle.script_lang.specs.declared.keyword.QueryKeyword.TheVariants.{OfName, Outline}
+use Rattle.script_lang.specs.declared.keyword.QueryKeyword.TheVariants.{OfName, Key, Outline}
 use Rattle.script_lang.specs.declared.keyword.NameKeyword.TheVariants.{Class, Supers, Method, Word, Usages, Inheritors}
 
 -- what the first row with this word holds
@@ -24,7 +24,7 @@ keywords =
 abbrev pub query_keywords : List (List ℕ × QueryKeyword)
 query_keywords =
     (codes "class", OfName Class) ∷ (codes "supers", OfName Supers) ∷ (codes "method", OfName Method) ∷ (codes "word", OfName Word)
-    ∷ (codes "usages", OfName Usages) ∷ (codes "inheritors", OfName Inheritors) ∷ (codes "outline", Outline) ∷ []
+    ∷ (codes "usages", OfName Usages) ∷ (codes "inheritors", OfName Inheritors) ∷ (codes "key", Key) ∷ (codes "outline", Outline) ∷ []
 
 -- the keyword that the characters spell
 abbrev pub keyword_of : List ℕ → Option Keyword

@@ -4,6 +4,7 @@ use Rattle.std.specs.Option.{option_and_then}
 use Rattle.java_tokens.specs.Identifier.{is_word}
 use Rattle.script_lang.specs.Fields.{parts_at_space, last_path}
 use Rattle.script_lang.specs.Keywords.{query_keyword_of}
+use Rattle.script_lang.specs.Quotes.{text_of_field}
 use Rattle.queries.specs.declared.query.Query.{Query}
 use Rattle.queries.specs.declared.query.Query.TheVariants as query
 use Rattle.script_lang.specs.declared.keyword.QueryKeyword.{QueryKeyword}
@@ -23,6 +24,7 @@ name_query name_key.Inheritors name = query.Inheritors name
 -- the question of a keyword with what stands behind the space after it
 abbrev pub query_with : QueryKeyword → List ℕ → Option Query
 query_with (query_key.OfName keyword) rest = if is_word rest then Some (name_query keyword rest) else None
+query_with query_key.Key rest = option_map query.Key (text_of_field rest)
 query_with query_key.Outline rest = option_map query.Outline (last_path rest)
 
 -- the question that stands alone on its line

@@ -43,6 +43,8 @@ pub(crate) enum TextKeyword {
 pub(crate) enum QueryKeyword {
     /// A name follows.
     OfName(NameKeyword),
+    /// A text follows.
+    Key,
     /// A path follows.
     Outline,
 }
@@ -104,6 +106,7 @@ fn query_keyword_of_bytes(word: &str) -> Option<QueryKeyword>
         "word" => Some(QueryKeyword::OfName(NameKeyword::Word)),
         "usages" => Some(QueryKeyword::OfName(NameKeyword::Usages)),
         "inheritors" => Some(QueryKeyword::OfName(NameKeyword::Inheritors)),
+        "key" => Some(QueryKeyword::Key),
         "outline" => Some(QueryKeyword::Outline),
         _ => None,
     }

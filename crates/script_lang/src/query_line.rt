@@ -5,12 +5,13 @@ ghost use Rattle.script_lang.specs.Queries.{query_of, lone_query, query_with, na
 
 use crate::field::{last_path, parts_at_space};
 use crate::keyword::{NameKeyword, QueryKeyword, query_keyword_of};
+use crate::quoted::key_of_field;
 use ide_text::Name;
 use java_tokens::is_word;
 use queries::Query;
 use std::alloc::{AllocError, Global};
 
-/// The question of a line's text, where the line has one of the eight forms.
+/// The question of a line's text, where the line has one of the nine forms.
 #[tactic(auto, unfolding(crate::specs::Queries::query_of))]
 pub(crate) fn query_of(alloc: Global, line: &str) -> Result<Option<Query>, AllocError>
     ensures { IfOk result (λ query. query ≡ query_of (chars line.now)) }
@@ -45,6 +46,10 @@ fn query_with(alloc: Global, keyword: QueryKeyword, rest: &str) -> Result<Option
                 return Ok(None);
             }
             Ok(Some(name_query(keyword, Name::of(alloc, rest)?)))
+        }
+        QueryKeyword::Key => {
+            let key = key_of_field(alloc, rest)?;
+            Ok(key.map(|key| Query::Key { key }))
         }
         QueryKeyword::Outline => {
             let path = last_path(alloc, rest)?;

@@ -3,7 +3,7 @@ ghost use Rattle.std.specs.Prelude.{◌≡◌, ℕ, ◌<◌, ◌≤◌, [], ◌�
 ghost use Rattle.std.specs.Str.{chars, IsCharBoundary};
 ghost use Rattle.script_lang.specs.Quotes.{escape_of, step_of, unquoted_from, text_of_field};
 
-use ide_text::{SharedText, Text, TextRefusal};
+use ide_text::{Name, SharedText, Text, TextRefusal};
 use memchr::memchr2;
 use std::alloc::{AllocError, Global};
 
@@ -24,11 +24,31 @@ pub(crate) enum Place {
 pub(crate) fn text_of_field(alloc: Global, field: &str) -> Result<Option<SharedText>, AllocError>
     ensures { IfOk result (λ text. text ≡ text_of_field (chars field.now)) }
 {
+    match read_field(alloc, field)? {
+        Some(text) => Ok(Some(SharedText::new(alloc, text)?)),
+        None => Ok(None),
+    }
+}
+
+/// The text that a field in quotes stands for, as a key.
+pub(crate) fn key_of_field(alloc: Global, field: &str) -> Result<Option<Name>, AllocError>
+    ensures { IfOk result (λ key. key ≡ text_of_field (chars field.now)) }
+{
+    match read_field(alloc, field)? {
+        Some(text) => Ok(Some(Name::of_text(alloc, &text, 0, text.len())?)),
+        None => Ok(None),
+    }
+}
+
+/// The text that a field in quotes stands for, with no owner yet.
+fn read_field(alloc: Global, field: &str) -> Result<Option<Text>, AllocError>
+    ensures { IfOk result (λ text. text ≡ text_of_field (chars field.now)) }
+{
     let Some(unquoted) = unquoted(alloc, field)? else {
         return Ok(None);
     };
     match Text::from_string(alloc, unquoted) {
-        Ok(text) => Ok(Some(SharedText::new(alloc, text)?)),
+        Ok(text) => Ok(Some(text)),
         Err(TextRefusal::OutOfMemory) => Err(AllocError),
         // A `String` is UTF-8, so a text that is refused is too long.
         Err(TextRefusal::TooLong { .. }) => Ok(None),

@@ -2,7 +2,7 @@ use Rattle.std.proofs.Common.{refl, string_bytes}
 use Rattle.std.proofs.lemmas.Str.{IsUtf8-string_bytes}
 use Rattle.ide_text.specs.declared.text.TextRefusal.TheVariants.{NotText, TooLong}
 use Rattle.script_lang.proofs.QuoteLemmas.{text_of_field-none}
-use Rattle.script_lang.proofs.quoted.text_of_field.Goals as goal
+use Rattle.script_lang.proofs.quoted.read_field.Goals as goal
 
 pub returns-in-Err-TooLong : goal.returns-in-Err-TooLong
 returns-in-Err-TooLong c =
