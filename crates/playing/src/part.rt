@@ -8,6 +8,7 @@ ghost use Rattle.playing.specs.Parts.{CanRun, HasRun, MayHaveDone, MayHaveWorked
 
 use crate::do_section;
 use action_lock::{Gate, Point};
+use crossbeam_utils::CachePadded;
 use index_workers::{IdePass, Worked};
 use script_lang::{Line, Script};
 use shared_ide::SharedIde;
@@ -35,11 +36,13 @@ pub(crate) enum Outcome {
     Indexed { worked: Worked },
 }
 
-/// A pass, what it is for, and what was done with it.
+/// A pass, what it is for, and what was done with it. Parts lie side by side, and each is changed by a thread of its own.
 pub(crate) struct Part {
     pub(crate) pass: IdePass,
     pub(crate) task: Task,
     pub(crate) outcome: Outcome,
+    /// Keeps the next part off the cache lines of this one.
+    pub(crate) apart: CachePadded<()>,
 }
 
 /// Does what a part is for, and tells the gate that it has ended. May block.

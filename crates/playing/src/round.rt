@@ -9,6 +9,7 @@ ghost use Rattle.playing.specs.Rounds.{IsAlone, HasPlayed};
 use crate::answers::Answers;
 use crate::part::{Outcome, Part, Task, run_part};
 use action_lock::Gate;
+use crossbeam_utils::CachePadded;
 use index_workers::IdePass;
 use script_lang::Script;
 use shared_ide::SharedIde;
@@ -99,11 +100,13 @@ fn begin_parts(
         };
         let task = round.task(place);
         let outcome = Outcome::Nothing;
+        let apart = CachePadded::new(());
         parts
             .push(Part {
                 pass,
                 task,
                 outcome,
+                apart,
             })
             .unwrap();
     }
@@ -198,6 +201,7 @@ fn meet_parts(
             pass: other,
             task: _,
             outcome,
+            apart: _,
         } = left.remove(0);
         ide.meet(other, pass);
         whole &= answers.take(outcome).is_ok();

@@ -13,7 +13,7 @@ loop-place-preserved c =
     let before = c.loop-place.invariant in
     let split = c.in-Ok.ensures in
     let parts : List Part = c.loop-place.parts.items in
-    let part : Part = record { pass = c.in-Ok.pass; task = c.task-task.result; outcome = Nothing } in
+    let part : Part = record { pass = c.in-Ok.pass; task = c.task-task.result; outcome = Nothing; apart = c.new-apart.result } in
     let room = c.loop-place.parts.ok in
     let many : length parts ≡ c.loop-place.place = before.many in
     let items : c.push.new.self.items ≡ parts ++ part ∷ [] = pushed c.push.result (parts ++ part ∷ []) parts c.push.new.self.items
