@@ -5,6 +5,7 @@ use Rattle.std.proofs.lemmas.Bool.{eq-eqb, ne_eqb}
 use Rattle.std.proofs.lemmas.List.{map-append}
 use Rattle.std.proofs.lemmas.List.Elements.{All-tail, All-append, All-map}
 use Rattle.ide_text.specs.Text.{max_chars}
+use Rattle.dumb_mode.specs.declared.kind.FileKind.TheVariants.{Java}
 use Rattle.dumb_mode.specs.Filter.{is_java}
 use Rattle.stub_tree.specs.declared.stub.Stub.{Stub}
 use Rattle.stub_tree.specs.Lawful.{IsLawfulList}
@@ -58,13 +59,13 @@ live_is world id file is = subst (λ (o : Option File). IsSome o) (sym is) refl
 pub rows_from : {X R : Type 0} (made : List (ℕ × X) → List R) → ((xs ys : List (ℕ × X)) → made (xs ++ ys) ≡ made xs ++ made ys) → made [] ≡ []
     → (read : List ℕ → List X) (rows : ℕ → File → List R) (world : World)
     → ((id : ℕ) (file : File) → file_of world id ≡ Some file → made (map (λ x. (id, x)) (read (shown_text file))) ≡ rows id file)
-    → (id : ℕ) (files : List (Option File)) → AreAt world id files → made (found_from read id files) ≡ of_files rows id files
+    → (id : ℕ) (files : List (Option File)) → AreAt world id files → made (found_from Java read id files) ≡ of_files rows id files
 rows_from made joins none read rows world each id [] at = none
 rows_from made joins none read rows world each id (None ∷ files) at =
     rows_from made joins none read rows world each (id + 1) files (at_tail world id None files at)
 rows_from {X} {R} made joins none read rows world each id (Some file ∷ files) at =
-    joins (map (λ x. (id, x)) (found_in read file)) (found_from read (id + 1) files)
-    ∙ ap (λ (rs : List R). rs ++ made (found_from read (id + 1) files)) (of (is_java file.path))
+    joins (map (λ x. (id, x)) (found_in Java read file)) (found_from Java read (id + 1) files)
+    ∙ ap (λ (rs : List R). rs ++ made (found_from Java read (id + 1) files)) (of (is_java file.path))
     ∙ ap (λ (rs : List R). of_java rows id (Some file) ++ rs)
     (rows_from made joins none read rows world each (id + 1) files (at_tail world id (Some file) files at))
   where
@@ -81,7 +82,7 @@ stub_rows_of world id file is (s ∷ stubs) =
     ∙ ap (λ rs. row_of id file.path (shown_text file) s ∷ rs) (stub_rows_of world id file is stubs)
 
 -- the rows of the declarations that are found
-pub stub_rows_found : (fits : Stub → Bool) (world : World) → map (row_found world) (found (stubs_in fits) world) ≡ of_world (rows_in fits) world
+pub stub_rows_found : (fits : Stub → Bool) (world : World) → map (row_found world) (found Java (stubs_in fits) world) ≡ of_world (rows_in fits) world
 stub_rows_found fits world =
     rows_from (map (row_found world)) (map-append (row_found world)) refl (stubs_in fits) (rows_in fits) world
     (λ id file is. stub_rows_of world id file is (filter fits (listing_of (shown_text file)))) 1 world.files (at_all world)
@@ -93,21 +94,21 @@ word_rows_of world id file is None = refl
 word_rows_of world id file is (Some mask) = ap (λ o. record { file = id; path = option_map_or (λ f. f.path) o []; mask = mask } ∷ []) is
 
 -- the rows of a word that is found
-pub word_rows_found : (name : List ℕ) (world : World) → map (word_found world) (found (masks_in name) world) ≡ of_world (word_in name) world
+pub word_rows_found : (name : List ℕ) (world : World) → map (word_found world) (found Java (masks_in name) world) ≡ of_world (word_in name) world
 word_rows_found name world =
     rows_from (map (word_found world)) (map-append (word_found world)) refl (masks_in name) (word_in name) world
     (λ id file is. word_rows_of world id file is (mask_in (words_of (shown_text file)) name)) 1 world.files (at_all world)
 
 -- what is found is of live files
-live_from : {X : Type 0} (read : List ℕ → List X) (world : World) (id : ℕ) (files : List (Option File)) → AreAt world id files → AreLive world (found_from read id files)
+live_from : {X : Type 0} (read : List ℕ → List X) (world : World) (id : ℕ) (files : List (Option File)) → AreAt world id files → AreLive world (found_from Java read id files)
 live_from read world id [] at = λ k d inside. absurd (omega (arith, inside))
 live_from read world id (None ∷ files) at = live_from read world (id + 1) files (at_tail world id None files at)
 live_from {X} read world id (Some file ∷ files) at =
-    All-append (λ (f : ℕ × X). IsSome (file_of world f.0)) (map (λ x. (id, x)) (found_in read file)) (found_from read (id + 1) files)
-    (All-map (λ (f : ℕ × X). IsSome (file_of world f.0)) (λ x. (id, x)) (found_in read file) (λ k d inside. live_is world id file (at_head world id (Some file) files at)))
+    All-append (λ (f : ℕ × X). IsSome (file_of world f.0)) (map (λ x. (id, x)) (found_in Java read file)) (found_from Java read (id + 1) files)
+    (All-map (λ (f : ℕ × X). IsSome (file_of world f.0)) (λ x. (id, x)) (found_in Java read file) (λ k d inside. live_is world id file (at_head world id (Some file) files at)))
     (live_from read world (id + 1) files (at_tail world id (Some file) files at))
 
-pub live_found : {X : Type 0} (read : List ℕ → List X) (world : World) → AreLive world (found read world)
+pub live_found : {X : Type 0} (read : List ℕ → List X) (world : World) → AreLive world (found Java read world)
 live_found read world = live_from read world 1 world.files (at_all world)
 
 -- the rows before are of files with lower ids
@@ -148,7 +149,7 @@ module _ (lawful : (text : List ℕ) → length text ≤ max_chars → IsLawfulL
   from_fits fits text short = from_filter fits (length text) 0 (listing_of text) (from_listing text (listing_of text) (lawful text short) (named text))
 
   ahead_from : (fits : Stub → Bool) (world : World) (id : ℕ) (files : List (Option File)) → AreAt world id files
-      → (before : Option Listed) → IsBelow id before → AreAhead world before (found_from (stubs_in fits) id files)
+      → (before : Option Listed) → IsBelow id before → AreAhead world before (found_from Java (stubs_in fits) id files)
   ahead_from fits world id [] at before below = tt
   ahead_from fits world id (None ∷ files) at before below = ahead_from fits world (id + 1) files (at_tail world id None files at) before (below_more id before below)
   ahead_from fits world id (Some file ∷ files) at before below =
@@ -164,12 +165,12 @@ module _ (lawful : (text : List ℕ) → length text ≤ max_chars → IsLawfulL
       from short = subst (λ n. AreFrom (length (text_at world id)) n (filter fits (listing_of (shown_text file)))) (sym (offset_below id before below))
           (subst (λ text. AreFrom (length (text_at world id)) 0 (filter fits (listing_of text))) (sym text_is) (from_fits fits (text_at world id) short))
 
-      of : (b : Bool) → ((before : Option Listed) → IsBelow (id + 1) before → AreAhead world before (found_from (stubs_in fits) (id + 1) files))
-          → AreAhead world before (map (λ s. (id, s)) (if b then stubs_in fits (shown_text file) else []) ++ found_from (stubs_in fits) (id + 1) files)
-      of true others = ahead_chain world id (live_is world id file is) (found_from (stubs_in fits) (id + 1) files) others (filter fits (listing_of (shown_text file))) before (below_more id before below) from
+      of : (b : Bool) → ((before : Option Listed) → IsBelow (id + 1) before → AreAhead world before (found_from Java (stubs_in fits) (id + 1) files))
+          → AreAhead world before (map (λ s. (id, s)) (if b then stubs_in fits (shown_text file) else []) ++ found_from Java (stubs_in fits) (id + 1) files)
+      of true others = ahead_chain world id (live_is world id file is) (found_from Java (stubs_in fits) (id + 1) files) others (filter fits (listing_of (shown_text file))) before (below_more id before below) from
       of false others = others before (below_more id before below)
 
   -- the declarations that are found stand one behind another
-  pub ahead_found : (fits : Stub → Bool) (world : World) → AreAhead world None (found (stubs_in fits) world)
+  pub ahead_found : (fits : Stub → Bool) (world : World) → AreAhead world None (found Java (stubs_in fits) world)
   unfolding IsBelow
   ahead_found fits world = ahead_from fits world 1 world.files (at_all world) None tt

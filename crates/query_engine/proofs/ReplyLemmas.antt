@@ -3,6 +3,7 @@ use Rattle.std.proofs.Common.{ℕ, ◌≡◌, ◌/◌, Bool, List, map, length, 
 use Rattle.std.proofs.lemmas.List.{length-map}
 use Rattle.stub_tree.specs.declared.stub.Stub.{Stub}
 use Rattle.write_history.specs.World.{World, lowest_unready}
+use Rattle.dumb_mode.specs.declared.kind.FileKind.TheVariants.{Java}
 use Rattle.ide_world.specs.Found.{found, stubs_in, masks_in}
 use Rattle.queries.specs.declared.query.Query.{Query}
 use Rattle.query_engine.specs.declared.answer.Answer.{Answer}
@@ -90,14 +91,14 @@ smart_same (Some file) lowest answer other is same = refl
 
 module _ (world : World) where
   -- the rows of the declarations that are found are those of the files
-  pub declared_told : (fits : Stub → Bool) (walk : List (ℕ × Stub)) → (lowest_unready world ≡ None → walk ≡ found (stubs_in fits) world)
+  pub declared_told : (fits : Stub → Bool) (walk : List (ℕ × Stub)) → (lowest_unready world ≡ None → walk ≡ found Java (stubs_in fits) world)
       → declared_reply world walk ≡ unless_unready (lowest_unready world) (Rows (of_world (rows_in fits) world))
   declared_told fits walk ready =
       smart_same (lowest_unready world) (lowest_unready world) (Rows (map (row_found world) walk)) (Rows (of_world (rows_in fits) world)) refl
       (λ smart. ap Rows (ap (map (row_found world)) (ready smart) ∙ stub_rows_found fits world))
 
   -- the rows of a word that is found are those of the files
-  pub word_told : (name : List ℕ) (walk : List (ℕ × ℕ)) → (lowest_unready world ≡ None → walk ≡ found (masks_in name) world)
+  pub word_told : (name : List ℕ) (walk : List (ℕ × ℕ)) → (lowest_unready world ≡ None → walk ≡ found Java (masks_in name) world)
       → word_reply world walk ≡ unless_unready (lowest_unready world) (Words (of_world (word_in name) world))
   word_told name walk ready =
       smart_same (lowest_unready world) (lowest_unready world) (Words (map (word_found world) walk)) (Words (of_world (word_in name) world)) refl

@@ -6,6 +6,7 @@ use Rattle.std.proofs.lemmas.Bool.{eqb-true}
 use Rattle.std.proofs.lemmas.List.Elements.{recursion_from_All, filter-append}
 use Rattle.std.proofs.lemmas.List.Sums.{sum_by-cons}
 use Rattle.ide_text.specs.Text.{max_chars}
+use Rattle.dumb_mode.specs.declared.kind.FileKind.TheVariants.{Java}
 use Rattle.dumb_mode.specs.Filter.{is_java}
 use Rattle.stub_tree.specs.declared.stub.Stub.{Stub}
 use Rattle.stub_tree.specs.Stub.{is_type}
@@ -97,7 +98,7 @@ module _ (rising : (text : List ℕ) → AllPairs (λ a b. a.at < b.at) (listing
   types_sorted world = types_from 1 world.files
 
 -- the types of a world are what the walk over all types finds
-pub types_are : (world : World) → found (stubs_in is_type) world ≡ types_of world
+pub types_are : (world : World) → found Java (stubs_in is_type) world ≡ types_of world
 types_are world =
     rows_from (λ (ts : List Listing). ts) (λ xs ys. refl) refl (stubs_in is_type) types_in world (λ id file is. refl) 1 world.files (at_all world)
 
@@ -125,7 +126,7 @@ namers name id (s ∷ stubs) = of (is_type s) (list_any (λ super. bytes_eq name
     of false b is rest = rest
 
 -- what the walk over the types that name a name finds
-pub namers_are : (name : List ℕ) (world : World) → found (stubs_in (has_super name)) world ≡ filter (names_it name) (types_of world)
+pub namers_are : (name : List ℕ) (world : World) → found Java (stubs_in (has_super name)) world ≡ filter (names_it name) (types_of world)
 namers_are name world =
     rows_from (λ (ts : List Listing). ts) (λ xs ys. refl) refl (stubs_in (has_super name))
     (λ id file. map (λ s. (id, s)) (filter (has_super name) (listing_of (shown_text file)))) world
@@ -148,7 +149,7 @@ ahead_each world before (t ∷ ts) ahead =
 pub types_placed : ((text : List ℕ) → length text ≤ max_chars → IsLawfulList (listing_of text)) → ((text : List ℕ) → All (IsNamedIn text) (listing_of text))
     → (world : World) → AllByRecursion (IsPlaced world) (types_of world)
 types_placed lawful named world = subst (AllByRecursion (IsPlaced world)) (types_are world)
-    (ahead_each world None (found (stubs_in is_type) world) (ahead_found lawful named is_type world))
+    (ahead_each world None (found Java (stubs_in is_type) world) (ahead_found lawful named is_type world))
 
 -- types in order stand one ahead of another
 ahead_from : (world : World) (before : Option Listed) (types : List Listing) → Sorted StandsBefore types → AllByRecursion (IsPlaced world) types
