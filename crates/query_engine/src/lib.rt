@@ -5,6 +5,7 @@ mod answer;
 mod asked_names;
 mod inheritors;
 pub mod laws;
+mod key_rows;
 mod level_rows;
 mod listed_file;
 mod looks;

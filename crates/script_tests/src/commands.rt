@@ -42,6 +42,10 @@ fn push_query(out: &mut String, query: &Query) -> Result<(), AllocError> {
         Query::Word { name } => push_named(out, "word ", name),
         Query::Usages { name } => push_named(out, "usages ", name),
         Query::Inheritors { name } => push_named(out, "inheritors ", name),
+        Query::Key { key } => {
+            push_named(out, "key <", key)?;
+            out.push('>')
+        }
         Query::Outline { path } => push_named(out, "outline ", path),
         Query::Status => out.push_str("status"),
     }
