@@ -1,5 +1,5 @@
 -- What is found in the files of a world.
-use Rattle.std.proofs.Common.{ℕ, suc, ◌≡◌, ◌≤◌, ◌<◌, ◌+◌, if◌then◌else◌, Bool, true, false, List, [], ◌∷◌, ◌++◌, map, filter, length, get_or, Option, Some, None, option_map, option_to_list, unwrap_or, IsSome, IfSome, All, refl, ap, sym, subst, ◌∙◌, arith}
+use Rattle.std.proofs.Common.{ℕ, suc, ◌≡◌, ◌≤◌, ◌<◌, ◌+◌, if◌then◌else◌, Bool, true, false, List, [], ◌∷◌, ◌++◌, map, filter, length, get_or, Option, Some, None, option_map, option_to_list, unwrap_or, IsSome, IfSome, All, refl, ap, sym, subst, ◌∙◌, le_refl, arith}
 use Rattle.std.specs.Option.{option_map_or}
 use Rattle.std.proofs.lemmas.Bool.{eq-eqb, ne_eqb}
 use Rattle.std.proofs.lemmas.List.{map-append}
@@ -7,7 +7,7 @@ use Rattle.std.proofs.lemmas.List.Elements.{All-tail, All-append, All-map}
 use Rattle.ide_text.specs.Text.{max_chars}
 use Rattle.dumb_mode.specs.declared.kind.FileKind.{FileKind}
 use Rattle.dumb_mode.specs.declared.kind.FileKind.TheVariants.{Java, Properties}
-use Rattle.dumb_mode.specs.Filter.{has_kind, is_java}
+use Rattle.dumb_mode.specs.Filter.{has_kind}
 use Rattle.stub_tree.specs.declared.stub.Stub.{Stub}
 use Rattle.stub_tree.specs.Lawful.{IsLawfulList}
 use Rattle.decl_parser.specs.Listing.{listing_of, IsNamedIn}
@@ -202,4 +202,4 @@ ahead_found lawful named fits world =
 -- and so do the places of a property key
 pub keys_ahead : ((text : List ℕ) → RiseFrom 0 (length text) (keys_of text)) → (key : List ℕ) (world : World)
     → AreAhead itself world None (found Properties (places_of_key key) world)
-keys_ahead rise key world = rising_ahead Properties itself (places_of_key key) (λ text short. from_keys key 0 0 (length text) (keys_of text) refl (rise text)) world
+keys_ahead rise key world = rising_ahead Properties itself (places_of_key key) (λ text short. from_keys key 0 0 (length text) (keys_of text) (le_refl 0) (rise text)) world

@@ -68,5 +68,5 @@ from_keys key low from len (row ∷ rows) h (some, behind, inside, rest) =
 
     of : (b : Bool) → AreFrom itself len row.1 (map (λ row. row.1) others) → AreFrom itself len low (map (λ row. row.1) others)
         → AreFrom itself len low (map (λ row. row.1) (cond b (row ∷ others) others))
-    of true behind_it others_too = (le_trans h behind, (omega (arith, inside), behind_it))
+    of true behind_it others_too = (le_trans h behind, omega (arith, inside), behind_it)
     of false behind_it others_too = others_too

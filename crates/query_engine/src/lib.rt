@@ -4,8 +4,8 @@
 mod answer;
 mod asked_names;
 mod inheritors;
-pub mod laws;
 mod key_rows;
+pub mod laws;
 mod level_rows;
 mod listed_file;
 mod looks;

@@ -143,7 +143,10 @@ static COURSES: [(Course, &str); 22] = [
             files: &[
                 ("P.properties", "# x=1\na.b = 1\nc\\\n  d:2"),
                 ("A.java", "a.b = 1"),
-                ("Q.properties", "a\\.b\na\\u.b = a.b\n!a.b\n\\\n a.b:x\na.bc"),
+                (
+                    "Q.properties",
+                    "a\\.b\na\\u.b = a.b\n!a.b\n\\\n a.b:x\na.bc",
+                ),
                 ("R.txt", "a.b = 1"),
             ],
             edits: &[],
