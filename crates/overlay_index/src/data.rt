@@ -80,9 +80,13 @@ pub fn data_of(alloc: Global, kind: FileKind, text: &Text) -> Result<FileData, A
 fn property_data(alloc: Global, text: &Text) -> Result<FileData, AllocError>
     ensures { IfOk result (λ made. made ≡ parts_of Properties text.now) }
 {
-    let mut data = FileData::new(alloc);
-    data.keys = PropertyKeys.rows(alloc, text)?;
-    Ok(data)
+    Ok(FileData {
+        types: KeyRows::new(alloc),
+        supers: KeyRows::new(alloc),
+        methods: KeyRows::new(alloc),
+        words: KeyRows::new(alloc),
+        keys: PropertyKeys.rows(alloc, text)?,
+    })
 }
 
 /// The rows of a Java text.
