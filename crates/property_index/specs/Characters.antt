@@ -39,6 +39,10 @@ backslash = 92
 abbrev pub is_white_space : ℕ → Bool
 is_white_space c = c == space || c == tab || c == form_feed
 
+-- white space or a line break
+abbrev pub is_blank : ℕ → Bool
+is_blank c = c == line_feed || is_white_space c
+
 -- what begins a comment
 abbrev pub begins_comment : ℕ → Bool
 begins_comment c = c == number_sign || c == exclamation_mark
@@ -46,6 +50,10 @@ begins_comment c = c == number_sign || c == exclamation_mark
 -- what ends a key, unless a backslash took it
 abbrev pub ends_key : ℕ → Bool
 ends_key c = c == equals_sign || c == colon || is_white_space c
+
+-- what ends a key at the latest: the line's end does too
+abbrev pub stops_key : ℕ → Bool
+stops_key c = c == line_feed || ends_key c
 
 -- what a character stands for that a backslash took: `t`, `n`, `r`, `f` for tab, line break, CR, form feed, any other for itself
 abbrev pub meant_by : ℕ → ℕ

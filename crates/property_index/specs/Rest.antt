@@ -25,6 +25,10 @@ going_on (line ∷ lines) = joined line (continued lines) (logical_lines lines)
 unfoldable pub inside_from : Line → Line × List Line
 inside_from left = going_on (natural_lines left)
 
+-- how many characters a character begins that stand together in a logical line: a backslash takes the one behind it
+abbrev pub width_at : ℕ → ℕ
+width_at c = if c == backslash then 2 else 1
+
 -- a natural line ends here
 abbrev pub is_at_end : Line → Bool
 is_at_end [] = true

@@ -1,12 +1,19 @@
 //! The characters that the format tells apart.
 ghost use Rattle.std.specs.Prelude.{◌≡◌};
-ghost use Rattle.property_index.specs.Characters.{begins_comment, ends_key, is_white_space, meant_by};
+ghost use Rattle.property_index.specs.Characters.{begins_comment, is_blank, is_white_space, meant_by, stops_key};
 
 /// Whether a character is white space; a line break is none.
 pub fn is_white_space(c: char) -> bool
     ensures { result ≡ is_white_space c }
 {
     c == ' ' || c == '\t' || c == '\u{c}'
+}
+
+/// Whether a character is white space or a line break.
+pub fn is_blank(c: char) -> bool
+    ensures { result ≡ is_blank c }
+{
+    c == '\n' || is_white_space(c)
 }
 
 /// Whether a comment begins with a character.
@@ -16,11 +23,11 @@ pub fn begins_comment(c: char) -> bool
     c == '#' || c == '!'
 }
 
-/// Whether a character ends a key, unless a backslash took it.
-pub fn ends_key(c: char) -> bool
-    ensures { result ≡ ends_key c }
+/// Whether a character ends a key, unless a backslash took it; a line break does too.
+pub fn stops_key(c: char) -> bool
+    ensures { result ≡ stops_key c }
 {
-    c == '=' || c == ':' || is_white_space(c)
+    c == '\n' || c == '=' || c == ':' || is_white_space(c)
 }
 
 /// What a character stands for that a backslash took.

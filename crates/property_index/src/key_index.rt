@@ -6,7 +6,6 @@ use file_index::{Indexer, KeyRows};
 use ide_text::{Name, Text};
 use std::alloc::{AllocError, Global};
 
-
 /// Finds the property keys of a text: under each key the offsets at which it stands.
 #[derive(Clone, Copy, Drop)]
 pub struct PropertyKeys;

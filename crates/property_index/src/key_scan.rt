@@ -3,7 +3,7 @@ ghost use Rattle.std.specs.Prelude.{◌≡◌, ◌<◌, ◌≤◌, ◌∷◌, []
 ghost use Rattle.property_index.specs.Keys.{key_in};
 ghost use Rattle.property_index.specs.Rest.{inside_from, is_join, left_of};
 
-use crate::characters::{ends_key, meant_by};
+use crate::characters::{meant_by, stops_key};
 use crate::line_scan::{char_at, past_joins};
 use ide_text::{Name, Text};
 use std::alloc::{AllocError, Global};
@@ -37,7 +37,7 @@ fn key_char(text: &Text, at: u32) -> Option<(char, u32)>
     if c == '\\' {
         let taken = char_at(text, at + 1)?;
         Some((meant_by(taken), at + 2))
-    } else if c == '\n' || ends_key(c) {
+    } else if stops_key(c) {
         None
     } else {
         Some((c, at + 1))

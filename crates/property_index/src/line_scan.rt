@@ -1,8 +1,8 @@
 //! How far natural lines and logical lines go.
-ghost use Rattle.std.specs.Prelude.{◌≡◌, ◌<◌, ◌≤◌, suc, ◌∷◌, [], IfSome, IfNone, OnSome, false, length};
+ghost use Rattle.std.specs.Prelude.{◌≡◌, ◌<◌, ◌≤◌, suc, ◌∷◌, [], IfSome, IfNone, OnSome, true, false, length};
 ghost use Rattle.ide_text.specs.Text.{max_chars};
 ghost use Rattle.property_index.specs.Lines.{trimmed};
-ghost use Rattle.property_index.specs.Rest.{inside_from, is_at_end, is_join, left_of, lines_left, past_line};
+ghost use Rattle.property_index.specs.Rest.{inside_from, is_at_end, is_join, left_of, lines_left, past_line, width_at};
 
 use crate::characters::is_white_space;
 use ide_text::Text;
@@ -45,10 +45,10 @@ pub fn past_line(text: &Text, from: u32) -> u32
 {
     let mut at = from;
     while let Some(c) = char_at(text, at) {
-        at += 1;
         if c == '\n' {
-            break;
+            return at + 1;
         }
+        at += 1;
     }
     at
 }
@@ -61,15 +61,19 @@ pub fn past_logical_line(text: &Text, from: u32) -> u32
 {
     let mut at = from;
     while let Some(c) = char_at(text, at) {
-        at += 1;
         if c == '\n' {
-            break;
+            return at + 1;
         }
-        if c == '\\' {
-            at += 1;
-        }
+        at += width(c);
     }
     at
+}
+
+/// How many characters a character begins that stand together in a logical line: a backslash takes the one behind it.
+fn width(c: char) -> u32
+    ensures { result ≡ width_at c }
+{
+    if c == '\\' { 2 } else { 1 }
 }
 
 /// Where the logical line that goes on at an offset has its next character: past each backslash that ends a natural
@@ -88,7 +92,9 @@ pub fn past_joins(text: &Text, from: u32) -> u32
 
 /// Whether a backslash stands at an offset that ends its natural line.
 fn is_join(text: &Text, at: u32) -> bool
-    ensures { result ≡ is_join (left_of text.now at) }
+    ensures value { result ≡ is_join (left_of text.now at) }
+    ensures inside { result ≡ true → at < length text.now }
+    ensures few { length text.now ≤ max_chars }
 {
     match char_at(text, at) {
         Some('\\') => is_at_end(text, at + 1),
