@@ -1,5 +1,5 @@
 -- What always holds of the world of a state.
-use Rattle.std.specs.Prelude.{ℕ, ◌≡◌, ◌<◌, ◌≤◌, ◌+◌, ◌*◌, length, Option, Some, None, option_map, IfSome}
+use Rattle.std.specs.Prelude.{ℕ, ◌≡◌, ◌<◌, ◌≤◌, ◌+◌, ◌*◌, true, length, Option, Some, None, option_map, IfSome}
 use Rattle.dumb_mode.specs.declared.kind.FileKind.{FileKind}
 use Rattle.dumb_mode.specs.Filter.{kind_of}
 use Rattle.write_history.specs.World.{World, File, file_of}

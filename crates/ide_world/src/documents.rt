@@ -4,7 +4,7 @@ ghost use Rattle.write_history.specs.declared.change.Change.TheVariants.{OpenDoc
 ghost use Rattle.write_history.specs.Effect.{refusal_of};
 ghost use Rattle.dumb_mode.specs.Filter.{kind_of};
 ghost use Rattle.ide_world.specs.Drafted.{world_now};
-ghost use Rattle.ide_world.specs.Builds.{Builds, overlay_edit, edit_step};
+ghost use Rattle.ide_world.specs.Builds.{Builds, overlay_edit, close_index, edit_step};
 
 use crate::draft::Draft;
 use crate::{DocEdit, IndexEdit, RowEdit, Step};
@@ -133,10 +133,7 @@ pub(crate) fn closed(draft: &Draft<'_>, path: &Name) -> Result<Step, AllocError>
     };
     let mut row = found.row.copy()?;
     row.indexed = Some(row.stamp);
-    let index = match kind_of(&row.path) {
-        Some(_) => IndexEdit::ToBase,
-        None => IndexEdit::Keep,
-    };
+    let index = closed_index(&row.path);
     Ok(Step {
         id: found.id,
         row: RowEdit::Put { row },
@@ -144,6 +141,17 @@ pub(crate) fn closed(draft: &Draft<'_>, path: &Name) -> Result<Step, AllocError>
         index,
         draws: false,
     })
+}
+
+/// What a close makes of the index data: where the path's file has a kind, those of the document become those of the
+/// content.
+fn closed_index(path: &Name) -> IndexEdit
+    ensures { result ≡ close_index (kind_of path.now) }
+{
+    match kind_of(path) {
+        Some(_) => IndexEdit::ToBase,
+        None => IndexEdit::Keep,
+    }
 }
 
 /// The index data of a text over those of the content, where the path's file has a kind.
