@@ -523,6 +523,13 @@ intake_from w wide id stamp row row' kind text parts index sound live same accep
     let is : index ≡ intake_index (kind_of row.path) text = i text made ∙ ap (λ (r : FileRow). intake_index (kind_of r.path) text) same in
     subst P (sym same) (intake_builds w wide id stamp row (document_part (file_of w id)) text index sound (file_of_row (file_of w id) row live) accepted of_world is)
 
+pub close_from : (w : World) (wide : ℕ) (path : List ℕ) (id : ℕ) (row row' : FileRow) (index : IndexEdit) → AreSoundFiles w → IsLiveAt w path id row → row' ≡ row
+    → refusal_of w (CloseDoc path) ≡ None → index ≡ close_index (kind_of row'.path) → Builds w wide (CloseDoc path) (close_step id row' index)
+close_from w wide path id row row' index sound live same accepted i =
+    let P : FileRow → Type 0 = λ r. Builds w wide (CloseDoc path) (close_step id r index) in
+    let is : index ≡ close_index (kind_of row.path) = i ∙ ap (λ (r : FileRow). close_index (kind_of r.path)) same in
+    subst P (sym same) (close_builds w wide path id row (document_part (file_of w id)) index sound (is_file_at w path id row live) accepted is)
+
 -- the kind of the file that takes data in, where it has one
 pub intake_kind : (w : World) (id stamp : ℕ) (row row' : FileRow) (kind : FileKind) → row_part (file_of w id) ≡ Some row → row' ≡ row → refusal_of w (Intake id stamp) ≡ None
     → IfSome (file_of w id) (λ f. f.stamp ≡ stamp → IfSome (kind_of f.path) (λ k. k ≡ kind)) → IfSome (kind_of row'.path) (λ k. k ≡ kind)

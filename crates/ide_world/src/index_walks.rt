@@ -12,8 +12,8 @@ use crate::State;
 use dumb_mode::laws::a_path_has_one_kind;
 use ide_text::Name;
 use overlay_index::laws::{
-    a_name_finds_its_methods, a_name_finds_its_subtypes, a_name_finds_its_types,
-    a_word_finds_its_mask, a_key_finds_its_places,
+    a_key_finds_its_places, a_name_finds_its_methods, a_name_finds_its_subtypes,
+    a_name_finds_its_types, a_word_finds_its_mask,
 };
 use overlay_index::{KeyWalk, StubWalk, WordWalk};
 

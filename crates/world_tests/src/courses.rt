@@ -27,7 +27,9 @@ pub enum Course {
         asked: Asked,
     },
     /// Edits of one file, of which some move it; then its index data are taken in, if it is unready.
-    Kinds { edits: &'static [Edit] },
+    Kinds {
+        edits: &'static [Edit],
+    },
     /// A share is kept between edits.
     Shared {
         earlier: &'static [Edit],

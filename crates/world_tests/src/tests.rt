@@ -82,7 +82,10 @@ static COURSES: [(Course, &str); 32] = [
     ),
     (
         Course::Kinds {
-            edits: &[Edit::Create("class A {}"), Edit::Move("A.java", "A.properties")],
+            edits: &[
+                Edit::Create("class A {}"),
+                Edit::Move("A.java", "A.properties"),
+            ],
         },
         "Some(0), 0, 1",
     ),
