@@ -5,7 +5,7 @@ use crate::courses::{Course, told};
 use std::test::Fail;
 
 /// Courses, and what they come to.
-static COURSES: [(Course, &str); 29] = [
+static COURSES: [(Course, &str); 32] = [
     // Index data go in only at the stamp at which they were made.
     (
         Course::Late {
@@ -228,6 +228,39 @@ static COURSES: [(Course, &str); 29] = [
             asked: Asked::Usages("A"),
         },
         "1 looks",
+    ),
+    // The keys of property files, with a look after each 256 rows; no file but property files.
+    (
+        Course::Looks {
+            line: "k=v\n",
+            counts: &[255, 1, 344],
+            asked: Asked::Key("k"),
+        },
+        "1 looks, Some(255); 1 looks, Some(255)\n2 looks, Some(256); 2 looks, None\n3 looks, Some(600); 2 looks, None\n",
+    ),
+    (
+        Course::Reached {
+            files: &[
+                ("P.properties", "# x=1\na.b = 1\nc\\\n  d:2"),
+                ("A.java", "a.b = 1"),
+                (
+                    "Q.properties",
+                    "a\\.b\na\\u.b = a.b\n!a.b\n\\\n a.b:x\na.bc",
+                ),
+                ("R.txt", "a.b = 1"),
+            ],
+            edits: &[],
+            asked: Asked::Key("a.b"),
+        },
+        "P.properties:2:1; Q.properties:1:1; Q.properties:5:2; 1 looks",
+    ),
+    (
+        Course::Reached {
+            files: &[("P.properties", "# x=1\na.b = 1\nc\\\n  d:2")],
+            edits: &[],
+            asked: Asked::Key("cd"),
+        },
+        "P.properties:3:1; 1 looks",
     ),
     // Types that come from a name, level by level, with a look after each 256 postings.
     (
