@@ -45,7 +45,7 @@ declarations (`stub_tree`), the stages of a listing (`decl_parser`), tokens (`ja
 | the world: files by their ids, each with path, content, document and stamp | `World`, `File`, `is_unready` | `write_history/specs/World.antt` |
 | why a change is refused, and which id it gives which file | `refusal_of`, `put_of` | `write_history/specs/Effect.antt` |
 | the world that a history leads to, and that no entry is refused where it stands | `fold`, `IsLegal` | `write_history/specs/Fold.antt` |
-| the words of a text, where a name stands in it, and its declarations | `words_of`; `places_of`; `listing_of` | `java_tokens/specs/Words.antt`; `Places.antt`; `decl_parser/specs/Listing.antt` |
+| the words of a text, where a name stands in it, its declarations, and its property keys | `words_of`; `places_of`; `listing_of`; `keys_of` | `java_tokens/specs/Words.antt`; `Places.antt`; `decl_parser/specs/Listing.antt`; `property_index/specs/Keys.antt` |
 | which declarations a question asks for; the types that come from a name, level by level | `is_class`, `has_super`, `is_method`; `inheritors_of` | `query_engine/specs/Fits.antt`; `Inheritors.antt` |
 | the answer to a question in a world: it lists the shown texts anew | `reply` | `query_engine/specs/Reply.antt` |
 | what a settle adds to a history | `settled` | `ide_calls/specs/Settle.antt` |

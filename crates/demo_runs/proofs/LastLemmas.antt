@@ -1,13 +1,14 @@
 -- The last section: its settle goes through, and what it tells is read from what the files show.
 use Rattle.demo_runs.proofs.Words.{ℕ, suc, ◌≡◌, ◌+◌, ◌<◌, ◌≤◌, Bool, true, false, cond, List, [], ◌∷◌, ◌++◌, length, map, filter, codes, refl, ap, sym}
 use Rattle.demo_runs.proofs.Words.{◌∙◌, subst, arith, append_assoc, append-nil, length-append, Some, None, Ok, if◌then◌else◌, Option, option_map, option_map_or, is_some}
-use Rattle.demo_runs.proofs.Words.{slice_index_or, AllByRecursion, flat_map, length-map, flat_map-append, get_or-map, is_java, words_of, mask_in, Entry}
+use Rattle.demo_runs.proofs.Words.{slice_index_or, AllByRecursion, flat_map, length-map, flat_map-append, get_or-map, FileKind, has_kind, words_of, mask_in, Entry}
 use Rattle.demo_runs.proofs.Words.{Refusal, World, File, file_of, next_id, shown_text, ids_from, is_open, is_unready, count_of, lowest_unready, unready_ids, stamp_of}
 use Rattle.demo_runs.proofs.Words.{max_entries, list_refusal, ListRefusal, fold, IsLegal, Settled, settled, settled_from, settled_unless, intake_of}
-use Rattle.demo_runs.proofs.Words.{intake_entry, Query, rows_in, word_in, word_row, uses_in, types_in, types_of, row_of, listed_row, level_row}
+use Rattle.demo_runs.proofs.Words.{intake_entry, Query, rows_in, word_in, word_row, uses_in, keys_in, types_in, types_of, row_of, listed_row, level_row}
 use Rattle.demo_runs.proofs.Words.{Row, Listing, inheritors_of, of_files, of_world, is_class, has_super, is_method, unless_unready}
 use Rattle.demo_runs.proofs.Words.{reply, Answer, Record, answer_of, done_from, last_from, query_step, settle_answer, answer_text, found_text, summary_text}
 use Rattle.demo_runs.proofs.Words.{Question, ask_line, settle_line, IsOfAll, bare, bare_at, IsEdit, takes, acts}
+use Rattle.dumb_mode.specs.declared.kind.FileKind.TheVariants.{Java, Properties}
 use Rattle.queries.specs.declared.query.Query.TheVariants as query
 use Rattle.query_engine.specs.declared.answer.Answer.{Answer as Finding}
 use Rattle.query_engine.specs.declared.answer.Answer.TheVariants as found
@@ -92,13 +93,13 @@ same_shown laws world other ids files = laws.alike (shown world) (shown other)
 -- ---- rows and counts
 
 -- rows that are read from what a file shows
-rows_shown : {X : Type 0} (rows : ℕ → File → List X) → ((id : ℕ) (file : File) → rows id (bare file) ≡ rows id file) → (id : ℕ) (files : List (Option File))
-    → of_files rows id (map (option_map bare) files) ≡ of_files rows id files
-rows_shown rows same id [] = refl
-rows_shown rows same id (None ∷ files) = rows_shown rows same (id + 1) files
-rows_shown rows same id (Some file ∷ files) =
-    ap (λ here. (if is_java file.path then here else []) ++ of_files rows (id + 1) (map (option_map bare) files)) (same id file)
-    ∙ ap (λ later. (if is_java file.path then rows id file else []) ++ later) (rows_shown rows same (id + 1) files)
+rows_shown : {X : Type 0} (kind : FileKind) (rows : ℕ → File → List X) → ((id : ℕ) (file : File) → rows id (bare file) ≡ rows id file) → (id : ℕ) (files : List (Option File))
+    → of_files kind rows id (map (option_map bare) files) ≡ of_files kind rows id files
+rows_shown kind rows same id [] = refl
+rows_shown kind rows same id (None ∷ files) = rows_shown kind rows same (id + 1) files
+rows_shown kind rows same id (Some file ∷ files) =
+    ap (λ here. (if has_kind kind file.path then here else []) ++ of_files kind rows (id + 1) (map (option_map bare) files)) (same id file)
+    ∙ ap (λ later. (if has_kind kind file.path then rows id file else []) ++ later) (rows_shown kind rows same (id + 1) files)
 
 word_shown : (id : ℕ) (file : File) (mask : Option ℕ) → word_row id (bare file) mask ≡ word_row id file mask
 word_shown id file None = refl
@@ -150,43 +151,46 @@ levels_shown world (one ∷ others) =
 inheritors_shown : (name : List ℕ) (world : World)
     → map (level_row (shown world)) (inheritors_of name (types_of (shown world))) ≡ map (level_row world) (inheritors_of name (types_of world))
 inheritors_shown name world =
-    ap (λ types. map (level_row (shown world)) (inheritors_of name types)) (rows_shown types_in (λ id file. refl) 1 world.files)
+    ap (λ types. map (level_row (shown world)) (inheritors_of name types)) (rows_shown Java types_in (λ id file. refl) 1 world.files)
     ∙ levels_shown world (inheritors_of name (types_of world))
 
 -- ---- one question
 
 -- what a question about a workspace without unready files is told
 abbrev told_of : World → Query → List ℕ
-told_of world (query.Class name) = found_text (found.Rows (of_world (rows_in (is_class name)) world))
-told_of world (query.Supers name) = found_text (found.Rows (of_world (rows_in (has_super name)) world))
-told_of world (query.Method name) = found_text (found.Rows (of_world (rows_in (is_method name)) world))
-told_of world (query.Word name) = found_text (found.Words (of_world (word_in name) world))
-told_of world (query.Usages name) = found_text (found.Usages name (of_world (uses_in name) world))
+told_of world (query.Class name) = found_text (found.Rows (of_world Java (rows_in (is_class name)) world))
+told_of world (query.Supers name) = found_text (found.Rows (of_world Java (rows_in (has_super name)) world))
+told_of world (query.Method name) = found_text (found.Rows (of_world Java (rows_in (is_method name)) world))
+told_of world (query.Word name) = found_text (found.Words (of_world Java (word_in name) world))
+told_of world (query.Usages name) = found_text (found.Usages name (of_world Java (uses_in name) world))
 told_of world (query.Inheritors name) = found_text (found.Inheritors (map (level_row world) (inheritors_of name (types_of world))))
+told_of world (query.Key key) = found_text (found.Keys (of_world Properties (keys_in key) world))
 told_of world (query.Outline path) = []
 told_of world query.Status = found_text (found.Counts (count_of is_some world) (count_of is_open world) 0)
 
 module _ (laws : Laws) (world : World) (ready : lowest_unready world ≡ None) (at : ℕ) where
-  listed : {X : Type 0} (answer : List X → Finding) (rows : ℕ → File → List X) → ((id : ℕ) (file : File) → rows id (bare file) ≡ rows id file)
-      → unless_unready (lowest_unready world) (answer (of_world rows world)) ≡ Ok (answer (of_world rows (shown world)))
-  listed answer rows same = ap (λ lowest. unless_unready lowest (answer (of_world rows world))) ready
-      ∙ ap (λ found. Ok (answer found)) (sym (rows_shown rows same 1 world.files))
+  listed : {X : Type 0} (kind : FileKind) (answer : List X → Finding) (rows : ℕ → File → List X) → ((id : ℕ) (file : File) → rows id (bare file) ≡ rows id file)
+      → unless_unready (lowest_unready world) (answer (of_world kind rows world)) ≡ Ok (answer (of_world kind rows (shown world)))
+  listed kind answer rows same = ap (λ lowest. unless_unready lowest (answer (of_world kind rows world))) ready
+      ∙ ap (λ found. Ok (answer found)) (sym (rows_shown kind rows same 1 world.files))
 
   asked : (asks : Query) → IsOfAll asks → answer_text (answer_of world at (reply world asks)) ≡ told_of (shown world) asks
   asked (query.Class name) about =
-      ap (λ r. answer_text (answer_of world at r)) (listed found.Rows (rows_in (is_class name)) (λ id file. refl))
+      ap (λ r. answer_text (answer_of world at r)) (listed Java found.Rows (rows_in (is_class name)) (λ id file. refl))
   asked (query.Supers name) about =
-      ap (λ r. answer_text (answer_of world at r)) (listed found.Rows (rows_in (has_super name)) (λ id file. refl))
+      ap (λ r. answer_text (answer_of world at r)) (listed Java found.Rows (rows_in (has_super name)) (λ id file. refl))
   asked (query.Method name) about =
-      ap (λ r. answer_text (answer_of world at r)) (listed found.Rows (rows_in (is_method name)) (λ id file. refl))
+      ap (λ r. answer_text (answer_of world at r)) (listed Java found.Rows (rows_in (is_method name)) (λ id file. refl))
   asked (query.Word name) about = ap (λ r. answer_text (answer_of world at r))
-      (listed found.Words (word_in name) (λ id file. word_shown id file (mask_in (words_of _) name)))
+      (listed Java found.Words (word_in name) (λ id file. word_shown id file (mask_in (words_of _) name)))
   asked (query.Usages name) about =
-      ap (λ r. answer_text (answer_of world at r)) (listed (found.Usages name) (uses_in name) (λ id file. refl))
+      ap (λ r. answer_text (answer_of world at r)) (listed Java (found.Usages name) (uses_in name) (λ id file. refl))
   asked (query.Inheritors name) about =
       ap (λ lowest. answer_text (answer_of world at (unless_unready lowest (found.Inheritors (map (level_row world) (inheritors_of name (types_of world)))))))
       ready
       ∙ ap (λ rows. found_text (found.Inheritors rows)) (sym (inheritors_shown name world))
+  asked (query.Key key) about =
+      ap (λ r. answer_text (answer_of world at r)) (listed Properties found.Keys (keys_in key) (λ id file. refl))
   asked (query.Outline path) about = absurd about
   asked query.Status about =
       ap (λ files. found_text (found.Counts files (count_of is_open world) (count_of is_unready world))) (sym (counts_shown is_some some_shown world.files))

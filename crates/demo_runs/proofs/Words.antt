@@ -15,7 +15,8 @@ pub use Rattle.std.proofs.Math.ListN.{get_or-map}
 pub use Rattle.list_laws.specs.Fronts.{IsFront}
 pub use Rattle.list_laws.proofs.BoolLemmas.{bool_cases}
 pub use Rattle.list_laws.proofs.FrontLemmas.{front_trans, front_shorter, front_length}
-pub use Rattle.dumb_mode.specs.Filter.{is_java}
+pub use Rattle.dumb_mode.specs.declared.kind.FileKind.{FileKind}
+pub use Rattle.dumb_mode.specs.Filter.{has_kind}
 pub use Rattle.java_tokens.specs.Words.{words_of, mask_in}
 pub use Rattle.write_history.specs.declared.change.Change.{Change}
 pub use Rattle.write_history.specs.declared.change.Change.TheVariants.{Create, Write, Intake}
@@ -33,7 +34,7 @@ pub use Rattle.queries.specs.declared.query.Query.{Query}
 pub use Rattle.query_engine.specs.Fits.{is_class, has_super, is_method}
 pub use Rattle.query_engine.specs.Inheritors.{Listing, inheritors_of}
 pub use Rattle.query_engine.specs.declared.answer.Row.{Row}
-pub use Rattle.query_engine.specs.Reply.{rows_in, word_in, word_row, uses_in, types_in, types_of, row_of, listed_row, level_row, of_files, of_world}
+pub use Rattle.query_engine.specs.Reply.{rows_in, word_in, word_row, uses_in, keys_in, types_in, types_of, row_of, listed_row, level_row, of_files, of_world}
 pub use Rattle.query_engine.specs.Reply.{unless_unready, reply}
 pub use Rattle.script_lang.specs.declared.line.Line.{Line}
 pub use Rattle.script_lang.specs.Parts.{Parts}

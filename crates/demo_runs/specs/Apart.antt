@@ -50,6 +50,7 @@ IsOfAll (query.Method name) = Unit {0}
 IsOfAll (query.Word name) = Unit {0}
 IsOfAll (query.Usages name) = Unit {0}
 IsOfAll (query.Inheritors name) = Unit {0}
+IsOfAll (query.Key key) = Unit {0}
 IsOfAll query.Status = Unit {0}
 
 -- The prelude makes at most 10,000 files at lawful paths, two lanes write some of them at most 50,000 times, no file in both, and the last

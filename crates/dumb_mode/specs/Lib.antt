@@ -1,4 +1,4 @@
--- Which files are indexed
+-- Which files are indexed, and the kind of each
 pub mod Filter
 -- When a file is unready
 pub mod Unready

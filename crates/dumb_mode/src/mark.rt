@@ -6,7 +6,7 @@ ghost use Rattle.std.specs.Prelude.{◌≡◌};
 pub struct Mark {
     /// Its id.
     pub file: u32,
-    /// Whether its path passes the filter of the indexes.
+    /// Whether its path passes the filter of the indexes, so that the file has a kind; it need not be a Java file.
     pub java: bool,
     /// Whether it has an open document.
     pub docs_open: bool,

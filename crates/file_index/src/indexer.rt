@@ -22,6 +22,14 @@ impl Place for u8 {
     }
 }
 
+impl Place for u32 {
+    ghost place_of = { λ value. value };
+
+    fn place(&self) -> u32 {
+        *self
+    }
+}
+
 /// A way to make rows of an input: each a key, by which it is found, and a value.
 ///
 /// The rows are a function of the input alone, `rows_of`. They rise, first by the keys and then by the places of the

@@ -6,6 +6,7 @@ mod ids;
 mod indexer;
 mod inverted;
 mod key_rows;
+pub mod laws;
 mod postings;
 mod row_walk;
 

@@ -2,18 +2,20 @@
 use Rattle.std.proofs.Common.{◌≡◌, ℕ, ◌<◌, ◌≤◌, Bool, true, false, List, [], ◌∷◌, ◌++◌, length, refl, sym, ap, ◌∙◌, subst, append_assoc, Some, None, Option, Result, Ok, Err, IfSome}
 use Rattle.std.specs.Prelude.{OnOk, option_map, if◌then◌else◌}
 use Rattle.std.specs.List.{All, flat_map}
-use Rattle.std.specs.Option.{option_map_or}
+use Rattle.std.specs.Option.{option_map_or, option_and_then}
 use Rattle.std.specs.declared.alloc.AllocError.{AllocError}
 use Rattle.std.proofs.lemmas.List.{append-nil}
 use Rattle.std.proofs.lemmas.List.Elements.{All-nil, All-append, All-weaker, All-head, All-tail, All-rest, All-same}
 use Rattle.std.proofs.lemmas.List.Concat.{flat_map-append}
 use Rattle.list_laws.specs.Fronts.{IsFront}
+use Rattle.dumb_mode.specs.declared.kind.FileKind.{FileKind}
+use Rattle.dumb_mode.specs.Filter.{kind_of}
 use Rattle.list_laws.proofs.BoolLemmas.{bool_cases}
 use Rattle.write_history.specs.declared.entry.Entry.{Entry}
 use Rattle.write_history.specs.World.{World, File, file_of, is_unready}
 use Rattle.write_history.specs.Effect.{stamp_of}
 use Rattle.write_history.specs.Fold.{fold, IsLegal}
-use Rattle.ide_world.specs.Task.{Task, task_of, task_with_id, IsOfWorld}
+use Rattle.ide_world.specs.Task.{Task, task_of, work_of, task_with_id, IsOfWorld}
 use Rattle.ide_calls.specs.declared.making.Making.{Making}
 use Rattle.ide_calls.specs.Ahead.{tasks_of, IsTask, HasBegun, HasJoined, GoesOnAhead, StaysOfWorld}
 use Rattle.ide_calls.proofs.ReadLemmas.{WorkStays}
@@ -53,13 +55,14 @@ begun world made old new making is unready = record {
 }
 
 -- the work of an unready file is that of the file at its stamp
+work_task : (id : ℕ) (file : File) (k : Option FileKind) (task : Task) → Some task ≡ option_map (task_of id file) k → (task.file ≡ id) × (task.stamp ≡ file.stamp)
+work_task id file None task is = absurd (cc)
+work_task id file (Some kind) task is = let t : task ≡ task_of id file kind = cc in (ap (λ (x : Task). x.file) t, ap (λ (x : Task). x.stamp) t)
+
 file_task : (id : ℕ) (file : Option File) (task : Task) → is_unready file ≡ true
-    → Some task ≡ (if is_unready file then option_map (task_of id) file else None) → (task.file ≡ id) × (task.stamp ≡ stamp_of file)
+    → Some task ≡ (if is_unready file then option_and_then (work_of id) file else None) → (task.file ≡ id) × (task.stamp ≡ stamp_of file)
 file_task id None task unready is = absurd (cc)
-file_task id (Some file) task unready is =
-    let same : Some task ≡ Some (task_of id file) = rw unready at is in
-    let t : task ≡ task_of id file = cc in
-    (ap (λ (x : Task). x.file) t, ap (λ (x : Task). x.stamp) t)
+file_task id (Some file) task unready is = work_task id file (kind_of file.path) task (rw unready at is)
 
 pub unready_task : (world : World) (id : ℕ) (task : Task) → is_unready (file_of world id) ≡ true → Some task ≡ task_with_id world id
     → (task.file ≡ id) × (task.stamp ≡ stamp_of (file_of world id))

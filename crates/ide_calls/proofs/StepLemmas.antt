@@ -1,11 +1,14 @@
 -- The parts of a step put together.
 use Rattle.std.proofs.Common.{◌≡◌, ℕ, ◌+◌, true, List, [], ◌∷◌, ◌++◌, length, sym, ap, ◌∙◌, subst, append_assoc, Some, None, Option, Result, IfOk}
 use Rattle.std.specs.Prelude.{option_map, if◌then◌else◌}
+use Rattle.std.specs.Option.{option_and_then}
 use Rattle.std.specs.declared.alloc.AllocError.{AllocError}
 use Rattle.std.proofs.lemmas.Option.{same_Some}
 use Rattle.std.proofs.lemmas.Result.{IfOk-weaker}
 use Rattle.list_laws.proofs.BoolLemmas.{bool_cases}
 use Rattle.action_lock.specs.declared.view.View.{View}
+use Rattle.dumb_mode.specs.declared.kind.FileKind.{FileKind}
+use Rattle.dumb_mode.specs.Filter.{kind_of}
 use Rattle.action_lock.specs.Advances.{Advances}
 use Rattle.action_lock.specs.Steps.{finished, released}
 use Rattle.action_lock.specs.Writings.{HasIntended}
@@ -17,7 +20,7 @@ use Rattle.write_history.specs.World.{World, File, file_of, is_unready}
 use Rattle.write_history.specs.Effect.{stamp_of}
 use Rattle.write_history.specs.Fold.{fold, IsLegal}
 use Rattle.ide_world.specs.declared.data.Job.{Job}
-use Rattle.ide_world.specs.Task.{Task, task_of}
+use Rattle.ide_world.specs.Task.{Task, task_of, work_of}
 use Rattle.ide_calls.specs.Settle.{entry_of}
 use Rattle.ide_calls.specs.declared.step.Step.{Step as Answer}
 use Rattle.ide_calls.specs.declared.step.Step.TheVariants.{Idle, Gone, Stale, Refused, Taken}
@@ -63,11 +66,15 @@ record HasTask (file : Option File) (task : Task) : Type 0 where
   unready : is_unready file ≡ true
   stamped : stamp_of file ≡ task.stamp
 
-has_task : (file : Option File) (id : ℕ) (task : Task) → (if is_unready file then option_map (task_of id) file else None) ≡ Some task → HasTask file task
+has_work : (file : File) (id : ℕ) (k : Option FileKind) (task : Task) → is_unready (Some file) ≡ true → option_map (task_of id file) k ≡ Some task → HasTask (Some file) task
+has_work file id None task ready is = absurd (cc)
+has_work file id (Some kind) task ready is = let same : task_of id file kind ≡ task = cc in record { unready = ready; stamped = ap (λ (t : Task). t.stamp) same }
+
+has_task : (file : Option File) (id : ℕ) (task : Task) → (if is_unready file then option_and_then (work_of id) file else None) ≡ Some task → HasTask file task
 has_task None id task is = absurd (cc)
 has_task (Some file) id task found =
-    bool_cases (is_unready (Some file)) (λ b. (if b then Some (task_of id file) else None) ≡ Some task → HasTask (Some file) task)
-    (λ ready is. let same : task_of id file ≡ task = cc in record { unready = ready; stamped = ap (λ (t : Task). t.stamp) same })
+    bool_cases (is_unready (Some file)) (λ b. (if b then work_of id file else None) ≡ Some task → HasTask (Some file) task)
+    (λ ready is. has_work file id (kind_of file.path) task ready is)
     (λ ready is. absurd (cc))
     found
 

@@ -32,7 +32,7 @@ pub record IsWork (world : World) (seat : ℕ) (hint : Option ℕ) (task : Task)
 
 -- what a job says
 abbrev pub task_of_job : Job → Task
-task_of_job job = record { file = job.file; stamp = job.stamp; content = job.text }
+task_of_job job = record { file = job.file; kind = job.kind; stamp = job.stamp; content = job.text }
 
 -- the job of that file, or none where no file is unready
 abbrev pub IsChoice : World → (seat : ℕ) → Option ℕ → Option Job → Type 0

@@ -32,7 +32,7 @@ pub record HasLooked (seat : ℕ) (hint : Option ℕ) (v w : View Entry) (look :
 
 -- the work for which data were made
 abbrev pub task_of_made : Made → Task
-task_of_made made = record { file = made.file; stamp = made.stamp; content = made.text }
+task_of_made made = record { file = made.file; kind = made.kind; stamp = made.stamp; content = made.text }
 
 -- the intake of data of a file that were made at a stamp may go in, behind so many entries
 pub record IsPreparedAt (world : World) (file stamp len : ℕ) (steps : List Step) : Type 0 where

@@ -8,7 +8,9 @@ use Rattle.std.proofs.lemmas.Option.{none-some}
 use Rattle.std.proofs.lemmas.List.Sums.{fails_before_first}
 use Rattle.list_laws.proofs.BoolLemmas.{bool_cases}
 use Rattle.document_buf.specs.Document.{Document}
-use Rattle.dumb_mode.specs.Filter.{is_java}
+use Rattle.dumb_mode.specs.declared.kind.FileKind.{FileKind}
+use Rattle.dumb_mode.specs.declared.kind.FileKind.TheVariants.{Java, Properties}
+use Rattle.dumb_mode.specs.Filter.{kind_of, has_kind, is_same_kind}
 use Rattle.dumb_mode.specs.Unready.{is_indexed_at}
 use Rattle.overlay_index.specs.Parts.{Parts, no_parts, parts_of}
 use Rattle.overlay_index.specs.Layers as layers
@@ -51,46 +53,63 @@ indexed_now present (Some stamp) h = ap Some (eqb-true stamp present (by (eqb st
     by true e = refl
     by false e = absurd (false≢true (sym e))
 
-module _ {V : Type 0} (part : Parts → List (List ℕ × V)) (name : List ℕ) (read : List ℕ → List V) (nothing : walk.values_of name (part no_parts) ≡ [])
-    (law : (text : List ℕ) → walk.values_of name (part (parts_of text)) ≡ read text) where
+-- what rows of a kind give, from what they give by each kind
+pub java_rows : {V : Type 0} (rows : FileKind → List ℕ → List V) (read : List ℕ → List V) → ((text : List ℕ) → rows Java text ≡ read text)
+    → ((text : List ℕ) → rows Properties text ≡ []) → (kind : FileKind) (text : List ℕ) → rows kind text ≡ cond (is_same_kind (Some kind) (Some Java)) (read text) []
+java_rows rows read java properties Java text = java text
+java_rows rows read java properties Properties text = properties text
+
+pub property_rows : {V : Type 0} (rows : FileKind → List ℕ → List V) (read : List ℕ → List V) → ((text : List ℕ) → rows Properties text ≡ read text)
+    → ((text : List ℕ) → rows Java text ≡ []) → (kind : FileKind) (text : List ℕ) → rows kind text ≡ cond (is_same_kind (Some kind) (Some Properties)) (read text) []
+property_rows rows read properties java Java text = java text
+property_rows rows read properties java Properties text = properties text
+
+module _ {V : Type 0} (own : FileKind) (part : Parts → List (List ℕ × V)) (name : List ℕ) (read : List ℕ → List V)
+    (own_kind : (path : List ℕ) → has_kind own path ≡ is_same_kind (kind_of path) (Some own))
+    (nothing : walk.values_of name (part no_parts) ≡ [])
+    (law : (kind : FileKind) (text : List ℕ) → walk.values_of name (part (parts_of kind text)) ≡ cond (is_same_kind (Some kind) (Some own)) (read text) []) where
   bare : (held : Indexed) → (held.base ≡ no_parts) × (held.overlay ≡ None) → walk.values_of name (part (unwrap_or held.overlay held.base)) ≡ []
   bare held none =
       ap (λ o. walk.values_of name (part (unwrap_or o held.base))) none.1
       ∙ ap (λ p. walk.values_of name (part p)) none.0
       ∙ nothing
 
-  live : (file : File) (held : Indexed) (java : Bool) → is_java file.path ≡ java → HoldsLive java file held → is_unready (Some file) ≡ false
-      → walk.values_of name (part (unwrap_or held.overlay held.base)) ≡ cond java (read (shown_text file)) []
-  live file held false is holds ready = bare held holds
-  live file held true is holds ready = by file.document refl
+  live : (file : File) (held : Indexed) (k : Option FileKind) → kind_of file.path ≡ k → HoldsLive k file held → is_unready (Some file) ≡ false
+      → walk.values_of name (part (unwrap_or held.overlay held.base)) ≡ cond (is_same_kind k (Some own)) (read (shown_text file)) []
+  live file held None is holds ready = bare held holds
+  live file held (Some kind) is holds ready = by file.document refl
     where
-      by : (document : Option Document) → file.document ≡ document → walk.values_of name (part (unwrap_or held.overlay held.base)) ≡ read (shown_text file)
+      same : Bool
+      same = is_same_kind (Some kind) (Some own)
+
+      by : (document : Option Document) → file.document ≡ document → walk.values_of name (part (unwrap_or held.overlay held.base)) ≡ cond same (read (shown_text file)) []
       by (Some d) open' =
-          ap (λ o. walk.values_of name (part (unwrap_or o held.base))) (holds.0 ∙ ap (option_map (λ (x : Document). parts_of x.committed)) open')
-          ∙ law d.committed
-          ∙ ap (λ o. read (option_map_or (λ (x : Document). x.committed) o file.content)) (sym open')
+          ap (λ o. walk.values_of name (part (unwrap_or o held.base))) (holds.0 ∙ ap (option_map (λ (x : Document). parts_of kind x.committed)) open')
+          ∙ law kind d.committed
+          ∙ ap (λ o. cond same (read (option_map_or (λ (x : Document). x.committed) o file.content)) []) (sym open')
       by None closed =
-          ap (λ o. walk.values_of name (part (unwrap_or o held.base))) (holds.0 ∙ ap (option_map (λ (x : Document). parts_of x.committed)) closed)
+          ap (λ o. walk.values_of name (part (unwrap_or o held.base))) (holds.0 ∙ ap (option_map (λ (x : Document). parts_of kind x.committed)) closed)
           ∙ ap (λ p. walk.values_of name (part p)) (holds.1 (indexed_now file.stamp file.indexed
-          (sym (ap (λ j. j && not (is_some file.document) && not (is_indexed_at file.stamp file.indexed)) is
+          (sym (ap (λ j. is_some j && not (is_some file.document) && not (is_indexed_at file.stamp file.indexed)) is
           ∙ ap (λ o. true && not (is_some o) && not (is_indexed_at file.stamp file.indexed)) closed) ∙ ready)))
-          ∙ law file.content
-          ∙ ap (λ o. read (option_map_or (λ (x : Document). x.committed) o file.content)) (sym closed)
+          ∙ law kind file.content
+          ∙ ap (λ o. cond same (read (option_map_or (λ (x : Document). x.committed) o file.content)) []) (sym closed)
 
   -- what the shown parts of a file that isn't unready have under the name is what its text has
-  one : (file : Option File) (held : Indexed) → HoldsIndex file held → is_unready file ≡ false → walk.values_of name (part (unwrap_or held.overlay held.base)) ≡ found_at read file
+  one : (file : Option File) (held : Indexed) → HoldsIndex file held → is_unready file ≡ false → walk.values_of name (part (unwrap_or held.overlay held.base)) ≡ found_at own read file
   one None held holds ready = bare held holds
-  one (Some file) held holds ready = live file held (is_java file.path) refl holds ready
+  one (Some file) held holds ready =
+      live file held (kind_of file.path) refl holds ready ∙ ap (λ b. cond b (read (shown_text file)) []) (sym (own_kind file.path))
 
   -- an unready file is closed, so it has no overlay
-  no_overlay : (file : File) (held : Indexed) (java : Bool) → is_java file.path ≡ java → HoldsLive java file held
+  no_overlay : (file : File) (held : Indexed) (k : Option FileKind) → kind_of file.path ≡ k → HoldsLive k file held
       → is_unready (Some file) ≡ true → held.overlay ≡ None
-  no_overlay file held false is holds unready = holds.1
-  no_overlay file held true is holds unready = by file.document refl
+  no_overlay file held None is holds unready = holds.1
+  no_overlay file held (Some kind) is holds unready = by file.document refl
     where
       by : (document : Option Document) → file.document ≡ document → held.overlay ≡ None
-      by None closed = holds.0 ∙ ap (option_map (λ (x : Document). parts_of x.committed)) closed
-      by (Some d) open' = absurd (false≢true (sym (ap (λ j. j && not (is_some file.document) && not (is_indexed_at file.stamp file.indexed)) is
+      by None closed = holds.0 ∙ ap (option_map (λ (x : Document). parts_of kind x.committed)) closed
+      by (Some d) open' = absurd (false≢true (sym (ap (λ j. is_some j && not (is_some file.document) && not (is_indexed_at file.stamp file.indexed)) is
           ∙ ap (λ o. true && not (is_some o) && not (is_indexed_at file.stamp file.indexed)) open') ∙ unready))
 
   -- what the shown parts of an unready file have under the name is what is kept of it
@@ -98,57 +117,57 @@ module _ {V : Type 0} (part : Parts → List (List ℕ × V)) (name : List ℕ) 
       → walk.values_of name (part (unwrap_or held.overlay held.base)) ≡ walk.values_of name (part held.base)
   stale None held holds unready = absurd (false≢true unready)
   stale (Some file) held holds unready =
-      ap (λ o. walk.values_of name (part (unwrap_or o held.base))) (no_overlay file held (is_java file.path) refl holds unready)
+      ap (λ o. walk.values_of name (part (unwrap_or o held.base))) (no_overlay file held (kind_of file.path) refl holds unready)
 
   -- what the shown parts of any file have under the name
   either : (file : Option File) (held : Indexed) → HoldsIndex file held
-      → walk.values_of name (part (unwrap_or held.overlay held.base)) ≡ cond (is_unready file) (walk.values_of name (part held.base)) (found_at read file)
+      → walk.values_of name (part (unwrap_or held.overlay held.base)) ≡ cond (is_unready file) (walk.values_of name (part held.base)) (found_at own read file)
   either file held holds = bool_cases (is_unready file)
-      (λ b. is_unready file ≡ b → walk.values_of name (part (unwrap_or held.overlay held.base)) ≡ cond b (walk.values_of name (part held.base)) (found_at read file))
+      (λ b. is_unready file ≡ b → walk.values_of name (part (unwrap_or held.overlay held.base)) ≡ cond b (walk.values_of name (part held.base)) (found_at own read file))
       (λ is e. stale file held holds e) (λ is e. one file held holds e) refl
 
   all_from : (look kept : ℕ → List V) (first : ℕ) (files : List (Option File))
-      → ((place : ℕ) → look (first + place) ≡ cond (is_unready (get_or files place None)) (kept (first + place)) (found_at read (get_or files place None)))
-      → walk.found_from look first (length files) ≡ shown_from kept read first files
+      → ((place : ℕ) → look (first + place) ≡ cond (is_unready (get_or files place None)) (kept (first + place)) (found_at own read (get_or files place None)))
+      → walk.found_from look first (length files) ≡ shown_from own kept read first files
   all_from look kept first [] each = refl
   all_from look kept first (file ∷ files) each =
-      let here : look first ≡ cond (is_unready file) (kept first) (found_at read file) =
+      let here : look first ≡ cond (is_unready file) (kept first) (found_at own read file) =
       (let e : first ≡ first + 0 = omega arith in ap look e) ∙ each 0
-      ∙ (let e : first + 0 ≡ first = omega arith in ap (λ id. cond (is_unready file) (kept id) (found_at read file)) e) in
+      ∙ (let e : first + 0 ≡ first = omega arith in ap (λ id. cond (is_unready file) (kept id) (found_at own read file)) e) in
       let next : suc first ≡ first + 1 = omega arith in
       ap (λ vs. walk.with_id first vs ++ walk.found_from look (suc first) (length files)) here
-      ∙ ap (λ rest. walk.with_id first (cond (is_unready file) (kept first) (found_at read file)) ++ rest)
+      ∙ ap (λ rest. walk.with_id first (cond (is_unready file) (kept first) (found_at own read file)) ++ rest)
       (all_from look kept (suc first) files (λ place. (let e : suc first + place ≡ first + suc place = omega arith in ap look e) ∙ each (suc place)
       ∙ (let e : first + suc place ≡ suc first + place = omega arith in
-      ap (λ id. cond (is_unready (get_or files place None)) (kept id) (found_at read (get_or files place None))) e))
-      ∙ ap (λ i. shown_from kept read i files) next)
+      ap (λ id. cond (is_unready (get_or files place None)) (kept id) (found_at own read (get_or files place None))) e))
+      ∙ ap (λ i. shown_from own kept read i files) next)
 
   -- the walk gives what the world shows
   pub walk_shown : (kept : layers.Held) (files : List (Option File))
       → ((id : ℕ) → HoldsIndex (row_in files id) (indexed_in kept id))
       → walk.found_to (λ id. walk.values_of name (part (layers.shown_of kept id))) (length files)
-      ≡ shown_from (λ id. walk.values_of name (part (layers.base_of kept id))) read 1 files
+      ≡ shown_from own (λ id. walk.values_of name (part (layers.base_of kept id))) read 1 files
   walk_shown kept files holds =
       all_from (λ id. walk.values_of name (part (layers.shown_of kept id))) (λ id. walk.values_of name (part (layers.base_of kept id))) 1 files each
     where
       each : (place : ℕ) → walk.values_of name (part (layers.shown_of kept (1 + place)))
-          ≡ cond (is_unready (get_or files place None)) (walk.values_of name (part (layers.base_of kept (1 + place)))) (found_at read (get_or files place None))
+          ≡ cond (is_unready (get_or files place None)) (walk.values_of name (part (layers.base_of kept (1 + place)))) (found_at own read (get_or files place None))
       each place =
           (let e : 1 + place ≡ suc place = omega arith in ap (λ id. walk.values_of name (part (layers.shown_of kept id))) e)
           ∙ either (get_or files place None) (indexed_in kept (suc place)) (holds (suc place))
           ∙ (let e : suc place ≡ 1 + place = omega arith in
-          ap (λ id. cond (is_unready (get_or files place None)) (walk.values_of name (part (layers.base_of kept id))) (found_at read (get_or files place None))) e)
+          ap (λ id. cond (is_unready (get_or files place None)) (walk.values_of name (part (layers.base_of kept id))) (found_at own read (get_or files place None))) e)
 
-module _ {X : Type 0} (kept : ℕ → List X) (read : List ℕ → List X) where
+module _ {X : Type 0} (own : FileKind) (kept : ℕ → List X) (read : List ℕ → List X) where
   ready_from : (first : ℕ) (files : List (Option File)) → ((place : ℕ) → is_unready (get_or files place None) ≡ false)
-      → shown_from kept read first files ≡ found_from read first files
+      → shown_from own kept read first files ≡ found_from own read first files
   ready_from first [] ready = refl
   ready_from first (file ∷ files) ready =
-      ap (λ b. walk.with_id first (cond b (kept first) (found_at read file)) ++ shown_from kept read (first + 1) files) (ready 0)
-      ∙ ap (λ rest. walk.with_id first (found_at read file) ++ rest) (ready_from (first + 1) files (λ place. ready (suc place)))
+      ap (λ b. walk.with_id first (cond b (kept first) (found_at own read file)) ++ shown_from own kept read (first + 1) files) (ready 0)
+      ∙ ap (λ rest. walk.with_id first (found_at own read file) ++ rest) (ready_from (first + 1) files (λ place. ready (suc place)))
 
   -- where no file is unready, each gives what its shown text gives
-  pub ready_shown : (files : List (Option File)) → option_map suc (position is_unready files) ≡ None → shown_from kept read 1 files ≡ found_from read 1 files
+  pub ready_shown : (files : List (Option File)) → option_map suc (position is_unready files) ≡ None → shown_from own kept read 1 files ≡ found_from own read 1 files
   ready_shown files none = ready_from 1 files (ready_at files none)
 
 bare_parts : (held : Indexed) → HoldsIndex None held → unwrap_or held.overlay held.base ≡ no_parts

@@ -8,7 +8,9 @@ use Rattle.std.proofs.lemmas.Option.{IfSome_then}
 use Rattle.vfs_core.specs.declared.row.FileRow.{FileRow}
 use Rattle.ide_text.specs.Text.{max_chars}
 use Rattle.document_buf.specs.Document.{Document, opened, inserted, erased, committed, replaced}
-use Rattle.dumb_mode.specs.Filter.{is_java}
+use Rattle.dumb_mode.specs.declared.kind.FileKind.{FileKind}
+use Rattle.dumb_mode.specs.declared.kind.FileKind.TheVariants.{Java, Properties}
+use Rattle.dumb_mode.specs.Filter.{kind_of}
 use Rattle.overlay_index.specs.Parts.{Parts, parts_of, no_parts}
 use Rattle.write_history.specs.declared.change.Change.TheVariants.{Create, Write, Delete, OpenDoc, Insert, Erase, Commit, Save, CloseDoc, Intake, Move}
 use Rattle.write_history.specs.World.{World, File, file_of, id_at, document_at, next_id}
@@ -29,19 +31,19 @@ use Rattle.ide_world.specs.Sound.{IsSoundLive, IsSoundFile, AreSoundFiles, Holds
 use Rattle.ide_world.specs.Lawful.{IsLawfulStep}
 use Rattle.ide_world.specs.declared.look.Look.{Look}
 use Rattle.ide_world.specs.Walk.{look_of}
-use Rattle.ide_world.specs.Builds.{Builds, IsLiveAt, edit_step, overlay_edit, moved_index, close_index, intake_index}
+use Rattle.ide_world.specs.Builds.{Builds, IsLiveAt, edit_step, overlay_edit, renewed_index, moved_index, close_index, intake_index}
 use Rattle.ide_world.proofs.PathLemmas.{id_at-of}
 use Rattle.ide_world.proofs.BuildLemmas.{IsFileAt, is_file_at, file_of_row, edit_effect, edit_lawful, kept_path, sound_at}
 
 -- the index data of a document's committed text
-abbrev overlay_parts : Option Document → Option Parts
-overlay_parts doc = option_map (λ d. parts_of d.committed) doc
+abbrev overlay_parts : FileKind → Option Document → Option Parts
+overlay_parts kind doc = option_map (λ d. parts_of kind d.committed) doc
 
 -- index data stay right where the committed text stays, and what is indexed at its stamp was so with the same content
-index_kept : (b : Bool) (f g : File) (held : Indexed) → overlay_parts f.document ≡ overlay_parts g.document
-    → (g.indexed ≡ Some g.stamp → (f.indexed ≡ Some f.stamp) × (f.content ≡ g.content)) → HoldsLive b f held → HoldsLive b g held
-index_kept false f g held e n h = h
-index_kept true f g held e n h = (h.0 ∙ e, λ i. let k = n i in h.1 k.0 ∙ ap parts_of k.1)
+index_kept : (k : Option FileKind) (f g : File) (held : Indexed) → ((kind : FileKind) → overlay_parts kind f.document ≡ overlay_parts kind g.document)
+    → (g.indexed ≡ Some g.stamp → (f.indexed ≡ Some f.stamp) × (f.content ≡ g.content)) → HoldsLive k f held → HoldsLive k g held
+index_kept None f g held e n h = h
+index_kept (Some kind) f g held e n h = (h.0 ∙ e kind, λ i. let k = n i in h.1 k.0 ∙ ap (parts_of kind) k.1)
 
 -- a file isn't indexed at a stamp that is still to be drawn
 not_yet : (next : ℕ) (indexed : Option ℕ) → IfSome indexed (λ s. s < next) → indexed ≡ Some next → ⊥
@@ -85,9 +87,9 @@ next_is_free : (w : World) (o : Option File) → file_of w (next_id w) ≡ o →
 next_is_free w None e = refl
 next_is_free w (Some f) e = let l = live_is_made w.files (next_id w) f e in absurd (let le = l.1 in omega arith)
 
-index_new : (b : Bool) (f : File) (held : Indexed) → f.indexed ≡ None → f.document ≡ None → (held.base ≡ no_parts) × (held.overlay ≡ None) → HoldsLive b f held
-index_new false f held i d h = h
-index_new true f held i d h = (h.1 ∙ sym (ap overlay_parts d), λ e. absurd (some_none f.stamp (sym e ∙ i)))
+index_new : (k : Option FileKind) (f : File) (held : Indexed) → f.indexed ≡ None → f.document ≡ None → (held.base ≡ no_parts) × (held.overlay ≡ None) → HoldsLive k f held
+index_new None f held i d h = h
+index_new (Some kind) f held i d h = (h.1 ∙ sym (ap (overlay_parts kind) d), λ e. absurd (some_none f.stamp (sym e ∙ i)))
 
 abbrev create_step : List ℕ → List ℕ → ℕ → ℕ → Step
 create_step path text id stamp = record { id = id; row = row_edit.Put (record { path = path; content = text; stamp = stamp; indexed = None }); doc = doc_edit.Keep; index = index_edit.Keep; draws = true }
@@ -104,7 +106,7 @@ create_lawful w path text none few free = record {
   sound = let P : Option File → Type 0 = λ o. IsSoundFile (w.next_stamp + 1) (stepped (create_step path text (next_id w) w.next_stamp) o) in
       subst P (sym none) (record { stamp = omega arith; indexed = tt; saved = tt });
   index = let P : Option File → Type 0 = λ o. (held : Indexed) → HoldsIndex o held → HoldsIndex (stepped (create_step path text (next_id w) w.next_stamp) o) held in
-      subst P (sym none) (λ held h. index_new (is_java path) (new_file path text w.next_stamp) held refl refl h);
+      subst P (sym none) (λ held h. index_new (kind_of path) (new_file path text w.next_stamp) held refl refl h);
 }
 
 create_effect : (w : World) (path text : List ℕ) → file_of w (next_id w) ≡ None → after_step w (create_step path text (next_id w) w.next_stamp) ≡ effect_of w (Create path text)
@@ -166,7 +168,7 @@ insert_builds w wide path id at text row (Some d) sound h accepted =
           })
           (λ n. absurd (some_none row n))
           (record { stamp = let l = s.stamp in omega arith; indexed = IfSome_then row.indexed s.indexed (λ x l. omega arith); saved = λ n. absurd (false_true n) })
-          (λ held k. index_kept (is_java row.path) (file_with (Some d) row) (file_with (Some (inserted at text d)) row) held refl (λ i. (i, refl)) k);
+          (λ held k. index_kept (kind_of row.path) (file_with (Some d) row) (file_with (Some (inserted at text d)) row) held (λ kind. refl) (λ i. (i, refl)) k);
       room = tt;
       inserted = refl;
     }
@@ -202,20 +204,20 @@ erase_builds w wide path id from to row (Some d) sound h accepted =
           })
           (λ n. absurd (some_none row n))
           (record { stamp = let l = s.stamp in omega arith; indexed = IfSome_then row.indexed s.indexed (λ x l. omega arith); saved = λ n. absurd (false_true n) })
-          (λ held k. index_kept (is_java row.path) (file_with (Some d) row) (file_with (Some (erased from to d)) row) held refl (λ i. (i, refl)) k);
+          (λ held k. index_kept (kind_of row.path) (file_with (Some d) row) (file_with (Some (erased from to d)) row) held (λ kind. refl) (λ i. (i, refl)) k);
       room = tt;
       inserted = refl;
     }
 
 -- ---- open
 
-index_opened : (b : Bool) (row : FileRow) (held : Indexed) → HoldsLive b (file_with None row) held
-    → HoldsLive b (file_with (Some (opened row.content)) row) (edited_index (overlay_edit b row.content) held)
-index_opened false row held h = h
-index_opened true row held h = (refl, h.1)
+index_opened : (k : Option FileKind) (row : FileRow) (held : Indexed) → HoldsLive k (file_with None row) held
+    → HoldsLive k (file_with (Some (opened row.content)) row) (edited_index (overlay_edit k row.content) held)
+index_opened None row held h = h
+index_opened (Some kind) row held h = (refl, h.1)
 
 pub open_builds : (w : World) (wide : ℕ) (path : List ℕ) (id : ℕ) (row : FileRow) (doc : Option Document) (new : HeldDoc) (index : IndexEdit) → AreSoundFiles w → IsFileAt w path id row doc
-    → refusal_of w (OpenDoc path) ≡ None → new.document ≡ opened row.content → wide ≤ new.spare → index ≡ overlay_edit (is_java row.path) row.content
+    → refusal_of w (OpenDoc path) ≡ None → new.document ≡ opened row.content → wide ≤ new.spare → index ≡ overlay_edit (kind_of row.path) row.content
     → Builds w wide (OpenDoc path) (record { id = id; row = row_edit.Keep; doc = doc_edit.Open new; index = index; draws = false })
 open_builds w wide path id row (Some d) new index sound h accepted e room i =
     let r = accepted_reasons w (OpenDoc path) accepted in
@@ -232,34 +234,34 @@ open_builds w wide path id row None new index sound h accepted e room i =
       same_id = named w path id row None h;
       lawful = edit_lawful w path row None step h tt refl (λ n. absurd (some_none row n))
           (subst P (sym e) (record { stamp = let l = s.stamp in omega arith; indexed = IfSome_then row.indexed s.indexed (λ x l. omega arith); saved = λ t. refl }))
-          (subst Q (sym e) (subst R (sym i) (λ held k. index_opened (is_java row.path) row held k)));
+          (subst Q (sym e) (subst R (sym i) (λ held k. index_opened (kind_of row.path) row held k)));
       room = room;
       inserted = refl;
     }
 
 -- ---- commit
 
-index_committed : (b : Bool) (row : FileRow) (d : Document) (held : Indexed) → HoldsLive b (file_with (Some d) row) held
-    → HoldsLive b (file_with (Some (committed d)) row) (edited_index (overlay_edit b d.text) held)
-index_committed false row d held h = h
-index_committed true row d held h = (refl, h.1)
+index_committed : (k : Option FileKind) (row : FileRow) (d : Document) (held : Indexed) → HoldsLive k (file_with (Some d) row) held
+    → HoldsLive k (file_with (Some (committed d)) row) (edited_index (overlay_edit k d.text) held)
+index_committed None row d held h = h
+index_committed (Some kind) row d held h = (refl, h.1)
 
 pub commit_builds : (w : World) (wide : ℕ) (path : List ℕ) (id : ℕ) (row : FileRow) (doc : Option Document) (text : List ℕ) (index : IndexEdit) → AreSoundFiles w → IsFileAt w path id row doc
-    → Some text ≡ option_map (λ d. d.text) doc → index ≡ overlay_edit (is_java row.path) text
+    → Some text ≡ option_map (λ d. d.text) doc → index ≡ overlay_edit (kind_of row.path) text
     → Builds w wide (Commit path) (record { id = id; row = row_edit.Keep; doc = doc_edit.Commit text; index = index; draws = false })
 commit_builds w wide path id row None text index sound h t i = absurd (some_none text t)
 commit_builds w wide path id row (Some d) text index sound h t i =
     let s = sound_at w path id row (Some d) sound h in
     let same : text ≡ d.text = cc in
     let step : Step = record { id = id; row = row_edit.Keep; doc = doc_edit.Commit text; index = index; draws = false } in
-    let is : index ≡ overlay_edit (is_java row.path) d.text = i ∙ ap (overlay_edit (is_java row.path)) same in
+    let is : index ≡ overlay_edit (kind_of row.path) d.text = i ∙ ap (overlay_edit (kind_of row.path)) same in
     let R : IndexEdit → Type 0 = λ x. (held : Indexed) → HoldsIndex (Some (file_with (Some d) row)) held → HoldsIndex (Some (file_with (Some (committed d)) row)) (edited_index x held) in
     record {
       effect = edit_effect w path row (Some d) step 0 (λ f. Some (edited committed f)) h refl refl;
       same_id = named w path id row (Some d) h;
       lawful = edit_lawful w path row (Some d) step h tt same (λ n. absurd (some_none row n))
           (record { stamp = let l = s.stamp in omega arith; indexed = IfSome_then row.indexed s.indexed (λ x l. omega arith); saved = s.saved })
-          (subst R (sym is) (λ held k. index_committed (is_java row.path) row d held k));
+          (subst R (sym is) (λ held k. index_committed (kind_of row.path) row d held k));
       room = tt;
       inserted = refl;
     }
@@ -282,23 +284,23 @@ save_builds w wide path id row (Some d) text stamp sound h t n =
       same_id = named w path id row (Some d) h;
       lawful = edit_lawful w path row (Some d) (save_step id row d.text w.next_stamp) h (kept_path w path id row (Some d) sound h) tt (λ e. absurd (some_none {A = FileRow} (record { path = row.path; content = d.text; stamp = w.next_stamp; indexed = row.indexed }) e))
           (record { stamp = omega arith; indexed = IfSome_then row.indexed s.indexed (λ x l. omega arith); saved = λ e. refl })
-          (λ held k. index_kept (is_java row.path) (file_with (Some d) row) (saved w.next_stamp (file_with (Some d) row)) held refl (λ i. absurd (not_yet w.next_stamp row.indexed s.indexed i)) k);
+          (λ held k. index_kept (kind_of row.path) (file_with (Some d) row) (saved w.next_stamp (file_with (Some d) row)) held (λ kind. refl) (λ i. absurd (not_yet w.next_stamp row.indexed s.indexed i)) k);
       room = tt;
       inserted = refl;
     }))
 
 -- ---- close
 
-index_closed : (b : Bool) (row : FileRow) (d : Document) (held : Indexed) → d.committed ≡ row.content → HoldsLive b (file_with (Some d) row) held
-    → HoldsLive b (closed (file_with (Some d) row)) (edited_index (close_index b) held)
-index_closed false row d held e h = h
-index_closed true row d held e h = (refl, λ i. ap (λ o. unwrap_or o held.base) h.0 ∙ ap parts_of e)
+index_closed : (k : Option FileKind) (row : FileRow) (d : Document) (held : Indexed) → d.committed ≡ row.content → HoldsLive k (file_with (Some d) row) held
+    → HoldsLive k (closed (file_with (Some d) row)) (edited_index (close_index k) held)
+index_closed None row d held e h = h
+index_closed (Some kind) row d held e h = (refl, λ i. ap (λ o. unwrap_or o held.base) h.0 ∙ ap (parts_of kind) e)
 
 abbrev close_step : ℕ → FileRow → IndexEdit → Step
 close_step id row index = record { id = id; row = row_edit.Put (record { path = row.path; content = row.content; stamp = row.stamp; indexed = Some row.stamp }); doc = doc_edit.Close; index = index; draws = false }
 
 pub close_builds : (w : World) (wide : ℕ) (path : List ℕ) (id : ℕ) (row : FileRow) (doc : Option Document) (index : IndexEdit) → AreSoundFiles w → IsFileAt w path id row doc
-    → refusal_of w (CloseDoc path) ≡ None → index ≡ close_index (is_java row.path) → Builds w wide (CloseDoc path) (close_step id row index)
+    → refusal_of w (CloseDoc path) ≡ None → index ≡ close_index (kind_of row.path) → Builds w wide (CloseDoc path) (close_step id row index)
 close_builds w wide path id row None index sound h accepted i =
     let r = accepted_reasons w (CloseDoc path) accepted in
     absurd (false_true (sym r.1.0 ∙ ap is_none (document_is w path id row None h)))
@@ -315,7 +317,7 @@ close_builds w wide path id row (Some d) index sound h accepted i =
       same_id = named w path id row (Some d) h;
       lawful = edit_lawful w path row (Some d) (close_step id row index) h (kept_path w path id row (Some d) sound h) tt (λ n. refl)
           (record { stamp = let l = s.stamp in omega arith; indexed = let l = s.stamp in omega arith; saved = tt })
-          (subst R (sym i) (λ held k. index_closed (is_java row.path) row d held same k));
+          (subst R (sym i) (λ held k. index_closed (kind_of row.path) row d held same k));
       room = tt;
       inserted = refl;
     }
@@ -337,7 +339,7 @@ write_closed_builds w wide path id row None text stamp sound h t n =
       same_id = named w path id row None h;
       lawful = edit_lawful w path row None step h (kept_path w path id row None sound h) tt (λ e. refl)
           (record { stamp = omega arith; indexed = IfSome_then row.indexed s.indexed (λ x l. omega arith); saved = tt })
-          (λ held k. index_kept (is_java row.path) (file_with None row) (rewritten text w.next_stamp (file_with None row)) held refl (λ i. absurd (not_yet w.next_stamp row.indexed s.indexed i)) k);
+          (λ held k. index_kept (kind_of row.path) (file_with None row) (rewritten text w.next_stamp (file_with None row)) held (λ kind. refl) (λ i. absurd (not_yet w.next_stamp row.indexed s.indexed i)) k);
       room = tt;
       inserted = refl;
     })
@@ -357,17 +359,17 @@ write_open_builds w wide path id row (Some d) text stamp new sound h t n e room 
       same_id = named w path id row (Some d) h;
       lawful = edit_lawful w path row (Some d) step h (kept_path w path id row (Some d) sound h) (refl, e ∙ ap opened (sym same)) (λ x. absurd (some_none {A = FileRow} (record { path = row.path; content = text; stamp = w.next_stamp; indexed = row.indexed }) x))
           (subst S (sym same) (record { stamp = omega arith; indexed = IfSome_then row.indexed s.indexed (λ x l. omega arith); saved = λ x. refl }))
-          (λ held k. index_kept (is_java row.path) (file_with (Some d) row) (record { path = row.path; content = text; stamp = w.next_stamp; indexed = row.indexed; document = Some (replaced new.document.text d) }) held refl (λ i. absurd (not_yet w.next_stamp row.indexed s.indexed i)) k);
+          (λ held k. index_kept (kind_of row.path) (file_with (Some d) row) (record { path = row.path; content = text; stamp = w.next_stamp; indexed = row.indexed; document = Some (replaced new.document.text d) }) held (λ kind. refl) (λ i. absurd (not_yet w.next_stamp row.indexed s.indexed i)) k);
       room = room;
       inserted = refl;
     })
 
 -- ---- intake
 
-index_taken : (b : Bool) (f : File) (held : Indexed) (text : List ℕ) → f.content ≡ text → HoldsLive b f held
-    → HoldsLive b (taken_in f.stamp f) (edited_index (intake_index b text) held)
-index_taken false f held text e h = h
-index_taken true f held text e h = (h.0, λ i. ap parts_of (sym e))
+index_taken : (k : Option FileKind) (f : File) (held : Indexed) (text : List ℕ) → f.content ≡ text → HoldsLive k f held
+    → HoldsLive k (taken_in f.stamp f) (edited_index (intake_index k text) held)
+index_taken None f held text e h = h
+index_taken (Some kind) f held text e h = (h.0, λ i. ap (parts_of kind) (sym e))
 
 abbrev intake_step : ℕ → FileRow → ℕ → IndexEdit → Step
 intake_step id row stamp index = record { id = id; row = row_edit.Put (record { path = row.path; content = row.content; stamp = row.stamp; indexed = Some stamp }); doc = doc_edit.Keep; index = index; draws = false }
@@ -379,7 +381,7 @@ same_stamp w id stamp f live accepted =
     eqb-true stamp f.stamp t
 
 pub intake_builds : (w : World) (wide : ℕ) (id stamp : ℕ) (row : FileRow) (doc : Option Document) (text : List ℕ) (index : IndexEdit) → AreSoundFiles w → file_of w id ≡ Some (file_with doc row)
-    → refusal_of w (Intake id stamp) ≡ None → IfSome (file_of w id) (λ f. f.stamp ≡ stamp → f.content ≡ text) → index ≡ intake_index (is_java row.path) text
+    → refusal_of w (Intake id stamp) ≡ None → IfSome (file_of w id) (λ f. f.stamp ≡ stamp → f.content ≡ text) → index ≡ intake_index (kind_of row.path) text
     → Builds w wide (Intake id stamp) (intake_step id row stamp index)
 intake_builds w wide id stamp row doc text index sound live accepted of_world i =
     let f : File = file_with doc row in
@@ -398,29 +400,38 @@ intake_builds w wide id stamp row doc text index sound live accepted of_world i 
       same_id = refl;
       lawful = edit_lawful w row.path row doc (intake_step id row row.stamp index) h (kept_path w row.path id row doc sound h) tt (λ x. absurd (some_none {A = FileRow} (record { path = row.path; content = row.content; stamp = row.stamp; indexed = Some row.stamp }) x))
           (record { stamp = let l = s.stamp in omega arith; indexed = let l = s.stamp in omega arith; saved = s.saved })
-          (subst R (sym i) (λ held k. index_taken (is_java row.path) f held text content k));
+          (subst R (sym i) (λ held k. index_taken (kind_of row.path) f held text content k));
       room = tt;
       inserted = refl;
     })
 
 -- ---- move
 
-index_moved : (from to : Bool) (f g : File) (held : Indexed) → f.document ≡ g.document → (g.indexed ≡ Some g.stamp → ⊥) → HoldsLive from f held
-    → HoldsLive to g (edited_index (moved_index from to (option_map (λ d. d.committed) f.document)) held)
-index_moved true true f g held e n h = (h.0 ∙ ap overlay_parts e, λ i. absurd (n i))
-index_moved true false f g held e n h = (refl, refl)
-index_moved false false f g held e n h = h
-index_moved false true f g held e n h = entered f.document e
-  where
-    entered : (o : Option Document) → o ≡ g.document → HoldsLive true g (edited_index (moved_index false true (option_map (λ d. d.committed) o)) held)
-    entered None k = (h.1 ∙ ap overlay_parts k, λ i. absurd (n i))
-    entered (Some d) k = (ap overlay_parts k, λ i. absurd (n i))
+-- a kind that stays
+index_stays : (kind : FileKind) (f g : File) (held : Indexed) → f.document ≡ g.document → (g.indexed ≡ Some g.stamp → ⊥) → HoldsLive (Some kind) f held → HoldsLive (Some kind) g held
+index_stays kind f g held e n h = (h.0 ∙ ap (overlay_parts kind) e, λ i. absurd (n i))
+
+-- another kind
+index_renewed : (kind : FileKind) (g : File) (held : Indexed) (doc : Option Document) → doc ≡ g.document → (g.indexed ≡ Some g.stamp → ⊥)
+    → HoldsLive (Some kind) g (edited_index (renewed_index (Some kind) (option_map (λ d. d.committed) doc)) held)
+index_renewed kind g held None e n = (ap (overlay_parts kind) e, λ i. absurd (n i))
+index_renewed kind g held (Some d) e n = (ap (overlay_parts kind) e, λ i. absurd (n i))
+
+index_moved : (before after : Option FileKind) (f g : File) (held : Indexed) → f.document ≡ g.document → (g.indexed ≡ Some g.stamp → ⊥) → HoldsLive before f held
+    → HoldsLive after g (edited_index (moved_index before after (option_map (λ d. d.committed) f.document)) held)
+index_moved None None f g held e n h = h
+index_moved (Some kind) None f g held e n h = (refl, refl)
+index_moved None (Some kind) f g held e n h = index_renewed kind g held f.document e n
+index_moved (Some Java) (Some Java) f g held e n h = index_stays Java f g held e n h
+index_moved (Some Java) (Some Properties) f g held e n h = index_renewed Properties g held f.document e n
+index_moved (Some Properties) (Some Java) f g held e n h = index_renewed Java g held f.document e n
+index_moved (Some Properties) (Some Properties) f g held e n h = index_stays Properties f g held e n h
 
 abbrev move_step : ℕ → FileRow → List ℕ → ℕ → IndexEdit → Step
 move_step id row to stamp index = record { id = id; row = row_edit.Put (record { path = to; content = row.content; stamp = stamp; indexed = row.indexed }); doc = doc_edit.Keep; index = index; draws = true }
 
 pub move_builds : (w : World) (wide : ℕ) (path to : List ℕ) (id : ℕ) (row : FileRow) (doc : Option Document) (stamp : ℕ) (index : IndexEdit) → AreSoundFiles w → IsFileAt w path id row doc
-    → refusal_of w (Move path to) ≡ None → stamp ≡ w.next_stamp → index ≡ moved_index (is_java row.path) (is_java to) (option_map (λ d. d.committed) doc)
+    → refusal_of w (Move path to) ≡ None → stamp ≡ w.next_stamp → index ≡ moved_index (kind_of row.path) (kind_of to) (option_map (λ d. d.committed) doc)
     → Builds w wide (Move path to) (move_step id row to stamp index)
 move_builds w wide path to id row doc stamp index sound h accepted n i =
     let r = accepted_reasons w (Move path to) accepted in
@@ -435,7 +446,7 @@ move_builds w wide path to id row doc stamp index sound h accepted n i =
       same_id = named w path id row doc h;
       lawful = edit_lawful w path row doc step h (λ other file live same. absurd (none_at_free w to other file r.1.1.0 live same)) tt (λ x. absurd (some_none {A = FileRow} (record { path = to; content = row.content; stamp = w.next_stamp; indexed = row.indexed }) x))
           (record { stamp = omega arith; indexed = IfSome_then row.indexed s.indexed (λ x l. omega arith); saved = s.saved })
-          (subst R (sym i) (λ held k. index_moved (is_java row.path) (is_java to) f g held refl (not_yet w.next_stamp row.indexed s.indexed) k));
+          (subst R (sym i) (λ held k. index_moved (kind_of row.path) (kind_of to) f g held refl (not_yet w.next_stamp row.indexed s.indexed) k));
       room = tt;
       inserted = refl;
     })
@@ -461,13 +472,13 @@ save_from w wide path id row path' content' text found stamp sound live p t f g 
 
 pub move_from : (w : World) (wide : ℕ) (path to : List ℕ) (id : ℕ) (row : FileRow) (path' content' : List ℕ) (stamp : ℕ) (index : IndexEdit) (found : Option (List ℕ)) → AreSoundFiles w → IsLiveAt w path id row
     → refusal_of w (Move path to) ≡ None → path' ≡ to → content' ≡ row.content → stamp ≡ w.next_stamp
-    → found ≡ option_map (λ d. d.committed) (document_part (file_of w id)) → index ≡ moved_index (is_java row.path) (is_java to) found
+    → found ≡ option_map (λ d. d.committed) (document_part (file_of w id)) → index ≡ moved_index (kind_of row.path) (kind_of to) found
     → Builds w wide (Move path to) (record { id = id; row = row_edit.Put (record { path = path'; content = content'; stamp = stamp; indexed = row.indexed }); doc = doc_edit.Keep; index = index; draws = true })
 move_from w wide path to id row path' content' stamp index found sound live accepted p t s f i =
     let step : List ℕ → List ℕ → Step = λ x y. record { id = id; row = row_edit.Put (record { path = x; content = y; stamp = stamp; indexed = row.indexed }); doc = doc_edit.Keep; index = index; draws = true } in
     let P : List ℕ → Type 0 = λ x. Builds w wide (Move path to) (step x content') in
     let Q : List ℕ → Type 0 = λ x. Builds w wide (Move path to) (step to x) in
-    subst P (sym p) (subst Q (sym t) (move_builds w wide path to id row (document_part (file_of w id)) stamp index sound (is_file_at w path id row live) accepted s (i ∙ ap (moved_index (is_java row.path) (is_java to)) f)))
+    subst P (sym p) (subst Q (sym t) (move_builds w wide path to id row (document_part (file_of w id)) stamp index sound (is_file_at w path id row live) accepted s (i ∙ ap (moved_index (kind_of row.path) (kind_of to)) f)))
 
 some_look : (doc : Option Document) (look : Option Look) (l : Look) → look ≡ option_map look_of doc → look ≡ Some l → is_some doc ≡ true
 some_look None look l e f = absurd (some_none l (sym f ∙ e))
@@ -503,11 +514,28 @@ write_closed_from w wide path id row path' content' text stamp doc look sound li
     write_as_built w wide path id row path' content' text stamp doc doc_edit.Keep p t d
     (write_closed_builds w wide path id row (document_part (file_of w id)) text stamp sound (is_file_at w path id row live) (none_look (document_part (file_of w id)) look e f) s)
 
-pub intake_from : (w : World) (wide id stamp : ℕ) (row row' : FileRow) (text : List ℕ) (parts : Parts) (index : IndexEdit) → AreSoundFiles w → row_part (file_of w id) ≡ Some row → row' ≡ row
-    → refusal_of w (Intake id stamp) ≡ None → IfSome (file_of w id) (λ f. f.stamp ≡ stamp → f.content ≡ text) → parts ≡ parts_of text
-    → ((t : List ℕ) → parts ≡ parts_of t → index ≡ intake_index (is_java row'.path) t)
+pub intake_from : (w : World) (wide id stamp : ℕ) (row row' : FileRow) (kind : FileKind) (text : List ℕ) (parts : Parts) (index : IndexEdit) → AreSoundFiles w → row_part (file_of w id) ≡ Some row → row' ≡ row
+    → refusal_of w (Intake id stamp) ≡ None → IfSome (file_of w id) (λ f. f.stamp ≡ stamp → f.content ≡ text) → parts ≡ parts_of kind text
+    → ((t : List ℕ) → parts ≡ parts_of kind t → index ≡ intake_index (kind_of row'.path) t)
     → Builds w wide (Intake id stamp) (intake_step id row' stamp index)
-intake_from w wide id stamp row row' text parts index sound live same accepted of_world made i =
+intake_from w wide id stamp row row' kind text parts index sound live same accepted of_world made i =
     let P : FileRow → Type 0 = λ r. Builds w wide (Intake id stamp) (intake_step id r stamp index) in
-    let is : index ≡ intake_index (is_java row.path) text = i text made ∙ ap (λ (r : FileRow). intake_index (is_java r.path) text) same in
+    let is : index ≡ intake_index (kind_of row.path) text = i text made ∙ ap (λ (r : FileRow). intake_index (kind_of r.path) text) same in
     subst P (sym same) (intake_builds w wide id stamp row (document_part (file_of w id)) text index sound (file_of_row (file_of w id) row live) accepted of_world is)
+
+pub close_from : (w : World) (wide : ℕ) (path : List ℕ) (id : ℕ) (row row' : FileRow) (index : IndexEdit) → AreSoundFiles w → IsLiveAt w path id row → row' ≡ row
+    → refusal_of w (CloseDoc path) ≡ None → index ≡ close_index (kind_of row'.path) → Builds w wide (CloseDoc path) (close_step id row' index)
+close_from w wide path id row row' index sound live same accepted i =
+    let P : FileRow → Type 0 = λ r. Builds w wide (CloseDoc path) (close_step id r index) in
+    let is : index ≡ close_index (kind_of row.path) = i ∙ ap (λ (r : FileRow). close_index (kind_of r.path)) same in
+    subst P (sym same) (close_builds w wide path id row (document_part (file_of w id)) index sound (is_file_at w path id row live) accepted is)
+
+-- the kind of the file that takes data in, where it has one
+pub intake_kind : (w : World) (id stamp : ℕ) (row row' : FileRow) (kind : FileKind) → row_part (file_of w id) ≡ Some row → row' ≡ row → refusal_of w (Intake id stamp) ≡ None
+    → IfSome (file_of w id) (λ f. f.stamp ≡ stamp → IfSome (kind_of f.path) (λ k. k ≡ kind)) → IfSome (kind_of row'.path) (λ k. k ≡ kind)
+intake_kind w id stamp row row' kind live same accepted of_world =
+    let f : File = file_with (document_part (file_of w id)) row in
+    let is : file_of w id ≡ Some f = file_of_row (file_of w id) row live in
+    let O : Option File → Type 0 = λ o. IfSome o (λ f. f.stamp ≡ stamp → IfSome (kind_of f.path) (λ k. k ≡ kind)) in
+    let P : FileRow → Type 0 = λ r. IfSome (kind_of r.path) (λ k. k ≡ kind) in
+    subst P (sym same) ((subst O is of_world) (sym (same_stamp w id stamp f is accepted)))

@@ -1,5 +1,7 @@
 -- What it means that a step makes a change.
-use Rattle.std.specs.Prelude.{ℕ, ◌≡◌, Bool, true, false, List, Option, Some, None}
+use Rattle.std.specs.Prelude.{ℕ, ◌≡◌, false, if◌then◌else◌, List, Option, Some, None}
+use Rattle.dumb_mode.specs.declared.kind.FileKind.{FileKind}
+use Rattle.dumb_mode.specs.Filter.{is_same_kind}
 use Rattle.vfs_core.specs.declared.row.FileRow.{FileRow}
 use Rattle.write_history.specs.declared.change.Change.{Change}
 use Rattle.write_history.specs.World.{World, file_of, id_at}
@@ -33,25 +35,27 @@ pub record Builds (world : World) (wide : ℕ) (change : Change) (step : Step) :
 abbrev pub edit_step : ℕ → DocEdit → Step
 edit_step id edit = record { id = id; row = row_edit.Keep; doc = edit; index = Keep; draws = false }
 
--- the index data of a text over those of the content, where the file passes the filter
-abbrev pub overlay_edit : Bool → List ℕ → IndexEdit
-overlay_edit false text = Keep
-overlay_edit true text = SetOverlay (parts_of text)
+-- the index data of a text over those of the content, where the file has a kind
+abbrev pub overlay_edit : Option FileKind → List ℕ → IndexEdit
+overlay_edit None text = Keep
+overlay_edit (Some kind) text = SetOverlay (parts_of kind text)
 
--- what a move makes of index data: by whether the file passed the filter, whether it passes it now, and its committed text where it is open
-abbrev pub moved_index : Bool → Bool → Option (List ℕ) → IndexEdit
-moved_index true false committed = Drop
-moved_index false true (Some committed) = SetOverlay (parts_of committed)
-moved_index true true committed = Keep
-moved_index false false committed = Keep
-moved_index false true None = Keep
+-- the index data of a file whose kind is another one now: those of its committed text, where it has a kind and is open
+abbrev pub renewed_index : Option FileKind → Option (List ℕ) → IndexEdit
+renewed_index None committed = Drop
+renewed_index (Some kind) None = Drop
+renewed_index (Some kind) (Some committed) = SetOverlay (parts_of kind committed)
+
+-- what a move makes of index data: by the file's kind before it and after it, and the committed text where it is open
+abbrev pub moved_index : Option FileKind → Option FileKind → Option (List ℕ) → IndexEdit
+moved_index before after committed = if is_same_kind before after then Keep else renewed_index after committed
 
 -- what a close makes of index data: those of the document become those of the content
-abbrev pub close_index : Bool → IndexEdit
-close_index false = Keep
-close_index true = ToBase
+abbrev pub close_index : Option FileKind → IndexEdit
+close_index None = Keep
+close_index (Some kind) = ToBase
 
 -- what an intake makes of index data
-abbrev pub intake_index : Bool → List ℕ → IndexEdit
-intake_index false text = Keep
-intake_index true text = SetBase (parts_of text)
+abbrev pub intake_index : Option FileKind → List ℕ → IndexEdit
+intake_index None text = Keep
+intake_index (Some kind) text = SetBase (parts_of kind text)

@@ -1,7 +1,8 @@
 -- What the files of a world have that fits, each with the file's id.
 use Rattle.std.specs.Prelude.{ℕ, ◌+◌, Bool, if◌then◌else◌, List, [], ◌∷◌, ◌++◌, map, filter, Option, option_to_list}
 use Rattle.std.specs.Option.{option_map_or}
-use Rattle.dumb_mode.specs.Filter.{is_java}
+use Rattle.dumb_mode.specs.declared.kind.FileKind.{FileKind}
+use Rattle.dumb_mode.specs.Filter.{has_kind}
 use Rattle.stub_tree.specs.declared.stub.Stub.{Stub}
 use Rattle.java_tokens.specs.Words.{words_of, mask_in}
 use Rattle.decl_parser.specs.Listing.{listing_of}
@@ -23,29 +24,29 @@ abbrev pub kept_of : Held → ℕ → Parts
 kept_of held id = base_of held.room.layers id
 
 module _ {X : Type 0} where
-  -- what a live file gives: nothing where it isn't a Java file
-  abbrev pub found_in : (List ℕ → List X) → File → List X
-  found_in read file = if is_java file.path then read (shown_text file) else []
+  -- what a live file gives: nothing where it isn't of the kind
+  abbrev pub found_in : FileKind → (List ℕ → List X) → File → List X
+  found_in kind read file = if has_kind kind file.path then read (shown_text file) else []
 
   -- what a file gives, where it is live
-  abbrev pub found_at : (List ℕ → List X) → Option File → List X
-  found_at read file = option_map_or (found_in read) file []
+  abbrev pub found_at : FileKind → (List ℕ → List X) → Option File → List X
+  found_at kind read file = option_map_or (found_in kind read) file []
 
   -- what files give, each with its id, where the first of them has this id
-  abbrev pub found_from : (List ℕ → List X) → ℕ → List (Option File) → List (ℕ × X)
-  found_from read id [] = []
-  found_from read id (file ∷ files) = map (λ x. (id, x)) (found_at read file) ++ found_from read (id + 1) files
+  abbrev pub found_from : FileKind → (List ℕ → List X) → ℕ → List (Option File) → List (ℕ × X)
+  found_from kind read id [] = []
+  found_from kind read id (file ∷ files) = map (λ x. (id, x)) (found_at kind read file) ++ found_from kind read (id + 1) files
 
-  -- what the live Java files of a world give, in order of their ids
-  abbrev pub found : (List ℕ → List X) → World → List (ℕ × X)
-  found read world = found_from read 1 world.files
+  -- what the live files of a kind give, in order of their ids
+  abbrev pub found : FileKind → (List ℕ → List X) → World → List (ℕ × X)
+  found kind read world = found_from kind read 1 world.files
 
   -- what files give, each with its id, where the first of them has this id, and an unready one gives what is kept of it
-  abbrev pub shown_from : (ℕ → List X) → (List ℕ → List X) → ℕ → List (Option File) → List (ℕ × X)
-  shown_from kept read id [] = []
-  shown_from kept read id (file ∷ files) =
-      map (λ x. (id, x)) (if is_unready file then kept id else found_at read file) ++ shown_from kept read (id + 1) files
+  abbrev pub shown_from : FileKind → (ℕ → List X) → (List ℕ → List X) → ℕ → List (Option File) → List (ℕ × X)
+  shown_from kind kept read id [] = []
+  shown_from kind kept read id (file ∷ files) =
+      map (λ x. (id, x)) (if is_unready file then kept id else found_at kind read file) ++ shown_from kind kept read (id + 1) files
 
   -- what a walk shows: of each file that isn't unready what its shown text gives, and of an unready one what is kept of it
-  abbrev pub shown : (ℕ → List X) → (List ℕ → List X) → World → List (ℕ × X)
-  shown kept read world = shown_from kept read 1 world.files
+  abbrev pub shown : FileKind → (ℕ → List X) → (List ℕ → List X) → World → List (ℕ × X)
+  shown kind kept read world = shown_from kind kept read 1 world.files

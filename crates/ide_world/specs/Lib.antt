@@ -39,7 +39,7 @@ pub mod Drafted
 pub mod Walk
 -- What it means that a step makes a change
 pub mod Builds
--- What public clauses cite from below: the world and its changes, documents, rows of files, index data and listings.
+-- What public clauses cite from below: the world and its changes, documents, rows of files, index data, listings, words and property keys.
 pub use Rattle.write_history.specs.World
 pub use Rattle.write_history.specs.Changes
 pub use Rattle.write_history.specs.Effect
@@ -49,4 +49,5 @@ pub use Rattle.overlay_index.specs.Parts
 pub use Rattle.overlay_index.specs.Named
 pub use Rattle.overlay_index.specs.Listing
 pub use Rattle.overlay_index.specs.Words
+pub use Rattle.overlay_index.specs.Keys
 pub use Rattle.dumb_mode.specs.Filter

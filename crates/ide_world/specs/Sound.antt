@@ -1,6 +1,7 @@
 -- What always holds of the world of a state.
-use Rattle.std.specs.Prelude.{ℕ, ◌≡◌, ◌<◌, ◌≤◌, ◌+◌, ◌*◌, Bool, true, false, length, Option, Some, None, option_map, IfSome}
-use Rattle.dumb_mode.specs.Filter.{is_java}
+use Rattle.std.specs.Prelude.{ℕ, ◌≡◌, ◌<◌, ◌≤◌, ◌+◌, ◌*◌, true, length, Option, Some, None, option_map, IfSome}
+use Rattle.dumb_mode.specs.declared.kind.FileKind.{FileKind}
+use Rattle.dumb_mode.specs.Filter.{kind_of}
 use Rattle.write_history.specs.World.{World, File, file_of}
 use Rattle.write_history.specs.Effect.{max_files, max_entries}
 use Rattle.overlay_index.specs.Parts.{no_parts, parts_of}
@@ -28,14 +29,14 @@ pub record IsSoundWorld (world : World) : Type 0 where
   pub stamps : world.next_stamp ≤ 64 * world.entries + 1
   pub entries : world.entries ≤ max_entries
 
--- what the tables hold of a live file that passes the filter, or doesn't
-abbrev pub HoldsLive : Bool → File → Indexed → Type 0
-HoldsLive false file held = (held.base ≡ no_parts) × (held.overlay ≡ None)
-HoldsLive true file held =
-    (held.overlay ≡ option_map (λ d. parts_of d.committed) file.document)
-    × (file.indexed ≡ Some file.stamp → held.base ≡ parts_of file.content)
+-- what the tables hold of a live file of a kind, or of none: the rows that are made for the kind, and no others
+abbrev pub HoldsLive : Option FileKind → File → Indexed → Type 0
+HoldsLive None file held = (held.base ≡ no_parts) × (held.overlay ≡ None)
+HoldsLive (Some kind) file held =
+    (held.overlay ≡ option_map (λ d. parts_of kind d.committed) file.document)
+    × (file.indexed ≡ Some file.stamp → held.base ≡ parts_of kind file.content)
 
 -- what the tables hold of a file
 abbrev pub HoldsIndex : Option File → Indexed → Type 0
 HoldsIndex None held = (held.base ≡ no_parts) × (held.overlay ≡ None)
-HoldsIndex (Some file) held = HoldsLive (is_java file.path) file held
+HoldsIndex (Some file) held = HoldsLive (kind_of file.path) file held

@@ -21,7 +21,7 @@ ghost use Rattle.ide_world.specs.Room.{HasStepRoom, inserted_into, KeepsRoom};
 use crate::apply::{Gone, apply_document, apply_index, apply_row};
 use crate::{State, Step, Steps};
 use document_buf::Docs;
-use dumb_mode::{Mark, is_java};
+use dumb_mode::{Mark, passes_filter};
 use overlay_index::{Gone as GoneData, Layers};
 use vfs_core::{FileRow, Files};
 
@@ -46,7 +46,7 @@ fn is_unready_file(files: &Files, docs: &Docs, id: u32) -> bool
     };
     let mark = Mark {
         file: id,
-        java: is_java(&row.path),
+        java: passes_filter(&row.path),
         docs_open: docs.get(id).is_some(),
         present: row.stamp,
         indexed: row.indexed,

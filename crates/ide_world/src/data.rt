@@ -2,6 +2,7 @@
 ghost use Rattle.std.specs.Prelude.{◌≡◌};
 ghost use Rattle.overlay_index.specs.Parts.{parts_of};
 
+use dumb_mode::FileKind;
 use ide_text::SharedText;
 use overlay_index::FileData;
 
@@ -9,16 +10,19 @@ use overlay_index::FileData;
 #[derive(Drop)]
 pub struct Job {
     pub file: u32,
+    /// The kind of the file's path: what its data are made by.
+    pub kind: FileKind,
     pub stamp: u64,
     pub text: SharedText,
 }
 
-/// The index data of a file, made from its text at a stamp.
+/// The index data of a file, made by its kind from its text at a stamp.
 #[derive(Drop)]
 pub struct Made {
     pub file: u32,
+    pub kind: FileKind,
     pub stamp: u64,
     pub text: SharedText,
     pub parts: FileData,
-    ghost of_text: { parts ≡ parts_of text },
+    ghost of_text: { parts ≡ parts_of kind text },
 }

@@ -2,14 +2,14 @@
 ghost use Rattle.std.specs.Prelude.{◌≡◌, ℕ, List, None, IfOk};
 ghost use Rattle.write_history.specs.declared.change.Change.TheVariants.{OpenDoc, Insert, Erase, Commit, Save, CloseDoc};
 ghost use Rattle.write_history.specs.Effect.{refusal_of};
-ghost use Rattle.dumb_mode.specs.Filter.{is_java};
+ghost use Rattle.dumb_mode.specs.Filter.{kind_of};
 ghost use Rattle.ide_world.specs.Drafted.{world_now};
-ghost use Rattle.ide_world.specs.Builds.{Builds, overlay_edit, edit_step};
+ghost use Rattle.ide_world.specs.Builds.{Builds, overlay_edit, close_index, edit_step};
 
 use crate::draft::Draft;
 use crate::{DocEdit, IndexEdit, RowEdit, Step};
 use document_buf::Doc;
-use dumb_mode::is_java;
+use dumb_mode::kind_of;
 use ide_text::{Name, SharedText};
 use overlay_index::data_of;
 use std::alloc::{AllocError, Global};
@@ -133,11 +133,7 @@ pub(crate) fn closed(draft: &Draft<'_>, path: &Name) -> Result<Step, AllocError>
     };
     let mut row = found.row.copy()?;
     row.indexed = Some(row.stamp);
-    let index = if is_java(&row.path) {
-        IndexEdit::ToBase
-    } else {
-        IndexEdit::Keep
-    };
+    let index = closed_index(&row.path);
     Ok(Step {
         id: found.id,
         row: RowEdit::Put { row },
@@ -147,14 +143,25 @@ pub(crate) fn closed(draft: &Draft<'_>, path: &Name) -> Result<Step, AllocError>
     })
 }
 
-/// The index data of a text over those of the content, where the path passes the filter.
-fn overlay(alloc: Global, path: &Name, text: &SharedText) -> Result<IndexEdit, AllocError>
-    ensures { IfOk result (λ edit. edit ≡ overlay_edit (is_java path.now) text.now) }
+/// What a close makes of the index data: where the path's file has a kind, those of the document become those of the
+/// content.
+fn closed_index(path: &Name) -> IndexEdit
+    ensures { result ≡ close_index (kind_of path.now) }
 {
-    if !is_java(path) {
-        return Ok(IndexEdit::Keep);
+    match kind_of(path) {
+        Some(_) => IndexEdit::ToBase,
+        None => IndexEdit::Keep,
     }
+}
+
+/// The index data of a text over those of the content, where the path's file has a kind.
+fn overlay(alloc: Global, path: &Name, text: &SharedText) -> Result<IndexEdit, AllocError>
+    ensures { IfOk result (λ edit. edit ≡ overlay_edit (kind_of path.now) text.now) }
+{
+    let Some(kind) = kind_of(path) else {
+        return Ok(IndexEdit::Keep);
+    };
     Ok(IndexEdit::SetOverlay {
-        parts: data_of(alloc, text.as_text())?,
+        parts: data_of(alloc, kind, text.as_text())?,
     })
 }

@@ -1,9 +1,9 @@
 //! The steps of changes to files: create, write, delete, move, and the intake of index data.
-ghost use Rattle.std.specs.Prelude.{◌≡◌, ℕ, List, Option, None, IfOk, option_map};
+ghost use Rattle.std.specs.Prelude.{◌≡◌, ℕ, List, Option, None, IfOk, IfSome, option_map};
 ghost use Rattle.write_history.specs.declared.change.Change.TheVariants.{Create, Write, Delete, Intake, Move};
 ghost use Rattle.std.specs.Option.{option_copied};
 ghost use Rattle.write_history.specs.Effect.{refusal_of};
-ghost use Rattle.dumb_mode.specs.Filter.{is_java};
+ghost use Rattle.dumb_mode.specs.Filter.{kind_of};
 ghost use Rattle.ide_world.specs.Drafted.{world_now};
 ghost use Rattle.ide_world.specs.Builds.{Builds, moved_index, intake_index};
 ghost use Rattle.overlay_index.specs.Parts.{parts_of};
@@ -13,7 +13,7 @@ use crate::data::Made;
 use crate::draft::Draft;
 use crate::{DocEdit, IndexEdit, RowEdit, Step};
 use document_buf::Doc;
-use dumb_mode::is_java;
+use dumb_mode::{FileKind, is_same_kind, kind_of, passes_filter};
 use ide_text::{Name, SharedText};
 use overlay_index::{FileData, data_of};
 use std::alloc::{AllocError, Global};
@@ -117,28 +117,31 @@ pub(crate) fn moved(
     })
 }
 
-/// What a move makes of the index data: a file that leaves the filter loses them, and an open one that comes into it
-/// gets those of its committed text.
+/// What a move makes of the index data: nothing where the kind stays; else a file that has a kind and is open gets those
+/// of its committed text, and any other loses them.
 fn moved_index(
     alloc: Global,
     path: &Name,
     to: &Name,
     committed: Option<&SharedText>,
 ) -> Result<IndexEdit, AllocError>
-    ensures { IfOk result (λ edit. edit ≡ moved_index (is_java path.now) (is_java to.now) (option_copied committed.entry)) }
+    ensures { IfOk result (λ edit. edit ≡ moved_index (kind_of path.now) (kind_of to.now) (option_copied committed.entry)) }
 {
-    match (is_java(path), is_java(to), committed) {
-        (true, false, _) => Ok(IndexEdit::Drop),
-        (false, true, Some(text)) => Ok(IndexEdit::SetOverlay {
-            parts: data_of(alloc, text.as_text())?,
+    let kind = kind_of(to);
+    if is_same_kind(kind_of(path), kind) {
+        return Ok(IndexEdit::Keep);
+    }
+    match (kind, committed) {
+        (Some(kind), Some(text)) => Ok(IndexEdit::SetOverlay {
+            parts: data_of(alloc, kind, text.as_text())?,
         }),
-        _ => Ok(IndexEdit::Keep),
+        _ => Ok(IndexEdit::Drop),
     }
 }
 
 pub(crate) fn taken_in(draft: &Draft<'_>, made: Made) -> Result<Step, AllocError>
     requires accepted { refusal_of (world_now draft.now) (Intake made.file made.stamp) ≡ None }
-    requires of_world { IsOfWorld (world_now draft.now) (record { file = made.file; stamp = made.stamp; content = made.text }) }
+    requires of_world { IsOfWorld (world_now draft.now) (record { file = made.file; kind = made.kind; stamp = made.stamp; content = made.text }) }
     ensures { IfOk result (Builds (world_now draft.now) draft.now.wide (Intake made.file made.stamp)) }
 {
     let Some(row) = draft.row(made.file) else {
@@ -146,7 +149,7 @@ pub(crate) fn taken_in(draft: &Draft<'_>, made: Made) -> Result<Step, AllocError
     };
     let mut row = row.copy()?;
     row.indexed = Some(made.stamp);
-    let index = intake_index(&row.path, made.parts);
+    let index = intake_index(&row.path, made.kind, made.parts);
     Ok(Step {
         id: made.file,
         row: RowEdit::Put { row },
@@ -156,11 +159,12 @@ pub(crate) fn taken_in(draft: &Draft<'_>, made: Made) -> Result<Step, AllocError
     })
 }
 
-/// What an intake makes of the index data.
-fn intake_index(path: &Name, parts: FileData) -> IndexEdit
-    ensures { (text : List ℕ) → parts ≡ parts_of text → result ≡ intake_index (is_java path.now) text }
+/// What an intake of data of a kind makes of the index data. Where the file has a kind, it is that one.
+fn intake_index(path: &Name, kind: FileKind, parts: FileData) -> IndexEdit
+    requires { IfSome (kind_of path.now) (λ k. k ≡ kind) }
+    ensures { (text : List ℕ) → parts ≡ parts_of kind text → result ≡ intake_index (kind_of path.now) text }
 {
-    if !is_java(path) {
+    if !passes_filter(path) {
         return IndexEdit::Keep;
     }
     IndexEdit::SetBase { parts }

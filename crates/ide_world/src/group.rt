@@ -98,7 +98,7 @@ pub fn prepare_group(
 
 /// Makes the intake of index data ready, or gives the first reason to refuse it, before memory is asked for.
 pub fn prepare_intake(alloc: Global, state: &State, made: Made) -> Result<Ready, Refusal>
-    requires { IsOfWorld state.now.world (record { file = made.file; stamp = made.stamp; content = made.text }) }
+    requires { IsOfWorld state.now.world (record { file = made.file; kind = made.kind; stamp = made.stamp; content = made.text }) }
     ensures ready { IfOk result (IsReadyFor state.now.world) }
     ensures makes { IfOk result (λ ready. Makes state.now.world ready (Intake made.file made.stamp ∷ [])) }
     ensures first { IfSome (refusal_of state.now.world (Intake made.file made.stamp)) (λ why. result ≡ Err why) }
@@ -170,7 +170,7 @@ fn add(alloc: Global, draft: &mut Draft<'_>, change: &Change) -> Result<(), Allo
 fn taken_in(draft: &mut Draft<'_>, made: Made) -> Result<(), AllocError>
     requires few { length draft.old.steps < 64 }
     requires accepted { refusal_of (world_now draft.old) (Intake made.file made.stamp) ≡ None }
-    requires of_world { IsOfWorld (world_now draft.old) (record { file = made.file; stamp = made.stamp; content = made.text }) }
+    requires of_world { IsOfWorld (world_now draft.old) (record { file = made.file; kind = made.kind; stamp = made.stamp; content = made.text }) }
     ensures { OnOk result (IsExtended draft.old draft.new (Intake made.file made.stamp)) }
 {
     let step = files::taken_in(draft, made)?;

@@ -5,15 +5,19 @@ ghost use Rattle.ide_world.specs.Task.{task_with_id, IsOfWorld};
 use crate::State;
 use crate::data::{Job, Made};
 use crate::readers::mark;
+use dumb_mode::kind_of;
 use overlay_index::data_of;
 use std::alloc::{AllocError, Global};
 
 /// The work of indexing a file, where it is unready.
 pub fn job(state: &State, id: u32) -> Result<Option<Job>, AllocError>
-    ensures task { IfOk result (λ job. option_map (λ j. record { file = j.file; stamp = j.stamp; content = j.text }) job ≡ task_with_id state.now.world id) }
-    ensures of_world { IfOk result (λ job. IfSome job (λ j. IsOfWorld state.now.world (record { file = j.file; stamp = j.stamp; content = j.text }))) }
+    ensures task { IfOk result (λ job. option_map (λ j. record { file = j.file; kind = j.kind; stamp = j.stamp; content = j.text }) job ≡ task_with_id state.now.world id) }
+    ensures of_world { IfOk result (λ job. IfSome job (λ j. IsOfWorld state.now.world (record { file = j.file; kind = j.kind; stamp = j.stamp; content = j.text }))) }
 {
     let Some(row) = state.row(id) else {
+        return Ok(None);
+    };
+    let Some(kind) = kind_of(&row.path) else {
         return Ok(None);
     };
     let Some(mark) = mark(state, id) else {
@@ -24,20 +28,23 @@ pub fn job(state: &State, id: u32) -> Result<Option<Job>, AllocError>
     }
     Ok(Some(Job {
         file: id,
+        kind,
         stamp: row.stamp,
         text: row.content.share()?,
     }))
 }
 
-/// The index data of a job. It looks at the job's text alone, so it may run outside every lock.
+/// The index data of a job, by its kind. It looks at the job's kind and text alone, so it may run outside every lock.
 pub fn make(alloc: Global, job: Job) -> Result<Made, AllocError>
     ensures file { IfOk result (λ made. made.file ≡ job.file) }
+    ensures kind { IfOk result (λ made. made.kind ≡ job.kind) }
     ensures stamp { IfOk result (λ made. made.stamp ≡ job.stamp) }
     ensures text { IfOk result (λ made. made.text ≡ job.text) }
 {
-    let parts = data_of(alloc, job.text.as_text())?;
+    let parts = data_of(alloc, job.kind, job.text.as_text())?;
     Ok(Made {
         file: job.file,
+        kind: job.kind,
         stamp: job.stamp,
         text: job.text,
         parts,

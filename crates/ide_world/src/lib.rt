@@ -27,7 +27,7 @@ pub use group::{
     GroupRefusal, Ready, empty, install, prepare, prepare_group, prepare_intake, reserve,
 };
 pub use index::{job, make};
-pub use overlay_index::{StubWalk, WordWalk};
+pub use overlay_index::{KeyWalk, StubWalk, WordWalk};
 pub use readers::{content, counts, mark, next_id, path, shown};
 pub use state::State;
 pub use step::{DocEdit, IndexEdit, RowEdit, Step};

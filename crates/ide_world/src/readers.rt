@@ -4,7 +4,7 @@ ghost use Rattle.std.specs.Option.{option_copied};
 ghost use Rattle.write_history.specs.World.{file_of, next_id, shown_text, mark_of, is_open, is_unready, count_of};
 
 use crate::State;
-use dumb_mode::{Mark, is_java};
+use dumb_mode::{Mark, passes_filter};
 use ide_text::{Name, Text};
 
 /// The id that the next file gets.
@@ -46,7 +46,7 @@ pub fn mark(state: &State, id: u32) -> Option<Mark>
     let row = state.row(id)?;
     Some(Mark {
         file: id,
-        java: is_java(&row.path),
+        java: passes_filter(&row.path),
         docs_open: state.document(id).is_some(),
         present: row.stamp,
         indexed: row.indexed,

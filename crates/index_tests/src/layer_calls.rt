@@ -1,4 +1,6 @@
-//! Runs of calls on layers over small Java texts, and what a name finds.
+//! Runs of calls on layers over small texts, and what a name finds.
+use dumb_mode::FileKind;
+use dumb_mode::FileKind::{Java, Properties};
 use ide_text::{Name, Text};
 use overlay_index::{FileData, Layers, data_of};
 use std::alloc::{AllocError, Global};
@@ -6,10 +8,14 @@ use std::alloc::{AllocError, Global};
 /// A call on layers, or what a name is to find in them.
 #[derive(Clone, Copy)]
 pub enum Step {
-    /// A text becomes a file's base.
+    /// A Java text becomes a file's base.
     Base(u32, &'static str),
-    /// A text becomes a file's overlay.
+    /// A Java text becomes a file's overlay.
     Overlay(u32, &'static str),
+    /// A text of properties becomes a file's base.
+    Keys(u32, &'static str),
+    /// A text of properties becomes a file's overlay.
+    KeysOverlay(u32, &'static str),
     /// A file's overlay becomes its base.
     ToBase(u32),
     /// A file goes.
@@ -41,8 +47,10 @@ fn run_in(alloc: Global, layers: &mut Layers, steps: &[Step]) -> Result<usize, A
 /// Does one step, and tells whether it is as it says.
 fn perform(alloc: Global, layers: &mut Layers, step: Step) -> Result<bool, AllocError> {
     match step {
-        Step::Base(file, text) => set_base(alloc, layers, file, text)?,
-        Step::Overlay(file, text) => set_overlay(alloc, layers, file, text)?,
+        Step::Base(file, text) => set_base(alloc, layers, file, Java, text)?,
+        Step::Overlay(file, text) => set_overlay(alloc, layers, file, Java, text)?,
+        Step::Keys(file, text) => set_base(alloc, layers, file, Properties, text)?,
+        Step::KeysOverlay(file, text) => set_overlay(alloc, layers, file, Properties, text)?,
         Step::ToBase(file) => turn_to_base(layers, file),
         Step::Drop(file) => drop_file(layers, file),
         Step::Copy => *layers = layers.copy()?,
@@ -52,16 +60,22 @@ fn perform(alloc: Global, layers: &mut Layers, step: Step) -> Result<bool, Alloc
 }
 
 /// The rows of a text that is known to be one.
-fn data(alloc: Global, text: &str) -> Result<FileData, AllocError> {
+fn data(alloc: Global, kind: FileKind, text: &str) -> Result<FileData, AllocError> {
     match Text::from_utf8(alloc, text.as_bytes()) {
-        Ok(text) => data_of(alloc, &text),
+        Ok(text) => data_of(alloc, kind, &text),
         Err(_) => Err(AllocError),
     }
 }
 
 /// Gives a file the rows of a text as its base.
-fn set_base(alloc: Global, layers: &mut Layers, file: u32, text: &str) -> Result<(), AllocError> {
-    let data = data(alloc, text)?;
+fn set_base(
+    alloc: Global,
+    layers: &mut Layers,
+    file: u32,
+    kind: FileKind,
+    text: &str,
+) -> Result<(), AllocError> {
+    let data = data(alloc, kind, text)?;
     layers.reserve(file, &data)?;
     let gone = layers.set_base(file, data);
     layers.sweep(file, &gone);
@@ -73,9 +87,10 @@ fn set_overlay(
     alloc: Global,
     layers: &mut Layers,
     file: u32,
+    kind: FileKind,
     text: &str,
 ) -> Result<(), AllocError> {
-    let data = data(alloc, text)?;
+    let data = data(alloc, kind, text)?;
     layers.reserve(file, &data)?;
     let gone = layers.set_overlay(file, data);
     layers.sweep(file, &gone);
@@ -94,7 +109,7 @@ fn drop_file(layers: &mut Layers, file: u32) {
     layers.sweep(file, &gone);
 }
 
-/// The files and offsets, or files and masks, that a name finds: as a type, by a super, as a method and as a word.
+/// The files and offsets, or files and masks, that a name finds: as a type, by a super, as a method, as a word and as a key.
 fn found(alloc: Global, layers: &Layers, name: &str) -> Result<String, AllocError> {
     let name = Name::of(alloc, name)?;
     let mut out = String::new(alloc);
@@ -109,6 +124,9 @@ fn found(alloc: Global, layers: &Layers, name: &str) -> Result<String, AllocErro
     }
     for (file, mask) in layers.word_rows(&name) {
         push_row(alloc, &mut out, "w", file, u32::from(mask))?;
+    }
+    for (file, at) in layers.key_rows(&name) {
+        push_row(alloc, &mut out, "k", file, at)?;
     }
     Ok(out)
 }

@@ -36,8 +36,31 @@ static STEPS: [Step; 24] = [
     Step::Finds("A", ""),
 ];
 
+/// A text that lists a type as Java and has keys as properties.
+const BOTH: &str = "class A {}\nA=1\nA:2";
+
+/// A text by either kind, as base and as overlay.
+static KINDS: [Step; 15] = [
+    Step::Keys(2, BOTH),
+    Step::Base(1, BOTH),
+    Step::Finds("A", " t1:6 w1:1 k2:11 k2:15"),
+    Step::Finds("class", " k2:0"),
+    Step::KeysOverlay(1, BOTH),
+    Step::Copy,
+    Step::Finds("A", " k1:11 k1:15 k2:11 k2:15"),
+    Step::Overlay(2, BOTH),
+    Step::Finds("A", " t2:6 w2:1 k1:11 k1:15"),
+    Step::ToBase(1),
+    Step::ToBase(2),
+    Step::Finds("class", " k1:0"),
+    Step::Keys(2, "x"),
+    Step::Finds("A", " k1:11 k1:15"),
+    Step::Finds("x", " k2:0"),
+];
+
 #[test]
 fn layers(rt: HostRuntime) -> Result<(), Fail> {
     assert_eq!(rt; run(rt.alloc(), &STEPS)?, STEPS.len());
+    assert_eq!(rt; run(rt.alloc(), &KINDS)?, KINDS.len());
     Ok(())
 }

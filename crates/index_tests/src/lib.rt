@@ -1,4 +1,5 @@
-//! Tests of the crates of indexes: rows under keys after changes, what names find in layers, and the bytes of stubs.
+//! Tests of the crates of indexes: rows under keys after changes, what names find in layers, the bytes of stubs, and
+//! property keys.
 #![tactic(auto)]
 
 #[cfg(test)]
@@ -11,5 +12,7 @@ mod layer_rows;
 mod letters;
 #[cfg(test)]
 mod places;
+#[cfg(test)]
+mod property_texts;
 #[cfg(test)]
 mod rows;

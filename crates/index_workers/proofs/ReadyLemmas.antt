@@ -1,7 +1,7 @@
 -- A file that was taken in at a stamp is ready while it has that stamp.
 use Rattle.std.proofs.Common.{ℕ, ◌≡◌, inl, inr, ◌<◌, Bool, true, false, not, List, [], ◌∷◌, ◌++◌, refl, ap, sym, ◌∙◌, subst, arith, Some, None}
 use Rattle.std.specs.Prelude.{Option, ◌&&◌, ◌==◌, is_none, is_some, option_map}
-use Rattle.dumb_mode.specs.Filter.{is_java}
+use Rattle.dumb_mode.specs.Filter.{passes_filter}
 use Rattle.dumb_mode.specs.Unready.{is_indexed_at}
 use Rattle.std.proofs.lemmas.Bool.{eq-eqb, eqb-true}
 use Rattle.write_history.specs.declared.change.Change.{Change}
@@ -109,7 +109,7 @@ ready_file (Some f) stamp ready same unready =
     let at : f.indexed ≡ Some f.stamp = ready same ∙ ap Some (sym same) in
     let indexed : is_indexed_at f.stamp f.indexed ≡ true = ap (is_indexed_at f.stamp) at ∙ eq-eqb f.stamp f.stamp refl in
     let none : is_unready (Some f) ≡ false =
-    ap (λ (b : Bool). is_java f.path && not (is_some f.document) && not b) indexed ∙ and_false (is_java f.path) (not (is_some f.document)) in
+    ap (λ (b : Bool). passes_filter f.path && not (is_some f.document) && not b) indexed ∙ and_false (passes_filter f.path) (not (is_some f.document)) in
     absurd (cc)
 
 -- a file that was taken in at a stamp isn't unready at it

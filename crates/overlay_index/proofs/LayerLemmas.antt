@@ -24,22 +24,24 @@ either_way a b = by (eqb a b) refl
     by false e = sym (apart a b e)
 
 module _ (old new : Shown) where
-  pub room_kept : index.KeepsRoom bytes_eq old.types new.types → index.KeepsRoom bytes_eq old.supers new.supers → index.KeepsRoom bytes_eq old.methods new.methods → index.KeepsRoom bytes_eq old.words new.words
+  pub room_kept : index.KeepsRoom bytes_eq old.types new.types → index.KeepsRoom bytes_eq old.supers new.supers → index.KeepsRoom bytes_eq old.methods new.methods → index.KeepsRoom bytes_eq old.words new.words → index.KeepsRoom bytes_eq old.keys new.keys
       → (other : ℕ) (given : Parts) → HasTableRoom old other given → HasTableRoom new other given
-  room_kept types supers methods words other given has = record {
+  room_kept types supers methods words keys other given has = record {
     types = types other given.types has.types;
     supers = supers other given.supers has.supers;
     methods = methods other given.methods has.methods;
     words = words other given.words has.words;
+    keys = keys other given.keys has.keys;
   }
 
-  pub room_kept_but : (file : ℕ) → index.KeepsRoomBut bytes_eq file old.types new.types → index.KeepsRoomBut bytes_eq file old.supers new.supers → index.KeepsRoomBut bytes_eq file old.methods new.methods → index.KeepsRoomBut bytes_eq file old.words new.words
+  pub room_kept_but : (file : ℕ) → index.KeepsRoomBut bytes_eq file old.types new.types → index.KeepsRoomBut bytes_eq file old.supers new.supers → index.KeepsRoomBut bytes_eq file old.methods new.methods → index.KeepsRoomBut bytes_eq file old.words new.words → index.KeepsRoomBut bytes_eq file old.keys new.keys
       → (other : ℕ) (given : Parts) → eqb other file ≡ false → HasTableRoom old other given → HasTableRoom new other given
-  room_kept_but file types supers methods words other given apart has = record {
+  room_kept_but file types supers methods words keys other given apart has = record {
     types = types other given.types apart has.types;
     supers = supers other given.supers apart has.supers;
     methods = methods other given.methods apart has.methods;
     words = words other given.words apart has.words;
+    keys = keys other given.keys apart has.keys;
   }
 
 -- what a file shows

@@ -62,6 +62,7 @@ gives_none file shown = record {
   supers = none_given file shown.supers;
   methods = none_given file shown.methods;
   words = none_given file shown.words;
+  keys = none_given file shown.keys;
 }
 
 module _ (file : ℕ) (old mid new : Shown) (same : parts_in new file ≡ parts_in mid file) where
@@ -75,6 +76,8 @@ module _ (file : ℕ) (old mid new : Shown) (same : parts_in new file ≡ parts_
         (both_given file _ _ old.methods mid.methods new.methods (ap (λ (parts : Parts). parts.methods) (sym same)) one.methods two.methods);
     words = subst (λ rows. index.GivesUp bytes_eq file rows old.words new.words) (sym (flat_map-append (λ (parts : Parts). parts.words) first rest))
         (both_given file _ _ old.words mid.words new.words (ap (λ (parts : Parts). parts.words) (sym same)) one.words two.words);
+    keys = subst (λ rows. index.GivesUp bytes_eq file rows old.keys new.keys) (sym (flat_map-append (λ (parts : Parts). parts.keys) first rest))
+        (both_given file _ _ old.keys mid.keys new.keys (ap (λ (parts : Parts). parts.keys) (sym same)) one.keys two.keys);
   }
 
   pub gives_still : (gone : List Parts) → KeepsPlaces mid new → GivesUp file gone old mid → GivesUp file gone old new
@@ -83,4 +86,5 @@ module _ (file : ℕ) (old mid new : Shown) (same : parts_in new file ≡ parts_
     supers = given_same file _ old.supers mid.supers new.supers keeps.supers (ap (λ (parts : Parts). parts.supers) (sym same)) one.supers;
     methods = given_same file _ old.methods mid.methods new.methods keeps.methods (ap (λ (parts : Parts). parts.methods) (sym same)) one.methods;
     words = given_same file _ old.words mid.words new.words keeps.words (ap (λ (parts : Parts). parts.words) (sym same)) one.words;
+    keys = given_same file _ old.keys mid.keys new.keys keeps.keys (ap (λ (parts : Parts). parts.keys) (sym same)) one.keys;
   }

@@ -17,6 +17,7 @@ pub record Shown : Type 0 where
   pub supers : Table (List ℕ) Stub
   pub methods : Table (List ℕ) Stub
   pub words : Table (List ℕ) ℕ
+  pub keys : Table (List ℕ) ℕ
 
 -- what layers hold: the rows that are shown, and the base of each file that has an overlay; `None` is room alone
 pub record Held : Type 0 where
@@ -30,6 +31,7 @@ parts_in shown file = record {
   supers = rows_in_file file shown.supers.files;
   methods = rows_in_file file shown.methods.files;
   words = rows_in_file file shown.words.files;
+  keys = rows_in_file file shown.keys.files;
 }
 
 -- no file has rows but those from 1 to the last
@@ -66,6 +68,7 @@ pub record HasTableRoom (shown : Shown) (file : ℕ) (parts : Parts) : Type 0 wh
   pub supers : index.HasRoom bytes_eq shown.supers file parts.supers
   pub methods : index.HasRoom bytes_eq shown.methods file parts.methods
   pub words : index.HasRoom bytes_eq shown.words file parts.words
+  pub keys : index.HasRoom bytes_eq shown.keys file parts.keys
 
 -- there is room to give a file these rows, as its base or as its overlay
 pub record HasRoom (held : Held) (file : ℕ) (parts : Parts) : Type 0 where
@@ -86,6 +89,7 @@ pub record GivesUp (file : ℕ) (gone : List Parts) (old new : Shown) : Type 0 w
   pub supers : index.GivesUp bytes_eq file (flat_map (λ (parts : Parts). parts.supers) gone) old.supers new.supers
   pub methods : index.GivesUp bytes_eq file (flat_map (λ (parts : Parts). parts.methods) gone) old.methods new.methods
   pub words : index.GivesUp bytes_eq file (flat_map (λ (parts : Parts). parts.words) gone) old.words new.words
+  pub keys : index.GivesUp bytes_eq file (flat_map (λ (parts : Parts). parts.keys) gone) old.keys new.keys
 
 -- the same files stand under the same keys
 pub record KeepsPlaces (old new : Shown) : Type 0 where
@@ -93,6 +97,7 @@ pub record KeepsPlaces (old new : Shown) : Type 0 where
   pub supers : new.supers.room ≡ old.supers.room
   pub methods : new.methods.room ≡ old.methods.room
   pub words : new.words.room ≡ old.words.room
+  pub keys : new.keys.room ≡ old.keys.room
 
 -- a table in which the file is known has rows of it
 pub record IsKnownByRows (file : ℕ) (shown : Shown) : Type 0 where
@@ -100,6 +105,7 @@ pub record IsKnownByRows (file : ℕ) (shown : Shown) : Type 0 where
   pub supers : index.IsKnownByRows file shown.supers.files
   pub methods : index.IsKnownByRows file shown.methods.files
   pub words : index.IsKnownByRows file shown.words.files
+  pub keys : index.IsKnownByRows file shown.keys.files
 
 -- a file has no place left but those that its rows need, once these rows went
 pub record IsSwept (file : ℕ) (gone : List Parts) (old new : Held) : Type 0 where

@@ -3,18 +3,22 @@ ghost use Rattle.std.specs.Prelude.{◌≡◌, IfOk};
 ghost use Rattle.java_tokens.specs.Tokens.{tokens_of};
 ghost use Rattle.java_tokens.specs.Words.{words_of};
 ghost use Rattle.decl_parser.specs.Listing.{listing_of};
+ghost use Rattle.dumb_mode.specs.declared.kind.FileKind.TheVariants.{Java, Properties};
 ghost use Rattle.overlay_index.specs.Parts.{no_parts, parts_of};
 
 use crate::word_masks::{WordMasks, rows_of_words};
 use decl_parser::stubs;
+use dumb_mode::FileKind;
 use file_index::{Indexer, KeyRows, copy_rows};
 use ide_text::{Name, Text};
 use java_tokens::{Token, tokens, words};
+use property_index::PropertyKeys;
 use std::alloc::{AllocError, Global};
 use std::marker::Model;
 use stub_index::{MethodNames, SharedStub, SharedStubs, SuperNames, TypeNames};
 
-/// The rows of a text: its types under their names and under their supers, its methods, and its words.
+/// The rows of a text, by the kind of its file: of a Java text its types under their names and under their supers, its
+/// methods, and its words; of properties the keys, each with its offset.
 ///
 /// A stub that several rows find is there once.
 #[derive(Drop)]
@@ -23,6 +27,7 @@ pub struct FileData {
     pub(crate) supers: KeyRows<Name, SharedStub>,
     pub(crate) methods: KeyRows<Name, SharedStub>,
     pub(crate) words: KeyRows<Name, u8>,
+    pub(crate) keys: KeyRows<Name, u32>,
 }
 
 impl Model for FileData {
@@ -30,7 +35,7 @@ impl Model for FileData {
 
     ghost Value = { Parts };
 
-    ghost view = { λ d. record { types = d.types; supers = d.supers; methods = d.methods; words = d.words } };
+    ghost view = { λ d. record { types = d.types; supers = d.supers; methods = d.methods; words = d.words; keys = d.keys } };
 }
 
 impl FileData {
@@ -43,6 +48,7 @@ impl FileData {
             supers: KeyRows::new(alloc),
             methods: KeyRows::new(alloc),
             words: KeyRows::new(alloc),
+            keys: KeyRows::new(alloc),
         }
     }
 
@@ -55,28 +61,52 @@ impl FileData {
             supers: copy_rows(alloc, &SuperNames, &self.supers)?,
             methods: copy_rows(alloc, &MethodNames, &self.methods)?,
             words: copy_rows(alloc, &WordMasks, &self.words)?,
+            keys: copy_rows(alloc, &PropertyKeys, &self.keys)?,
         })
     }
 }
 
-/// The rows of a text. Linear in the text, but for the sorting of its rows.
-pub fn data_of(alloc: Global, text: &Text) -> Result<FileData, AllocError>
-    ensures { IfOk result (λ made. made ≡ parts_of text.now) }
+/// The rows of a text of a file of this kind. Linear in the text, but for the sorting of its rows.
+pub fn data_of(alloc: Global, kind: FileKind, text: &Text) -> Result<FileData, AllocError>
+    ensures { IfOk result (λ made. made ≡ parts_of kind text.now) }
+{
+    match kind {
+        FileKind::Java => java_data(alloc, text),
+        FileKind::Properties => property_data(alloc, text),
+    }
+}
+
+/// The rows of a text of properties.
+fn property_data(alloc: Global, text: &Text) -> Result<FileData, AllocError>
+    ensures { IfOk result (λ made. made ≡ parts_of Properties text.now) }
+{
+    Ok(FileData {
+        types: KeyRows::new(alloc),
+        supers: KeyRows::new(alloc),
+        methods: KeyRows::new(alloc),
+        words: KeyRows::new(alloc),
+        keys: PropertyKeys.rows(alloc, text)?,
+    })
+}
+
+/// The rows of a Java text.
+fn java_data(alloc: Global, text: &Text) -> Result<FileData, AllocError>
+    ensures { IfOk result (λ made. made ≡ parts_of Java text.now) }
 {
     let tokens = tokens(alloc, text)?;
     data_by(alloc, text, &tokens)
 }
 
-/// The rows of a text that is cut into these tokens.
+/// The rows of a Java text that is cut into these tokens.
 fn data_by(alloc: Global, text: &Text, tokens: &[Token]) -> Result<FileData, AllocError>
     requires { tokens.now ≡ tokens_of text.now }
-    ensures { IfOk result (λ made. made ≡ parts_of text.now) }
+    ensures { IfOk result (λ made. made ≡ parts_of Java text.now) }
 {
     let stubs = SharedStubs::of(alloc, stubs(alloc, text, tokens)?)?;
     rows_of(alloc, text, tokens, &stubs)
 }
 
-/// The rows of a text that is cut into these tokens and lists these stubs.
+/// The rows of a Java text that is cut into these tokens and lists these stubs.
 fn rows_of(
     alloc: Global,
     text: &Text,
@@ -85,13 +115,14 @@ fn rows_of(
 ) -> Result<FileData, AllocError>
     requires tokens { tokens.now ≡ tokens_of text.now }
     requires stubs { stubs.now ≡ listing_of text.now }
-    ensures { IfOk result (λ made. made ≡ parts_of text.now) }
+    ensures { IfOk result (λ made. made ≡ parts_of Java text.now) }
 {
     Ok(FileData {
         types: TypeNames.rows(alloc, stubs)?,
         supers: SuperNames.rows(alloc, stubs)?,
         methods: MethodNames.rows(alloc, stubs)?,
         words: word_rows(alloc, text, tokens)?,
+        keys: KeyRows::new(alloc),
     })
 }
 

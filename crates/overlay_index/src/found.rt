@@ -80,3 +80,39 @@ impl<'a> Iterator for WordWalk<'a> {
         Some((file, *mask))
     }
 }
+
+/// The offsets at which a property key stands, each with its file, seen as those that are left.
+#[derive(Drop)]
+pub struct KeyWalk<'a> {
+    rows: RowWalk<'a, Name, u32>,
+}
+
+impl<'a> Model for KeyWalk<'a> {
+    ghost use Rattle.std.specs.Prelude.{List, ℕ};
+
+    ghost Value = { List (ℕ × ℕ) };
+
+    ghost view = { λ w. w.rows };
+}
+
+impl<'a> KeyWalk<'a> {
+    /// A walk over these rows.
+    pub(crate) fn of(rows: RowWalk<'a, Name, u32>) -> KeyWalk<'a>
+        ensures { result ≡ rows.entry }
+    {
+        KeyWalk { rows }
+    }
+}
+
+impl<'a> Iterator for KeyWalk<'a> {
+    type Item = (u32, u32);
+
+    ghost next_gives = { YieldsFirstBy (λ item. item) (λ rest. rest) };
+
+    ghost remaining = { item_count (λ rest. rest) };
+
+    fn next(&mut self) -> Option<(u32, u32)> {
+        let (file, at) = self.rows.next()?;
+        Some((file, *at))
+    }
+}

@@ -7,7 +7,7 @@ ghost use Rattle.overlay_index.specs.Found.{values_of, found_to};
 
 use crate::beside::beside;
 use crate::data::FileData;
-use crate::found::{StubWalk, WordWalk};
+use crate::found::{KeyWalk, StubWalk, WordWalk};
 use crate::gone::Gone;
 use crate::hidden::Hidden;
 use crate::tables::Tables;
@@ -168,6 +168,13 @@ impl Layers {
         ensures { (last : ℕ) → IsShownTo self.now last → result ≡ found_to (λ id. values_of name.now (shown_of self.now id).words) last }
     {
         self.tables.word_rows(name)
+    }
+
+    /// The offsets of a property key, by the files and then by themselves. It takes no memory.
+    pub fn key_rows<'a>(&'a self, name: &'a Name) -> KeyWalk<'a>
+        ensures { (last : ℕ) → IsShownTo self.now last → result ≡ found_to (λ id. values_of name.now (shown_of self.now id).keys) last }
+    {
+        self.tables.key_rows(name)
     }
 
     /// The same layers once more.

@@ -1,4 +1,4 @@
-//! The rows of all files under four kinds of keys, in two layers: bases, and overlays that hide them.
+//! The rows of all files under five kinds of keys, in two layers: bases, and overlays that hide them.
 #![tactic(auto)]
 
 mod beside;
@@ -12,7 +12,7 @@ mod tables;
 mod word_masks;
 
 pub use data::{FileData, data_of};
-pub use found::{StubWalk, WordWalk};
+pub use found::{KeyWalk, StubWalk, WordWalk};
 pub use gone::Gone;
 pub use layers::Layers;
 pub use word_masks::WordMasks;

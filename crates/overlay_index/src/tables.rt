@@ -6,10 +6,11 @@ ghost use Rattle.overlay_index.specs.Found.{values_of, found_to};
 
 use crate::beside::beside;
 use crate::data::FileData;
-use crate::found::{StubWalk, WordWalk};
+use crate::found::{KeyWalk, StubWalk, WordWalk};
 use crate::word_masks::WordMasks;
 use file_index::Inverted;
 use ide_text::Name;
+use property_index::PropertyKeys;
 use std::alloc::{AllocError, Global};
 use std::marker::Model;
 use stub_index::{MethodNames, SuperNames, TypeNames};
@@ -21,6 +22,7 @@ pub(crate) struct Tables {
     pub(crate) supers: Inverted<SuperNames>,
     pub(crate) methods: Inverted<MethodNames>,
     pub(crate) words: Inverted<WordMasks>,
+    pub(crate) keys: Inverted<PropertyKeys>,
 }
 
 impl Model for Tables {
@@ -28,7 +30,7 @@ impl Model for Tables {
 
     ghost Value = { Shown };
 
-    ghost view = { λ t. record { types = t.types; supers = t.supers; methods = t.methods; words = t.words } };
+    ghost view = { λ t. record { types = t.types; supers = t.supers; methods = t.methods; words = t.words; keys = t.keys } };
 }
 
 impl Tables {
@@ -41,6 +43,7 @@ impl Tables {
             supers: Inverted::new(alloc, SuperNames),
             methods: Inverted::new(alloc, MethodNames),
             words: Inverted::new(alloc, WordMasks),
+            keys: Inverted::new(alloc, PropertyKeys),
         }
     }
 
@@ -53,7 +56,8 @@ impl Tables {
         self.types.reserve(file, &parts.types)?;
         self.supers.reserve(file, &parts.supers)?;
         self.methods.reserve(file, &parts.methods)?;
-        self.words.reserve(file, &parts.words)
+        self.words.reserve(file, &parts.words)?;
+        self.keys.reserve(file, &parts.keys)
     }
 
     /// Gives a file these rows, and gives back those that it had.
@@ -68,12 +72,14 @@ impl Tables {
             supers,
             methods,
             words,
+            keys,
         } = parts;
         FileData {
             types: self.types.swap(file, types),
             supers: self.supers.swap(file, supers),
             methods: self.methods.swap(file, methods),
             words: self.words.swap(file, words),
+            keys: self.keys.swap(file, keys),
         }
     }
 
@@ -88,6 +94,7 @@ impl Tables {
             supers: self.supers.withdraw(file),
             methods: self.methods.withdraw(file),
             words: self.words.withdraw(file),
+            keys: self.keys.withdraw(file),
         }
     }
 
@@ -101,6 +108,7 @@ impl Tables {
         self.supers.release(file, &parts.supers);
         self.methods.release(file, &parts.methods);
         self.words.release(file, &parts.words);
+        self.keys.release(file, &parts.keys);
     }
 
     /// Gives up the places of a file that has no rows.
@@ -114,6 +122,7 @@ impl Tables {
         self.supers.forget(file);
         self.methods.forget(file);
         self.words.forget(file);
+        self.keys.forget(file);
     }
 
     /// The types under a name, file by file.
@@ -144,6 +153,13 @@ impl Tables {
         WordWalk::of(self.words.rows(name))
     }
 
+    /// The offsets of a property key, file by file.
+    pub(crate) fn key_rows<'a>(&'a self, name: &'a Name) -> KeyWalk<'a>
+        ensures { (last : ℕ) → IsFilledTo self.now last → result ≡ found_to (λ id. values_of name.now (parts_in self.now id).keys) last }
+    {
+        KeyWalk::of(self.keys.rows(name))
+    }
+
     /// The same rows once more.
     pub(crate) fn copy(&self) -> Result<Tables, AllocError>
         ensures { IfOk result (λ copy. (other : ℕ) → parts_in copy other ≡ parts_in self.now other) }
@@ -151,12 +167,14 @@ impl Tables {
         let made = self.types.copy()?;
         let made = beside(made, self.supers.copy())?;
         let made = beside(made, self.methods.copy())?;
-        let (((types, supers), methods), words) = beside(made, self.words.copy())?;
+        let made = beside(made, self.words.copy())?;
+        let ((((types, supers), methods), words), keys) = beside(made, self.keys.copy())?;
         Ok(Tables {
             types,
             supers,
             methods,
             words,
+            keys,
         })
     }
 }

@@ -23,6 +23,7 @@ some_looks world (query.Method name) = (later_looks (reply world (query.Method n
 some_looks world (query.Word name) = (later_looks (reply world (query.Word name)), refl)
 some_looks world (query.Usages name) = (where_smart world (length (first_uses name world)), refl)
 some_looks world (query.Inheritors name) = (0, (one_of 0, one_of (where_smart world (super_count world / rows_a_look))))
+some_looks world (query.Key key) = (later_looks (reply world (query.Key key)), refl)
 some_looks world (query.Outline path) = (later_looks (reply world (query.Outline path)), refl)
 some_looks world query.Status = (later_looks (reply world query.Status), refl)
 

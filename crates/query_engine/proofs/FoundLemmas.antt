@@ -1,21 +1,24 @@
 -- What is found in the files of a world.
-use Rattle.std.proofs.Common.{ℕ, suc, ◌≡◌, ◌≤◌, ◌<◌, ◌+◌, if◌then◌else◌, Bool, true, false, List, [], ◌∷◌, ◌++◌, map, filter, length, get_or, Option, Some, None, option_map, option_to_list, unwrap_or, IsSome, IfSome, All, refl, ap, sym, subst, ◌∙◌, arith}
+use Rattle.std.proofs.Common.{ℕ, suc, ◌≡◌, ◌≤◌, ◌<◌, ◌+◌, if◌then◌else◌, Bool, true, false, List, [], ◌∷◌, ◌++◌, map, filter, length, get_or, Option, Some, None, option_map, option_to_list, unwrap_or, IsSome, IfSome, All, refl, ap, sym, subst, ◌∙◌, le_refl, arith}
 use Rattle.std.specs.Option.{option_map_or}
 use Rattle.std.proofs.lemmas.Bool.{eq-eqb, ne_eqb}
 use Rattle.std.proofs.lemmas.List.{map-append}
 use Rattle.std.proofs.lemmas.List.Elements.{All-tail, All-append, All-map}
 use Rattle.ide_text.specs.Text.{max_chars}
-use Rattle.dumb_mode.specs.Filter.{is_java}
+use Rattle.dumb_mode.specs.declared.kind.FileKind.{FileKind}
+use Rattle.dumb_mode.specs.declared.kind.FileKind.TheVariants.{Java, Properties}
+use Rattle.dumb_mode.specs.Filter.{has_kind}
 use Rattle.stub_tree.specs.declared.stub.Stub.{Stub}
 use Rattle.stub_tree.specs.Lawful.{IsLawfulList}
 use Rattle.decl_parser.specs.Listing.{listing_of, IsNamedIn}
 use Rattle.java_tokens.specs.Words.{words_of, mask_in}
+use Rattle.property_index.specs.Keys.{RiseFrom, keys_of, places_of_key}
 use Rattle.write_history.specs.World.{World, File, file_of, shown_text}
 use Rattle.ide_world.specs.Found.{found, found_from, found_in, stubs_in, masks_in}
 use Rattle.query_engine.specs.declared.answer.WordRow.{WordRow}
-use Rattle.query_engine.specs.Reply.{of_files, of_java, of_world, row_of, rows_in, word_in, word_row}
-use Rattle.query_engine.specs.Listed.{Listed, AreLive, AreAhead, AreFrom, listed_at, offset_in, path_at, text_at, row_found, word_found}
-use Rattle.query_engine.proofs.FromLemmas.{from_listing, from_filter}
+use Rattle.query_engine.specs.Reply.{of_files, of_kind, of_world, place_row, row_of, rows_in, keys_in, word_in, word_row}
+use Rattle.query_engine.specs.Listed.{Listed, AreLive, AreAhead, AreFrom, itself, listed_at, offset_in, path_at, place_found, row_found, stub_at, text_at, word_found}
+use Rattle.query_engine.proofs.FromLemmas.{from_listing, from_filter, from_keys}
 
 -- the path that a reader gives is that of the file
 path_found : (world : World) (id : ℕ) (path : List ℕ) → Some path ≡ option_map (λ file. file.path) (file_of world id) → path ≡ path_at world id
@@ -55,18 +58,18 @@ live_is : (world : World) (id : ℕ) (file : File) → file_of world id ≡ Some
 live_is world id file is = subst (λ (o : Option File). IsSome o) (sym is) refl
 
 -- what is made of all that is found is what the files give, where of each file's it is what that file gives
-pub rows_from : {X R : Type 0} (made : List (ℕ × X) → List R) → ((xs ys : List (ℕ × X)) → made (xs ++ ys) ≡ made xs ++ made ys) → made [] ≡ []
+pub rows_from : {X R : Type 0} (kind : FileKind) (made : List (ℕ × X) → List R) → ((xs ys : List (ℕ × X)) → made (xs ++ ys) ≡ made xs ++ made ys) → made [] ≡ []
     → (read : List ℕ → List X) (rows : ℕ → File → List R) (world : World)
     → ((id : ℕ) (file : File) → file_of world id ≡ Some file → made (map (λ x. (id, x)) (read (shown_text file))) ≡ rows id file)
-    → (id : ℕ) (files : List (Option File)) → AreAt world id files → made (found_from read id files) ≡ of_files rows id files
-rows_from made joins none read rows world each id [] at = none
-rows_from made joins none read rows world each id (None ∷ files) at =
-    rows_from made joins none read rows world each (id + 1) files (at_tail world id None files at)
-rows_from {X} {R} made joins none read rows world each id (Some file ∷ files) at =
-    joins (map (λ x. (id, x)) (found_in read file)) (found_from read (id + 1) files)
-    ∙ ap (λ (rs : List R). rs ++ made (found_from read (id + 1) files)) (of (is_java file.path))
-    ∙ ap (λ (rs : List R). of_java rows id (Some file) ++ rs)
-    (rows_from made joins none read rows world each (id + 1) files (at_tail world id (Some file) files at))
+    → (id : ℕ) (files : List (Option File)) → AreAt world id files → made (found_from kind read id files) ≡ of_files kind rows id files
+rows_from kind made joins none read rows world each id [] at = none
+rows_from kind made joins none read rows world each id (None ∷ files) at =
+    rows_from kind made joins none read rows world each (id + 1) files (at_tail world id None files at)
+rows_from {X} {R} kind made joins none read rows world each id (Some file ∷ files) at =
+    joins (map (λ x. (id, x)) (found_in kind read file)) (found_from kind read (id + 1) files)
+    ∙ ap (λ (rs : List R). rs ++ made (found_from kind read (id + 1) files)) (of (has_kind kind file.path))
+    ∙ ap (λ (rs : List R). of_kind kind rows id (Some file) ++ rs)
+    (rows_from kind made joins none read rows world each (id + 1) files (at_tail world id (Some file) files at))
   where
     of : (b : Bool) → made (map (λ x. (id, x)) (if b then read (shown_text file) else [])) ≡ (if b then rows id file else [])
     of true = each id file (at_head world id (Some file) files at)
@@ -81,9 +84,9 @@ stub_rows_of world id file is (s ∷ stubs) =
     ∙ ap (λ rs. row_of id file.path (shown_text file) s ∷ rs) (stub_rows_of world id file is stubs)
 
 -- the rows of the declarations that are found
-pub stub_rows_found : (fits : Stub → Bool) (world : World) → map (row_found world) (found (stubs_in fits) world) ≡ of_world (rows_in fits) world
+pub stub_rows_found : (fits : Stub → Bool) (world : World) → map (row_found world) (found Java (stubs_in fits) world) ≡ of_world Java (rows_in fits) world
 stub_rows_found fits world =
-    rows_from (map (row_found world)) (map-append (row_found world)) refl (stubs_in fits) (rows_in fits) world
+    rows_from Java (map (row_found world)) (map-append (row_found world)) refl (stubs_in fits) (rows_in fits) world
     (λ id file is. stub_rows_of world id file is (filter fits (listing_of (shown_text file)))) 1 world.files (at_all world)
 
 -- the row of a word of one file
@@ -93,21 +96,35 @@ word_rows_of world id file is None = refl
 word_rows_of world id file is (Some mask) = ap (λ o. record { file = id; path = option_map_or (λ f. f.path) o []; mask = mask } ∷ []) is
 
 -- the rows of a word that is found
-pub word_rows_found : (name : List ℕ) (world : World) → map (word_found world) (found (masks_in name) world) ≡ of_world (word_in name) world
+pub word_rows_found : (name : List ℕ) (world : World) → map (word_found world) (found Java (masks_in name) world) ≡ of_world Java (word_in name) world
 word_rows_found name world =
-    rows_from (map (word_found world)) (map-append (word_found world)) refl (masks_in name) (word_in name) world
+    rows_from Java (map (word_found world)) (map-append (word_found world)) refl (masks_in name) (word_in name) world
     (λ id file is. word_rows_of world id file is (mask_in (words_of (shown_text file)) name)) 1 world.files (at_all world)
 
+-- the rows of the places of one file
+place_rows_of : (world : World) (id : ℕ) (file : File) → file_of world id ≡ Some file → (ats : List ℕ)
+    → map (place_found world) (map (λ at. (id, at)) ats) ≡ map (place_row id file.path (shown_text file)) ats
+place_rows_of world id file is [] = refl
+place_rows_of world id file is (at ∷ ats) =
+    ap (λ o. place_row id (option_map_or (λ f. f.path) o []) (option_map_or shown_text o []) at ∷ map (place_found world) (map (λ at. (id, at)) ats)) is
+    ∙ ap (λ rs. place_row id file.path (shown_text file) at ∷ rs) (place_rows_of world id file is ats)
+
+-- the rows of a property key that is found
+pub key_rows_found : (key : List ℕ) (world : World) → map (place_found world) (found Properties (places_of_key key) world) ≡ of_world Properties (keys_in key) world
+key_rows_found key world =
+    rows_from Properties (map (place_found world)) (map-append (place_found world)) refl (places_of_key key) (keys_in key) world
+    (λ id file is. place_rows_of world id file is (places_of_key key (shown_text file))) 1 world.files (at_all world)
+
 -- what is found is of live files
-live_from : {X : Type 0} (read : List ℕ → List X) (world : World) (id : ℕ) (files : List (Option File)) → AreAt world id files → AreLive world (found_from read id files)
+live_from : {X : Type 0} (read : List ℕ → List X) (world : World) (id : ℕ) (files : List (Option File)) → AreAt world id files → AreLive world (found_from Java read id files)
 live_from read world id [] at = λ k d inside. absurd (omega (arith, inside))
 live_from read world id (None ∷ files) at = live_from read world (id + 1) files (at_tail world id None files at)
 live_from {X} read world id (Some file ∷ files) at =
-    All-append (λ (f : ℕ × X). IsSome (file_of world f.0)) (map (λ x. (id, x)) (found_in read file)) (found_from read (id + 1) files)
-    (All-map (λ (f : ℕ × X). IsSome (file_of world f.0)) (λ x. (id, x)) (found_in read file) (λ k d inside. live_is world id file (at_head world id (Some file) files at)))
+    All-append (λ (f : ℕ × X). IsSome (file_of world f.0)) (map (λ x. (id, x)) (found_in Java read file)) (found_from Java read (id + 1) files)
+    (All-map (λ (f : ℕ × X). IsSome (file_of world f.0)) (λ x. (id, x)) (found_in Java read file) (λ k d inside. live_is world id file (at_head world id (Some file) files at)))
     (live_from read world (id + 1) files (at_tail world id (Some file) files at))
 
-pub live_found : {X : Type 0} (read : List ℕ → List X) (world : World) → AreLive world (found read world)
+pub live_found : {X : Type 0} (read : List ℕ → List X) (world : World) → AreLive world (found Java read world)
 live_found read world = live_from read world 1 world.files (at_all world)
 
 -- the rows before are of files with lower ids
@@ -129,30 +146,31 @@ offset_below id (Some listed) h = ap (λ b. if b then listed.at else 0) (ne_eqb 
 offset_same : (world : World) (id at : ℕ) → offset_in (Some (listed_at world id at)) id ≡ at
 offset_same world id at = ap (λ b. if b then at else 0) (eq-eqb id id refl)
 
--- the declarations of one file, and others of files with higher ids
-ahead_chain : (world : World) (id : ℕ) → IsSome (file_of world id) → (rest : List (ℕ × Stub)) → ((before : Option Listed) → IsBelow (id + 1) before → AreAhead world before rest)
-    → (stubs : List Stub) (before : Option Listed) → IsBelow (id + 1) before
-    → (length (text_at world id) ≤ max_chars → AreFrom (length (text_at world id)) (offset_in before id) stubs) → AreAhead world before (map (λ s. (id, s)) stubs ++ rest)
+-- what is found in one file, and others of files with higher ids
+ahead_chain : {X : Type 0} (at_of : X → ℕ) (world : World) (id : ℕ) → IsSome (file_of world id) → (rest : List (ℕ × X))
+    → ((before : Option Listed) → IsBelow (id + 1) before → AreAhead at_of world before rest)
+    → (xs : List X) (before : Option Listed) → IsBelow (id + 1) before
+    → (length (text_at world id) ≤ max_chars → AreFrom at_of (length (text_at world id)) (offset_in before id) xs) → AreAhead at_of world before (map (λ x. (id, x)) xs ++ rest)
 unfolding IsBelow
-ahead_chain world id live rest others [] before below from = others before below
-ahead_chain world id live rest others (s ∷ stubs) before below from = (
+ahead_chain at_of world id live rest others [] before below from = others before below
+ahead_chain at_of world id live rest others (x ∷ xs) before below from = (
   live,
   (λ short. ((from short).0, (from short).1)),
-  ahead_chain world id live rest others stubs (Some (listed_at world id s.at)) (omega arith)
-      (λ short. subst (λ n. AreFrom (length (text_at world id)) n stubs) (sym (offset_same world id s.at)) (from short).2),
+  ahead_chain at_of world id live rest others xs (Some (listed_at world id (at_of x))) (omega arith)
+      (λ short. subst (λ n. AreFrom at_of (length (text_at world id)) n xs) (sym (offset_same world id (at_of x))) (from short).2),
 )
 
-module _ (lawful : (text : List ℕ) → length text ≤ max_chars → IsLawfulList (listing_of text)) (named : (text : List ℕ) → All (IsNamedIn text) (listing_of text)) where
-  -- the declarations of a file that pass a test
-  from_fits : (fits : Stub → Bool) (text : List ℕ) → length text ≤ max_chars → AreFrom (length text) 0 (filter fits (listing_of text))
-  from_fits fits text short = from_filter fits (length text) 0 (listing_of text) (from_listing text (listing_of text) (lawful text short) (named text))
+-- what is read of a text stands there at rising offsets
+abbrev Rises : {X : Type 0} → (X → ℕ) → (List ℕ → List X) → Type 0
+Rises at_of read = (text : List ℕ) → length text ≤ max_chars → AreFrom at_of (length text) 0 (read text)
 
-  ahead_from : (fits : Stub → Bool) (world : World) (id : ℕ) (files : List (Option File)) → AreAt world id files
-      → (before : Option Listed) → IsBelow id before → AreAhead world before (found_from (stubs_in fits) id files)
-  ahead_from fits world id [] at before below = tt
-  ahead_from fits world id (None ∷ files) at before below = ahead_from fits world (id + 1) files (at_tail world id None files at) before (below_more id before below)
-  ahead_from fits world id (Some file ∷ files) at before below =
-      of (is_java file.path) (ahead_from fits world (id + 1) files (at_tail world id (Some file) files at))
+module _ {X : Type 0} (kind : FileKind) (at_of : X → ℕ) (read : List ℕ → List X) (rises : Rises at_of read) (world : World) where
+  ahead_from : (id : ℕ) (files : List (Option File)) → AreAt world id files
+      → (before : Option Listed) → IsBelow id before → AreAhead at_of world before (found_from kind read id files)
+  ahead_from id [] at before below = tt
+  ahead_from id (None ∷ files) at before below = ahead_from (id + 1) files (at_tail world id None files at) before (below_more id before below)
+  ahead_from id (Some file ∷ files) at before below =
+      of (has_kind kind file.path) (ahead_from (id + 1) files (at_tail world id (Some file) files at))
     where
       is : file_of world id ≡ Some file
       is = at_head world id (Some file) files at
@@ -160,16 +178,28 @@ module _ (lawful : (text : List ℕ) → length text ≤ max_chars → IsLawfulL
       text_is : shown_text file ≡ text_at world id
       text_is = sym (ap (λ (o : Option File). option_map_or shown_text o []) is)
 
-      from : length (text_at world id) ≤ max_chars → AreFrom (length (text_at world id)) (offset_in before id) (filter fits (listing_of (shown_text file)))
-      from short = subst (λ n. AreFrom (length (text_at world id)) n (filter fits (listing_of (shown_text file)))) (sym (offset_below id before below))
-          (subst (λ text. AreFrom (length (text_at world id)) 0 (filter fits (listing_of text))) (sym text_is) (from_fits fits (text_at world id) short))
+      from : length (text_at world id) ≤ max_chars → AreFrom at_of (length (text_at world id)) (offset_in before id) (read (shown_text file))
+      from short = subst (λ n. AreFrom at_of (length (text_at world id)) n (read (shown_text file))) (sym (offset_below id before below))
+          (subst (λ text. AreFrom at_of (length (text_at world id)) 0 (read text)) (sym text_is) (rises (text_at world id) short))
 
-      of : (b : Bool) → ((before : Option Listed) → IsBelow (id + 1) before → AreAhead world before (found_from (stubs_in fits) (id + 1) files))
-          → AreAhead world before (map (λ s. (id, s)) (if b then stubs_in fits (shown_text file) else []) ++ found_from (stubs_in fits) (id + 1) files)
-      of true others = ahead_chain world id (live_is world id file is) (found_from (stubs_in fits) (id + 1) files) others (filter fits (listing_of (shown_text file))) before (below_more id before below) from
+      of : (b : Bool) → ((before : Option Listed) → IsBelow (id + 1) before → AreAhead at_of world before (found_from kind read (id + 1) files))
+          → AreAhead at_of world before (map (λ x. (id, x)) (if b then read (shown_text file) else []) ++ found_from kind read (id + 1) files)
+      of true others = ahead_chain at_of world id (live_is world id file is) (found_from kind read (id + 1) files) others (read (shown_text file)) before (below_more id before below) from
       of false others = others before (below_more id before below)
 
-  -- the declarations that are found stand one behind another
-  pub ahead_found : (fits : Stub → Bool) (world : World) → AreAhead world None (found (stubs_in fits) world)
+  -- what is found in files stands one behind another
+  pub rising_ahead : AreAhead at_of world None (found kind read world)
   unfolding IsBelow
-  ahead_found fits world = ahead_from fits world 1 world.files (at_all world) None tt
+  rising_ahead = ahead_from 1 world.files (at_all world) None tt
+
+-- the declarations that are found stand one behind another
+pub ahead_found : ((text : List ℕ) → length text ≤ max_chars → IsLawfulList (listing_of text)) → ((text : List ℕ) → All (IsNamedIn text) (listing_of text))
+    → (fits : Stub → Bool) (world : World) → AreAhead stub_at world None (found Java (stubs_in fits) world)
+ahead_found lawful named fits world =
+    rising_ahead Java stub_at (stubs_in fits)
+    (λ text short. from_filter fits (length text) 0 (listing_of text) (from_listing text (listing_of text) (lawful text short) (named text))) world
+
+-- and so do the places of a property key
+pub keys_ahead : ((text : List ℕ) → RiseFrom 0 (length text) (keys_of text)) → (key : List ℕ) (world : World)
+    → AreAhead itself world None (found Properties (places_of_key key) world)
+keys_ahead rise key world = rising_ahead Properties itself (places_of_key key) (λ text short. from_keys key 0 0 (length text) (keys_of text) (le_refl 0) (rise text)) world

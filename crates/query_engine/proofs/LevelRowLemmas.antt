@@ -15,7 +15,7 @@ use Rattle.write_history.specs.World.{World}
 use Rattle.query_engine.specs.declared.answer.LevelRow.{LevelRow}
 use Rattle.query_engine.specs.Inheritors.{Listing, inheritors_of, StandsBefore}
 use Rattle.query_engine.specs.Search.{Seen, leveled, with_level, is_level, with_this, tagged, LevelsRise, IsFound}
-use Rattle.query_engine.specs.Listed.{AreAhead}
+use Rattle.query_engine.specs.Listed.{AreAhead, stub_at}
 use Rattle.query_engine.specs.Leveled.{seen_listing, seen_row, RowsRise, with_row_level}
 use Rattle.query_engine.specs.Reply.{level_row}
 use Rattle.query_engine.proofs.OrderLemmas.{Sorted, sorted_filter, all_filter}
@@ -191,8 +191,8 @@ module _ (world : World) where
   -- what a search found stands ahead
   pub found_ahead : (name : List ℕ) (types : List Listing) (seen : Seen) → IsFound types name seen → Sorted StandsBefore types
       → AllByRecursion (IsPlaced world) types
-      → AreAhead world None (map seen_listing seen)
+      → AreAhead stub_at world None (map seen_listing seen)
   found_ahead name types seen found sorted placed =
-      subst (AreAhead world None) (sym (ap (map seen_listing) found.is ∙ listings_of found.levels types))
+      subst (AreAhead stub_at world None) (sym (ap (map seen_listing) found.is ∙ listings_of found.levels types))
       (ahead_sorted world (filter (λ t. is_some (found.levels t)) types) (sorted_filter StandsBefore (λ t. is_some (found.levels t)) types sorted)
       (all_filter (IsPlaced world) (λ t. is_some (found.levels t)) types placed))

@@ -6,7 +6,7 @@ use Rattle.stub_tree.specs.declared.stub.Stub.{Stub}
 use Rattle.stub_tree.specs.Lawful.{IsLawfulList}
 use Rattle.decl_parser.specs.Listing.{listing_of, IsNamedIn}
 use Rattle.write_history.specs.World.{World, File, file_of, id_at, has_path, shown_text}
-use Rattle.query_engine.specs.Listed.{AreFrom, text_at}
+use Rattle.query_engine.specs.Listed.{AreFrom, stub_at, text_at}
 use Rattle.query_engine.proofs.FromLemmas.{from_listing}
 
 -- a file with a path is live
@@ -39,7 +39,7 @@ text_found world id text is = ap (λ o. unwrap_or o []) is ∙ of (file_of world
 
 -- the declarations of a file stand in its text
 pub listing_from : ((text : List ℕ) → All (IsNamedIn text) (listing_of text)) → (world : World) (id : ℕ) (text : List ℕ) (stubs shown : List Stub) → Some text ≡ option_map shown_text (file_of world id)
-    → shown ≡ stubs → IsLawfulList stubs → stubs ≡ listing_of text → AreFrom (length (text_at world id)) 0 shown
+    → shown ≡ stubs → IsLawfulList stubs → stubs ≡ listing_of text → AreFrom stub_at (length (text_at world id)) 0 shown
 listing_from named world id text stubs shown is same lawful listed =
-    subst (λ t. AreFrom (length t) 0 shown) (text_found world id text is)
-    (subst (AreFrom (length text) 0) (sym same) (from_listing text stubs lawful (subst (All (IsNamedIn text)) (sym listed) (named text))))
+    subst (λ t. AreFrom stub_at (length t) 0 shown) (text_found world id text is)
+    (subst (AreFrom stub_at (length text) 0) (sym same) (from_listing text stubs lawful (subst (All (IsNamedIn text)) (sym listed) (named text))))

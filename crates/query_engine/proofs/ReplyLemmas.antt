@@ -3,17 +3,19 @@ use Rattle.std.proofs.Common.{ℕ, ◌≡◌, ◌/◌, Bool, List, map, length, 
 use Rattle.std.proofs.lemmas.List.{length-map}
 use Rattle.stub_tree.specs.declared.stub.Stub.{Stub}
 use Rattle.write_history.specs.World.{World, lowest_unready}
+use Rattle.dumb_mode.specs.declared.kind.FileKind.TheVariants.{Java, Properties}
 use Rattle.ide_world.specs.Found.{found, stubs_in, masks_in}
+use Rattle.property_index.specs.Keys.{places_of_key}
 use Rattle.queries.specs.declared.query.Query.{Query}
 use Rattle.query_engine.specs.declared.answer.Answer.{Answer}
-use Rattle.query_engine.specs.declared.answer.Answer.TheVariants.{Rows, Words}
+use Rattle.query_engine.specs.declared.answer.Answer.TheVariants.{Rows, Words, Keys}
 use Rattle.query_engine.specs.declared.answer.AskRefusal.{AskRefusal}
 use Rattle.query_engine.specs.declared.answer.AskRefusal.TheVariants.{NoSuchFile, NotReady, Cancelled, OutOfMemory}
-use Rattle.query_engine.specs.Reply.{reply, unless_unready, of_world, rows_in, word_in, IsRefusalOf}
+use Rattle.query_engine.specs.Reply.{reply, unless_unready, of_world, rows_in, word_in, keys_in, IsRefusalOf}
 use Rattle.query_engine.specs.Looks.{rows_a_look, later_looks, looks_for, MayLook, HasLooked, LooksThrough, EndsEarly}
-use Rattle.query_engine.specs.Listed.{row_found, word_found}
-use Rattle.query_engine.specs.Given.{GivesReply, RepliesTo, declared_reply, word_reply}
-use Rattle.query_engine.proofs.FoundLemmas.{stub_rows_found, word_rows_found}
+use Rattle.query_engine.specs.Listed.{row_found, word_found, place_found}
+use Rattle.query_engine.specs.Given.{GivesReply, RepliesTo, declared_reply, word_reply, key_reply}
+use Rattle.query_engine.proofs.FoundLemmas.{stub_rows_found, word_rows_found, key_rows_found}
 use Rattle.query_engine.proofs.LookLemmas.{looked_not, looked_told}
 
 -- the refusal in place of an answer, where a file is unready
@@ -90,15 +92,22 @@ smart_same (Some file) lowest answer other is same = refl
 
 module _ (world : World) where
   -- the rows of the declarations that are found are those of the files
-  pub declared_told : (fits : Stub → Bool) (walk : List (ℕ × Stub)) → (lowest_unready world ≡ None → walk ≡ found (stubs_in fits) world)
-      → declared_reply world walk ≡ unless_unready (lowest_unready world) (Rows (of_world (rows_in fits) world))
+  pub declared_told : (fits : Stub → Bool) (walk : List (ℕ × Stub)) → (lowest_unready world ≡ None → walk ≡ found Java (stubs_in fits) world)
+      → declared_reply world walk ≡ unless_unready (lowest_unready world) (Rows (of_world Java (rows_in fits) world))
   declared_told fits walk ready =
-      smart_same (lowest_unready world) (lowest_unready world) (Rows (map (row_found world) walk)) (Rows (of_world (rows_in fits) world)) refl
+      smart_same (lowest_unready world) (lowest_unready world) (Rows (map (row_found world) walk)) (Rows (of_world Java (rows_in fits) world)) refl
       (λ smart. ap Rows (ap (map (row_found world)) (ready smart) ∙ stub_rows_found fits world))
 
   -- the rows of a word that is found are those of the files
-  pub word_told : (name : List ℕ) (walk : List (ℕ × ℕ)) → (lowest_unready world ≡ None → walk ≡ found (masks_in name) world)
-      → word_reply world walk ≡ unless_unready (lowest_unready world) (Words (of_world (word_in name) world))
+  pub word_told : (name : List ℕ) (walk : List (ℕ × ℕ)) → (lowest_unready world ≡ None → walk ≡ found Java (masks_in name) world)
+      → word_reply world walk ≡ unless_unready (lowest_unready world) (Words (of_world Java (word_in name) world))
   word_told name walk ready =
-      smart_same (lowest_unready world) (lowest_unready world) (Words (map (word_found world) walk)) (Words (of_world (word_in name) world)) refl
+      smart_same (lowest_unready world) (lowest_unready world) (Words (map (word_found world) walk)) (Words (of_world Java (word_in name) world)) refl
       (λ smart. ap Words (ap (map (word_found world)) (ready smart) ∙ word_rows_found name world))
+
+  -- the rows of a property key that is found are those of the files
+  pub key_told : (key : List ℕ) (walk : List (ℕ × ℕ)) → (lowest_unready world ≡ None → walk ≡ found Properties (places_of_key key) world)
+      → key_reply world walk ≡ unless_unready (lowest_unready world) (Keys (of_world Properties (keys_in key) world))
+  key_told key walk ready =
+      smart_same (lowest_unready world) (lowest_unready world) (Keys (map (place_found world) walk)) (Keys (of_world Properties (keys_in key) world)) refl
+      (λ smart. ap Keys (ap (map (place_found world)) (ready smart) ∙ key_rows_found key world))

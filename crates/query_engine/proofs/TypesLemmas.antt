@@ -6,6 +6,7 @@ use Rattle.std.proofs.lemmas.Bool.{eqb-true}
 use Rattle.std.proofs.lemmas.List.Elements.{recursion_from_All, filter-append}
 use Rattle.std.proofs.lemmas.List.Sums.{sum_by-cons}
 use Rattle.ide_text.specs.Text.{max_chars}
+use Rattle.dumb_mode.specs.declared.kind.FileKind.TheVariants.{Java}
 use Rattle.dumb_mode.specs.Filter.{is_java}
 use Rattle.stub_tree.specs.declared.stub.Stub.{Stub}
 use Rattle.stub_tree.specs.Stub.{is_type}
@@ -16,8 +17,8 @@ use Rattle.ide_world.specs.Found.{found, stubs_in}
 use Rattle.query_engine.specs.Fits.{has_super}
 use Rattle.query_engine.specs.Inheritors.{Listing, StandsBefore}
 use Rattle.query_engine.specs.Search.{all_supers}
-use Rattle.query_engine.specs.Listed.{Listed, listed_at, text_at, offset_in, StandsIn, AreAhead}
-use Rattle.query_engine.specs.Reply.{of_files, of_java, types_in, types_of}
+use Rattle.query_engine.specs.Listed.{Listed, listed_at, stub_at, text_at, offset_in, StandsIn, AreAhead}
+use Rattle.query_engine.specs.Reply.{of_files, of_kind, types_in, types_of}
 use Rattle.query_engine.proofs.FoundLemmas.{rows_from, at_all, ahead_found}
 use Rattle.query_engine.proofs.OrderLemmas.{Sorted, sorted_filter, sorted_append, all_append, all_each, all_weaker}
 
@@ -43,11 +44,11 @@ listed_sorted id (s ∷ stubs) sorted = (
 )
 
 module _ (rising : (text : List ℕ) → AllPairs (λ a b. a.at < b.at) (listing_of text)) where
-  types_above : (id : ℕ) (files : List (Option File)) → AllByRecursion (λ t. id ≤ t.0) (of_files types_in id files)
+  types_above : (id : ℕ) (files : List (Option File)) → AllByRecursion (λ t. id ≤ t.0) (of_files Java types_in id files)
   types_above id [] = tt
   types_above id (file ∷ files) =
-      all_append (λ (t : Listing). id ≤ t.0) (of_java types_in id file) (of_files types_in (id + 1) files) (here file)
-      (all_weaker (λ (t : Listing). id + 1 ≤ t.0) (λ (t : Listing). id ≤ t.0) (of_files types_in (id + 1) files) (λ t above. omega (arith, above))
+      all_append (λ (t : Listing). id ≤ t.0) (of_kind Java types_in id file) (of_files Java types_in (id + 1) files) (here file)
+      (all_weaker (λ (t : Listing). id + 1 ≤ t.0) (λ (t : Listing). id ≤ t.0) (of_files Java types_in (id + 1) files) (λ t above. omega (arith, above))
       (types_above (id + 1) files))
     where
       one : (b : Bool) (file : File) → AllByRecursion (λ (t : Listing). id ≤ t.0) (if b then types_in id file else [])
@@ -55,16 +56,16 @@ module _ (rising : (text : List ℕ) → AllPairs (λ a b. a.at < b.at) (listing
           (all_each (λ (s : Stub). id ≤ id) (filter is_type (listing_of (shown_text file))) (λ s. le_refl id))
       one false file = tt
 
-      here : (file : Option File) → AllByRecursion (λ (t : Listing). id ≤ t.0) (of_java types_in id file)
+      here : (file : Option File) → AllByRecursion (λ (t : Listing). id ≤ t.0) (of_kind Java types_in id file)
       here None = tt
       here (Some file) = one (is_java file.path) file
 
-  types_from : (id : ℕ) (files : List (Option File)) → Sorted StandsBefore (of_files types_in id files)
+  types_from : (id : ℕ) (files : List (Option File)) → Sorted StandsBefore (of_files Java types_in id files)
   types_from id [] = tt
   types_from id (file ∷ files) =
-      sorted_append StandsBefore (of_java types_in id file) (of_files types_in (id + 1) files) (here file) (types_from (id + 1) files) (across file)
+      sorted_append StandsBefore (of_kind Java types_in id file) (of_files Java types_in (id + 1) files) (here file) (types_from (id + 1) files) (across file)
     where
-      behind : AllByRecursion (λ (t : Listing). id + 1 ≤ t.0) (of_files types_in (id + 1) files)
+      behind : AllByRecursion (λ (t : Listing). id + 1 ≤ t.0) (of_files Java types_in (id + 1) files)
       behind = types_above (id + 1) files
 
       one : (b : Bool) (file : File) → Sorted StandsBefore (if b then types_in id file else [])
@@ -73,22 +74,22 @@ module _ (rising : (text : List ℕ) → AllPairs (λ a b. a.at < b.at) (listing
           (pairs_sorted (λ a b. a.at < b.at) (listing_of (shown_text file)) (rising (shown_text file))))
       one false file = tt
 
-      here : (file : Option File) → Sorted StandsBefore (of_java types_in id file)
+      here : (file : Option File) → Sorted StandsBefore (of_kind Java types_in id file)
       here None = tt
       here (Some file) = one (is_java file.path) file
 
-      before : (s : Stub) → AllByRecursion (StandsBefore (id, s)) (of_files types_in (id + 1) files)
-      before s = all_weaker (λ (t : Listing). id + 1 ≤ t.0) (StandsBefore (id, s)) (of_files types_in (id + 1) files)
+      before : (s : Stub) → AllByRecursion (StandsBefore (id, s)) (of_files Java types_in (id + 1) files)
+      before s = all_weaker (λ (t : Listing). id + 1 ≤ t.0) (StandsBefore (id, s)) (of_files Java types_in (id + 1) files)
           (λ t above. inl (omega (arith, above))) behind
 
       each : (b : Bool) (file : File)
-          → AllByRecursion (λ t. AllByRecursion (StandsBefore t) (of_files types_in (id + 1) files)) (if b then types_in id file else [])
-      each true file = listed_all (λ t. AllByRecursion (StandsBefore t) (of_files types_in (id + 1) files)) id (filter is_type (listing_of (shown_text file)))
-          (all_each (λ (s : Stub). AllByRecursion (StandsBefore (id, s)) (of_files types_in (id + 1) files))
+          → AllByRecursion (λ t. AllByRecursion (StandsBefore t) (of_files Java types_in (id + 1) files)) (if b then types_in id file else [])
+      each true file = listed_all (λ t. AllByRecursion (StandsBefore t) (of_files Java types_in (id + 1) files)) id (filter is_type (listing_of (shown_text file)))
+          (all_each (λ (s : Stub). AllByRecursion (StandsBefore (id, s)) (of_files Java types_in (id + 1) files))
           (filter is_type (listing_of (shown_text file))) before)
       each false file = tt
 
-      across : (file : Option File) → AllByRecursion (λ t. AllByRecursion (StandsBefore t) (of_files types_in (id + 1) files)) (of_java types_in id file)
+      across : (file : Option File) → AllByRecursion (λ t. AllByRecursion (StandsBefore t) (of_files Java types_in (id + 1) files)) (of_kind Java types_in id file)
       across None = tt
       across (Some file) = each (is_java file.path) file
 
@@ -97,9 +98,9 @@ module _ (rising : (text : List ℕ) → AllPairs (λ a b. a.at < b.at) (listing
   types_sorted world = types_from 1 world.files
 
 -- the types of a world are what the walk over all types finds
-pub types_are : (world : World) → found (stubs_in is_type) world ≡ types_of world
+pub types_are : (world : World) → found Java (stubs_in is_type) world ≡ types_of world
 types_are world =
-    rows_from (λ (ts : List Listing). ts) (λ xs ys. refl) refl (stubs_in is_type) types_in world (λ id file is. refl) 1 world.files (at_all world)
+    rows_from Java (λ (ts : List Listing). ts) (λ xs ys. refl) refl (stubs_in is_type) types_in world (λ id file is. refl) 1 world.files (at_all world)
 
 -- the type names the name
 abbrev pub names_it : List ℕ → Listing → Bool
@@ -125,21 +126,21 @@ namers name id (s ∷ stubs) = of (is_type s) (list_any (λ super. bytes_eq name
     of false b is rest = rest
 
 -- what the walk over the types that name a name finds
-pub namers_are : (name : List ℕ) (world : World) → found (stubs_in (has_super name)) world ≡ filter (names_it name) (types_of world)
+pub namers_are : (name : List ℕ) (world : World) → found Java (stubs_in (has_super name)) world ≡ filter (names_it name) (types_of world)
 namers_are name world =
-    rows_from (λ (ts : List Listing). ts) (λ xs ys. refl) refl (stubs_in (has_super name))
+    rows_from Java (λ (ts : List Listing). ts) (λ xs ys. refl) refl (stubs_in (has_super name))
     (λ id file. map (λ s. (id, s)) (filter (has_super name) (listing_of (shown_text file)))) world
     (λ id file is. refl) 1 world.files (at_all world)
-    ∙ sym (rows_from (filter (names_it name)) (filter-append (names_it name)) refl (stubs_in is_type)
+    ∙ sym (rows_from Java (filter (names_it name)) (filter-append (names_it name)) refl (stubs_in is_type)
     (λ id file. map (λ s. (id, s)) (filter (has_super name) (listing_of (shown_text file)))) world
     (λ id file is. namers name id (listing_of (shown_text file))) 1 world.files (at_all world))
     ∙ ap (filter (names_it name)) (types_are world)
 
 -- each type of a world is of a live file, and stands in its text
 pub IsPlaced : World → Listing → Type 0
-IsPlaced world t = IsSome (file_of world t.0) × StandsIn (text_at world t.0) 0 t.1
+IsPlaced world t = IsSome (file_of world t.0) × StandsIn (text_at world t.0) 0 t.1.at
 
-ahead_each : (world : World) (before : Option Listed) (types : List Listing) → AreAhead world before types → AllByRecursion (IsPlaced world) types
+ahead_each : (world : World) (before : Option Listed) (types : List Listing) → AreAhead stub_at world before types → AllByRecursion (IsPlaced world) types
 unfolding IsPlaced
 ahead_each world before [] ahead = tt
 ahead_each world before (t ∷ ts) ahead =
@@ -148,11 +149,11 @@ ahead_each world before (t ∷ ts) ahead =
 pub types_placed : ((text : List ℕ) → length text ≤ max_chars → IsLawfulList (listing_of text)) → ((text : List ℕ) → All (IsNamedIn text) (listing_of text))
     → (world : World) → AllByRecursion (IsPlaced world) (types_of world)
 types_placed lawful named world = subst (AllByRecursion (IsPlaced world)) (types_are world)
-    (ahead_each world None (found (stubs_in is_type) world) (ahead_found lawful named is_type world))
+    (ahead_each world None (found Java (stubs_in is_type) world) (ahead_found lawful named is_type world))
 
 -- types in order stand one ahead of another
 ahead_from : (world : World) (before : Option Listed) (types : List Listing) → Sorted StandsBefore types → AllByRecursion (IsPlaced world) types
-    → AllByRecursion (λ t. offset_in before t.0 ≤ t.1.at) types → AreAhead world before types
+    → AllByRecursion (λ t. offset_in before t.0 ≤ t.1.at) types → AreAhead stub_at world before types
 unfolding IsPlaced
 ahead_from world before [] sorted placed above = tt
 ahead_from world before (t ∷ ts) sorted placed above = (
@@ -168,7 +169,7 @@ ahead_from world before (t ∷ ts) sorted placed above = (
     behind u (inr (file, less)) true e = omega (arith, less)
     behind u (inl less) true e = absurd (let same : t.0 ≡ u.0 = eqb-true t.0 u.0 e in omega (arith, less, same))
 
-pub ahead_sorted : (world : World) (types : List Listing) → Sorted StandsBefore types → AllByRecursion (IsPlaced world) types → AreAhead world None types
+pub ahead_sorted : (world : World) (types : List Listing) → Sorted StandsBefore types → AllByRecursion (IsPlaced world) types → AreAhead stub_at world None types
 ahead_sorted world types sorted placed =
     ahead_from world None types sorted placed (all_each (λ (t : Listing). 0 ≤ t.1.at) types (λ t. omega arith))
 

@@ -6,6 +6,7 @@ use Rattle.std.proofs.lemmas.Bool.{cases_Bool, cond-true, cond-false}
 use Rattle.std.proofs.lemmas.Grind.{flat_map-append}
 use Rattle.std.proofs.lemmas.List.{length-append}
 use Rattle.std.proofs.lemmas.List.Elements.{filter-append}
+use Rattle.dumb_mode.specs.declared.kind.FileKind.TheVariants.{Java}
 use Rattle.dumb_mode.specs.Filter.{is_java}
 use Rattle.java_tokens.specs.declared.place.Place.TheVariants.{Code}
 use Rattle.java_tokens.specs.Places.{RiseFrom, places_of, is_in_code}
@@ -15,7 +16,7 @@ use Rattle.ide_world.specs.Found.{found, found_from, found_in, masks_in}
 use Rattle.queries.specs.declared.query.Query.TheVariants as query
 use Rattle.query_engine.specs.declared.answer.Answer.TheVariants.{Usages}
 use Rattle.query_engine.specs.declared.answer.PlaceRow.{PlaceRow}
-use Rattle.query_engine.specs.Reply.{of_files, of_java, of_world, place_row, uses_in}
+use Rattle.query_engine.specs.Reply.{of_files, of_kind, of_world, place_row, uses_in}
 use Rattle.query_engine.specs.Looks.{LooksThrough, MayLook, first_uses}
 use Rattle.query_engine.specs.Listed.{has_code, uses_at, uses_found}
 use Rattle.query_engine.proofs.AheadLemmas.{next_left}
@@ -100,9 +101,9 @@ module _ (unused : (name text : List ℕ) → is_in_code (mask_in (words_of text
       (cases_Bool (has_bit Code mask))
 
   -- the rows of the files in whose code the name is found are those of all files
-  pub uses_told : flat_map (uses_found world name) (filter has_code (found (masks_in name) world)) ≡ of_world (uses_in name) world
+  pub uses_told : flat_map (uses_found world name) (filter has_code (found Java (masks_in name) world)) ≡ of_world Java (uses_in name) world
   uses_told =
-      rows_from (λ xs. flat_map (uses_found world name) (filter has_code xs))
+      rows_from Java (λ xs. flat_map (uses_found world name) (filter has_code xs))
       (λ xs ys. ap (flat_map (uses_found world name)) (filter-append has_code xs ys)
       ∙ flat_map-append (uses_found world name) (filter has_code xs) (filter has_code ys))
       refl (masks_in name) (uses_in name) world
@@ -133,24 +134,24 @@ module _ (unused : (name text : List ℕ) → is_in_code (mask_in (words_of text
   first id file = take 1 (uses_in name id file)
 
   -- as many files have the name in their code as have a first row
-  counted_from : (id : ℕ) (files : List (Option File)) → length (filter has_code (found_from (masks_in name) id files)) ≡ length (of_files first id files)
+  counted_from : (id : ℕ) (files : List (Option File)) → length (filter has_code (found_from Java (masks_in name) id files)) ≡ length (of_files Java first id files)
   unfolding first
   counted_from id [] = refl
   counted_from id (None ∷ files) = counted_from (id + 1) files
   counted_from id (Some file ∷ files) =
-      let here = map (λ m. (id, m)) (found_in (masks_in name) file) in
-      let others = found_from (masks_in name) (id + 1) files in
+      let here = map (λ m. (id, m)) (found_in Java (masks_in name) file) in
+      let others = found_from Java (masks_in name) (id + 1) files in
       ap length (filter-append has_code here others) ∙ length-append (filter has_code here) (filter has_code others)
       ∙ ap (λ n. n + length (filter has_code others)) (of (is_java file.path))
-      ∙ ap (λ n. length (of_java first id (Some file)) + n) (counted_from (id + 1) files)
-      ∙ sym (length-append (of_java first id (Some file)) (of_files first (id + 1) files))
+      ∙ ap (λ n. length (of_kind Java first id (Some file)) + n) (counted_from (id + 1) files)
+      ∙ sym (length-append (of_kind Java first id (Some file)) (of_files Java first (id + 1) files))
     where
       of : (b : Bool) → length (filter has_code (map (λ m. (id, m)) (cond b (masks_in name (shown_text file)) []))) ≡ length (cond b (first id file) [])
       of true = first_there id file (mask_in (words_of (shown_text file)) name) refl
       of false = refl
 
   -- as many files as use the name are looked after
-  pub uses_may : (walk : Masks) → (lowest_unready world ≡ None → walk ≡ found (masks_in name) world) → lowest_unready world ≡ None
+  pub uses_may : (walk : Masks) → (lowest_unready world ≡ None → walk ≡ found Java (masks_in name) world) → lowest_unready world ≡ None
       → MayLook world (query.Usages name) (1 + length (filter has_code walk))
   unfolding first
   uses_may walk ready smart =
@@ -159,8 +160,8 @@ module _ (unused : (name text : List ℕ) → is_in_code (mask_in (words_of text
       ∙ sym (ap (λ (o : Option ℕ). 1 + option_map_or (λ file. 0) o (length (first_uses name world))) smart)
 
   -- the answer that is given
-  pub used_given : (walk : Masks) (copy : List ℕ) (rows : List PlaceRow) → walk ≡ found (masks_in name) world → copy ≡ name
-      → rows ≡ flat_map (uses_found world name) (filter has_code walk) → Usages copy rows ≡ Usages name (of_world (uses_in name) world)
+  pub used_given : (walk : Masks) (copy : List ℕ) (rows : List PlaceRow) → walk ≡ found Java (masks_in name) world → copy ≡ name
+      → rows ≡ flat_map (uses_found world name) (filter has_code walk) → Usages copy rows ≡ Usages name (of_world Java (uses_in name) world)
   used_given walk copy rows ready same made =
       ap (λ (n : List ℕ). Usages n rows) same
       ∙ ap (Usages name) (made ∙ ap (λ (xs : Masks). flat_map (uses_found world name) (filter has_code xs)) ready ∙ uses_told)

@@ -4,11 +4,11 @@ use Rattle.stub_tree.specs.declared.stub.Stub.{Stub}
 use Rattle.write_history.specs.World.{World, lowest_unready}
 use Rattle.queries.specs.declared.query.Query.{Query}
 use Rattle.query_engine.specs.declared.answer.Answer.{Answer}
-use Rattle.query_engine.specs.declared.answer.Answer.TheVariants.{Rows, Words}
+use Rattle.query_engine.specs.declared.answer.Answer.TheVariants.{Rows, Words, Keys}
 use Rattle.query_engine.specs.declared.answer.AskRefusal.{AskRefusal}
 use Rattle.query_engine.specs.Reply.{reply, unless_unready, IsRefusalOf}
 use Rattle.query_engine.specs.Looks.{later_looks, HasLooked, MayLook}
-use Rattle.query_engine.specs.Listed.{row_found, word_found}
+use Rattle.query_engine.specs.Listed.{row_found, word_found, place_found}
 
 -- a call gives the reply that is expected, or says why not, and looks as often as its rows want it
 pub record GivesReply {W : Type 0} (looks_of sights_of : W → ℕ) (stays : W → W → Type 0) (expected : Result Answer AskRefusal)
@@ -33,3 +33,7 @@ declared_reply world found = unless_unready (lowest_unready world) (Rows (map (r
 -- the reply by the files in which a walk finds a word
 abbrev pub word_reply : World → List (ℕ × ℕ) → Result Answer AskRefusal
 word_reply world found = unless_unready (lowest_unready world) (Words (map (word_found world) found))
+
+-- the reply by the places at which a walk finds a property key
+abbrev pub key_reply : World → List (ℕ × ℕ) → Result Answer AskRefusal
+key_reply world found = unless_unready (lowest_unready world) (Keys (map (place_found world) found))

@@ -10,11 +10,12 @@ pub mod Listed
 pub mod Leveled
 -- What a call gives after its first look
 pub mod Given
--- What these cite from below: the world, listings, words, places in texts, and counts of looks.
+-- What these cite from below: the world, listings, words, property keys, places in texts, and counts of looks.
 pub use Rattle.write_history.specs.World
 pub use Rattle.dumb_mode.specs.Filter
 pub use Rattle.decl_parser.specs.Listing
 pub use Rattle.java_tokens.specs.Words
 pub use Rattle.java_tokens.specs.Places
+pub use Rattle.property_index.specs.Keys
 pub use Rattle.ide_text.specs.Place
 pub use Rattle.action_lock.specs.Counts

@@ -40,16 +40,24 @@ pub record IsListed (world : World) (listed : Listed) : Type 0 where
 abbrev pub offset_in : Option Listed → ℕ → ℕ
 offset_in before id = option_map_or (λ listed. if listed.id == id then listed.at else 0) before 0
 
--- the declaration stands in a text behind an offset, where the text isn't too long
-abbrev pub StandsIn : List ℕ → ℕ → Stub → Type 0
-StandsIn text from stub = length text ≤ max_chars → (from ≤ stub.at) × (stub.at ≤ length text)
+-- where a declaration stands
+abbrev pub stub_at : Stub → ℕ
+stub_at stub = stub.at
 
--- declarations of live files, those of one file at rising offsets
-abbrev pub AreAhead : World → Option Listed → List (ℕ × Stub) → Type 0
-AreAhead world before [] = Unit {0}
-AreAhead world before (found ∷ rest) =
-    IsSome (file_of world found.0) × StandsIn (text_at world found.0) (offset_in before found.0) found.1
-    × AreAhead world (Some (listed_at world found.0 found.1.at)) rest
+-- where a place stands
+abbrev pub itself : ℕ → ℕ
+itself at = at
+
+-- a place stands in a text behind an offset, where the text isn't too long
+abbrev pub StandsIn : List ℕ → ℕ → ℕ → Type 0
+StandsIn text from at = length text ≤ max_chars → (from ≤ at) × (at ≤ length text)
+
+-- what stands somewhere in live files, in one file at rising offsets
+abbrev pub AreAhead : {X : Type 0} → (X → ℕ) → World → Option Listed → List (ℕ × X) → Type 0
+AreAhead at_of world before [] = Unit {0}
+AreAhead at_of world before (found ∷ rest) =
+    IsSome (file_of world found.0) × StandsIn (text_at world found.0) (offset_in before found.0) (at_of found.1)
+    × AreAhead at_of world (Some (listed_at world found.0 (at_of found.1))) rest
 
 -- the row of a declaration of the file with an id
 abbrev pub row_found : World → ℕ × Stub → Row
@@ -58,6 +66,10 @@ row_found world found = row_of found.0 (path_at world found.0) (text_at world fo
 -- the row of a word of the file with an id
 abbrev pub word_found : World → ℕ × ℕ → WordRow
 word_found world found = record { file = found.0; path = path_at world found.0; mask = found.1 }
+
+-- the row of a place in the file with an id
+abbrev pub place_found : World → ℕ × ℕ → PlaceRow
+place_found world found = place_row found.0 (path_at world found.0) (text_at world found.0) found.1
 
 -- a word of a file stands in its code, by the word's mask
 abbrev pub has_code : ℕ × ℕ → Bool
@@ -75,7 +87,7 @@ uses_found world name found = uses_at world name found.0
 abbrev pub AreLive : {X : Type 0} → World → List (ℕ × X) → Type 0
 AreLive world found = All (λ f. IsSome (file_of world f.0)) found
 
--- the declarations stand in a text at rising offsets, none before an offset
-abbrev pub AreFrom : ℕ → ℕ → List Stub → Type 0
-AreFrom len at [] = Unit {0}
-AreFrom len at (stub ∷ stubs) = (at ≤ stub.at) × (stub.at ≤ len) × AreFrom len stub.at stubs
+-- what stands in a text at rising offsets, none before an offset
+abbrev pub AreFrom : {X : Type 0} → (X → ℕ) → ℕ → ℕ → List X → Type 0
+AreFrom at_of len at [] = Unit {0}
+AreFrom at_of len at (x ∷ xs) = (at ≤ at_of x) × (at_of x ≤ len) × AreFrom at_of len (at_of x) xs

@@ -2,12 +2,13 @@
 use Rattle.std.specs.Prelude.{ℕ, ◌≡◌, ◌≤◌, ◌+◌, ◌/◌, ◌%◌, ◌==◌, if◌then◌else◌, List, length, map, take, sum, Result, Ok, Err, max, min}
 use Rattle.std.specs.Option.{option_map_or}
 use Rattle.action_lock.specs.Counts.{counted, HasRisen}
+use Rattle.dumb_mode.specs.declared.kind.FileKind.TheVariants.{Java}
 use Rattle.write_history.specs.World.{World, lowest_unready}
 use Rattle.queries.specs.declared.query.Query.{Query}
 use Rattle.queries.specs.declared.query.Query.TheVariants as query
 use Rattle.query_engine.specs.declared.answer.PlaceRow.{PlaceRow}
 use Rattle.query_engine.specs.declared.answer.Answer.{Answer}
-use Rattle.query_engine.specs.declared.answer.Answer.TheVariants.{Rows, Outline, Words, Usages, Inheritors, Counts}
+use Rattle.query_engine.specs.declared.answer.Answer.TheVariants.{Rows, Outline, Words, Usages, Inheritors, Keys, Counts}
 use Rattle.query_engine.specs.declared.answer.AskRefusal.{AskRefusal}
 use Rattle.query_engine.specs.declared.answer.AskRefusal.TheVariants.{NoSuchFile, NotReady, Cancelled, OutOfMemory}
 use Rattle.query_engine.specs.Reply.{reply, of_world, uses_in, types_of}
@@ -27,6 +28,7 @@ row_count (Outline rows) = length rows
 row_count (Words rows) = length rows
 row_count (Usages name rows) = length rows
 row_count (Inheritors rows) = length rows
+row_count (Keys rows) = length rows
 row_count (Counts files docs unready) = 0
 
 -- how often the call with this answer looks after its first look, where no look sees anything: once for each full 256 rows
@@ -44,7 +46,7 @@ where_smart world n = option_map_or (λ file. 0) (lowest_unready world) n
 
 -- the first use of a name in each file that uses it
 abbrev pub first_uses : List ℕ → World → List PlaceRow
-first_uses name world = of_world (λ id file. take 1 (uses_in name id file)) world
+first_uses name world = of_world Java (λ id file. take 1 (uses_in name id file)) world
 
 -- how many names stand behind `extends` and `implements` in all live Java files
 abbrev pub super_count : World → ℕ
@@ -59,6 +61,7 @@ MayLook world (query.Class name) n = n ≡ looks_for (reply world (query.Class n
 MayLook world (query.Supers name) n = n ≡ looks_for (reply world (query.Supers name))
 MayLook world (query.Method name) n = n ≡ looks_for (reply world (query.Method name))
 MayLook world (query.Word name) n = n ≡ looks_for (reply world (query.Word name))
+MayLook world (query.Key key) n = n ≡ looks_for (reply world (query.Key key))
 MayLook world (query.Outline path) n = n ≡ looks_for (reply world (query.Outline path))
 MayLook world query.Status n = n ≡ looks_for (reply world query.Status)
 

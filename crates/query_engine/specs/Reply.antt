@@ -1,7 +1,9 @@
 -- The answer to a question, by the texts of the files, as if they were all listed anew.
 use Rattle.std.specs.Prelude.{ℕ, ◌≡◌, ◌+◌, Bool, List, [], ◌∷◌, ◌++◌, map, filter, if◌then◌else◌, Option, Some, None, is_some, Result, Ok, Err, IsOk}
 use Rattle.std.specs.Option.{option_map_or}
-use Rattle.dumb_mode.specs.Filter.{is_java}
+use Rattle.dumb_mode.specs.declared.kind.FileKind.{FileKind}
+use Rattle.dumb_mode.specs.declared.kind.FileKind.TheVariants.{Java, Properties}
+use Rattle.dumb_mode.specs.Filter.{has_kind}
 use Rattle.write_history.specs.World.{World, File, file_of, id_at, shown_text, lowest_unready, count_of, is_open, is_unready}
 use Rattle.ide_text.specs.Place.{line_at, column_at}
 use Rattle.stub_tree.specs.declared.stub.Stub.{Stub}
@@ -9,6 +11,7 @@ use Rattle.stub_tree.specs.Stub.{is_type}
 use Rattle.decl_parser.specs.Listing.{listing_of}
 use Rattle.java_tokens.specs.Words.{words_of, mask_in}
 use Rattle.java_tokens.specs.Places.{places_of}
+use Rattle.property_index.specs.Keys.{places_of_key}
 use Rattle.queries.specs.declared.query.Query.{Query}
 use Rattle.queries.specs.declared.query.Query.TheVariants as query
 use Rattle.query_engine.specs.declared.answer.Row.{Row}
@@ -16,7 +19,7 @@ use Rattle.query_engine.specs.declared.answer.WordRow.{WordRow}
 use Rattle.query_engine.specs.declared.answer.PlaceRow.{PlaceRow}
 use Rattle.query_engine.specs.declared.answer.LevelRow.{LevelRow}
 use Rattle.query_engine.specs.declared.answer.Answer.{Answer}
-use Rattle.query_engine.specs.declared.answer.Answer.TheVariants.{Rows, Outline, Words, Usages, Inheritors, Counts}
+use Rattle.query_engine.specs.declared.answer.Answer.TheVariants.{Rows, Outline, Words, Usages, Inheritors, Keys, Counts}
 use Rattle.query_engine.specs.declared.answer.AskRefusal.{AskRefusal}
 use Rattle.query_engine.specs.declared.answer.AskRefusal.TheVariants.{NoSuchFile, NotReady, Cancelled, OutOfMemory}
 use Rattle.query_engine.specs.Fits.{is_class, has_super, is_method}
@@ -49,19 +52,19 @@ word_row id file (Some mask) = record { file = id; path = file.path; mask = mask
 abbrev pub word_in : List ℕ → ℕ → File → List WordRow
 word_in name id file = word_row id file (mask_in (words_of (shown_text file)) name)
 
--- what a file gives by its id, where it is live and a Java file
-abbrev pub of_java : {X : Type 0} → (ℕ → File → List X) → ℕ → Option File → List X
-of_java rows id None = []
-of_java rows id (Some file) = if is_java file.path then rows id file else []
+-- what a file gives by its id, where it is live and of the kind
+abbrev pub of_kind : {X : Type 0} → FileKind → (ℕ → File → List X) → ℕ → Option File → List X
+of_kind kind rows id None = []
+of_kind kind rows id (Some file) = if has_kind kind file.path then rows id file else []
 
--- what the live Java files give, one after another, where the first of the files has this id
-abbrev pub of_files : {X : Type 0} → (ℕ → File → List X) → ℕ → List (Option File) → List X
-of_files rows id [] = []
-of_files rows id (file ∷ files) = of_java rows id file ++ of_files rows (id + 1) files
+-- what the live files of a kind give, one after another, where the first of the files has this id
+abbrev pub of_files : {X : Type 0} → FileKind → (ℕ → File → List X) → ℕ → List (Option File) → List X
+of_files kind rows id [] = []
+of_files kind rows id (file ∷ files) = of_kind kind rows id file ++ of_files kind rows (id + 1) files
 
--- what the live Java files of a world give, in order of ids
-abbrev pub of_world : {X : Type 0} → (ℕ → File → List X) → World → List X
-of_world rows world = of_files rows 1 world.files
+-- what the live files of a kind give in a world, in order of ids
+abbrev pub of_world : {X : Type 0} → FileKind → (ℕ → File → List X) → World → List X
+of_world kind rows world = of_files kind rows 1 world.files
 
 -- the row of a place in a file's text
 abbrev pub place_row : ℕ → List ℕ → List ℕ → ℕ → PlaceRow
@@ -71,13 +74,17 @@ place_row id path text at = record { file = id; path = path; line = line_at text
 abbrev pub uses_in : List ℕ → ℕ → File → List PlaceRow
 uses_in name id file = map (place_row id file.path (shown_text file)) (places_of name (shown_text file))
 
+-- the rows of a property key in a file: one for each key of the text that searches see that equals it
+abbrev pub keys_in : List ℕ → ℕ → File → List PlaceRow
+keys_in key id file = map (place_row id file.path (shown_text file)) (places_of_key key (shown_text file))
+
 -- the types that a file lists, each with the file's id
 abbrev pub types_in : ℕ → File → List Listing
 types_in id file = map (λ stub. (id, stub)) (filter is_type (listing_of (shown_text file)))
 
 -- the types that the live Java files of a world list, in order of ids, then of the texts
 abbrev pub types_of : World → List Listing
-types_of world = of_world types_in world
+types_of world = of_world Java types_in world
 
 -- the row of a listed type
 abbrev pub listed_row : World → Listing → Row
@@ -103,13 +110,14 @@ listing_reply world (Some id) = Ok (Outline (option_map_or (all_rows id) (file_o
 
 -- the answer to a question
 abbrev pub reply : World → Query → Result Answer AskRefusal
-reply world (query.Class name) = unless_unready (lowest_unready world) (Rows (of_world (rows_in (is_class name)) world))
-reply world (query.Supers name) = unless_unready (lowest_unready world) (Rows (of_world (rows_in (has_super name)) world))
-reply world (query.Method name) = unless_unready (lowest_unready world) (Rows (of_world (rows_in (is_method name)) world))
-reply world (query.Word name) = unless_unready (lowest_unready world) (Words (of_world (word_in name) world))
-reply world (query.Usages name) = unless_unready (lowest_unready world) (Usages name (of_world (uses_in name) world))
+reply world (query.Class name) = unless_unready (lowest_unready world) (Rows (of_world Java (rows_in (is_class name)) world))
+reply world (query.Supers name) = unless_unready (lowest_unready world) (Rows (of_world Java (rows_in (has_super name)) world))
+reply world (query.Method name) = unless_unready (lowest_unready world) (Rows (of_world Java (rows_in (is_method name)) world))
+reply world (query.Word name) = unless_unready (lowest_unready world) (Words (of_world Java (word_in name) world))
+reply world (query.Usages name) = unless_unready (lowest_unready world) (Usages name (of_world Java (uses_in name) world))
 reply world (query.Inheritors name) =
     unless_unready (lowest_unready world) (Inheritors (map (level_row world) (inheritors_of name (types_of world))))
+reply world (query.Key key) = unless_unready (lowest_unready world) (Keys (of_world Properties (keys_in key) world))
 reply world (query.Outline path) = listing_reply world (id_at world path)
 reply world query.Status = Ok (Counts (count_of is_some world) (count_of is_open world) (count_of is_unready world))
 

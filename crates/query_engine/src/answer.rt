@@ -129,6 +129,8 @@ pub enum Answer {
     Usages { name: Name, rows: RowList<PlaceRow> },
     /// The types that come from a name.
     Inheritors { rows: RowList<LevelRow> },
+    /// Where property files have a key.
+    Keys { rows: RowList<PlaceRow> },
     /// How many live files, open documents and unready files there are.
     Counts { files: u32, docs: u32, unready: u32 },
 }

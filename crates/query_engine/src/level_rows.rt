@@ -1,6 +1,6 @@
 //! The rows of types that were found, by their levels.
 ghost use Rattle.std.specs.Prelude.{◌≡◌, ℕ, None, IfOk, map};
-ghost use Rattle.query_engine.specs.Listed.{AreAhead};
+ghost use Rattle.query_engine.specs.Listed.{AreAhead, stub_at};
 ghost use Rattle.query_engine.specs.Leveled.{seen_row, seen_listing, RowsRise, with_row_level};
 
 use crate::answer::{LevelRow, RowList};
@@ -15,7 +15,7 @@ pub(crate) fn level_rows(
     state: &State,
     reached: &Reached<'_>,
 ) -> Result<RowList<LevelRow>, AllocError>
-    requires { AreAhead state.now.world None (map seen_listing reached.now.seen) }
+    requires { AreAhead stub_at state.now.world None (map seen_listing reached.now.seen) }
     ensures rise { IfOk result RowsRise }
     ensures same { IfOk result (λ rows. (level : ℕ) → with_row_level level rows ≡ with_row_level level (map (seen_row state.now.world) reached.now.seen)) }
 {
@@ -30,7 +30,7 @@ fn placed_rows(
     state: &State,
     reached: &Reached<'_>,
 ) -> Result<Vec<LevelRow>, AllocError>
-    requires { AreAhead state.now.world None (map seen_listing reached.now.seen) }
+    requires { AreAhead stub_at state.now.world None (map seen_listing reached.now.seen) }
     ensures { IfOk result (λ rows. rows.items ≡ map (seen_row state.now.world) reached.now.seen) }
 {
     let mut rows = Vec::new(alloc);

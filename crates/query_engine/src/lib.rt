@@ -4,6 +4,7 @@
 mod answer;
 mod asked_names;
 mod inheritors;
+mod key_rows;
 pub mod laws;
 mod level_rows;
 mod listed_file;

@@ -3,7 +3,7 @@ ghost use Rattle.std.specs.Prelude.{◌≡◌, ◌/◌, Ok, IfOk, IfErr, IsSome,
 ghost use Rattle.write_history.specs.World.{id_at, file_of};
 ghost use Rattle.query_engine.specs.Reply.{row_of, listing_reply, IsRefusalOf};
 ghost use Rattle.query_engine.specs.Looks.{rows_a_look, later_looks, HasLooked, EndsEarly};
-ghost use Rattle.query_engine.specs.Listed.{path_at, text_at, AreFrom};
+ghost use Rattle.query_engine.specs.Listed.{path_at, stub_at, text_at, AreFrom};
 
 use crate::answer::{Answer, AskRefusal, Row, RowList};
 use crate::listed_file::ListedFile;
@@ -53,7 +53,7 @@ fn file_rows<W: Watch>(
 ) -> Result<RowList<Row>, AskRefusal>
     requires can { W.can_look watch.old }
     requires live { IsSome (file_of state.now.world id) }
-    requires ahead { AreFrom (length (text_at state.now.world id)) 0 stubs.now }
+    requires ahead { AreFrom stub_at (length (text_at state.now.world id)) 0 stubs.now }
     ensures again { W.can_look watch.new }
     ensures stays { W.stays watch.old watch.new }
     ensures looked { HasLooked W.looks W.sightings W.stays result (length stubs.now / rows_a_look) watch.old watch.new }

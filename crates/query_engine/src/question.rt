@@ -8,6 +8,7 @@ ghost use Rattle.query_engine.specs.Given.{RepliesTo};
 
 use crate::answer::{Answer, AskRefusal};
 use crate::inheritors::inheritors;
+use crate::key_rows::with_key;
 use crate::looks::{NoWatch, look};
 use crate::outline::outline;
 use crate::stub_rows::declared;
@@ -16,6 +17,7 @@ use crate::word_rows::with_word;
 use action_lock::Watch;
 use decl_parser::laws::{listings_are_lawful, names_are_identifiers};
 use ide_world::State;
+use property_index::laws::keys_stand_in_the_text;
 use queries::Query;
 use std::alloc::Global;
 
@@ -64,6 +66,7 @@ fn answer<W: Watch>(
 {
     listings_are_lawful();
     names_are_identifiers();
+    keys_stand_in_the_text();
     match query {
         Query::Class { name } => declared(alloc, state, state.type_rows(name), watch),
         Query::Supers { name } => declared(alloc, state, state.super_rows(name), watch),
@@ -71,6 +74,7 @@ fn answer<W: Watch>(
         Query::Word { name } => with_word(alloc, state, state.word_rows(name), watch),
         Query::Usages { name } => usages(alloc, state, name, watch),
         Query::Inheritors { name } => inheritors(alloc, state, name, watch),
+        Query::Key { key } => with_key(alloc, state, state.key_rows(key), watch),
         Query::Outline { path } => outline(alloc, state, path, watch),
         Query::Status => Ok(counts(state)),
     }

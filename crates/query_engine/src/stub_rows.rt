@@ -2,7 +2,7 @@
 ghost use Rattle.std.specs.Prelude.{◌≡◌, ◌/◌, None, IfOk, IfErr, IsSome, map, length};
 ghost use Rattle.write_history.specs.World.{file_of, lowest_unready};
 ghost use Rattle.query_engine.specs.Looks.{rows_a_look, HasLooked, EndsEarly};
-ghost use Rattle.query_engine.specs.Listed.{AreAhead, row_found};
+ghost use Rattle.query_engine.specs.Listed.{AreAhead, row_found, stub_at};
 ghost use Rattle.query_engine.specs.Given.{GivesReply, declared_reply};
 
 use crate::answer::{Answer, AskRefusal, Row, RowList};
@@ -21,7 +21,7 @@ pub(crate) fn declared<W: Watch>(
     watch: &mut W,
 ) -> Result<Answer, AskRefusal>
     requires can { W.can_look watch.old }
-    requires ahead { lowest_unready state.now.world ≡ None → AreAhead state.now.world None found }
+    requires ahead { lowest_unready state.now.world ≡ None → AreAhead stub_at state.now.world None found }
     ensures again { W.can_look watch.new }
     ensures stays { W.stays watch.old watch.new }
     ensures answered { GivesReply W.looks W.sightings W.stays (declared_reply state.now.world found.entry) result watch.old watch.new }
@@ -40,7 +40,7 @@ fn stub_rows<W: Watch>(
     watch: &mut W,
 ) -> Result<RowList<Row>, AskRefusal>
     requires can { W.can_look watch.old }
-    requires ahead { AreAhead state.now.world None found }
+    requires ahead { AreAhead stub_at state.now.world None found }
     ensures again { W.can_look watch.new }
     ensures stays { W.stays watch.old watch.new }
     ensures looked { HasLooked W.looks W.sightings W.stays result (length found.entry / rows_a_look) watch.old watch.new }

@@ -136,6 +136,9 @@ fn is_same(told: &Found, own: &Found) -> bool {
         (Found::Inheritors { rows }, Found::Inheritors { rows: own }) => {
             are_same_levels(rows.as_slice(), own.as_slice())
         }
+        (Found::Keys { rows }, Found::Keys { rows: own }) => {
+            are_same_places(rows.as_slice(), own.as_slice())
+        }
         (
             Found::Counts {
                 files,

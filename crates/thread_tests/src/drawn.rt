@@ -1,13 +1,22 @@
 //! Scripts that are drawn: lanes with commands of all kinds, which get into one another's way.
 use std::alloc::{AllocError, Global};
 
-static PATHS: [&str; 6] = ["A.java", "B.java", "C.java", "L.java", "notes.txt", "../x"];
+static PATHS: [&str; 7] = [
+    "A.java",
+    "B.java",
+    "C.java",
+    "L.java",
+    "P.properties",
+    "notes.txt",
+    "../x",
+];
 
-static TEXTS: [&str; 6] = [
+static TEXTS: [&str; 7] = [
     "\"class A { void m() {} }\"",
     "\"class B extends A { int a; } // A\"",
     "\"interface C { int m(); }\"",
     "\"enum A { B, C } /* B */\"",
+    "\"A = m\\nm : A\\nA\"",
     "\"x\"",
     "\"\"",
 ];
@@ -39,7 +48,7 @@ pub fn drawn_script(
         }
     }
     script.push_str(
-        "finally\nsettle\nstatus\nclass A\nword m\nsupers A\nusages A\ninheritors A\ndelete A.java\nstatus\n",
+        "finally\nsettle\nstatus\nclass A\nword m\nsupers A\nusages A\ninheritors A\nkey \"A\"\ndelete A.java\nstatus\n",
     )?;
     Ok(script)
 }
@@ -69,7 +78,7 @@ fn push_group(alloc: Global, script: &mut String, draw: u32) -> Result<(), Alloc
 
 /// Adds a change.
 fn push_change(alloc: Global, script: &mut String, draw: u32) -> Result<(), AllocError> {
-    let path = PATHS[(draw >> 16) as usize % 6];
+    let path = PATHS[(draw >> 16) as usize % 7];
     match (draw >> 12) % 14 {
         0..2 => push_text_change(alloc, script, "create", draw),
         2..5 => push_text_change(alloc, script, "write", draw),
@@ -91,8 +100,8 @@ fn push_text_change(
     verb: &str,
     draw: u32,
 ) -> Result<(), AllocError> {
-    let path = PATHS[(draw >> 16) as usize % 6];
-    let text = TEXTS[(draw >> 20) as usize % 6];
+    let path = PATHS[(draw >> 16) as usize % 7];
+    let text = TEXTS[(draw >> 20) as usize % 7];
     script.push_str(&format!(in alloc; "{verb} {path} {text}\n")?)
 }
 
@@ -108,15 +117,15 @@ fn push_path_change(
 
 /// Adds an insert.
 fn push_insert(alloc: Global, script: &mut String, draw: u32) -> Result<(), AllocError> {
-    let path = PATHS[(draw >> 16) as usize % 6];
+    let path = PATHS[(draw >> 16) as usize % 7];
     let at = (draw >> 24) % 12;
-    let text = TEXTS[(draw >> 20) as usize % 6];
+    let text = TEXTS[(draw >> 20) as usize % 7];
     script.push_str(&format!(in alloc; "insert {path} {at} {text}\n")?)
 }
 
 /// Adds an erase.
 fn push_erase(alloc: Global, script: &mut String, draw: u32) -> Result<(), AllocError> {
-    let path = PATHS[(draw >> 16) as usize % 6];
+    let path = PATHS[(draw >> 16) as usize % 7];
     let from = (draw >> 24) % 8;
     let to = (draw >> 26) % 16;
     script.push_str(&format!(in alloc; "erase {path} {from} {to}\n")?)
@@ -124,23 +133,24 @@ fn push_erase(alloc: Global, script: &mut String, draw: u32) -> Result<(), Alloc
 
 /// Adds a move.
 fn push_move(alloc: Global, script: &mut String, draw: u32) -> Result<(), AllocError> {
-    let path = PATHS[(draw >> 16) as usize % 6];
-    let to = PATHS[(draw >> 20) as usize % 6];
+    let path = PATHS[(draw >> 16) as usize % 7];
+    let to = PATHS[(draw >> 20) as usize % 7];
     script.push_str(&format!(in alloc; "move {path} {to}\n")?)
 }
 
 /// Adds a question.
 fn push_question(alloc: Global, script: &mut String, draw: u32) -> Result<(), AllocError> {
     let name = NAMES[(draw >> 16) as usize % 5];
-    let path = PATHS[(draw >> 20) as usize % 6];
-    match (draw >> 12) % 8 {
+    let path = PATHS[(draw >> 20) as usize % 7];
+    match (draw >> 12) % 9 {
         0 => script.push_str(&format!(in alloc; "class {name}\n")?),
         1 => script.push_str(&format!(in alloc; "supers {name}\n")?),
         2 => script.push_str(&format!(in alloc; "method {name}\n")?),
         3 => script.push_str(&format!(in alloc; "word {name}\n")?),
         4 => script.push_str(&format!(in alloc; "usages {name}\n")?),
         5 => script.push_str(&format!(in alloc; "inheritors {name}\n")?),
-        6 => script.push_str(&format!(in alloc; "outline {path}\n")?),
+        6 => script.push_str(&format!(in alloc; "key \"{name}\"\n")?),
+        7 => script.push_str(&format!(in alloc; "outline {path}\n")?),
         _ => script.push_str("status\n"),
     }
 }

@@ -11,7 +11,7 @@ use Rattle.query_engine.specs.declared.answer.WordRow.{WordRow}
 use Rattle.query_engine.specs.declared.answer.PlaceRow.{PlaceRow}
 use Rattle.query_engine.specs.declared.answer.LevelRow.{LevelRow}
 use Rattle.query_engine.specs.declared.answer.Answer.{Answer as Finding}
-use Rattle.query_engine.specs.declared.answer.Answer.TheVariants.{Rows, Outline, Words, Usages, Inheritors, Counts}
+use Rattle.query_engine.specs.declared.answer.Answer.TheVariants.{Rows, Outline, Words, Usages, Inheritors, Keys, Counts}
 use Rattle.transcripts.specs.declared.record.Answer.{Answer}
 use Rattle.transcripts.specs.declared.record.Answer.TheVariants.{Accepted, Refused, NotText, TooLong, Smart, NotReady, Found, Cancelled}
 use Rattle.transcripts.specs.declared.record.Record.{Record}
@@ -90,6 +90,10 @@ outline_line row = indent row.depth ++ name_place_text row ++ declared_text row 
 abbrev pub usage_line : List ℕ → PlaceRow → List ℕ
 usage_line name row = place_text row.path row.line row.column ++ codes " usage " ++ encode_utf8_all name ++ codes "\n"
 
+-- the line of a place where a property key stands
+abbrev pub key_line : PlaceRow → List ℕ
+key_line row = place_text row.path row.line row.column ++ codes " property\n"
+
 -- the line of a type that comes from a name, with its level
 abbrev pub level_line : LevelRow → List ℕ
 level_line found = name_place_text found.row ++ declared_text found.row ++ codes " level " ++ decimal found.level ++ codes "\n"
@@ -137,6 +141,7 @@ found_text (Outline rows) = count_line (length rows) ++ flat_map outline_line ro
 found_text (Words rows) = count_line (length rows) ++ flat_map word_line rows
 found_text (Usages name rows) = count_line (length rows) ++ flat_map (usage_line name) rows
 found_text (Inheritors rows) = count_line (length rows) ++ flat_map level_line rows
+found_text (Keys rows) = count_line (length rows) ++ flat_map key_line rows
 found_text (Counts files docs unready) = counts_line files docs unready
 
 -- an answer without its prefix

@@ -3,7 +3,7 @@ ghost use Rattle.std.specs.Prelude.{◌≡◌, ◌++◌, OnOk};
 ghost use Rattle.transcripts.specs.Transcript.{found_text, count_line, counts_line, files_text, open_text, unready_text};
 
 use crate::print::push_text;
-use crate::rows::{push_levels, push_outline, push_rows, push_usages, push_words};
+use crate::rows::{push_keys, push_levels, push_outline, push_rows, push_usages, push_words};
 use query_engine::Answer;
 use std::alloc::{AllocError, Global};
 
@@ -31,6 +31,10 @@ pub(crate) fn push_found(alloc: Global, out: &mut Vec<u8>, found: &Answer) -> Re
         Answer::Inheritors { rows } => {
             push_count(alloc, out, rows.len())?;
             push_levels(alloc, out, rows.as_slice())
+        }
+        Answer::Keys { rows } => {
+            push_count(alloc, out, rows.len())?;
+            push_keys(alloc, out, rows.as_slice())
         }
         Answer::Counts {
             files,

@@ -1,7 +1,7 @@
 //! Printing the rows of answers.
 ghost use Rattle.std.specs.Prelude.{◌≡◌, ◌++◌, ℕ, List, OnOk};
 ghost use Rattle.std.specs.List.{flat_map};
-ghost use Rattle.transcripts.specs.Transcript.{word_line, mask_text, found_line, outline_line, usage_line, level_line, place_text, declared_text, indent, supers_text, super_text, kind_text};
+ghost use Rattle.transcripts.specs.Transcript.{word_line, mask_text, found_line, outline_line, usage_line, key_line, level_line, place_text, declared_text, indent, supers_text, super_text, kind_text};
 
 use crate::print::push_text;
 use ide_text::Name;
@@ -53,6 +53,28 @@ fn push_usage(
 {
     push_place(alloc, out, &row.path, row.line, row.column)?;
     push_text(out, &format!(in alloc; " usage {name}\n")?)
+}
+
+/// Adds the lines of places where a property key stands.
+pub(crate) fn push_keys(
+    alloc: Global,
+    out: &mut Vec<u8>,
+    rows: &[PlaceRow],
+) -> Result<(), AllocError>
+    ensures { OnOk result (out.new.items ≡ out.old.items ++ flat_map key_line rows.now) }
+{
+    for row in rows {
+        push_key(alloc, out, row)?;
+    }
+    Ok(())
+}
+
+/// Adds the line of a place where a property key stands.
+fn push_key(alloc: Global, out: &mut Vec<u8>, row: &PlaceRow) -> Result<(), AllocError>
+    ensures { OnOk result (out.new.items ≡ out.old.items ++ key_line row.now) }
+{
+    push_place(alloc, out, &row.path, row.line, row.column)?;
+    out.extend_from_slice(b" property\n")
 }
 
 /// Adds the lines of types that come from a name.

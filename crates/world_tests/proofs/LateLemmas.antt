@@ -19,4 +19,4 @@ work_stays law earlier whole id task front legal work =
 
 -- the work of a file whose index data were made
 abbrev pub IsWorkOf : List Entry → ℕ → Made → Type 0
-IsWorkOf entries file made = task_with_id (fold entries) file ≡ Some (record { file = made.file; stamp = made.stamp; content = made.text })
+IsWorkOf entries file made = task_with_id (fold entries) file ≡ Some (record { file = made.file; kind = made.kind; stamp = made.stamp; content = made.text })

@@ -4,12 +4,13 @@ use queries::Query;
 use query_engine::{Answer, LevelRow, PlaceRow};
 use std::alloc::{AllocError, Global};
 
-/// A question about a name.
+/// A question about a name or a key.
 #[derive(Clone, Copy)]
 pub enum Asked {
     Class(&'static str),
     Usages(&'static str),
     Inheritors(&'static str),
+    Key(&'static str),
 }
 
 /// The question itself.
@@ -24,7 +25,18 @@ pub fn query_of(alloc: Global, asked: Asked) -> Result<Query, AllocError> {
         Asked::Inheritors(name) => Query::Inheritors {
             name: Name::of(alloc, name)?,
         },
+        Asked::Key(key) => Query::Key {
+            key: Name::of(alloc, key)?,
+        },
     })
+}
+
+/// How the paths of the files end that the question is about.
+pub fn extension_of(asked: Asked) -> &'static str {
+    match asked {
+        Asked::Key(_) => "properties",
+        _ => "java",
+    }
 }
 
 /// The number of rows of an answer, if it has rows.
@@ -33,15 +45,17 @@ pub fn row_count(answer: &Answer) -> Option<usize> {
         Answer::Rows { rows } => Some(rows.len()),
         Answer::Usages { rows, .. } => Some(rows.len()),
         Answer::Inheritors { rows } => Some(rows.len()),
+        Answer::Keys { rows } => Some(rows.len()),
         _ => None,
     }
 }
 
-/// Adds the rows of an answer: of usages the places, of inheritors places and levels.
+/// Adds the rows of an answer: of usages and keys the places, of inheritors places and levels.
 pub fn push_rows(alloc: Global, answer: &Answer, out: &mut String) -> Result<(), AllocError> {
     match answer {
         Answer::Usages { rows, .. } => push_places(alloc, rows.as_slice(), out),
         Answer::Inheritors { rows } => push_levels(alloc, rows.as_slice(), out),
+        Answer::Keys { rows } => push_places(alloc, rows.as_slice(), out),
         _ => out.push_str("other rows; "),
     }
 }

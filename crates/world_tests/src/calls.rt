@@ -13,7 +13,7 @@ use query_engine::{Answer, ask_unwatched};
 use std::alloc::{AllocError, Global};
 use write_history::{Change, Changes, Entry};
 
-/// One change to the file `A.java`.
+/// One change to the file `A.java`, but for the last two.
 #[derive(Clone, Copy)]
 pub enum Edit {
     Create(&'static str),
@@ -22,6 +22,10 @@ pub enum Edit {
     Open,
     Insert(u32, &'static str),
     Commit,
+    /// A move from a path to another.
+    Move(&'static str, &'static str),
+    /// The document of a file at a path is closed.
+    Close(&'static str),
 }
 
 /// Makes these edits, one after another, and tells how many were accepted.
@@ -93,6 +97,13 @@ fn change_of(alloc: Global, edit: Edit) -> Result<Change, AllocError>
             text: text_of(alloc, text)?,
         },
         Edit::Commit => Change::Commit { path },
+        Edit::Move(from, to) => Change::Move {
+            path: Name::of(alloc, from)?,
+            to: Name::of(alloc, to)?,
+        },
+        Edit::Close(at) => Change::CloseDoc {
+            path: Name::of(alloc, at)?,
+        },
     })
 }
 

@@ -1,7 +1,7 @@
 //! What is done in a new workspace, and what it comes to.
 use crate::asked::Asked;
 use crate::calls::{Edit, changed, rows, share_of};
-use crate::{late, looks, reach};
+use crate::{kinds, late, looks, reach};
 use ide_calls::IdeHome;
 use std::alloc::{AllocError, Global};
 
@@ -25,6 +25,10 @@ pub enum Course {
         files: &'static [(&'static str, &'static str)],
         edits: &'static [Edit],
         asked: Asked,
+    },
+    /// Edits of one file, of which some move it; then its index data are taken in, if it is unready.
+    Kinds {
+        edits: &'static [Edit],
     },
     /// A share is kept between edits.
     Shared {
@@ -57,6 +61,7 @@ fn tell(alloc: Global, home: &mut IdeHome, course: Course) -> Result<String, All
             edits,
             asked,
         } => reach::tell(alloc, home, files, edits, asked),
+        Course::Kinds { edits } => kinds::tell(alloc, home, edits),
         Course::Shared { earlier, later } => tell_shared(alloc, home, earlier, later),
     }
 }

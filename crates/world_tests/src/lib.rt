@@ -9,6 +9,8 @@ mod calls;
 #[cfg(test)]
 mod courses;
 #[cfg(test)]
+mod kinds;
+#[cfg(test)]
 mod late;
 #[cfg(test)]
 mod looks;

@@ -1,5 +1,5 @@
 //! How often a question looks while it is answered, and where it is stopped.
-use crate::asked::{Asked, query_of, row_count};
+use crate::asked::{Asked, extension_of, query_of, row_count};
 use crate::calls::{put, share_of, text_of};
 use crate::late::late_intake;
 use action_lock::Watch;
@@ -52,21 +52,24 @@ pub fn tell(
     asked: Asked,
 ) -> Result<String, AllocError> {
     let mut out = String::new(alloc);
+    let extension = extension_of(asked);
     let mut file = 0u32;
     for count in counts {
         file = file.saturating_add(1);
-        add(alloc, home, file, line, *count)?;
+        let path = Name::from(format!(in alloc; "{file}.{extension}")?);
+        add(alloc, home, path, line, *count)?;
+        late_intake(alloc, home, &[], file, &[])?;
         let share = share_of(alloc, home)?;
         push_looks(alloc, share.state(), asked, &mut out)?;
     }
     Ok(out)
 }
 
-/// Adds the file with this number, which is its id, and takes it in.
+/// Adds a file with so many times this line.
 fn add(
     alloc: Global,
     home: &mut IdeHome,
-    file: u32,
+    path: Name,
     line: &str,
     count: u32,
 ) -> Result<(), AllocError> {
@@ -75,11 +78,10 @@ fn add(
         text.push_str(line)?;
     }
     let change = Change::Create {
-        path: Name::from(format!(in alloc; "{file}.java")?),
+        path,
         text: text_of(alloc, &text)?,
     };
     put(alloc, home, change)?;
-    late_intake(alloc, home, &[], file, &[])?;
     Ok(())
 }
 

@@ -5,7 +5,7 @@ use crate::courses::{Course, told};
 use std::test::Fail;
 
 /// Courses, and what they come to.
-static COURSES: [(Course, &str); 19] = [
+static COURSES: [(Course, &str); 32] = [
     // Index data go in only at the stamp at which they were made.
     (
         Course::Late {
@@ -54,6 +54,106 @@ static COURSES: [(Course, &str); 19] = [
             later: &[],
         },
         "taken, Some(1)",
+    ),
+    // A move to another kind: what was made by the kind before doesn't go in, and a file of properties that isn't indexed
+    // keeps a question about types from its answer, as a Java file does; a file of no kind doesn't.
+    (
+        Course::Late {
+            earlier: &[Edit::Create("class A {}")],
+            file: 1,
+            later: &[Edit::Move("A.java", "A.properties")],
+        },
+        "stale 1 2, None",
+    ),
+    (
+        Course::Late {
+            earlier: &[Edit::Create("class A {}")],
+            file: 1,
+            later: &[Edit::Move("A.java", "A.txt")],
+        },
+        "stale 1 2, Some(0)",
+    ),
+    // What is shown is what the kind gives that the file has now, whether it is open or not.
+    (
+        Course::Kinds {
+            edits: &[Edit::Create("class A {}")],
+        },
+        "Some(1), 1, 0",
+    ),
+    (
+        Course::Kinds {
+            edits: &[
+                Edit::Create("class A {}"),
+                Edit::Move("A.java", "A.properties"),
+            ],
+        },
+        "Some(0), 0, 1",
+    ),
+    (
+        Course::Kinds {
+            edits: &[
+                Edit::Create("class A {}"),
+                Edit::Open,
+                Edit::Move("A.java", "A.properties"),
+            ],
+        },
+        "Some(0), 0, 1",
+    ),
+    (
+        Course::Kinds {
+            edits: &[
+                Edit::Create("class A {}"),
+                Edit::Open,
+                Edit::Move("A.java", "A.properties"),
+                Edit::Close("A.properties"),
+            ],
+        },
+        "Some(0), 0, 1",
+    ),
+    (
+        Course::Kinds {
+            edits: &[
+                Edit::Create("class A {}"),
+                Edit::Open,
+                Edit::Move("A.java", "A.properties"),
+                Edit::Move("A.properties", "A.java"),
+                Edit::Close("A.java"),
+            ],
+        },
+        "Some(1), 1, 0",
+    ),
+    (
+        Course::Kinds {
+            edits: &[
+                Edit::Create("class A {}"),
+                Edit::Open,
+                Edit::Move("A.java", "A.txt"),
+                Edit::Move("A.txt", "A.properties"),
+            ],
+        },
+        "Some(0), 0, 1",
+    ),
+    (
+        Course::Kinds {
+            edits: &[
+                Edit::Create("class A {}"),
+                Edit::Open,
+                Edit::Move("A.java", "A.properties"),
+                Edit::Move("A.properties", "A.txt"),
+            ],
+        },
+        "Some(0), 0, 0",
+    ),
+    (
+        Course::Kinds {
+            edits: &[
+                Edit::Create("class A {}"),
+                Edit::Open,
+                Edit::Close("A.java"),
+                Edit::Move("A.java", "A.txt"),
+            ],
+        },
+        "Some(0), 0, 0",
     ),
     // A question looks as it begins, and after each 256 rows: 255, 256 and 600 of them.
     (
@@ -128,6 +228,39 @@ static COURSES: [(Course, &str); 19] = [
             asked: Asked::Usages("A"),
         },
         "1 looks",
+    ),
+    // The keys of property files, with a look after each 256 rows; no file but property files.
+    (
+        Course::Looks {
+            line: "k=v\n",
+            counts: &[255, 1, 344],
+            asked: Asked::Key("k"),
+        },
+        "1 looks, Some(255); 1 looks, Some(255)\n2 looks, Some(256); 2 looks, None\n3 looks, Some(600); 2 looks, None\n",
+    ),
+    (
+        Course::Reached {
+            files: &[
+                ("P.properties", "# x=1\na.b = 1\nc\\\n  d:2"),
+                ("A.java", "a.b = 1"),
+                (
+                    "Q.properties",
+                    "a\\.b\na\\u.b = a.b\n!a.b\n\\\n a.b:x\na.bc",
+                ),
+                ("R.txt", "a.b = 1"),
+            ],
+            edits: &[],
+            asked: Asked::Key("a.b"),
+        },
+        "P.properties:2:1; Q.properties:1:1; Q.properties:5:2; 1 looks",
+    ),
+    (
+        Course::Reached {
+            files: &[("P.properties", "# x=1\na.b = 1\nc\\\n  d:2")],
+            edits: &[],
+            asked: Asked::Key("cd"),
+        },
+        "P.properties:3:1; 1 looks",
     ),
     // Types that come from a name, level by level, with a look after each 256 postings.
     (

@@ -8,7 +8,7 @@ use Rattle.list_laws.specs.Rows.{put_at, with_row}
 use Rattle.list_laws.proofs.BoolLemmas.{bool_cases}
 use Rattle.list_laws.proofs.RowLemmas.{live_is_made}
 use Rattle.list_laws.proofs.PositionLemmas.{position-None, position_first}
-use Rattle.dumb_mode.specs.Filter.{is_java}
+use Rattle.dumb_mode.specs.Filter.{passes_filter}
 use Rattle.write_history.specs.declared.change.Change.TheVariants.{Intake}
 use Rattle.write_history.specs.World.{World, File, file_of, ids_from, is_unready, unready_ids, lowest_unready, count_of}
 use Rattle.write_history.specs.Effect.{stamp_of, taken_in}
@@ -136,7 +136,7 @@ count-unready world = count-ids is_unready 1 world.files
 -- a file that is indexed at its stamp isn't unready
 ready_where_taken_in : (stamp : ℕ) (file : Option File) → stamp ≡ stamp_of file → is_unready (option_map (taken_in stamp) file) ≡ false
 ready_where_taken_in stamp None e = refl
-ready_where_taken_in stamp (Some file) e = last_fails (is_java file.path && not (is_some file.document)) (not (stamp == file.stamp)) (ap not (eq-eqb stamp file.stamp e))
+ready_where_taken_in stamp (Some file) e = last_fails (passes_filter file.path && not (is_some file.document)) (not (stamp == file.stamp)) (ap not (eq-eqb stamp file.stamp e))
   where
     last_fails : (a b : Bool) → b ≡ false → (a && b) ≡ false
     last_fails a b h = elim a as (λ v. (v && b) ≡ false) [ true ↦ h | false ↦ refl ]

@@ -3,7 +3,7 @@ use Rattle.std.specs.Prelude.{ℕ, suc, ◌+◌, if◌then◌else◌, Bool, fals
 use Rattle.std.specs.Option.{option_map_or, option_and_then}
 use Rattle.list_laws.specs.Rows.{row_in}
 use Rattle.document_buf.specs.Document.{Document}
-use Rattle.dumb_mode.specs.Filter.{is_java}
+use Rattle.dumb_mode.specs.Filter.{passes_filter}
 use Rattle.dumb_mode.specs.Unready.{is_unready_mark}
 use Rattle.dumb_mode.specs.declared.mark.Mark.{Mark}
 
@@ -58,7 +58,7 @@ shown_text file = option_map_or (λ document. document.committed) file.document 
 
 -- what decides whether a file is unready
 abbrev pub mark_of : ℕ → File → Mark
-mark_of id file = record { file = id; java = is_java file.path; docs_open = is_some file.document; present = file.stamp; indexed = file.indexed }
+mark_of id file = record { file = id; java = passes_filter file.path; docs_open = is_some file.document; present = file.stamp; indexed = file.indexed }
 
 -- whether a file is live, passes the filter, isn't open and isn't indexed at its stamp
 abbrev pub is_unready : Option File → Bool

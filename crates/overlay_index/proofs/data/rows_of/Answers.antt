@@ -9,4 +9,4 @@ returns c =
     let types = c.in_ok-rows.ensures ∙ ap (rows_by_name type_names) c.requires.stubs in
     let supers = c.in_ok-rows-2.ensures ∙ ap (rows_by_name super_names) c.requires.stubs in
     let methods = c.in_ok-rows-3.ensures ∙ ap (rows_by_name method_names) c.requires.stubs in
-    λ i. record { types = types i; supers = supers i; methods = methods i; words = c.in_ok-word_rows.ensures i }
+    λ i. record { types = types i; supers = supers i; methods = methods i; words = c.in_ok-word_rows.ensures i; keys = c.new.ensures i }

@@ -1,5 +1,5 @@
 use Rattle.std.proofs.Common.{◌≡◌, ◌++◌, map, IfSome}
-use Rattle.query_engine.specs.Listed.{AreAhead, IsListed}
+use Rattle.query_engine.specs.Listed.{AreAhead, IsListed, stub_at}
 use Rattle.query_engine.specs.Leveled.{seen_listing, seen_row}
 use Rattle.query_engine.proofs.level_rows.placed_rows.Given as goal
 
@@ -9,5 +9,5 @@ invariant-loop-place l = record {
   world : l.state.world ≡ l.fn.state.world;
   rows : l.rows.items ++ map (seen_row l.fn.state.world) l.place-iterator ≡ map (seen_row l.fn.state.world) l.fn.reached.seen;
   listed : IfSome l.before (IsListed l.fn.state.world);
-  ahead : AreAhead l.fn.state.world l.before (map seen_listing l.place-iterator);
+  ahead : AreAhead stub_at l.fn.state.world l.before (map seen_listing l.place-iterator);
 }

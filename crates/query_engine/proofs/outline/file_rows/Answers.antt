@@ -1,6 +1,6 @@
 use Rattle.std.proofs.Common.{ℕ, ◌≤◌, ◌+◌, length, drop, List, refl, ap, sym, subst}
 use Rattle.query_engine.specs.declared.answer.Row.{Row}
-use Rattle.query_engine.specs.Listed.{AreFrom, text_at}
+use Rattle.query_engine.specs.Listed.{AreFrom, stub_at, text_at}
 use Rattle.query_engine.proofs.AheadLemmas.{next_left, from_start, from_next, placed, moved_on, made_of}
 use Rattle.query_engine.proofs.LookLemmas.{looked_as, looked_wanting}
 use Rattle.query_engine.proofs.MadeLemmas.{made_none, made_more, made_stopped, made_short}
@@ -38,7 +38,7 @@ loop-stub-preserved g c = record {
       (next_left c.args.stubs.now c.loop-stub.stub-index c.stub-item.result c.loop-stub-test.true c.stub-item.is) c.in_ok-push.ensures.ok
       (made_of c.args.state.now.world _ c.args.id c.stub-item.result c.loop-stub.file c.in_ok-row.field-0 c.loop-stub.invariant.file c.in_ok-row.ensures.row) c.len.ensures c.loop-stub.invariant.rows c.in_ok-look_after.ensures.looked;
   file = placed c.args.state.now.world c.args.id _ c.row.new.self (moved_on c.args.state.now.world c.args.id _ _ c.loop-stub.file c.row.new.self c.loop-stub.invariant.file c.row.ensures.goes_on);
-  ahead = subst (λ (n : ℕ). AreFrom (length (text_at c.args.state.now.world c.args.id)) n (drop (c.loop-stub.stub-index + 1) c.args.stubs.now)) (sym (ap (λ f. f.at) c.row.ensures.goes_on))
+  ahead = subst (λ (n : ℕ). AreFrom stub_at (length (text_at c.args.state.now.world c.args.id)) n (drop (c.loop-stub.stub-index + 1) c.args.stubs.now)) (sym (ap (λ f. f.at) c.row.ensures.goes_on))
       (from_next _ _ c.args.stubs.now c.loop-stub.stub-index c.stub-item.result c.loop-stub-test.true c.stub-item.is c.loop-stub.invariant.ahead).2;
 }
 

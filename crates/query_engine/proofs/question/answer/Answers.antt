@@ -2,16 +2,16 @@ use Rattle.std.proofs.Common.{None, refl, ap, sym, subst, ◌∙◌}
 use Rattle.ide_world.specs.Found.{masks_in}
 use Rattle.query_engine.specs.Fits.{is_class, has_super, is_method}
 use Rattle.query_engine.specs.Reply.{reply}
-use Rattle.query_engine.specs.Listed.{AreAhead, AreLive}
-use Rattle.query_engine.proofs.FoundLemmas.{ahead_found, live_found}
+use Rattle.query_engine.specs.Listed.{AreAhead, AreLive, itself, stub_at}
+use Rattle.query_engine.proofs.FoundLemmas.{ahead_found, keys_ahead, live_found}
 use Rattle.query_engine.proofs.LookLemmas.{looked_not}
 use Rattle.query_engine.proofs.RepliedLemmas.{replied_as}
-use Rattle.query_engine.proofs.ReplyLemmas.{replied, may_look, declared_told, word_told}
+use Rattle.query_engine.proofs.ReplyLemmas.{replied, may_look, declared_told, key_told, word_told}
 use Rattle.query_engine.proofs.question.answer.Goals as goal
 
 pub declared-requires-clause-ahead : goal.declared-requires-clause-ahead
 declared-requires-clause-ahead g c = λ smart.
-    subst (AreAhead c.args.state.now.world None) (sym (c.type_rows.ensures.ready smart)) (ahead_found c.listings_are_lawful.ensures c.names_are_identifiers.ensures (is_class c.in-Class.name) c.args.state.now.world)
+    subst (AreAhead stub_at c.args.state.now.world None) (sym (c.type_rows.ensures.ready smart)) (ahead_found c.listings_are_lawful.ensures c.names_are_identifiers.ensures (is_class c.in-Class.name) c.args.state.now.world)
 
 pub returns-in-Class-clause-replied : goal.returns-in-Class-clause-replied
 returns-in-Class-clause-replied g c =
@@ -21,7 +21,7 @@ returns-in-Class-clause-replied g c =
 
 pub declared-requires-in-Supers-clause-ahead : goal.declared-requires-in-Supers-clause-ahead
 declared-requires-in-Supers-clause-ahead g c = λ smart.
-    subst (AreAhead c.args.state.now.world None) (sym (c.super_rows.ensures.ready smart)) (ahead_found c.listings_are_lawful.ensures c.names_are_identifiers.ensures (has_super c.in-Supers.name) c.args.state.now.world)
+    subst (AreAhead stub_at c.args.state.now.world None) (sym (c.super_rows.ensures.ready smart)) (ahead_found c.listings_are_lawful.ensures c.names_are_identifiers.ensures (has_super c.in-Supers.name) c.args.state.now.world)
 
 pub returns-in-Supers-clause-replied : goal.returns-in-Supers-clause-replied
 returns-in-Supers-clause-replied g c =
@@ -31,7 +31,7 @@ returns-in-Supers-clause-replied g c =
 
 pub declared-requires-in-Method-clause-ahead : goal.declared-requires-in-Method-clause-ahead
 declared-requires-in-Method-clause-ahead g c = λ smart.
-    subst (AreAhead c.args.state.now.world None) (sym (c.method_rows.ensures.ready smart)) (ahead_found c.listings_are_lawful.ensures c.names_are_identifiers.ensures (is_method c.in-Method.name) c.args.state.now.world)
+    subst (AreAhead stub_at c.args.state.now.world None) (sym (c.method_rows.ensures.ready smart)) (ahead_found c.listings_are_lawful.ensures c.names_are_identifiers.ensures (is_method c.in-Method.name) c.args.state.now.world)
 
 pub returns-in-Method-clause-replied : goal.returns-in-Method-clause-replied
 returns-in-Method-clause-replied g c =
@@ -56,6 +56,16 @@ returns-in-Usages-clause-replied g c =
 pub returns-in-Inheritors-clause-replied : goal.returns-in-Inheritors-clause-replied
 returns-in-Inheritors-clause-replied g c =
     replied_as _ _ g.W.Watch.stays c.args.state.now.world c.args.query.now _ _ _ _ c.in-Inheritors.is c.inheritors.ensures.replied
+
+pub with_key-requires-clause-ahead : goal.with_key-requires-clause-ahead
+with_key-requires-clause-ahead g c = λ smart.
+    subst (AreAhead itself c.args.state.now.world None) (sym (c.key_rows.ensures.ready smart)) (keys_ahead c.keys_stand_in_the_text.ensures c.in-Key.key c.args.state.now.world)
+
+pub returns-in-Key-clause-replied : goal.returns-in-Key-clause-replied
+returns-in-Key-clause-replied g c =
+    replied _ _ g.W.Watch.stays c.args.state.now.world c.args.query.now _ _ _ _
+    (key_told c.args.state.now.world c.in-Key.key _ c.key_rows.ensures.ready ∙ sym (ap (reply c.args.state.now.world) c.in-Key.is))
+    (may_look c.args.state.now.world c.args.query.now _ c.in-Key.is refl) c.with_key.ensures.answered
 
 pub returns-in-Outline-clause-replied : goal.returns-in-Outline-clause-replied
 returns-in-Outline-clause-replied g c =

@@ -1,6 +1,6 @@
 use Rattle.std.proofs.Common.{refl, sym, subst, None}
 use Rattle.query_engine.specs.declared.answer.Row.{Row}
-use Rattle.query_engine.specs.Listed.{AreAhead}
+use Rattle.query_engine.specs.Listed.{AreAhead, stub_at}
 use Rattle.query_engine.proofs.AheadLemmas.{ahead_live, ahead_stands, ahead_rest, listed_rest, row_made}
 use Rattle.query_engine.proofs.LookLemmas.{looked_as, looked_wanting}
 use Rattle.query_engine.proofs.MadeLemmas.{made_none, made_more, made_stopped, made_short}
@@ -13,19 +13,19 @@ loop-id-init g c = record {
   world = refl;
   rows = made_none _ _ _ _ c.new-rows.result c.into_iter-id-iterator.result c.args.watch.now c.new-rows.ensures c.into_iter-id-iterator.ensures.into_iter_gives;
   listed = tt;
-  ahead = subst (AreAhead c.args.state.now.world None) (sym c.into_iter-id-iterator.ensures.into_iter_gives) c.requires.ahead;
+  ahead = subst (AreAhead stub_at c.args.state.now.world None) (sym c.into_iter-id-iterator.ensures.into_iter_gives) c.requires.ahead;
 }
 
 pub continued-file-requires-clause-live : goal.continued-file-requires-clause-live
-continued-file-requires-clause-live g c = ahead_live c.args.state.now.world c.loop-id.before _ c.in-Some.stub.now _ _ c.in-Some.ensures.steps c.loop-id.invariant.ahead
+continued-file-requires-clause-live g c = ahead_live stub_at c.args.state.now.world c.loop-id.before _ c.in-Some.stub.now _ _ c.in-Some.ensures.steps c.loop-id.invariant.ahead
 
 pub row-requires-clause-ahead : goal.row-requires-clause-ahead
 row-requires-clause-ahead g c =
-    (ahead_stands c.args.state.now.world c.loop-id.before _ c.in-Some.stub.now _ _ c.continued-file.result c.in-Some.ensures.steps c.loop-id.invariant.ahead c.continued-file.ensures.file c.continued-file.ensures.listed).0
+    (ahead_stands stub_at c.args.state.now.world c.loop-id.before _ c.in-Some.stub.now _ _ c.in-Some.ensures.steps c.loop-id.invariant.ahead c.continued-file.result c.continued-file.ensures.file c.continued-file.ensures.listed).0
 
 pub row-requires-clause-inside : goal.row-requires-clause-inside
 row-requires-clause-inside g c =
-    (ahead_stands c.args.state.now.world c.loop-id.before _ c.in-Some.stub.now _ _ c.continued-file.result c.in-Some.ensures.steps c.loop-id.invariant.ahead c.continued-file.ensures.file c.continued-file.ensures.listed).1
+    (ahead_stands stub_at c.args.state.now.world c.loop-id.before _ c.in-Some.stub.now _ _ c.in-Some.ensures.steps c.loop-id.invariant.ahead c.continued-file.result c.continued-file.ensures.file c.continued-file.ensures.listed).1
 
 pub returns-in_err-row-clause-looked : goal.returns-in_err-row-clause-looked
 returns-in_err-row-clause-looked g c = looked_wanting _ _ _ _ _ c.from_residual.result _ _ c.from_residual.ensures.1 (made_short _ _ _ _ _ _ _ _ c.loop-id.invariant.rows)
@@ -42,7 +42,7 @@ loop-id-preserved g c = record {
       c.in-Some.ensures.steps c.in_ok-push.ensures.ok (row_made c.args.state.now.world _ _ c.in-Some.stub.now c.continued-file.result _ c.continued-file.ensures.file c.in_ok-row.ensures.row) c.len.ensures
       c.loop-id.invariant.rows c.in_ok-look_after.ensures.looked;
   listed = listed_rest c.args.state.now.world _ _ _ c.continued-file.result c.row.new.self c.continued-file.ensures.file c.row.ensures.goes_on c.continued-file.ensures.listed;
-  ahead = ahead_rest c.args.state.now.world c.loop-id.before _ c.in-Some.stub.now _ _ c.continued-file.result c.row.new.self c.in-Some.ensures.steps c.loop-id.invariant.ahead c.continued-file.ensures.file c.row.ensures.goes_on;
+  ahead = ahead_rest stub_at c.args.state.now.world c.loop-id.before _ c.in-Some.stub.now _ _ c.continued-file.result c.row.new.self c.in-Some.ensures.steps c.loop-id.invariant.ahead c.continued-file.ensures.file c.row.ensures.goes_on;
 }
 
 pub returns-in_err-look_after-clause-looked : goal.returns-in_err-look_after-clause-looked

@@ -1,5 +1,5 @@
 use Rattle.std.proofs.Common.{◌≡◌, IfSome}
-use Rattle.query_engine.specs.Listed.{AreAhead, IsListed, row_found}
+use Rattle.query_engine.specs.Listed.{AreAhead, IsListed, row_found, stub_at}
 use Rattle.query_engine.proofs.MadeLemmas.{IsMade}
 use Rattle.query_engine.proofs.stub_rows.stub_rows.Given as goal
 
@@ -11,5 +11,5 @@ invariant-loop-id g l = record {
   world : l.state.world ≡ l.fn.state.world;
   rows : IsMade g.W.Watch.looks g.W.Watch.sightings (row_found l.fn.state.world) l.fn.found l.rows l.id-iterator l.fn.watch l.watch;
   listed : IfSome l.before (IsListed l.fn.state.world);
-  ahead : AreAhead l.fn.state.world l.before l.id-iterator;
+  ahead : AreAhead stub_at l.fn.state.world l.before l.id-iterator;
 }

@@ -1,4 +1,5 @@
 use Rattle.std.proofs.Common.{length, filter, refl, sym, subst, le_refl}
+use Rattle.dumb_mode.specs.declared.kind.FileKind.TheVariants.{Java}
 use Rattle.queries.specs.declared.query.Query.TheVariants as query
 use Rattle.ide_world.specs.Found.{masks_in}
 use Rattle.query_engine.specs.declared.answer.Answer.{Answer}
@@ -25,7 +26,7 @@ pub returns-in_err-ready-clause-replied : goal.returns-in_err-ready-clause-repli
 returns-in_err-ready-clause-replied g c =
     let world = c.args.state.now.world in
     let name = c.args.name.now in
-    dumb_replied _ _ g.W.Watch.stays world (query.Usages name) (Usages name (of_world (uses_in name) world)) refl
+    dumb_replied _ _ g.W.Watch.stays world (query.Usages name) (Usages name (of_world Java (uses_in name) world)) refl
     c.args.watch.now _ (dumb_uses world name) c.in_err-ready.ensures.dumb c.from_residual.result c.from_residual.ensures.1
 
 -- the rows end early
@@ -34,7 +35,7 @@ returns-in_err-rows-clause-replied g c =
     let world = c.args.state.now.world in
     let name = c.args.name.now in
     let law = c.masks_tell_uses.ensures in
-    early_replied _ _ g.W.Watch.stays world (query.Usages name) (Usages name (of_world (uses_in name) world)) refl
+    early_replied _ _ g.W.Watch.stays world (query.Usages name) (Usages name (of_world Java (uses_in name) world)) refl
     (RowList PlaceRow) _ _ _ _ c.in_ok-ready.ensures.smart
     (uses_may law.unused law.used world name c.word_rows.result c.word_rows.ensures.ready c.in_ok-ready.ensures.smart)
     c.in_err-rows.ensures.early c.in_err-rows.ensures.looked c.from_residual-in_err-rows.result c.from_residual-in_err-rows.ensures.1
@@ -46,7 +47,7 @@ returns-in_err-copy-clause-replied g c =
     let name = c.args.name.now in
     let law = c.masks_tell_uses.ensures in
     let looks = length (filter has_code c.word_rows.result) in
-    early_replied _ _ g.W.Watch.stays world (query.Usages name) (Usages name (of_world (uses_in name) world)) refl
+    early_replied _ _ g.W.Watch.stays world (query.Usages name) (Usages name (of_world Java (uses_in name) world)) refl
     Answer looks OutOfMemory _ _ c.in_ok-ready.ensures.smart
     (uses_may law.unused law.used world name c.word_rows.result c.word_rows.ensures.ready c.in_ok-ready.ensures.smart)
     tt (looked_unseen _ _ _ _ _ _ (le_refl looks) c.in_ok-rows.ensures.looked) c.from_residual-in_err-copy.result c.from_residual-in_err-copy.ensures.1
@@ -59,7 +60,7 @@ returns-clause-replied g c =
     let law = c.masks_tell_uses.ensures in
     let ready = c.word_rows.ensures.ready in
     let smart = c.in_ok-ready.ensures.smart in
-    whole_replied _ _ g.W.Watch.stays world (query.Usages name) (Usages name (of_world (uses_in name) world)) refl
+    whole_replied _ _ g.W.Watch.stays world (query.Usages name) (Usages name (of_world Java (uses_in name) world)) refl
     _ _ _ _ smart (uses_may law.unused law.used world name c.word_rows.result ready smart)
     (used_given law.unused law.used world name c.word_rows.result _ _ (ready smart) c.in_ok-copy.ensures c.in_ok-rows.ensures.rows)
     c.in_ok-rows.ensures.looked

@@ -1,0 +1,8 @@
+//! Laws of rows: functions that do nothing, whose contracts are the laws.
+ghost use Rattle.std.specs.Prelude.{◌≡◌, List};
+ghost use Rattle.file_index.specs.KeyRows.{by_keys, rows_with};
+
+/// Rows that are sorted by their keys have the rows of each key as they came.
+pub fn sorting_keeps_the_rows_of_a_key<K: Ord, V>()
+    ensures { (key : K) (rows : List (K × V)) → rows_with K.eq key (by_keys K.cmp rows) ≡ rows_with K.eq key rows }
+{}

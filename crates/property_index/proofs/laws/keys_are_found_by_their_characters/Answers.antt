@@ -1,0 +1,7 @@
+use Rattle.std.proofs.Common.{ℕ, List, map, ap}
+use Rattle.property_index.specs.Keys.{keys_of, key_rows}
+use Rattle.property_index.proofs.laws.keys_are_found_by_their_characters.Goals as goal
+
+pub returns : goal.returns
+unfolding key_rows
+returns c = λ text key. ap (map (λ (row : List ℕ × ℕ). row.1)) (c.sorting_keeps_the_rows_of_a_key.ensures key (keys_of text))

@@ -1,0 +1,8 @@
+use Rattle.std.proofs.Common.{◌≡◌, ◌++◌, drop}
+use Rattle.std.specs.List.{flat_map}
+use Rattle.transcripts.specs.Transcript.{key_line}
+use Rattle.transcripts.proofs.rows.push_keys.Given as goal
+
+-- what was printed so far and what the rest gives is all
+abbrev pub invariant-loop-row : goal.invariant-loop-row
+invariant-loop-row l = l.out.items ++ flat_map key_line (drop l.row-index l.rows) ≡ l.fn.out.items ++ flat_map key_line l.rows
