@@ -1,2 +1,3 @@
 pub mod FilterLemmas
 pub mod MarkLemmas
+pub mod KindLemmas

@@ -23,12 +23,10 @@ kind_of path = if is_java path then Some Java else if is_properties path then So
 -- whether two files are of one kind, or both of none
 abbrev pub is_same_kind : Option FileKind → Option FileKind → Bool
 is_same_kind None None = true
-is_same_kind None (Some Java) = false
-is_same_kind None (Some Properties) = false
-is_same_kind (Some Java) None = false
+is_same_kind None (Some kind) = false
+is_same_kind (Some kind) None = false
 is_same_kind (Some Java) (Some Java) = true
 is_same_kind (Some Java) (Some Properties) = false
-is_same_kind (Some Properties) None = false
 is_same_kind (Some Properties) (Some Java) = false
 is_same_kind (Some Properties) (Some Properties) = true
 
