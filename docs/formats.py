@@ -188,6 +188,7 @@ def missing(found):
     for word in re.findall(r"^\| `([a-z]+)[^|]*\|", section(text, "Script"), re.M):
         if word not in lines:
             faults.append(f"no example of the line {word}")
+    faults += [f"no script has the row {row}" for row in table_rows(text) if not any(has_row(example, row) for example in found)]
     statuses = {example.status for example in found}
     for status in re.findall(r"^\| (\d) \|", section(text, "Command line and status"), re.M):
         if int(status) not in statuses:
@@ -201,6 +202,20 @@ def missing(found):
         if not path.exists() or path.read_bytes() != tree_bytes(lines):
             faults.append(f"{path} isn't as told")
     return faults
+
+
+def table_rows(text):
+    """Of each row of the table of lines with an answer: the example and the lines of the answer."""
+    rows = [line.split(" | ")[2:] for line in section(text, "Script").split("\n") if line.startswith("| `")]
+    cells = [[re.findall(r"`([^`]+)`", cell) for cell in row] for row in rows]
+    return [(row[0][0], row[1]) for row in cells if len(row) > 1 and row[1]]
+
+
+def has_row(example, row):
+    """Whether the example has the line, and its record and the further lines in the answer."""
+    asked, answer = row
+    places = [n for n, line in enumerate(example.script, 1) if line == asked]
+    return any(answer[0].startswith(f"{n} ") for n in places) and all(line in example.answer for line in answer)
 
 
 def section(text, title):
