@@ -9,3 +9,4 @@ pub mod FoundLemmas
 pub mod PlanLemmas
 pub mod AcceptedLemmas
 pub mod AheadLemmas
+pub mod ChoiceLemmas

@@ -62,15 +62,15 @@ answered_within seat file stamp v inner inner' w answer number intended after ad
     })
 
 -- a file whose work there is
-record HasTask (file : Option File) (task : Task) : Type 0 where
-  unready : is_unready file ≡ true
-  stamped : stamp_of file ≡ task.stamp
+pub record HasTask (file : Option File) (task : Task) : Type 0 where
+  pub unready : is_unready file ≡ true
+  pub stamped : stamp_of file ≡ task.stamp
 
 has_work : (file : File) (id : ℕ) (k : Option FileKind) (task : Task) → is_unready (Some file) ≡ true → option_map (task_of id file) k ≡ Some task → HasTask (Some file) task
 has_work file id None task ready is = absurd (cc)
 has_work file id (Some kind) task ready is = let same : task_of id file kind ≡ task = cc in record { unready = ready; stamped = ap (λ (t : Task). t.stamp) same }
 
-has_task : (file : Option File) (id : ℕ) (task : Task) → (if is_unready file then option_and_then (work_of id) file else None) ≡ Some task → HasTask file task
+pub has_task : (file : Option File) (id : ℕ) (task : Task) → (if is_unready file then option_and_then (work_of id) file else None) ≡ Some task → HasTask file task
 has_task None id task is = absurd (cc)
 has_task (Some file) id task found =
     bool_cases (is_unready (Some file)) (λ b. (if b then work_of id file else None) ≡ Some task → HasTask (Some file) task)
