@@ -1,9 +1,8 @@
 -- Each entry of a run of a script makes a change, so that its history has room for no more than it may have.
-use Rattle.std.proofs.Common.{ℕ, zero, suc, ◌≡◌, ◌+◌, ◌^◌, ◌≤◌, ◌<◌, Bool, true, false, cond, List, [], ◌∷◌, ◌++◌, length, refl, sym, ap, ◌∙◌, subst, arith, Option, Some, None, ◌⊎◌, ⊎_elim, eqb}
+use Rattle.std.proofs.Common.{ℕ, zero, suc, ◌≡◌, ◌+◌, ◌≤◌, ◌<◌, Bool, true, false, cond, List, [], ◌∷◌, ◌++◌, length, refl, sym, ap, subst, arith, Option, Some, None, ⊎_elim, eqb}
 use Rattle.std.specs.List.{All}
-use Rattle.std.proofs.lemmas.Bool.{cases_lt, eqb-true}
+use Rattle.std.proofs.lemmas.Bool.{cases_lt}
 use Rattle.list_laws.proofs.BoolLemmas.{bool_cases}
-use Rattle.write_history.specs.declared.change.Change.{Change}
 use Rattle.write_history.specs.declared.change.Change.TheVariants.{Create}
 use Rattle.write_history.specs.declared.entry.Entry.{Entry}
 use Rattle.write_history.specs.declared.refusal.Refusal.TheVariants as why
@@ -16,18 +15,17 @@ use Rattle.script_lang.specs.declared.command.Command.{Command}
 use Rattle.script_lang.specs.declared.command.Command.TheVariants as command
 use Rattle.script_lang.specs.declared.line.Line.{Line}
 use Rattle.script_lang.specs.Parts.{Parts}
-use Rattle.script_lang.specs.Held.{IsOfLine, IsNoLoad, AreOfSection, AreOfScript}
+use Rattle.script_lang.specs.Held.{IsOfLine, AreOfSection, AreOfScript}
 use Rattle.index_workers.specs.declared.worked.Worked.{Worked}
 use Rattle.index_workers.specs.Work.{IsIntakeBy}
 use Rattle.transcripts.specs.declared.loaded.Loaded.{Loaded}
 use Rattle.transcripts.specs.declared.loaded.Loaded.TheVariants as loaded
 use Rattle.transcripts.specs.declared.record.Answer.TheVariants.{Refused}
 use Rattle.transcripts.specs.declared.record.Record.{Record}
-use Rattle.transcripts.specs.Serial.{Step, Ended, told as just_told, step_unless, create_of, load_step, step_of, first_load, later_loads}
-use Rattle.transcripts.specs.Fits.{Mark, mark_at, run_beside, IsDone, IsGivenUp, FitsFirst, SectionFits, made_by, FitsLane, LanesFit, WorkersFit, RunFits}
+use Rattle.transcripts.specs.Serial.{Step, Ended, told as just_told, step_unless, create_of, step_of, first_load, later_loads}
+use Rattle.transcripts.specs.Fits.{Mark, mark_at, run_beside, IsDone, IsGivenUp, SectionFits, made_by, LanesFit, WorkersFit, RunFits}
 use Rattle.transcript_check.specs.Phase.{Sides}
 use Rattle.transcript_check.proofs.StepLemmas.{made_by-own}
-use Rattle.transcript_check.proofs.WorkerLemmas.{AreWorkers}
 use Rattle.transcript_check.proofs.IntakeLemmas.{AllChange, legal_few}
 use Rattle.transcript_check.proofs.PhaseLemmas.{AllSeats}
 use Rattle.transcript_check.proofs.MiddleLemmas.{all_seats, workers_are, none_outside}

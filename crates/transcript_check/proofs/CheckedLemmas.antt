@@ -1,10 +1,9 @@
 -- What is checked is what a run printed, and all that a run printed is checked.
-use Rattle.std.proofs.Common.{ℕ, zero, suc, ◌≡◌, ◌+◌, ◌^◌, ◌≤◌, ◌<◌, Bool, true, false, cond, ◌&&◌, List, [], ◌∷◌, ◌++◌, length, map, drop, refl, sym, ap, ◌∙◌, subst, append_assoc, length-append, arith, Option, Some, None, ◌⊎◌, inl, inr, eqb}
+use Rattle.std.proofs.Common.{ℕ, suc, ◌≡◌, ◌+◌, ◌^◌, ◌≤◌, ◌<◌, Bool, true, false, cond, ◌&&◌, List, [], ◌∷◌, ◌++◌, length, drop, refl, sym, ap, ◌∙◌, subst, append_assoc, length-append, arith, Option, Some, None}
 use Rattle.std.specs.Prelude.{bytes_eq}
 use Rattle.std.proofs.lemmas.Slice.Eq.{bytes_eq-Decides}
-use Rattle.std.proofs.lemmas.List.{append-nil, append_cancel_left, map-append}
-use Rattle.std.proofs.lemmas.Bool.{both_ways, and_parts, and_from, cond-true, cond-false}
-use Rattle.list_laws.specs.Fronts.{IsFront}
+use Rattle.std.proofs.lemmas.List.{append-nil, map-append}
+use Rattle.std.proofs.lemmas.Bool.{both_ways, and_parts, and_from, cond-true}
 use Rattle.list_laws.proofs.BoolLemmas.{bool_cases}
 use Rattle.write_history.specs.declared.entry.Entry.{Entry}
 use Rattle.write_history.specs.Fold.{IsLegal}
@@ -14,10 +13,9 @@ use Rattle.script_lang.specs.Parts.{Parts}
 use Rattle.index_workers.specs.declared.worked.Worked.{Worked}
 use Rattle.transcripts.specs.declared.loaded.Loaded.{Loaded}
 use Rattle.transcripts.specs.declared.record.Record.{Record}
-use Rattle.transcripts.specs.Serial.{Done, Ended, done_from, last_from}
-use Rattle.transcripts.specs.Fits.{Mark, mark_at, SectionFits, LanesFit, WorkersFit, RunFits, run_beside}
+use Rattle.transcripts.specs.Serial.{Done, done_from, last_from}
+use Rattle.transcripts.specs.Fits.{Mark, mark_at, SectionFits, LanesFit, RunFits, run_beside}
 use Rattle.transcripts.specs.Transcript.{record_text}
-use Rattle.transcript_check.specs.Reading.{seat_in}
 use Rattle.transcript_check.specs.Section.{Cursor}
 use Rattle.transcript_check.specs.Phase.{Sides, Reached, is_seat, phase_from, cursors_of, after_lanes}
 use Rattle.transcript_check.specs.Checked.{entry_texts, record_texts, texts_behind, are_texts, after_prelude, entries_behind, ends_so, sides_of, goes_on_so, begins_so, are_checked, AreTextsOfRun}
@@ -26,11 +24,11 @@ use Rattle.transcript_check.proofs.Texts.{text_is, texts_of_section}
 use Rattle.transcript_check.proofs.StepLemmas.{Laws}
 use Rattle.transcript_check.proofs.CursorLemmas.{AreFew, some_some, first_seat, own_seated}
 use Rattle.transcript_check.proofs.WorkerLemmas.{AreWorkers, WorkersFrom, workers_from, workers_all, workers_none}
-use Rattle.transcript_check.proofs.SideLemmas.{CursorsFit, AreSeated}
+use Rattle.transcript_check.proofs.SideLemmas.{CursorsFit}
 use Rattle.transcript_check.proofs.IntakeLemmas.{FileLaws}
-use Rattle.transcript_check.proofs.PhaseLemmas.{AllSeats, PhaseGoes, sound, StopsBefore, complete}
-use Rattle.transcript_check.proofs.MiddleLemmas.{LanesAre, sides_of_lanes, LanesFitTexts, lanes_of_sides, cursors_seated, seats_all, all_seats, told_of, length-told_of, workers_fit, workers_are, drop_behind}
-use Rattle.transcript_check.proofs.SerialLemmas.{SerialFits, serial_fits}
+use Rattle.transcript_check.proofs.PhaseLemmas.{AllSeats, sound, StopsBefore, complete}
+use Rattle.transcript_check.proofs.MiddleLemmas.{sides_of_lanes, lanes_of_sides, cursors_seated, seats_all, all_seats, told_of, length-told_of, workers_fit, workers_are, drop_behind}
+use Rattle.transcript_check.proofs.SerialLemmas.{serial_fits}
 
 -- texts that begin with others
 behind_is : (wanted texts left : List (List ℕ)) → texts_behind wanted texts ≡ Some left → texts ≡ wanted ++ left
@@ -94,6 +92,7 @@ begun script workers opening wanted_entries wanted_records entries records h =
       goes = is;
       ends = g;
     }
+
     by : (es rs : Option (List (List ℕ))) → texts_behind wanted_entries entries ≡ es → texts_behind wanted_records records ≡ rs
         → begins_so script workers opening es rs ≡ true → Begun script workers opening wanted_entries wanted_records entries records
     by None rs is_es is_rs g = absurd (both_ways false refl g)

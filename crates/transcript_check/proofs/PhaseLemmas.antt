@@ -1,5 +1,5 @@
 -- Sections and workers side by side lead from one history to another exactly where each fits.
-use Rattle.std.proofs.Common.{ℕ, zero, suc, ◌≡◌, ◌≢◌, ◌+◌, ◌^◌, ◌≤◌, ◌<◌, Bool, true, false, cond, not, ◌&&◌, List, [], ◌∷◌, ◌++◌, length, map, refl, sym, ap, ◌∙◌, subst, append_assoc, length-append, arith, Option, Some, None, ◌⊎◌, inl, inr, ⊎_elim, eqb, leb}
+use Rattle.std.proofs.Common.{ℕ, suc, ◌≡◌, ◌≢◌, ◌+◌, ◌^◌, ◌≤◌, ◌<◌, Bool, true, false, cond, not, ◌&&◌, List, [], ◌∷◌, ◌++◌, length, refl, sym, ap, ◌∙◌, subst, append_assoc, length-append, arith, Option, Some, None, inr, ⊎_elim, leb}
 use Rattle.std.specs.Prelude.{bytes_eq, is_none}
 use Rattle.std.specs.List.{All, list_all}
 use Rattle.std.specs.Option.{option_and_then}
@@ -9,15 +9,13 @@ use Rattle.std.proofs.lemmas.List.{append-nil}
 use Rattle.std.proofs.lemmas.Bool.{cond-true, cond-false, and_parts, and_from, leb-true, leb-false, le-leb, lt-leb, not-true, not_from_false, cases_lt}
 use Rattle.list_laws.specs.Fronts.{IsFront}
 use Rattle.list_laws.proofs.BoolLemmas.{bool_cases}
-use Rattle.write_history.specs.declared.change.Change.{Change}
 use Rattle.write_history.specs.declared.change.Change.TheVariants.{Intake}
 use Rattle.write_history.specs.declared.entry.Entry.{Entry}
 use Rattle.write_history.specs.World.{file_of}
 use Rattle.write_history.specs.Effect.{stamp_of}
-use Rattle.write_history.specs.Fold.{ListRefusal, fold, list_refusal, IsLegal, IsLegalFrom}
+use Rattle.write_history.specs.Fold.{ListRefusal, fold, list_refusal, IsLegal}
 use Rattle.write_history.specs.Print.{entry_line}
-use Rattle.ide_calls.specs.Settle.{entry_of, intake_of, intake_entry}
-use Rattle.index_workers.specs.Work.{IsIntakeBy}
+use Rattle.ide_calls.specs.Settle.{entry_of, intake_entry}
 use Rattle.transcripts.specs.Fits.{made_by}
 use Rattle.transcript_check.specs.Reading.{seat_in, file_in}
 use Rattle.transcript_check.specs.Section.{Cursor, is_over}
@@ -28,7 +26,7 @@ use Rattle.transcript_check.proofs.Texts.{text_is}
 use Rattle.transcript_check.proofs.StepLemmas.{Laws}
 use Rattle.transcript_check.proofs.CursorLemmas.{AreFew, one_more, none_some, some_some}
 use Rattle.transcript_check.proofs.WorkerLemmas.{MayMake, WorkersFrom, taken_anew, not_taken}
-use Rattle.transcript_check.proofs.SideLemmas.{CursorsFit, AreSeated, AllStop, ToldAll, all_told_fits, others_forth, others_back, section_forth, went_back, all_over_back, all_over_forth}
+use Rattle.transcript_check.proofs.SideLemmas.{CursorsFit, AreSeated, AllStop, all_told_fits, others_forth, others_back, section_forth, went_back, all_over_back, all_over_forth}
 use Rattle.transcript_check.proofs.IntakeLemmas.{FileLaws, accepted_intake, live_small}
 
 -- all entries have seats of the lanes and workers

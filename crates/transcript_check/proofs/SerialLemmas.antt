@@ -1,12 +1,12 @@
 -- A section that was done alone fits, and a history stays legal.
-use Rattle.std.proofs.Common.{ℕ, ◌≡◌, ◌+◌, ◌≤◌, Bool, List, [], ◌∷◌, ◌++◌, length, refl, sym, ap, ◌∙◌, subst, append_assoc, arith, inl}
+use Rattle.std.proofs.Common.{ℕ, ◌≡◌, Bool, List, [], ◌∷◌, ◌++◌, length, refl, sym, ◌∙◌, append_assoc, arith, inl}
 use Rattle.std.proofs.lemmas.List.{append-nil}
 use Rattle.write_history.specs.declared.entry.Entry.{Entry}
 use Rattle.write_history.specs.Fold.{IsLegal}
 use Rattle.script_lang.specs.declared.line.Line.{Line}
 use Rattle.transcripts.specs.declared.loaded.Loaded.{Loaded}
 use Rattle.transcripts.specs.declared.record.Record.{Record}
-use Rattle.transcripts.specs.Serial.{Step, Done, step_of, after_step, done_from, first_load, later_loads}
+use Rattle.transcripts.specs.Serial.{Step, Done, step_of, done_from, first_load, later_loads}
 use Rattle.transcripts.specs.Fits.{Mark, SectionFits}
 use Rattle.transcript_check.proofs.StepLemmas.{Laws, step_is}
 

@@ -1,5 +1,5 @@
 -- What a step adds and tells, by its command.
-use Rattle.std.proofs.Common.{ℕ, zero, suc, ◌≡◌, ◌+◌, ◌<◌, ◌≤◌, Bool, true, false, cond, List, [], ◌∷◌, ◌++◌, length, refl, sym, ap, ◌∙◌, subst, append_assoc, arith, Some, None, ◌⊎◌, inl, inr, eqb}
+use Rattle.std.proofs.Common.{ℕ, ◌≡◌, ◌+◌, Bool, true, false, cond, List, [], ◌∷◌, ◌++◌, length, refl, sym, ap, ◌∙◌, subst, append_assoc, arith, Some, None, ◌⊎◌, inl, inr, eqb}
 use Rattle.std.specs.Prelude.{Option, option_map}
 use Rattle.std.proofs.lemmas.List.{append-nil}
 use Rattle.std.proofs.lemmas.Bool.{cond-true, cond-false, eq-eqb, ne_eqb}
@@ -10,16 +10,15 @@ use Rattle.write_history.specs.declared.refusal.Refusal.{Refusal}
 use Rattle.write_history.specs.declared.refusal.Refusal.TheVariants as why
 use Rattle.write_history.specs.Path.{is_path}
 use Rattle.write_history.specs.World.{lowest_unready, unready_ids}
-use Rattle.write_history.specs.Fold.{ListRefusal, fold, fold_from, list_refusal, after_list, IsLegal, IsLegalFrom}
+use Rattle.write_history.specs.Fold.{ListRefusal, fold, fold_from, list_refusal, IsLegal, IsLegalFrom}
 use Rattle.ide_calls.specs.Settle.{Settled, all_settled, refused_for, with_entry, entry_of, intake_of, intake_entry, settled_unless, settled_from, settled}
 use Rattle.script_lang.specs.declared.command.Command.{Command}
 use Rattle.script_lang.specs.declared.command.Command.TheVariants as command
-use Rattle.script_lang.specs.declared.line.Line.{Line}
 use Rattle.transcripts.specs.declared.loaded.Loaded.{Loaded}
 use Rattle.transcripts.specs.declared.loaded.Loaded.TheVariants as loaded
 use Rattle.transcripts.specs.declared.record.Answer.{Answer}
-use Rattle.transcripts.specs.declared.record.Answer.TheVariants.{Accepted, Refused, NotText, TooLong, Smart, NotReady, Found}
-use Rattle.transcripts.specs.Serial.{Step, told, step_unless, changes_step, create_of, load_step, settle_answer, settle_step, answer_of, refused_answer, query_step, step_of}
+use Rattle.transcripts.specs.declared.record.Answer.TheVariants.{Refused, NotText, TooLong}
+use Rattle.transcripts.specs.Serial.{Step, told, step_unless, create_of, load_step, settle_answer, settle_step, answer_of, step_of}
 use Rattle.transcripts.specs.Fits.{made_by}
 use Rattle.query_engine.specs.declared.answer.Answer.{Answer as Finding}
 use Rattle.query_engine.specs.declared.answer.AskRefusal.{AskRefusal}

@@ -1,11 +1,11 @@
 -- What is read of a text is what was printed.
-use Rattle.std.proofs.Common.{ℕ, zero, suc, ◌≡◌, ◌+◌, ◌-◌, ◌*◌, ◌^◌, ◌<◌, ◌≤◌, Bool, true, false, cond, List, [], ◌∷◌, ◌++◌, take, drop, length, refl, sym, ap, ◌∙◌, subst, append_assoc, arith, eqb, Some, None, ◌⊎◌, inl, inr}
+use Rattle.std.proofs.Common.{ℕ, ◌≡◌, ◌+◌, ◌-◌, ◌*◌, ◌^◌, ◌<◌, true, false, List, [], ◌∷◌, ◌++◌, take, drop, refl, sym, ap, ◌∙◌, append_assoc, arith, eqb, Some, None}
 use Rattle.std.specs.Prelude.{Option, codes, bytes_eq, decimal, if◌then◌else◌}
-use Rattle.std.specs.Str.Parse.{AllDigits, digits_value_after, digits_value, IsNumeral}
+use Rattle.std.specs.Str.Parse.{AllDigits, digits_value_after}
 use Rattle.std.specs.Char.{digit_value}
 use Rattle.std.proofs.lemmas.Fmt.{decimal_is_IsNumeral}
 use Rattle.std.proofs.lemmas.List.{append_cancel_left}
-use Rattle.std.proofs.lemmas.Bool.{cond-true, cond-false, le-leb, lt-leb, and_from, leb-true, leb-false, and_parts}
+use Rattle.std.proofs.lemmas.Bool.{cond-true, cond-false}
 use Rattle.std.proofs.lemmas.Bool.Decides.{nat_tests}
 use Rattle.write_history.specs.declared.change.Change.TheVariants.{Intake}
 use Rattle.write_history.specs.declared.entry.Entry.{Entry}

@@ -1,12 +1,8 @@
 -- A section by the texts of its records: what `SectionFits` says, without what isn't printed.
-use Rattle.std.proofs.Common.{ℕ, zero, suc, ◌≡◌, ◌+◌, ◌≤◌, ◌<◌, Bool, true, false, List, [], ◌∷◌, ◌++◌, length, map, refl, sym, ap, ◌∙◌, subst, append_assoc, length-append, arith, Some, None, ◌⊎◌, inl, inr, ⊎_elim}
+use Rattle.std.proofs.Common.{ℕ, ◌≡◌, ◌+◌, ◌≤◌, Bool, true, List, [], ◌∷◌, ◌++◌, length, map, refl, sym, ap, ◌∙◌, subst, arith, ◌⊎◌, inl, inr, ⊎_elim}
 use Rattle.std.specs.Prelude.{bytes_eq}
 use Rattle.std.proofs.lemmas.Slice.Eq.{bytes_eq-Decides}
-use Rattle.std.proofs.lemmas.List.{append_cancel_left}
-use Rattle.std.proofs.lemmas.List.Elements.{filter-append}
 use Rattle.list_laws.specs.Fronts.{IsFront}
-use Rattle.list_laws.proofs.FrontLemmas.{front_length, front_shorter, front_trans}
-use Rattle.action_lock.specs.Counts.{HasRisenBy}
 use Rattle.write_history.specs.declared.entry.Entry.{Entry}
 use Rattle.queries.specs.declared.query.Query.{Query}
 use Rattle.ide_calls.specs.Sighting.{Sighting}
@@ -17,11 +13,9 @@ use Rattle.transcripts.specs.declared.loaded.Loaded.TheVariants.{Nothing}
 use Rattle.transcripts.specs.declared.record.Answer.{Answer}
 use Rattle.transcripts.specs.declared.record.Answer.TheVariants.{Cancelled}
 use Rattle.transcripts.specs.declared.record.Record.{Record}
-use Rattle.transcripts.specs.Serial.{Step, step_of}
-use Rattle.transcripts.specs.Fits.{Mark, IsDone, IsGivenUp, Fits, FitsFirst, SectionFits, made_by}
+use Rattle.transcripts.specs.Fits.{Mark, IsDone, IsGivenUp, Fits, SectionFits}
 use Rattle.transcripts.specs.Transcript.{record_text}
 use Rattle.transcript_check.specs.Section.{line_step, told_text, given_up, tells_given_up}
-use Rattle.transcript_check.proofs.StepLemmas.{Laws, IsStep, step_is}
 
 -- A line was done behind `start`: what it made stands right behind that, and this is the text of its record
 pub record DoneBehind (history start : List Entry) (seat : ℕ) (line : Line) (made : List Entry) (text : List ℕ) : Type 0 where
@@ -156,20 +150,23 @@ record_given beside history seat line len sights made text between is given =
     record {
       answer = Cancelled sighted;
       later_sights = sights + gave.attempts;
-      fits = inr (is, record {
-        attempts = gave.attempts;
-        query = gave.query;
-        soft = gave.soft;
-        sighted = sighted;
-        told = refl;
-        nothing = given.nothing;
-        seat_is = refl;
-        allowed = refl;
-        before = omega arith;
-        risen = inl (omega arith);
-        seen = given.between_is;
-        sights = refl;
-      });
+      fits = inr (
+        is,
+        record {
+          attempts = gave.attempts;
+          query = gave.query;
+          soft = gave.soft;
+          sighted = sighted;
+          told = refl;
+          nothing = given.nothing;
+          seat_is = refl;
+          allowed = refl;
+          before = omega arith;
+          risen = inl (omega arith);
+          seen = given.between_is;
+          sights = refl;
+        },
+      );
       text_is = gave.told;
     }
 

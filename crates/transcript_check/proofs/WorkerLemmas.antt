@@ -1,11 +1,11 @@
 -- What workers may make, entry by entry.
-use Rattle.std.proofs.Common.{ℕ, suc, ◌≡◌, ◌≢◌, ◌+◌, ◌≤◌, ◌<◌, Bool, true, false, List, [], ◌∷◌, ◌++◌, length, get_or, refl, sym, ap, ◌∙◌, subst, append_assoc, length-append, arith, ◌⊎◌, inl, inr, ⊎_elim, eqb, not, ◌&&◌}
-use Rattle.std.specs.List.{All, AllPairs, list_any}
+use Rattle.std.proofs.Common.{ℕ, suc, ◌≡◌, ◌≢◌, ◌<◌, true, false, List, [], ◌∷◌, ◌++◌, length, get_or, refl, sym, ap, ◌∙◌, subst, append_assoc, length-append, arith, eqb}
+use Rattle.std.specs.List.{All, AllPairs}
 use Rattle.std.proofs.Math.Seq.{get_or-append_seam}
 use Rattle.std.proofs.lemmas.List.{get_or_append_left}
 use Rattle.std.proofs.lemmas.List.Elements.{All-append, filter-append}
 use Rattle.std.proofs.lemmas.List.Quantifiers.{all_pairs_push}
-use Rattle.std.proofs.lemmas.Bool.{false≢true, eqb-true, eqb-false, eq-eqb, both_ways, or_parts, or_from, and_parts, and_from, false_from_ne_true}
+use Rattle.std.proofs.lemmas.Bool.{false≢true, eqb-true, eq-eqb, both_ways, or_parts, or_from, and_parts, and_from, false_from_ne_true}
 use Rattle.list_laws.proofs.BoolLemmas.{bool_cases}
 use Rattle.list_laws.proofs.FrontLemmas.{All-cons, filter_more, filter_same}
 use Rattle.write_history.specs.declared.change.Change.{Change}
@@ -52,9 +52,10 @@ may_make added e es workers =
 
 pub workers_from : (lanes : ℕ) (added es : List Entry) → ((seat : ℕ) → lanes < seat → AreWorkers seat (added ++ es)) → WorkersFrom lanes added es
 workers_from lanes added [] workers = tt
-workers_from lanes added (e ∷ es) workers =
-    ((λ past. may_make added e es (workers e.seat past)),
-    workers_from lanes (added ++ e ∷ []) es (λ seat past. subst (AreWorkers seat) (sym (append_assoc added (e ∷ []) es)) (workers seat past)))
+workers_from lanes added (e ∷ es) workers = (
+  (λ past. may_make added e es (workers e.seat past)),
+  workers_from lanes (added ++ e ∷ []) es (λ seat past. subst (AreWorkers seat) (sym (append_assoc added (e ∷ []) es)) (workers seat past)),
+)
 
 -- one entry more that the worker may make
 workers_push : (seat : ℕ) (added : List Entry) (e : Entry) → AreWorkers seat added → (e.seat ≡ seat → MayMake added e) → AreWorkers seat (added ++ e ∷ [])
