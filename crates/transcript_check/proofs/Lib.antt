@@ -10,3 +10,5 @@ pub mod MiddleLemmas
 pub mod SerialLemmas
 pub mod CheckedLemmas
 pub mod ChangeLemmas
+pub mod BlockLemmas
+pub mod VerdictLemmas

@@ -21,13 +21,13 @@ use Rattle.transcript_check.proofs.SideLemmas.{CursorsFit, AreSeated}
 use Rattle.transcript_check.proofs.PhaseLemmas.{AllSeats}
 
 -- the front of a list, and what is behind it
-take_front : {X : Type 0} (xs ys : List X) (n : ℕ) → length xs ≡ n → take n (xs ++ ys) ≡ xs
+pub take_front : {X : Type 0} (xs ys : List X) (n : ℕ) → length xs ≡ n → take n (xs ++ ys) ≡ xs
 take_front [] ys zero h = refl
 take_front [] ys (suc n) h = absurd (omega arith)
 take_front (x ∷ xs) ys zero h = absurd (omega arith)
 take_front (x ∷ xs) ys (suc n) h = ap (λ zs. x ∷ zs) (take_front xs ys n (omega arith))
 
-drop_front : {X : Type 0} (xs ys : List X) (n : ℕ) → length xs ≡ n → drop n (xs ++ ys) ≡ ys
+pub drop_front : {X : Type 0} (xs ys : List X) (n : ℕ) → length xs ≡ n → drop n (xs ++ ys) ≡ ys
 drop_front [] ys zero h = refl
 drop_front [] ys (suc n) h = absurd (omega arith)
 drop_front (x ∷ xs) ys zero h = absurd (omega arith)

@@ -1,4 +1,5 @@
 //! Checks a transcript without running its script again beside threads: the history and the records, one after another.
 #![tactic(auto)]
 
+pub mod blocks;
 pub mod laws;
