@@ -79,7 +79,8 @@ begun : (script : Parts) (workers : ℕ) (opening : List Entry) (wanted_entries 
 begun script workers opening wanted_entries wanted_records entries records h =
     by (texts_behind wanted_entries entries) (texts_behind wanted_records records) refl refl h
   where
-    goes_on : (es rs : List (List ℕ)) → texts_behind wanted_entries entries ≡ Some es → texts_behind wanted_records records ≡ Some rs → (came : Option Reached)
+    goes_on : (es rs : List (List ℕ)) → texts_behind wanted_entries entries ≡ Some es → texts_behind wanted_records records ≡ Some rs
+        → (came : Option Reached)
         → phase_from (sides_of script workers opening) [] (cursors_of 1 script.lanes rs) es ≡ came
         → goes_on_so script opening came (after_lanes script.lanes rs) ≡ true → Begun script workers opening wanted_entries wanted_records entries records
     goes_on es rs is_es is_rs None is g = absurd (both_ways false refl g)
@@ -109,7 +110,8 @@ checked_sound laws loads script workers entries records checked =
     let sides : Sides = sides_of script workers opening in
     let began = begun script workers opening (entry_texts 1 opening) (record_texts prelude.records) entries records checked in
     let cursors : List Cursor = cursors_of 1 script.lanes began.records_left in
-    let goes = sound laws sides began.entries_left [] cursors began.came (cursors_seated 1 (suc (length script.lanes)) script.lanes began.records_left (omega arith)) began.goes in
+    let goes = sound laws sides began.entries_left [] cursors began.came
+    (cursors_seated 1 (suc (length script.lanes)) script.lanes began.records_left (omega arith)) began.goes in
     let middle : List Entry = goes.behind in
     let came_is : began.came.added ≡ middle = goes.added_is in
     let nothing : opening ++ [] ≡ opening = append-nil opening in
@@ -148,26 +150,34 @@ checked_sound laws loads script workers entries records checked =
         records = refl;
         prelude_end = first.high;
         prelude = subst (λ (rs : List Record). SectionFits false opening 0 (mark_at 0) script.prelude loads rs opening first.high) (sym first.told_is)
-            (subst (λ (es : List Entry). SectionFits false opening 0 (mark_at 0) script.prelude loads first.records es first.high) (sym first.whole_is) first.fits);
-        lanes = subst (λ (n : ℕ). LanesFit (run_beside (length script.lanes) n) lower (mark_at (length opening)) 1 script.lanes middle lanes.records) (sym count) lanes.fits;
+            (subst (λ (es : List Entry). SectionFits false opening 0 (mark_at 0) script.prelude loads first.records es first.high)
+            (sym first.whole_is) first.fits);
+        lanes = subst (λ (n : ℕ). LanesFit (run_beside (length script.lanes) n) lower (mark_at (length opening)) 1 script.lanes middle lanes.records)
+            (sym count) lanes.fits;
         seats = seats_all sides (length script.lanes + length told) middle (ap (λ (n : ℕ). length script.lanes + n) (sym count)) goes.seats;
         worked = workers_fit lower (length opening) (1 + length script.lanes) workers middle made;
         last_begins = record { seen = length lower; sights = 0 };
         last_behind = refl;
         last_end = final.high;
-        last = subst (λ (rs : List Record). SectionFits false last.history 0 (record { seen = length lower; sights = 0 }) script.last [] rs final.own final.high)
+        last = subst (λ (rs : List Record). SectionFits false last.history 0 (record {
+          seen = length lower;
+          sights = 0;
+        }) script.last [] rs final.own final.high)
             (sym final.told_is) final.fits;
       };
       entries_are = began.entries_are
           ∙ (ap (λ (ts : List (List ℕ)). entry_texts 1 opening ++ ts) (goes.texts_are
-          ∙ (λ i. entry_texts (length (nothing i) + 1) middle ++ (texts_are (entry_texts (length lower + 1) (entries_behind (length lower) last.history)) began.came.left ends.0
+          ∙ (λ i. entry_texts (length (nothing i) + 1) middle ++
+          (texts_are (entry_texts (length lower + 1) (entries_behind (length lower) last.history)) began.came.left ends.0
           ∙ ap (entry_texts (length lower + 1)) closing_is) i))
           ∙ (sym (append_assoc (entry_texts 1 opening) (entry_texts (length opening + 1) middle) (entry_texts (length lower + 1) final.own))
-          ∙ (ap (λ (ts : List (List ℕ)). ts ++ entry_texts (length lower + 1) final.own) (sym (entry_texts-append 1 (length opening + 1) opening middle (omega arith)))
+          ∙ (ap (λ (ts : List (List ℕ)). ts ++ entry_texts (length lower + 1) final.own)
+          (sym (entry_texts-append 1 (length opening + 1) opening middle (omega arith)))
           ∙ (sym (entry_texts-append 1 (length lower + 1) lower final.own (omega arith)) ∙ ap (entry_texts 1) (sym final.whole_is)))));
       records_are = began.records_are
           ∙ (ap (λ (ts : List (List ℕ)). record_texts prelude.records ++ ts) (lanes.texts_are
-          ∙ ap (λ (ts : List (List ℕ)). record_texts lanes.records ++ ts) (texts_are (record_texts last.records) (after_lanes script.lanes began.records_left) ends.1))
+          ∙ ap (λ (ts : List (List ℕ)). record_texts lanes.records ++ ts)
+          (texts_are (record_texts last.records) (after_lanes script.lanes began.records_left) ends.1))
           ∙ (sym (append_assoc (record_texts prelude.records) (record_texts lanes.records) (record_texts last.records))
           ∙ (ap (λ (ts : List (List ℕ)). ts ++ record_texts last.records) (sym (map-append record_text prelude.records lanes.records))
           ∙ sym (map-append record_text (prelude.records ++ lanes.records) last.records))));
@@ -182,7 +192,8 @@ IsSerial = (seat : ℕ) (low high : Mark) (lines : List Line) (loads : List Load
     → done_from seat (record { history = start; records = earlier }) lines loads ≡ record { history = start ++ own; records = earlier ++ records }
 
 -- the last section's first entry has a seat that is nobody else's
-stops_before : (laws : Laws) (sides : Sides) (history : List Entry) (low high : Mark) (lines : List Line) (records : List Record) (closing : List Entry) (position : ℕ) → position < 2 ^ 64
+stops_before : (laws : Laws) (sides : Sides) (history : List Entry) (low high : Mark) (lines : List Line) (records : List Record) (closing : List Entry)
+    (position : ℕ) → position < 2 ^ 64
     → SectionFits false history 0 low lines [] records closing high → StopsBefore sides (entry_texts position closing)
 stops_before laws sides history low high lines records [] position short fits = tt
 stops_before laws sides history low high lines records (e ∷ closing) position short fits =
@@ -196,7 +207,8 @@ ends_is : (script : Parts) (lower closing : List Entry) (records : List Record) 
     → ends_so script lower (entry_texts (length lower + 1) closing) left ≡ true
 ends_is script lower closing records left last left_is =
     let here : List (List ℕ) = entry_texts (length lower + 1) closing in
-    subst (λ (d : Done). (are_texts (entry_texts (length lower + 1) (entries_behind (length lower) d.history)) here && are_texts (record_texts d.records) left) ≡ true)
+    subst (λ (d : Done). (are_texts (entry_texts (length lower + 1) (entries_behind (length lower) d.history)) here && are_texts
+    (record_texts d.records) left) ≡ true)
     (sym last)
     (and_from (are_texts (entry_texts (length lower + 1) (entries_behind (length lower) (lower ++ closing))) here) (are_texts (record_texts records) left)
     (subst (λ (es : List Entry). are_texts (entry_texts (length lower + 1) es) here ≡ true) (sym (drop_behind lower closing)) (are_same here))
@@ -237,19 +249,26 @@ checked_complete laws files alone loads script workers entries records small run
     ∙ (ap (λ (ts : List (List ℕ)). ts ++ record_texts run.ended.last) (map-append record_text fits.prelude_records fits.lanes_records)
     ∙ append_assoc (record_texts fits.prelude_records) (record_texts fits.lanes_records) (record_texts run.ended.last)))) in
     let lanes : LanesFit sides.beside lower (mark_at (length opening)) 1 script.lanes middle fits.lanes_records =
-    subst (λ (n : ℕ). LanesFit (run_beside (length script.lanes) n) lower (mark_at (length opening)) 1 script.lanes middle fits.lanes_records) run.count fits.lanes in
+    subst (λ (n : ℕ). LanesFit (run_beside (length script.lanes) n) lower (mark_at (length opening)) 1 script.lanes middle fits.lanes_records) run.count
+    fits.lanes in
     let side = sides_of_lanes sides.beside lower opening 1 script.lanes middle fits.lanes_records (record_texts run.ended.last) lanes in
     let seats : AllSeats sides middle =
     all_seats sides (length script.lanes + length run.told) middle (ap (λ (n : ℕ). length script.lanes + n) (sym run.count)) fits.seats in
     let workers_go : WorkersFrom (length script.lanes) [] middle =
-    workers_from (length script.lanes) [] middle (λ seat past. workers_are lower (length opening) sides middle run.told run.count seats fits.worked seat past) in
-    let goes : phase_from sides [] (cursors_of 1 script.lanes records_left) entries_left ≡ Some (record { added = middle; left = entry_texts (length lower + 1) closing }) =
+    workers_from (length script.lanes) [] middle
+    (λ seat past. workers_are lower (length opening) sides middle run.told run.count seats fits.worked seat past) in
+    let goes : phase_from sides [] (cursors_of 1 script.lanes records_left) entries_left ≡ Some (record {
+      added = middle;
+      left = entry_texts (length lower + 1) closing;
+    }) =
     complete laws files sides small lower lower_few legal middle [] (cursors_of 1 script.lanes records_left) (entry_texts (length lower + 1) closing)
     (ap (λ (es : List Entry). es ++ middle) (sym nothing))
     (cursors_seated 1 (suc (length script.lanes)) script.lanes records_left (omega arith))
-    (stops_before_closing laws sides (lower ++ closing) fits.last_begins fits.last_end script.last run.ended.last lower closing (omega arith) last_fits) seats workers_go
+    (stops_before_closing laws sides (lower ++ closing) fits.last_begins fits.last_end script.last run.ended.last lower closing (omega arith) last_fits)
+    seats workers_go
     (subst (λ (es : List Entry). CursorsFit sides.beside lower es (cursors_of 1 script.lanes records_left) middle) (sym nothing) side.fits) in
-    subst (λ (d : Done). begins_so script workers d.history (texts_behind (entry_texts 1 d.history) entries) (texts_behind (record_texts d.records) records) ≡ true) (sym first)
+    subst (λ (d : Done). begins_so script workers d.history (texts_behind (entry_texts 1 d.history) entries)
+    (texts_behind (record_texts d.records) records) ≡ true) (sym first)
     (subst (λ (o : Option (List (List ℕ))). begins_so script workers opening o (texts_behind (record_texts fits.prelude_records) records) ≡ true)
     (sym (ap (texts_behind (entry_texts 1 opening)) entries_are ∙ is_behind (entry_texts 1 opening) entries_left))
     (subst (λ (o : Option (List (List ℕ))). begins_so script workers opening (Some entries_left) o ≡ true)
@@ -257,8 +276,10 @@ checked_complete laws files alone loads script workers entries records small run
     (subst (λ (o : Option Reached). goes_on_so script opening o (after_lanes script.lanes records_left) ≡ true) (sym goes)
     (ends_is script lower closing run.ended.last (after_lanes script.lanes records_left) last side.left))))
   where
-    stops_before_closing : (laws : Laws) (sides : Sides) (history : List Entry) (low high : Mark) (lines : List Line) (told : List Record) (lower closing : List Entry)
-        → length lower + length closing < 2 ^ 64 → SectionFits false history 0 low lines [] told closing high → StopsBefore sides (entry_texts (length lower + 1) closing)
+    stops_before_closing : (laws : Laws) (sides : Sides) (history : List Entry) (low high : Mark) (lines : List Line) (told : List Record)
+        (lower closing : List Entry)
+        → length lower + length closing < 2 ^ 64 → SectionFits false history 0 low lines [] told closing high
+        → StopsBefore sides (entry_texts (length lower + 1) closing)
     stops_before_closing laws sides history low high lines told lower [] short fits = tt
     stops_before_closing laws sides history low high lines told lower (e ∷ closing) short fits =
         stops_before laws sides history low high lines told (e ∷ closing) (length lower + 1) (omega arith) fits

@@ -104,7 +104,8 @@ module _ (laws : Laws) (beside : Bool) (history : List Entry) (seat : ℕ) where
   stepped : (start : List Entry) (line : Line) → IsStep start seat (line_step start seat line)
   stepped start line = step_is laws seat Nothing start line.number line.command
 
-  made_seated : (start : List Entry) (line : Line) (made : List Entry) (text : List ℕ) → DoneBehind history start seat line made text → made_by seat made ≡ made
+  made_seated : (start : List Entry) (line : Line) (made : List Entry) (text : List ℕ) → DoneBehind history start seat line made text
+      → made_by seat made ≡ made
   made_seated start line made text done = subst (λ (s : Step). made_by seat s.added ≡ s.added) done.step (stepped start line).seated
 
   -- a section may have seen less
@@ -160,7 +161,8 @@ module _ (laws : Laws) (beside : Bool) (history : List Entry) (seat : ℕ) where
       let nothing = ap length given.1.nothing in omega arith)) fits.first
 
   -- all entries of a section have its seat
-  pub own_seated : (lines : List Line) (len : ℕ) (texts : List (List ℕ)) (own : List Entry) → TextsFit beside history seat len lines texts own → made_by seat own ≡ own
+  pub own_seated : (lines : List Line) (len : ℕ) (texts : List (List ℕ)) (own : List Entry) → TextsFit beside history seat len lines texts own
+      → made_by seat own ≡ own
   own_seated [] len texts own fits = subst (λ (es : List Entry). made_by seat es ≡ es) (sym fits.1) refl
   own_seated (line ∷ lines) len texts own fits =
       let made : made_by seat fits.made ≡ fits.made = ⊎_elim
@@ -198,7 +200,8 @@ module _ (laws : Laws) (beside : Bool) (history : List Entry) (seat : ℕ) where
     text_is : told_text seat line.number answer ≡ text
     how : (line_step here seat line ≡ record { added = []; answer = answer }) ⊎ ((b ≡ true) × (tells_given_up seat line.number line.command text ≡ true))
 
-  told_by_step : (here : List Entry) (b : Bool) (line : Line) (text : List ℕ) → tells seat line.number (line_step here seat line) text ≡ true → Told here b line text
+  told_by_step : (here : List Entry) (b : Bool) (line : Line) (text : List ℕ) → tells seat line.number (line_step here seat line) text ≡ true
+      → Told here b line text
   told_by_step here b line text holds =
       let step : Step = line_step here seat line in
       let parts = and_parts (is_nil step.added) (bytes_eq (told_text seat line.number step.answer) text) holds in
@@ -210,14 +213,16 @@ module _ (laws : Laws) (beside : Bool) (history : List Entry) (seat : ℕ) where
         how = inl (λ i. record { added = none i; answer = step.answer });
       }
 
-  told_given : (here : List Entry) (b : Bool) (line : Line) (text : List ℕ) → b ≡ true → tells_given_up seat line.number line.command text ≡ true → Told here b line text
+  told_given : (here : List Entry) (b : Bool) (line : Line) (text : List ℕ) → b ≡ true → tells_given_up seat line.number line.command text ≡ true
+      → Told here b line text
   told_given here b line text may holds =
       let gave : GaveUp seat line text = gave_up seat line.number line.command text holds in
       record { answer = given_up seat gave.attempts; tells = inl refl; text_is = gave.told; how = inr (may, holds) }
 
   told_is : (here : List Entry) (b : Bool) (line : Line) (text : List ℕ) → is_told_here b here seat line text ≡ true → Told here b line text
   told_is here b line text holds = ⊎_elim (told_by_step here b line text)
-      (λ (h : (b && tells_given_up seat line.number line.command text) ≡ true). (let parts = and_parts b (tells_given_up seat line.number line.command text) h in
+      (λ (h : (b && tells_given_up seat line.number line.command text) ≡ true). (let parts =
+      and_parts b (tells_given_up seat line.number line.command text) h in
       told_given here b line text parts.0 parts.1))
       (or_cases (tells seat line.number (line_step here seat line) text) (b && tells_given_up seat line.number line.command text) holds)
 
@@ -289,9 +294,15 @@ module _ (laws : Laws) (beside : Bool) (history : List Entry) (seat : ℕ) where
   done_here : (here : List Entry) (b : Bool) (line : Line) (text : List ℕ) (told : Told here b line text) → IsFront here history
       → line_step here seat line ≡ record { added = []; answer = told.answer } → DoneBehind history here seat line [] text
   done_here here b line text told front step =
-      record { answer = told.answer; stands = subst (λ (es : List Entry). IsFront es history) (sym (append-nil here)) front; step = step; told = told.text_is }
+      record {
+        answer = told.answer;
+        stands = subst (λ (es : List Entry). IsFront es history) (sym (append-nil here)) front;
+        step = step;
+        told = told.text_is;
+      }
 
-  tell_back : (here : List Entry) (settling : Bool) (line : Line) (lines : List Line) (text : List ℕ) (texts : List (List ℕ)) (own : List Entry) → IsFront here history
+  tell_back : (here : List Entry) (settling : Bool) (line : Line) (lines : List Line) (text : List ℕ) (texts : List (List ℕ)) (own : List Entry)
+      → IsFront here history
       → Told here (beside && not settling) line text → TextsFit beside history seat (length here) lines texts own
       → StateFits beside history here seat settling (line ∷ lines) (text ∷ texts) own
   tell_back here true line lines text texts own front told fits =
@@ -323,7 +334,12 @@ module _ (laws : Laws) (beside : Bool) (history : List Entry) (seat : ℕ) where
         own_is = refl;
         rest = fits;
         first = ⊎_elim (λ (step : line_step here seat line ≡ record { added = []; answer = told.answer }).
-            inl (record { start = here; late = omega arith; done = done_here here (beside && true) line text told front step; between_is = sym (ap length (append-nil here)) }))
+            inl (record {
+              start = here;
+              late = omega arith;
+              done = done_here here (beside && true) line text told front step;
+              between_is = sym (ap length (append-nil here));
+            }))
             (λ (given : ((beside && true) ≡ true) × (tells_given_up seat line.number line.command text ≡ true)).
             inr ((and_parts beside true given.0).0, record { told = given.1; nothing = refl; between_is = refl })) told.how;
       }
@@ -418,10 +434,12 @@ module _ (laws : Laws) (beside : Bool) (history : List Entry) (seat : ℕ) where
         }))
         (λ (not_past : length late.start ≤ length here). (
         let done = done_exactly here late.start line fits.made fits.text (e ∷ es, parts) not_past late.late late.done in
-        let first : DoneBehind history here seat line fits.made text = subst (DoneBehind history here seat line fits.made) (sym (text_head fits.texts_are)) done in
+        let first : DoneBehind history here seat line fits.made text =
+        subst (DoneBehind history here seat line fits.made) (sym (text_head fits.texts_are)) done in
         absurd (other (first_made here (beside && true) line text e es fits.made stops parts first).own)))
         (cases_lt (length here) (length late.start)))
-        (λ (given : (beside ≡ true) × WasGivenUp seat line (length here) fits.made fits.text fits.between). absurd (not_given here (beside && true) line text stops
+        (λ (given : (beside ≡ true) × WasGivenUp seat line (length here) fits.made fits.text fits.between). absurd
+        (not_given here (beside && true) line text stops
         (and_from beside true given.0 refl)
         (subst (λ (t : List ℕ). tells_given_up seat line.number line.command t ≡ true) (sym (text_head fits.texts_are)) given.1.told))) fits.first,
   )
@@ -468,7 +486,8 @@ module _ (laws : Laws) (beside : Bool) (history : List Entry) (seat : ℕ) where
         rest = fits.rest;
       }))
       (cases_lt (length here) (length late.start)))
-      (λ (given : (beside ≡ true) × WasGivenUp seat line (length here) fits.made fits.text fits.between). absurd (not_given here (beside && true) line text stops
+      (λ (given : (beside ≡ true) × WasGivenUp seat line (length here) fits.made fits.text fits.between). absurd
+      (not_given here (beside && true) line text stops
       (and_from beside true given.0 refl)
       (subst (λ (t : List ℕ). tells_given_up seat line.number line.command t ≡ true) (sym (text_head fits.texts_are)) given.1.told))) fits.first
 
@@ -480,7 +499,8 @@ module _ (laws : Laws) (beside : Bool) (history : List Entry) (seat : ℕ) where
     pub fits : CursorFits beside history (here ++ e ∷ []) cursor own
 
   -- by whether the line is a settle
-  goes_on_by : (here : List Entry) (line : Line) (lines : List Line) (text : List ℕ) (texts : List (List ℕ)) (e : Entry) (more own : List Entry) (between : ℕ) (settles : Bool)
+  goes_on_by : (here : List Entry) (line : Line) (lines : List Line) (text : List ℕ) (texts : List (List ℕ)) (e : Entry) (more own : List Entry)
+      (between : ℕ) (settles : Bool)
       → is_settle line.command ≡ settles → DoneBehind history here seat line (e ∷ more) text → between ≡ length (here ++ e ∷ more)
       → TextsFit beside history seat between lines texts own
       → GoesOn here (line ∷ lines) (text ∷ texts) e (more ++ own)
@@ -526,7 +546,8 @@ module _ (laws : Laws) (beside : Bool) (history : List Entry) (seat : ℕ) where
       (ap (λ (s : Step). told_text seat line.number s.answer) done.step ∙ done.told) in
       record {
         cursor = over;
-        makes = ap (λ (b : Bool). made_by_line b (bytes_eq (told_text seat line.number (line_step here seat line).answer) text) on_the_way over (line_step here seat line).added) is
+        makes = ap (λ (b : Bool). made_by_line b (bytes_eq (told_text seat line.number (line_step here seat line).answer) text) on_the_way over
+            (line_step here seat line).added) is
             ∙ (ap (λ (b : Bool). made_by_line false b on_the_way over (line_step here seat line).added) told
             ∙ ap (λ (es : List Entry). made_by_line false true on_the_way over es) (ap (λ (s : Step). s.added) done.step));
         seat_is = refl;
@@ -556,7 +577,8 @@ module _ (laws : Laws) (beside : Bool) (history : List Entry) (seat : ℕ) where
       (goes_on_by here line lines text texts e first.more here_fits.made_later here_fits.between (is_settle line.command) refl
       (subst (λ (xs : List Entry). DoneBehind history here seat line xs text) first.made_is done)
       (here_fits.first.1 ∙ ap (λ (xs : List Entry). length (here ++ xs)) first.made_is)
-      (subst (λ (ts : List (List ℕ)). TextsFit beside history seat here_fits.between lines ts here_fits.made_later) (sym (text_tail here_fits.texts_are)) here_fits.rest))
+      (subst (λ (ts : List (List ℕ)). TextsFit beside history seat here_fits.between lines ts here_fits.made_later)
+      (sym (text_tail here_fits.texts_are)) here_fits.rest))
 
   -- how an entry was made: by a settle that is on its way, or by a line whose record is this text
   record WasMade (settles told : Bool) (on_the_way over : Cursor) (added : List Entry) (m : Made) : Type 0 where
@@ -568,9 +590,17 @@ module _ (laws : Laws) (beside : Bool) (history : List Entry) (seat : ℕ) where
       → WasMade settles told on_the_way over added m
   was_made settles told on_the_way over [] m h = absurd (none_some h)
   was_made true told on_the_way over (e ∷ added) m h =
-      let is = some_some h in record { more = added; added_is = ap (λ (x : Made). x.entry ∷ added) is; how = inl (refl, sym (ap (λ (x : Made). x.cursor) is)) }
+      let is = some_some h in record {
+        more = added;
+        added_is = ap (λ (x : Made). x.entry ∷ added) is;
+        how = inl (refl, sym (ap (λ (x : Made). x.cursor) is));
+      }
   was_made false true on_the_way over (e ∷ added) m h =
-      let is = some_some h in record { more = added; added_is = ap (λ (x : Made). x.entry ∷ added) is; how = inr (refl, refl, sym (ap (λ (x : Made). x.cursor) is)) }
+      let is = some_some h in record {
+        more = added;
+        added_is = ap (λ (x : Made). x.entry ∷ added) is;
+        how = inr (refl, refl, sym (ap (λ (x : Made). x.cursor) is));
+      }
   was_made false false on_the_way over (e ∷ added) m h = absurd (none_some h)
 
   -- what a section that makes an entry here is: it fits where it fits behind that entry
@@ -586,7 +616,8 @@ module _ (laws : Laws) (beside : Bool) (history : List Entry) (seat : ℕ) where
       let told : Bool = bytes_eq (told_text seat line.number (line_step here seat line).answer) text in
       let made = was_made (is_settle line.command) told on_the_way over (line_step here seat line).added m makes in
       ⊎_elim (λ (how : (is_settle line.command ≡ true) × (m.cursor ≡ on_the_way)). (
-      let behind : CursorFits beside history (here ++ m.entry ∷ []) on_the_way own = subst (λ (c : Cursor). CursorFits beside history (here ++ m.entry ∷ []) c own) how.1 fits in
+      let behind : CursorFits beside history (here ++ m.entry ∷ []) on_the_way own =
+      subst (λ (c : Cursor). CursorFits beside history (here ++ m.entry ∷ []) c own) how.1 fits in
       let moved : (here ++ m.entry ∷ []) ++ behind.made ≡ here ++ m.entry ∷ behind.made = append_assoc here (m.entry ∷ []) behind.made in
       let settles = settle_steps laws seat Nothing here line.number line.command how.0 in
       let later = settle_steps laws seat Nothing (here ++ m.entry ∷ []) line.number line.command how.0 in
@@ -647,7 +678,12 @@ module _ (laws : Laws) (beside : Bool) (history : List Entry) (seat : ℕ) where
   made_seat here (line ∷ lines) [] m makes = absurd (none_some makes)
   made_seat here (line ∷ lines) (text ∷ texts) m makes =
       let made = was_made (is_settle line.command) (bytes_eq (told_text seat line.number (line_step here seat line).answer) text)
-      (record { seat = seat; lines = line ∷ lines; texts = text ∷ texts; settling = true }) (record { seat = seat; lines = lines; texts = texts; settling = false })
+      (record { seat = seat; lines = line ∷ lines; texts = text ∷ texts; settling = true }) (record {
+        seat = seat;
+        lines = lines;
+        texts = texts;
+        settling = false;
+      })
       (line_step here seat line).added m makes in (
         ⊎_elim (λ (how : (is_settle line.command ≡ true) × (m.cursor ≡ record { seat = seat; lines = line ∷ lines; texts = text ∷ texts; settling = true })).
             ap (λ (c : Cursor). c.seat) how.1)
@@ -663,7 +699,12 @@ module _ (laws : Laws) (beside : Bool) (history : List Entry) (seat : ℕ) where
   made_lawful here (line ∷ lines) [] m makes = absurd (none_some makes)
   made_lawful here (line ∷ lines) (text ∷ texts) m makes =
       let made = was_made (is_settle line.command) (bytes_eq (told_text seat line.number (line_step here seat line).answer) text)
-      (record { seat = seat; lines = line ∷ lines; texts = text ∷ texts; settling = true }) (record { seat = seat; lines = lines; texts = texts; settling = false })
+      (record { seat = seat; lines = line ∷ lines; texts = text ∷ texts; settling = true }) (record {
+        seat = seat;
+        lines = lines;
+        texts = texts;
+        settling = false;
+      })
       (line_step here seat line).added m makes in
       (stepped here line).lawful m.entry made.more made.added_is
 
@@ -699,7 +740,8 @@ module _ (laws : Laws) (beside : Bool) (history : List Entry) (seat : ℕ) where
   over_forth false (line ∷ lines) (text ∷ texts) stops fits = absurd (⊎_elim
       (λ (late : DoneLate history seat line (length history) fits.made fits.text fits.between). ended fits.made
       (subst (DoneBehind history late.start seat line fits.made) (sym (text_head fits.texts_are)) late.done) late.late)
-      (λ (given : (beside ≡ true) × WasGivenUp seat line (length history) fits.made fits.text fits.between). not_given history (beside && true) line text stops
+      (λ (given : (beside ≡ true) × WasGivenUp seat line (length history) fits.made fits.text fits.between). not_given history
+      (beside && true) line text stops
       (and_from beside true given.0 refl)
       (subst (λ (t : List ℕ). tells_given_up seat line.number line.command t ≡ true) (sym (text_head fits.texts_are)) given.1.told)) fits.first)
     where

@@ -45,7 +45,8 @@ texts_count beside history seat len (line ∷ lines) texts own fits =
     let all = ap length fits.texts_are in omega arith
 
 -- from lanes to sections side by side
-pub record LanesAre (beside : Bool) (history here : List Entry) (seat : ℕ) (lanes : List (List Line)) (middle : List Entry) (texts rest : List (List ℕ)) : Type 0 where
+pub record LanesAre (beside : Bool) (history here : List Entry) (seat : ℕ) (lanes : List (List Line)) (middle : List Entry)
+    (texts rest : List (List ℕ)) : Type 0 where
   pub fits : CursorsFit beside history here (cursors_of seat lanes texts) middle
   pub left : after_lanes lanes texts ≡ rest
 
@@ -73,7 +74,8 @@ sides_of_lanes beside history here seat (lane ∷ lanes) middle records rest fit
     }
 
 -- and back
-pub record LanesFitTexts (beside : Bool) (history : List Entry) (low : Mark) (seat : ℕ) (lanes : List (List Line)) (middle : List Entry) (texts : List (List ℕ)) : Type 0 where
+pub record LanesFitTexts (beside : Bool) (history : List Entry) (low : Mark) (seat : ℕ) (lanes : List (List Line)) (middle : List Entry)
+    (texts : List (List ℕ)) : Type 0 where
   pub records : List Record
   pub fits : LanesFit beside history low seat lanes middle records
   pub texts_are : texts ≡ record_texts records ++ after_lanes lanes texts
@@ -94,12 +96,14 @@ lanes_of_sides beside history here seat (lane ∷ lanes) middle texts fits =
           ∙ ap (λ (ts : List (List ℕ)). ts ++ after_lanes lanes (drop (length lane) texts)) (sym (map-append record_text own.records later.records))));
     }
 
-pub cursors_seated : (seat past : ℕ) (lanes : List (List Line)) (texts : List (List ℕ)) → past ≡ seat + length lanes → AreSeated seat past (cursors_of seat lanes texts)
+pub cursors_seated : (seat past : ℕ) (lanes : List (List Line)) (texts : List (List ℕ)) → past ≡ seat + length lanes
+    → AreSeated seat past (cursors_of seat lanes texts)
 cursors_seated seat past [] texts is = omega arith
 cursors_seated seat past (lane ∷ lanes) texts is = (refl, cursors_seated (suc seat) past lanes (drop (length lane) texts) (omega arith))
 
 -- seats
-pub seats_all : (sides : Sides) (count : ℕ) (es : List Entry) → sides.lanes + sides.workers ≡ count → AllSeats sides es → All (λ (e : Entry). IsSeatOf count e.seat) es
+pub seats_all : (sides : Sides) (count : ℕ) (es : List Entry) → sides.lanes + sides.workers ≡ count → AllSeats sides es
+    → All (λ (e : Entry). IsSeatOf count e.seat) es
 seats_all sides count [] is seats = λ k d less. absurd (omega arith)
 seats_all sides count (e ∷ es) is seats =
     let parts = and_parts (leb 1 e.seat) (leb e.seat (sides.lanes + sides.workers)) seats.0 in
@@ -107,7 +111,8 @@ seats_all sides count (e ∷ es) is seats =
     let below = leb-true e.seat (sides.lanes + sides.workers) parts.1 in
     All-cons (λ (x : Entry). IsSeatOf count x.seat) e es (record { from = above; to = omega arith }) (seats_all sides count es is seats.1)
 
-pub all_seats : (sides : Sides) (count : ℕ) (es : List Entry) → sides.lanes + sides.workers ≡ count → All (λ (e : Entry). IsSeatOf count e.seat) es → AllSeats sides es
+pub all_seats : (sides : Sides) (count : ℕ) (es : List Entry) → sides.lanes + sides.workers ≡ count → All (λ (e : Entry). IsSeatOf count e.seat) es
+    → AllSeats sides es
 all_seats sides count [] is all = tt
 all_seats sides count (e ∷ es) is all =
     let first : IsSeatOf count e.seat = all 0 e (omega arith) in
@@ -151,12 +156,14 @@ workers_told history low seat entries (worked ∷ told) fit s above below = ⊎_
 pub none_outside : (sides : Sides) (seat : ℕ) (es : List Entry) → AllSeats sides es → is_seat sides seat ≡ false → made_by seat es ≡ []
 none_outside sides seat [] seats outside = refl
 none_outside sides seat (e ∷ es) seats outside =
-    made_by-other seat e es (λ same. both_ways (is_seat sides seat) outside (ap (is_seat sides) (sym same) ∙ seats.0)) ∙ none_outside sides seat es seats.1 outside
+    made_by-other seat e es (λ same. both_ways (is_seat sides seat) outside (ap (is_seat sides) (sym same) ∙ seats.0))
+    ∙ none_outside sides seat es seats.1 outside
 
 pub workers_are : (history : List Entry) (low : ℕ) (sides : Sides) (entries : List Entry) (told : List Worked) → length told ≡ sides.workers
     → AllSeats sides entries → WorkersFit history low (1 + sides.lanes) entries told → (s : ℕ) → sides.lanes < s → AreWorkers s entries
 workers_are history low sides entries told count seats fit s past = ⊎_elim
-    (λ (beyond : sides.lanes + sides.workers < s). (let none = none_outside sides s entries seats (and_right (leb 1 s) (leb s (sides.lanes + sides.workers)) (lt-leb s (sides.lanes + sides.workers) beyond)) in
+    (λ (beyond : sides.lanes + sides.workers < s). (let none =
+    none_outside sides s entries seats (and_right (leb 1 s) (leb s (sides.lanes + sides.workers)) (lt-leb s (sides.lanes + sides.workers) beyond)) in
     record {
       intakes = subst (All (IsIntakeBy s)) (sym none) (λ k d less. absurd (omega arith));
       apart = subst AreApart (sym none) (λ i j d less within. absurd (omega arith));

@@ -167,7 +167,8 @@ pub went_back : (laws : Laws) (here : List Entry) (first past seat : ℕ) (curso
     → section_went seat here cursors ≡ Some w → SectionWent laws here first past seat cursors w
 went_back laws here first past seat [] w seated goes = absurd (none_some goes)
 went_back laws here first past seat (c ∷ cs) w seated goes = bool_cases (eqb c.seat seat)
-    (λ (b : Bool). cond b (went_first cs (made_here here c)) (went_later c (section_went seat here cs)) ≡ Some w → SectionWent laws here first past seat (c ∷ cs) w)
+    (λ (b : Bool). cond b (went_first cs (made_here here c)) (went_later c (section_went seat here cs)) ≡ Some w
+    → SectionWent laws here first past seat (c ∷ cs) w)
     (λ yes first_goes. own yes first_goes)
     (λ fails later_goes. later (λ v is. went_back laws here (suc first) past seat cs v seated.1 is) fails later_goes) goes
   where
@@ -201,7 +202,8 @@ went_back laws here first past seat (c ∷ cs) w seated goes = bool_cases (eqb c
     later : ((v : Went) → section_went seat here cs ≡ Some v → SectionWent laws here (suc first) past seat cs v) → eqb c.seat seat ≡ false
         → went_later c (section_went seat here cs) ≡ Some w → SectionWent laws here first past seat (c ∷ cs) w
     later others fails = bool_cases c.settling
-        (λ (b : Bool). (c.settling ≡ b) → cond b None (option_map (λ (v : Went). record { entry = v.entry; cursors = c ∷ v.cursors }) (section_went seat here cs)) ≡ Some w
+        (λ (b : Bool). (c.settling ≡ b) → cond b None
+        (option_map (λ (v : Went). record { entry = v.entry; cursors = c ∷ v.cursors }) (section_went seat here cs)) ≡ Some w
         → SectionWent laws here first past seat (c ∷ cs) w)
         (λ busy is h. absurd (none_some h))
         (λ quiet is h. (

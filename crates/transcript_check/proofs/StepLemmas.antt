@@ -126,7 +126,8 @@ module _ (laws : Laws) (seat : ℕ) where
     pub lawful : list_refusal (fold history) entry.changes ≡ None
     pub goes_on : settled history seat line ≡ with_entry entry (settled (history ++ entry ∷ []) seat line)
 
-  begins_by : (line : ℕ) (history : List Entry) (entry : Entry) (more : List Entry) (id : ℕ) (refusal : Option ListRefusal) → lowest_unready (fold history) ≡ Some id
+  begins_by : (line : ℕ) (history : List Entry) (entry : Entry) (more : List Entry) (id : ℕ) (refusal : Option ListRefusal)
+      → lowest_unready (fold history) ≡ Some id
       → list_refusal (fold history) (intake_of (fold history) id) ≡ refusal → (settled history seat line).added ≡ entry ∷ more
       → Begins line history entry
   begins_by line history entry more id None lowest accepted adds =
@@ -213,7 +214,10 @@ module _ (laws : Laws) (seat : ℕ) where
   settle_later line history entry more answer is =
       let begins = settle_begins line history entry more (ap (λ (s : Step). s.added) is) in
       let rest : Settled = settled (history ++ entry ∷ []) seat line in
-      let step : settle_step history seat line ≡ record { added = entry ∷ rest.added; answer = settle_answer (length (history ++ entry ∷ rest.added)) rest.refused } =
+      let step : settle_step history seat line ≡ record {
+        added = entry ∷ rest.added;
+        answer = settle_answer (length (history ++ entry ∷ rest.added)) rest.refused;
+      } =
       ap (λ (s : Settled). record { added = s.added; answer = settle_answer (length (history ++ s.added)) s.refused }) begins.goes_on in
       let both : record { added = entry ∷ rest.added; answer = settle_answer (length (history ++ entry ∷ rest.added)) rest.refused }
       ≡ record { added = entry ∷ more; answer = answer } = sym step ∙ is in
@@ -234,7 +238,10 @@ module _ (laws : Laws) (seat : ℕ) where
   settle_sooner line history entry rest more answer adds is =
       let begins = settle_begins line history entry rest adds in
       let later : Settled = settled (history ++ entry ∷ []) seat line in
-      let step : settle_step history seat line ≡ record { added = entry ∷ later.added; answer = settle_answer (length (history ++ entry ∷ later.added)) later.refused } =
+      let step : settle_step history seat line ≡ record {
+        added = entry ∷ later.added;
+        answer = settle_answer (length (history ++ entry ∷ later.added)) later.refused;
+      } =
       ap (λ (s : Settled). record { added = s.added; answer = settle_answer (length (history ++ s.added)) s.refused }) begins.goes_on in
       let added : later.added ≡ more = ap (λ (s : Step). s.added) is in
       let told : settle_answer (length (history ++ entry ∷ [] ++ later.added)) later.refused ≡ answer = ap (λ (s : Step). s.answer) is in
@@ -271,7 +278,8 @@ module _ (laws : Laws) (seat : ℕ) where
   step_one load history line (command.Soft attempts query) e more other h = absurd cc
 
   -- a settle is one
-  pub settle_steps : (load : Loaded) (history : List Entry) (line : ℕ) (c : Command) → is_settle c ≡ true → step_of load history seat line c ≡ settle_step history seat line
+  pub settle_steps : (load : Loaded) (history : List Entry) (line : ℕ) (c : Command) → is_settle c ≡ true
+      → step_of load history seat line c ≡ settle_step history seat line
   settle_steps load history line command.Settle is = refl
   settle_steps load history line (command.Change change) is = absurd cc
   settle_steps load history line (command.Group changes) is = absurd cc

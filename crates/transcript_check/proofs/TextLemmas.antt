@@ -77,7 +77,8 @@ same_at seat number a b short_a short_b same =
     let head : List ℕ = decimal number ++ codes " " in
     let parts : head ++ (prefix_text a ++ answer_text a) ≡ head ++ (prefix_text b ++ answer_text b) =
     sym (append_assoc head (prefix_text a) (answer_text a)) ∙ (same ∙ append_assoc head (prefix_text b) (answer_text b)) in
-    sym (at_read-answer a short_a) ∙ (ap at_read (append_cancel_left head (prefix_text a ++ answer_text a) (prefix_text b ++ answer_text b) parts) ∙ at_read-answer b short_b)
+    sym (at_read-answer a short_a) ∙ (ap at_read (append_cancel_left head (prefix_text a ++ answer_text a) (prefix_text b ++ answer_text b) parts)
+    ∙ at_read-answer b short_b)
 
 -- digits hold no space
 after_space-digits : (ds rest : List ℕ) → AllDigits 10 ds → after_space (ds ++ 32 ∷ rest) ≡ rest

@@ -113,14 +113,16 @@ texts_of_section beside history seat low high (line ∷ lines) records own fits 
 }
 
 -- and back: the records can be told so, whatever the sights at the beginning
-pub record RecordsFit (beside : Bool) (history : List Entry) (seat len sights : ℕ) (lines : List Line) (texts : List (List ℕ)) (own : List Entry) : Type 0 where
+pub record RecordsFit (beside : Bool) (history : List Entry) (seat len sights : ℕ) (lines : List Line) (texts : List (List ℕ))
+    (own : List Entry) : Type 0 where
   pub records : List Record
   pub high : Mark
   pub fits : SectionFits beside history seat (record { seen = len; sights = sights }) lines [] records own high
   pub texts_are : map record_text records ≡ texts
 
 -- the first record fits, up to a mark
-record RecordFits (beside : Bool) (history : List Entry) (seat : ℕ) (line : Line) (len sights : ℕ) (made : List Entry) (text : List ℕ) (between : ℕ) : Type 0 where
+record RecordFits (beside : Bool) (history : List Entry) (seat : ℕ) (line : Line) (len sights : ℕ) (made : List Entry) (text : List ℕ)
+    (between : ℕ) : Type 0 where
   answer : Answer
   later_sights : ℕ
   fits : Fits beside history seat line Nothing (record { seen = len; sights = sights }) made answer (record { seen = between; sights = later_sights })
@@ -133,7 +135,8 @@ pub record GaveUp (seat : ℕ) (line : Line) (text : List ℕ) : Type 0 where
   pub soft : line.command ≡ command.Soft attempts query
   pub told : told_text seat line.number (given_up seat attempts) ≡ text
 
-pub gave_up : (seat number : ℕ) (c : Command) (text : List ℕ) → tells_given_up seat number c text ≡ true → GaveUp seat (record { number = number; command = c }) text
+pub gave_up : (seat number : ℕ) (c : Command) (text : List ℕ) → tells_given_up seat number c text ≡ true
+    → GaveUp seat (record { number = number; command = c }) text
 gave_up seat number (command.Soft attempts query) text told =
     record { attempts = attempts; query = query; soft = refl; told = text_is (told_text seat number (given_up seat attempts)) text told }
 gave_up seat number (command.Change change) text told = absurd cc
@@ -142,7 +145,8 @@ gave_up seat number (command.Load path) text told = absurd cc
 gave_up seat number command.Settle text told = absurd cc
 gave_up seat number (command.Ask query) text told = absurd cc
 
-record_given : (beside : Bool) (history : List Entry) (seat : ℕ) (line : Line) (len sights : ℕ) (made : List Entry) (text : List ℕ) (between : ℕ) → beside ≡ true
+record_given : (beside : Bool) (history : List Entry) (seat : ℕ) (line : Line) (len sights : ℕ) (made : List Entry) (text : List ℕ) (between : ℕ)
+    → beside ≡ true
     → WasGivenUp seat line len made text between → RecordFits beside history seat line len sights made text between
 record_given beside history seat line len sights made text between is given =
     let gave : GaveUp seat line text = gave_up seat line.number line.command text given.told in

@@ -44,7 +44,8 @@ length-entry_texts position [] = refl
 length-entry_texts position (e ∷ entries) = ap suc (length-entry_texts (position + 1) entries)
 
 -- a run without workers is alone where it has no lanes
-plays : Checks → (loads : List Loaded) (script : Parts) (workers : ℕ) (told : List Worked) (ended : Ended) → length told ≡ workers → RunFits loads script told ended
+plays : Checks → (loads : List Loaded) (script : Parts) (workers : ℕ) (told : List Worked) (ended : Ended) → length told ≡ workers
+    → RunFits loads script told ended
     → PlaysWith loads script workers told ended
 plays checks loads script workers told ended count fits = record { count = count; fits = fits; alone = λ none nobody. alone told (count ∙ nobody) none fits }
   where
@@ -80,7 +81,8 @@ verdict_sound cuts checks loads script workers bytes good = by (blocks_of bytes)
         length-take-below n xs le = omega (arith, length-take n xs)
 
 -- there is a record for each line
-section_count : (beside : Bool) (history : List Entry) (seat : ℕ) (low high : Mark) (lines : List Line) (loads : List Loaded) (records : List Record) (own : List Entry)
+section_count : (beside : Bool) (history : List Entry) (seat : ℕ) (low high : Mark) (lines : List Line) (loads : List Loaded) (records : List Record)
+    (own : List Entry)
     → SectionFits beside history seat low lines loads records own high → length records ≡ length lines
 section_count beside history seat low high [] loads records own fits = ap length fits.0
 section_count beside history seat low high (line ∷ lines) loads records own fits =
@@ -130,6 +132,7 @@ verdict_complete cuts checks loads script workers bytes are few is =
     ((bytes_eq-Decides (history_line (length ended.history)) (history_line (length ended.history))).1 refl)
     (subst (λ (es : List (List ℕ)). are_checked loads script workers es (drop (length ended.history) (entries ++ records)) ≡ true)
     (sym (take_front entries records (length ended.history) made))
-    (subst (λ (rs : List (List ℕ)). are_checked loads script workers entries rs ≡ true) (sym (drop_front entries records (length ended.history) made)) checked)) in
+    (subst (λ (rs : List (List ℕ)). are_checked loads script workers entries rs ≡ true)
+    (sym (drop_front entries records (length ended.history) made)) checked)) in
     subst (λ (bs : List (List ℕ)). are_blocks_of loads script workers bs ≡ true) (sym blocks)
     (subst (λ (n : ℕ). are_told loads script workers n (history_line (length ended.history)) (entries ++ records) ≡ true) (sym count) good)

@@ -63,7 +63,8 @@ workers_push seat added e workers may = bool_cases (eqb e.seat seat) (λ b. AreW
     (λ yes. (let own = eqb-true e.seat seat yes in let make = may own in
     let grown : made_by seat (added ++ e ∷ []) ≡ made_by seat added ++ e ∷ [] = filter_more (λ (x : Entry). eqb x.seat seat) added e yes in
     let is_one : IsIntakeBy seat e = subst (λ (n : ℕ). IsIntakeBy n e) own make.intake in
-    let anew : All (λ (d : Entry). d.changes ≢ e.changes) (made_by seat added) = subst (λ (n : ℕ). All (λ (d : Entry). d.changes ≢ e.changes) (made_by n added)) own make.anew in
+    let anew : All (λ (d : Entry). d.changes ≢ e.changes) (made_by seat added) =
+    subst (λ (n : ℕ). All (λ (d : Entry). d.changes ≢ e.changes) (made_by n added)) own make.anew in
     record {
       intakes = subst (All (IsIntakeBy seat)) (sym grown) (All-append (IsIntakeBy seat) (made_by seat added) (e ∷ []) workers.intakes
           (All-cons (IsIntakeBy seat) e [] is_one (λ k d less. absurd (omega arith))));
@@ -104,10 +105,12 @@ taken_anew file stamp [] none = λ k d less. absurd (omega arith)
 taken_anew file stamp (e ∷ entries) none =
     let parts = or_parts (is_intake_at file stamp e.changes) (has_taken file stamp entries) none in
     All-cons (λ (d : Entry). d.changes ≢ Intake file stamp ∷ []) e entries
-    (λ same. both_ways (is_intake_at file stamp e.changes) parts.0 (subst (λ (cs : List Change). is_intake_at file stamp cs ≡ true) (sym same) (intake_same file stamp)))
+    (λ same. both_ways (is_intake_at file stamp e.changes) parts.0
+    (subst (λ (cs : List Change). is_intake_at file stamp cs ≡ true) (sym same) (intake_same file stamp)))
     (taken_anew file stamp entries parts.1)
 
-pub not_taken : (file stamp : ℕ) (entries : List Entry) → All (λ (d : Entry). d.changes ≢ Intake file stamp ∷ []) entries → has_taken file stamp entries ≡ false
+pub not_taken : (file stamp : ℕ) (entries : List Entry) → All (λ (d : Entry). d.changes ≢ Intake file stamp ∷ []) entries
+    → has_taken file stamp entries ≡ false
 not_taken file stamp [] anew = refl
 not_taken file stamp (e ∷ entries) anew = or_from (is_intake_at file stamp e.changes) (has_taken file stamp entries)
     (false_from_ne_true (is_intake_at file stamp e.changes) (λ h. anew 0 e (omega arith) (intake_is file stamp e.changes h)))
