@@ -1,5 +1,5 @@
 -- Bytes are found good exactly where they are a transcript.
-use Rattle.std.proofs.Common.{ℕ, zero, suc, ◌≡◌, ◌+◌, ◌-◌, ◌≤◌, ◌<◌, ◌^◌, Bool, true, false, ◌&&◌, List, [], ◌∷◌, ◌++◌, length, take, drop, take-append-drop, length-take, refl, sym, ap, ◌∙◌, subst, length-append, arith}
+use Rattle.std.proofs.Common.{ℕ, suc, ◌≡◌, ◌+◌, ◌≤◌, ◌<◌, ◌^◌, Bool, true, false, List, [], ◌∷◌, ◌++◌, length, take, drop, take-append-drop, length-take, refl, sym, ap, ◌∙◌, subst, length-append, arith}
 use Rattle.std.specs.Prelude.{bytes_eq}
 use Rattle.std.specs.List.{concat, flat_map}
 use Rattle.std.proofs.lemmas.Slice.Eq.{bytes_eq-Decides}
@@ -12,7 +12,7 @@ use Rattle.index_workers.specs.declared.worked.Worked.{Worked}
 use Rattle.transcripts.specs.declared.loaded.Loaded.{Loaded}
 use Rattle.transcripts.specs.declared.record.Record.{Record}
 use Rattle.transcripts.specs.Serial.{Ended, run_of, later_loads}
-use Rattle.transcripts.specs.Fits.{Mark, FitsFirst, SectionFits, FitsLane, LanesFit, RunFits}
+use Rattle.transcripts.specs.Fits.{Mark, SectionFits, LanesFit, RunFits}
 use Rattle.transcripts.specs.Play.{PlaysWith, IsTranscriptOf}
 use Rattle.transcripts.specs.Transcript.{transcript_of}
 use Rattle.transcript_check.specs.Blocks.{blocks_of}
