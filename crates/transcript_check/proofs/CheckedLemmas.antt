@@ -16,7 +16,7 @@ use Rattle.transcript_check.specs.Section.{Cursor}
 use Rattle.transcript_check.specs.Section.{is_nil}
 use Rattle.transcript_check.specs.Phase.{Sides, Reached, is_seat, phase_from, cursors_of, after_lanes}
 use Rattle.transcript_check.specs.Checked.{entry_texts, record_texts, Came, serial_from, ends_so, sides_of, goes_on_so, begins_so, are_checked, AreTextsOfRun}
-use Rattle.transcript_check.proofs.TextLemmas.{seat_in-entry}
+use Rattle.transcript_check.proofs.ReadLemmas.{seat-read}
 use Rattle.transcript_check.proofs.Texts.{texts_of_section}
 use Rattle.transcript_check.proofs.StepLemmas.{Laws}
 use Rattle.transcript_check.proofs.CursorLemmas.{AreFew, first_seat, own_seated}
@@ -180,7 +180,7 @@ stops_before laws sides history low high lines records [] position short fits = 
 stops_before laws sides history low high lines records (e ∷ closing) position short fits =
     let texts = texts_of_section false history 0 low high lines records (e ∷ closing) fits in
     let seat : e.seat ≡ 0 = first_seat 0 e closing (own_seated laws false history 0 lines low.seen (record_texts records) (e ∷ closing) texts) in
-    ap (is_seat sides) (seat_in-entry position e short (omega arith) ∙ seat)
+    ap (is_seat sides) (seat-read position e (omega arith) ∙ seat)
 
 -- a section that goes alone, where it is known what it leads to
 serial_goes : (laws : Laws) (lines : List Line) (loads : List Loaded) (start own : List Entry) (told : List Record) (left rest : List (List ℕ))

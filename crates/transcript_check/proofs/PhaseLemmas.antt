@@ -21,7 +21,7 @@ use Rattle.transcript_check.specs.Reading.{seat_in, file_in}
 use Rattle.transcript_check.specs.Section.{Cursor, is_over}
 use Rattle.transcript_check.specs.Phase.{Sides, Went, Reached, is_seat, is_busy, section_went, has_taken, may_take, worker_went, seat_went, printed_so, next_went, all_told, reached, phase_from}
 use Rattle.transcript_check.specs.Checked.{entry_texts}
-use Rattle.transcript_check.proofs.TextLemmas.{seat_in-entry, file_in-intake}
+use Rattle.transcript_check.proofs.ReadLemmas.{seat-read, file-read}
 use Rattle.transcript_check.proofs.Texts.{text_is}
 use Rattle.transcript_check.proofs.StepLemmas.{Laws}
 use Rattle.transcript_check.proofs.CursorLemmas.{AreFew, one_more, none_some, some_some}
@@ -212,7 +212,7 @@ module _ (laws : Laws) (files : FileLaws) (sides : Sides) (small : sides.lanes +
   printed_goes added told behind e short seat_small goes =
       let here : List Entry = sides.before ++ added in
       let text : List ℕ = entry_line (length here + 1) e in
-      ap (λ (n : ℕ). option_and_then (printed_so here text) (seat_went sides added told n text)) (seat_in-entry (length here + 1) e short seat_small)
+      ap (λ (n : ℕ). option_and_then (printed_so here text) (seat_went sides added told n text)) (seat-read (length here + 1) e seat_small)
       ∙ (ap (option_and_then (printed_so here text)) goes
       ∙ cond-true (bytes_eq text text) (Some (record { entry = e; cursors = behind })) None ((bytes_eq-Decides text text).1 refl))
 
@@ -236,7 +236,7 @@ module _ (laws : Laws) (files : FileLaws) (sides : Sides) (small : sides.lanes +
       let long' = length-append here (e ∷ es) in
       let short : length here + 1 < 2 ^ 64 = omega arith in
       let reads : file_in text ≡ file = ap (λ (x : Entry). file_in (entry_line (length here + 1) x)) e_is
-      ∙ file_in-intake (length here + 1) e.seat file stamp short seat_small known in
+      ∙ file-read (length here + 1) e.seat 0 file stamp known in
       let made : intake_entry here e.seat 0 file ≡ e = ap (λ (n : ℕ). entry_of e.seat 0 (Intake file n ∷ [])) (sym there.1) ∙ sym e_is in
       let others = others_forth laws sides.beside history here 1 (suc sides.lanes) told e es seated (inr past) stops whole fits in
       let anew : has_taken file (stamp_of (file_of (fold here) file)) (made_by e.seat added) ≡ false =
@@ -322,7 +322,7 @@ module _ (laws : Laws) (files : FileLaws) (sides : Sides) (small : sides.lanes +
       let long' = length-append here (e ∷ behind) in
       let next = next_goes added told e behind whole (told_fit.seated 1 (suc sides.lanes) seated) told_fit.stops seats.0 workers.0
       (told_fit.forth few (e ∷ behind) fits) in
-      let seat : is_seat sides (seat_in text) ≡ true = ap (is_seat sides) (seat_in-entry (length here + 1) e (omega arith) (omega arith)) ∙ seats.0 in
+      let seat : is_seat sides (seat_in text) ≡ true = ap (is_seat sides) (seat-read (length here + 1) e (omega arith)) ∙ seats.0 in
       let moved : here ++ e ∷ [] ≡ sides.before ++ (added ++ e ∷ []) = append_assoc sides.before added (e ∷ []) in
       let later : history ≡ sides.before ++ (added ++ e ∷ []) ++ behind =
       whole ∙ (sym (append_assoc here (e ∷ []) behind) ∙ ap (λ (es : List Entry). es ++ behind) moved) in
