@@ -1,9 +1,8 @@
 -- Each entry of a run of a script makes a change, so that its history has room for no more than it may have.
-use Rattle.std.proofs.Common.{ℕ, zero, suc, ◌≡◌, ◌+◌, ◌^◌, ◌≤◌, ◌<◌, Bool, true, false, cond, List, [], ◌∷◌, ◌++◌, length, refl, sym, ap, ◌∙◌, subst, arith, Option, Some, None, ◌⊎◌, ⊎_elim, eqb}
+use Rattle.std.proofs.Common.{ℕ, zero, suc, ◌≡◌, ◌+◌, ◌≤◌, ◌<◌, Bool, true, false, cond, List, [], ◌∷◌, ◌++◌, length, refl, sym, ap, subst, arith, Option, Some, None, ⊎_elim, eqb}
 use Rattle.std.specs.List.{All}
-use Rattle.std.proofs.lemmas.Bool.{cases_lt, eqb-true}
+use Rattle.std.proofs.lemmas.Bool.{cases_lt}
 use Rattle.list_laws.proofs.BoolLemmas.{bool_cases}
-use Rattle.write_history.specs.declared.change.Change.{Change}
 use Rattle.write_history.specs.declared.change.Change.TheVariants.{Create}
 use Rattle.write_history.specs.declared.entry.Entry.{Entry}
 use Rattle.write_history.specs.declared.refusal.Refusal.TheVariants as why
@@ -16,18 +15,17 @@ use Rattle.script_lang.specs.declared.command.Command.{Command}
 use Rattle.script_lang.specs.declared.command.Command.TheVariants as command
 use Rattle.script_lang.specs.declared.line.Line.{Line}
 use Rattle.script_lang.specs.Parts.{Parts}
-use Rattle.script_lang.specs.Held.{IsOfLine, IsNoLoad, AreOfSection, AreOfScript}
+use Rattle.script_lang.specs.Held.{IsOfLine, AreOfSection, AreOfScript}
 use Rattle.index_workers.specs.declared.worked.Worked.{Worked}
 use Rattle.index_workers.specs.Work.{IsIntakeBy}
 use Rattle.transcripts.specs.declared.loaded.Loaded.{Loaded}
 use Rattle.transcripts.specs.declared.loaded.Loaded.TheVariants as loaded
 use Rattle.transcripts.specs.declared.record.Answer.TheVariants.{Refused}
 use Rattle.transcripts.specs.declared.record.Record.{Record}
-use Rattle.transcripts.specs.Serial.{Step, Ended, told as just_told, step_unless, create_of, load_step, step_of, first_load, later_loads}
-use Rattle.transcripts.specs.Fits.{Mark, mark_at, run_beside, IsDone, IsGivenUp, FitsFirst, SectionFits, made_by, FitsLane, LanesFit, WorkersFit, RunFits}
+use Rattle.transcripts.specs.Serial.{Step, Ended, told as just_told, step_unless, create_of, step_of, first_load, later_loads}
+use Rattle.transcripts.specs.Fits.{Mark, mark_at, run_beside, IsDone, IsGivenUp, SectionFits, made_by, LanesFit, WorkersFit, RunFits}
 use Rattle.transcript_check.specs.Phase.{Sides}
 use Rattle.transcript_check.proofs.StepLemmas.{made_by-own}
-use Rattle.transcript_check.proofs.WorkerLemmas.{AreWorkers}
 use Rattle.transcript_check.proofs.IntakeLemmas.{AllChange, legal_few}
 use Rattle.transcript_check.proofs.PhaseLemmas.{AllSeats}
 use Rattle.transcript_check.proofs.MiddleLemmas.{all_seats, workers_are, none_outside}
@@ -48,13 +46,15 @@ settled_change seat line history (id ∷ ids) =
     by (list_refusal (fold history) (intake_of (fold history) id)) (settled_from (history ++ intake_entry history seat line id ∷ []) seat line ids)
     (settled_change seat line (history ++ intake_entry history seat line id ∷ []) ids)
   where
-    by : (refusal : Option ListRefusal) (rest : Settled) → AllChange rest.added → AllChange (settled_unless refusal (intake_entry history seat line id) rest).added
+    by : (refusal : Option ListRefusal) (rest : Settled) → AllChange rest.added
+        → AllChange (settled_unless refusal (intake_entry history seat line id) rest).added
     by None rest later = (omega arith, later)
     by (Some refusal) rest later = tt
 
 created_change : (history : List Entry) (seat line : ℕ) (path : List ℕ) (load : Loaded) → AllChange (create_of history seat line path load).added
 created_change history seat line path (loaded.Text content) =
-    unless_change (list_refusal (fold history) (Create path content ∷ [])) (λ place. None) history (entry_of seat line (Create path content ∷ [])) (omega arith)
+    unless_change (list_refusal (fold history) (Create path content ∷ [])) (λ place. None) history (entry_of seat line (Create path content ∷ []))
+    (omega arith)
 created_change history seat line path (loaded.NotText at) = tt
 created_change history seat line path (loaded.TooLong count) = tt
 created_change history seat line path loaded.Nothing = tt
@@ -72,7 +72,8 @@ step_change load history seat line (command.Ask query) is = tt
 step_change load history seat line (command.Soft attempts query) is = tt
 
 -- what a section made
-section_change : (beside : Bool) (history : List Entry) (seat : ℕ) (low high : Mark) (lines : List Line) (loads : List Loaded) (records : List Record) (own : List Entry)
+section_change : (beside : Bool) (history : List Entry) (seat : ℕ) (low high : Mark) (lines : List Line) (loads : List Loaded) (records : List Record)
+    (own : List Entry)
     → All (λ (l : Line). IsOfLine l.command) lines → SectionFits beside history seat low lines loads records own high → AllChange own
 section_change beside history seat low high [] loads records own are fits = subst AllChange (sym fits.1) tt
 section_change beside history seat low high (line ∷ lines) loads records own are fits =
@@ -90,13 +91,16 @@ commands_of lines are = λ k d less. (are k d less).0
 
 -- what a lane made
 lanes_change : (beside : Bool) (history : List Entry) (low : Mark) (seat : ℕ) (lanes : List (List Line)) (entries : List Entry) (records : List Record)
-    → All AreOfSection lanes → LanesFit beside history low seat lanes entries records → (s : ℕ) → seat ≤ s → s < seat + length lanes → AllChange (made_by s entries)
+    → All AreOfSection lanes → LanesFit beside history low seat lanes entries records → (s : ℕ) → seat ≤ s → s < seat + length lanes
+    → AllChange (made_by s entries)
 lanes_change beside history low seat [] entries records are fits s above below = absurd (omega arith)
 lanes_change beside history low seat (lane ∷ lanes) entries records are fits s above below = ⊎_elim
-    (λ (later : seat < s). lanes_change beside history low (suc seat) lanes entries fits.others (λ k d less. are (suc k) d (omega arith)) fits.rest s later (omega arith))
+    (λ (later : seat < s). lanes_change beside history low (suc seat) lanes entries fits.others
+    (λ k d less. are (suc k) d (omega arith)) fits.rest s later (omega arith))
     (λ (here : s ≤ seat). (let same : seat ≡ s = omega arith in
     subst (λ (n : ℕ). AllChange (made_by n entries)) same
-    (section_change beside history seat low fits.high lane [] fits.own_records (made_by seat entries) (commands_of lane (are 0 lane (omega arith))) fits.fits)))
+    (section_change beside history seat low fits.high lane [] fits.own_records (made_by seat entries)
+    (commands_of lane (are 0 lane (omega arith))) fits.fits)))
     (cases_lt seat s)
 
 -- what a worker made
@@ -115,13 +119,16 @@ each_change (e ∷ entries) each =
     (first.0, each_change entries (λ seat. later seat (each seat)))
   where
     later : (seat : ℕ) → AllChange (made_by seat (e ∷ entries)) → AllChange (made_by seat entries)
-    later seat = bool_cases (eqb e.seat seat) (λ (b : Bool). AllChange (cond b (e ∷ made_by seat entries) (made_by seat entries)) → AllChange (made_by seat entries))
+    later seat = bool_cases (eqb e.seat seat) (λ (b : Bool). AllChange (cond b (e ∷ made_by seat entries) (made_by seat entries))
+        → AllChange (made_by seat entries))
         (λ own all. all.1) (λ other all. all)
 
 -- what lanes and workers made
-module _ (sides : Sides) (history : List Entry) (low : ℕ) (mark : Mark) (lanes : List (List Line)) (middle : List Entry) (told : List Worked) (records : List Record)
+module _ (sides : Sides) (history : List Entry) (low : ℕ) (mark : Mark) (lanes : List (List Line)) (middle : List Entry) (told : List Worked)
+    (records : List Record)
     (count : length lanes ≡ sides.lanes) (workers : length told ≡ sides.workers) (are : All AreOfSection lanes)
-    (fit : LanesFit sides.beside history mark 1 lanes middle records) (seats : AllSeats sides middle) (worked : WorkersFit history low (1 + sides.lanes) middle told) where
+    (fit : LanesFit sides.beside history mark 1 lanes middle records) (seats : AllSeats sides middle)
+    (worked : WorkersFit history low (1 + sides.lanes) middle told) where
   seat_change : (seat : ℕ) → AllChange (made_by seat middle)
   seat_change zero = subst AllChange (sym (none_outside sides 0 middle seats refl)) tt
   seat_change (suc n) = ⊎_elim
@@ -139,8 +146,10 @@ pub run_few : (loads : List Loaded) (script : Parts) (told : List Worked) (ended
 run_few loads script told ended are fits =
     let sides : Sides =
     record { beside = run_beside (length script.lanes) (length told); lanes = length script.lanes; workers = length told; before = fits.opening } in
-    let opening = section_change false fits.opening 0 (mark_at 0) fits.prelude_end script.prelude loads fits.prelude_records fits.opening are.prelude fits.prelude in
-    let middle = middle_change sides (fits.opening ++ fits.middle) (length fits.opening) (mark_at (length fits.opening)) script.lanes fits.middle told fits.lanes_records
+    let opening = section_change false fits.opening 0
+    (mark_at 0) fits.prelude_end script.prelude loads fits.prelude_records fits.opening are.prelude fits.prelude in
+    let middle = middle_change sides (fits.opening ++ fits.middle) (length fits.opening)
+    (mark_at (length fits.opening)) script.lanes fits.middle told fits.lanes_records
     refl refl are.lanes fits.lanes (all_seats sides (length script.lanes + length told) fits.middle refl fits.seats) fits.worked in
     let closing = section_change false ended.history 0 fits.last_begins fits.last_end script.last [] ended.last fits.closing
     (commands_of script.last are.last) fits.last in

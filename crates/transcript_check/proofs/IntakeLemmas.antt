@@ -1,6 +1,6 @@
 -- What an entry that isn't refused says of the world where it stands: what it takes in is there, and there is room.
-use Rattle.std.proofs.Common.{ℕ, suc, ◌≡◌, ◌+◌, ◌≤◌, ◌<◌, ◌^◌, Bool, true, false, cond, not, List, [], ◌∷◌, ◌++◌, length, refl, sym, ap, ◌∙◌, subst, arith, Option, Some, None, eqb, leb}
-use Rattle.std.specs.Prelude.{is_none, option_map}
+use Rattle.std.proofs.Common.{ℕ, ◌≡◌, ◌+◌, ◌≤◌, ◌<◌, ◌^◌, true, false, cond, List, [], ◌∷◌, ◌++◌, length, refl, arith, Option, Some, None, eqb}
+use Rattle.std.specs.Prelude.{is_none}
 use Rattle.std.proofs.lemmas.Bool.{leb-false, eqb-true, not-false, both_ways}
 use Rattle.list_laws.proofs.BoolLemmas.{bool_cases}
 use Rattle.write_history.specs.declared.change.Change.{Change}
@@ -9,7 +9,7 @@ use Rattle.write_history.specs.declared.entry.Entry.{Entry}
 use Rattle.write_history.specs.declared.refusal.Refusal.{Refusal}
 use Rattle.write_history.specs.World.{World, File, file_of, next_id, empty_world}
 use Rattle.write_history.specs.Effect.{Reason, first_standing, reasons, refusal_of, stamp_of, max_files, max_entries, history_full}
-use Rattle.write_history.specs.Fold.{ListRefusal, refusal_or, list_refusal, effect_of, effects_of, after_list, counted, fold, fold_from, IsLegal, IsLegalFrom}
+use Rattle.write_history.specs.Fold.{ListRefusal, refusal_or, list_refusal, effect_of, effects_of, after_list, fold, fold_from, IsLegal, IsLegalFrom}
 use Rattle.write_history.specs.Stamps.{files_made}
 
 some_none : {X : Type 0} {x : X} → Some x ≡ None → ⊥

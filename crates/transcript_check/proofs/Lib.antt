@@ -1,7 +1,11 @@
 pub mod BlockLemmas
 pub mod PlainLemmas
+pub mod EntryBlocks
 pub mod FoundBlocks
 pub mod RecordBlocks
+pub mod CutLemmas
+pub mod NumberLemmas
+pub mod ReadLemmas
 pub mod TextLemmas
 pub mod StepLemmas
 pub mod Texts
@@ -14,3 +18,4 @@ pub mod MiddleLemmas
 pub mod SerialLemmas
 pub mod CheckedLemmas
 pub mod ChangeLemmas
+pub mod VerdictLemmas

@@ -1,7 +1,7 @@
 -- Lanes and workers as a run's relation says them, and as sections side by side.
-use Rattle.std.proofs.Common.{ℕ, zero, suc, ◌≡◌, ◌≢◌, ◌+◌, ◌≤◌, ◌<◌, Bool, true, false, cond, ◌&&◌, List, [], ◌∷◌, ◌++◌, length, map, take, drop, take-append-drop, refl, sym, ap, ◌∙◌, subst, append_assoc, length-append, arith, ◌⊎◌, inl, inr, ⊎_elim, eqb, leb}
+use Rattle.std.proofs.Common.{ℕ, zero, suc, ◌≡◌, ◌+◌, ◌≤◌, ◌<◌, Bool, false, List, [], ◌∷◌, ◌++◌, length, take, drop, take-append-drop, refl, sym, ap, ◌∙◌, subst, append_assoc, arith, ⊎_elim, leb}
 use Rattle.std.specs.List.{All}
-use Rattle.std.proofs.lemmas.List.{append-nil, map-append}
+use Rattle.std.proofs.lemmas.List.{map-append}
 use Rattle.std.proofs.lemmas.Bool.{both_ways, and_parts, and_from, and_right, leb-true, le-leb, lt-leb, cases_lt}
 use Rattle.list_laws.proofs.FrontLemmas.{All-cons}
 use Rattle.write_history.specs.declared.entry.Entry.{Entry}
@@ -10,25 +10,24 @@ use Rattle.index_workers.specs.declared.worked.End.TheVariants.{Turns}
 use Rattle.index_workers.specs.declared.worked.Worked.{Worked}
 use Rattle.index_workers.specs.Work.{max_turns, IsIntakeBy, AreApart}
 use Rattle.transcripts.specs.declared.record.Record.{Record}
-use Rattle.transcripts.specs.Fits.{Mark, mark_at, SectionFits, made_by, FitsLane, LanesFit, WorkerFits, WorkersFit, IsSeatOf}
+use Rattle.transcripts.specs.Fits.{Mark, mark_at, made_by, LanesFit, WorkersFit, IsSeatOf}
 use Rattle.transcripts.specs.Transcript.{record_text}
-use Rattle.transcript_check.specs.Section.{Cursor}
 use Rattle.transcript_check.specs.Phase.{Sides, is_seat, cursors_of, after_lanes}
 use Rattle.transcript_check.specs.Checked.{record_texts}
-use Rattle.transcript_check.proofs.Texts.{DoneLate, WasGivenUp, FirstFits, TextsFit, texts_of_section, RecordsFit, section_of_texts}
+use Rattle.transcript_check.proofs.Texts.{TextsFit, texts_of_section, RecordsFit, section_of_texts}
 use Rattle.transcript_check.proofs.StepLemmas.{made_by-other}
 use Rattle.transcript_check.proofs.WorkerLemmas.{AreWorkers}
 use Rattle.transcript_check.proofs.SideLemmas.{CursorsFit, AreSeated}
 use Rattle.transcript_check.proofs.PhaseLemmas.{AllSeats}
 
 -- the front of a list, and what is behind it
-take_front : {X : Type 0} (xs ys : List X) (n : ℕ) → length xs ≡ n → take n (xs ++ ys) ≡ xs
+pub take_front : {X : Type 0} (xs ys : List X) (n : ℕ) → length xs ≡ n → take n (xs ++ ys) ≡ xs
 take_front [] ys zero h = refl
 take_front [] ys (suc n) h = absurd (omega arith)
 take_front (x ∷ xs) ys zero h = absurd (omega arith)
 take_front (x ∷ xs) ys (suc n) h = ap (λ zs. x ∷ zs) (take_front xs ys n (omega arith))
 
-drop_front : {X : Type 0} (xs ys : List X) (n : ℕ) → length xs ≡ n → drop n (xs ++ ys) ≡ ys
+pub drop_front : {X : Type 0} (xs ys : List X) (n : ℕ) → length xs ≡ n → drop n (xs ++ ys) ≡ ys
 drop_front [] ys zero h = refl
 drop_front [] ys (suc n) h = absurd (omega arith)
 drop_front (x ∷ xs) ys zero h = absurd (omega arith)
@@ -46,7 +45,8 @@ texts_count beside history seat len (line ∷ lines) texts own fits =
     let all = ap length fits.texts_are in omega arith
 
 -- from lanes to sections side by side
-pub record LanesAre (beside : Bool) (history here : List Entry) (seat : ℕ) (lanes : List (List Line)) (middle : List Entry) (texts rest : List (List ℕ)) : Type 0 where
+pub record LanesAre (beside : Bool) (history here : List Entry) (seat : ℕ) (lanes : List (List Line)) (middle : List Entry)
+    (texts rest : List (List ℕ)) : Type 0 where
   pub fits : CursorsFit beside history here (cursors_of seat lanes texts) middle
   pub left : after_lanes lanes texts ≡ rest
 
@@ -65,14 +65,17 @@ sides_of_lanes beside history here seat (lane ∷ lanes) middle records rest fit
     let later = sides_of_lanes beside history here (suc seat) lanes middle fits.others rest fits.rest in
     let behind : drop (length lane) (record_texts records ++ rest) ≡ others = ap (drop (length lane)) parts ∙ drop_front own others (length lane) count in
     record {
-      fits = (subst (λ (ts : List (List ℕ)). TextsFit beside history seat (length here) lane ts (made_by seat middle))
-          (sym (ap (take (length lane)) parts ∙ take_front own others (length lane) count)) texts,
-          subst (λ (ts : List (List ℕ)). CursorsFit beside history here (cursors_of (suc seat) lanes ts) middle) (sym behind) later.fits);
+      fits = (
+        subst (λ (ts : List (List ℕ)). TextsFit beside history seat (length here) lane ts (made_by seat middle))
+            (sym (ap (take (length lane)) parts ∙ take_front own others (length lane) count)) texts,
+        subst (λ (ts : List (List ℕ)). CursorsFit beside history here (cursors_of (suc seat) lanes ts) middle) (sym behind) later.fits,
+      );
       left = ap (after_lanes lanes) behind ∙ later.left;
     }
 
 -- and back
-pub record LanesFitTexts (beside : Bool) (history : List Entry) (low : Mark) (seat : ℕ) (lanes : List (List Line)) (middle : List Entry) (texts : List (List ℕ)) : Type 0 where
+pub record LanesFitTexts (beside : Bool) (history : List Entry) (low : Mark) (seat : ℕ) (lanes : List (List Line)) (middle : List Entry)
+    (texts : List (List ℕ)) : Type 0 where
   pub records : List Record
   pub fits : LanesFit beside history low seat lanes middle records
   pub texts_are : texts ≡ record_texts records ++ after_lanes lanes texts
@@ -93,12 +96,14 @@ lanes_of_sides beside history here seat (lane ∷ lanes) middle texts fits =
           ∙ ap (λ (ts : List (List ℕ)). ts ++ after_lanes lanes (drop (length lane) texts)) (sym (map-append record_text own.records later.records))));
     }
 
-pub cursors_seated : (seat past : ℕ) (lanes : List (List Line)) (texts : List (List ℕ)) → past ≡ seat + length lanes → AreSeated seat past (cursors_of seat lanes texts)
+pub cursors_seated : (seat past : ℕ) (lanes : List (List Line)) (texts : List (List ℕ)) → past ≡ seat + length lanes
+    → AreSeated seat past (cursors_of seat lanes texts)
 cursors_seated seat past [] texts is = omega arith
 cursors_seated seat past (lane ∷ lanes) texts is = (refl, cursors_seated (suc seat) past lanes (drop (length lane) texts) (omega arith))
 
 -- seats
-pub seats_all : (sides : Sides) (count : ℕ) (es : List Entry) → sides.lanes + sides.workers ≡ count → AllSeats sides es → All (λ (e : Entry). IsSeatOf count e.seat) es
+pub seats_all : (sides : Sides) (count : ℕ) (es : List Entry) → sides.lanes + sides.workers ≡ count → AllSeats sides es
+    → All (λ (e : Entry). IsSeatOf count e.seat) es
 seats_all sides count [] is seats = λ k d less. absurd (omega arith)
 seats_all sides count (e ∷ es) is seats =
     let parts = and_parts (leb 1 e.seat) (leb e.seat (sides.lanes + sides.workers)) seats.0 in
@@ -106,14 +111,16 @@ seats_all sides count (e ∷ es) is seats =
     let below = leb-true e.seat (sides.lanes + sides.workers) parts.1 in
     All-cons (λ (x : Entry). IsSeatOf count x.seat) e es (record { from = above; to = omega arith }) (seats_all sides count es is seats.1)
 
-pub all_seats : (sides : Sides) (count : ℕ) (es : List Entry) → sides.lanes + sides.workers ≡ count → All (λ (e : Entry). IsSeatOf count e.seat) es → AllSeats sides es
+pub all_seats : (sides : Sides) (count : ℕ) (es : List Entry) → sides.lanes + sides.workers ≡ count → All (λ (e : Entry). IsSeatOf count e.seat) es
+    → AllSeats sides es
 all_seats sides count [] is all = tt
 all_seats sides count (e ∷ es) is all =
     let first : IsSeatOf count e.seat = all 0 e (omega arith) in
     let from : 1 ≤ e.seat = first.from in
-    let to : e.seat ≤ count = first.to in
-    (and_from (leb 1 e.seat) (leb e.seat (sides.lanes + sides.workers)) (le-leb 1 e.seat from) (le-leb e.seat (sides.lanes + sides.workers) (omega arith)),
-    all_seats sides count es is (λ k d less. all (suc k) d (omega arith)))
+    let to : e.seat ≤ count = first.to in (
+      and_from (leb 1 e.seat) (leb e.seat (sides.lanes + sides.workers)) (le-leb 1 e.seat from) (le-leb e.seat (sides.lanes + sides.workers) (omega arith)),
+      all_seats sides count es is (λ k d less. all (suc k) d (omega arith)),
+    )
 
 -- WORKERS
 
@@ -132,9 +139,10 @@ pub workers_fit : (history : List Entry) (low seat count : ℕ) (entries : List 
     → WorkersFit history low seat entries (told_of seat count entries)
 unfolding told_of
 workers_fit history low seat zero entries workers = tt
-workers_fit history low seat (suc count) entries workers =
-    (record { seat_is = refl; taken = refl; intakes = (workers seat (omega arith)).intakes; apart = (workers seat (omega arith)).apart; ends = refl },
-    workers_fit history low (suc seat) count entries (λ s past. workers s (omega arith)))
+workers_fit history low seat (suc count) entries workers = (
+  record { seat_is = refl; taken = refl; intakes = (workers seat (omega arith)).intakes; apart = (workers seat (omega arith)).apart; ends = refl },
+  workers_fit history low (suc seat) count entries (λ s past. workers s (omega arith)),
+)
 
 workers_told : (history : List Entry) (low seat : ℕ) (entries : List Entry) (told : List Worked) → WorkersFit history low seat entries told
     → (s : ℕ) → seat ≤ s → s < seat + length told → AreWorkers s entries
@@ -148,13 +156,17 @@ workers_told history low seat entries (worked ∷ told) fit s above below = ⊎_
 pub none_outside : (sides : Sides) (seat : ℕ) (es : List Entry) → AllSeats sides es → is_seat sides seat ≡ false → made_by seat es ≡ []
 none_outside sides seat [] seats outside = refl
 none_outside sides seat (e ∷ es) seats outside =
-    made_by-other seat e es (λ same. both_ways (is_seat sides seat) outside (ap (is_seat sides) (sym same) ∙ seats.0)) ∙ none_outside sides seat es seats.1 outside
+    made_by-other seat e es (λ same. both_ways (is_seat sides seat) outside (ap (is_seat sides) (sym same) ∙ seats.0))
+    ∙ none_outside sides seat es seats.1 outside
 
 pub workers_are : (history : List Entry) (low : ℕ) (sides : Sides) (entries : List Entry) (told : List Worked) → length told ≡ sides.workers
     → AllSeats sides entries → WorkersFit history low (1 + sides.lanes) entries told → (s : ℕ) → sides.lanes < s → AreWorkers s entries
 workers_are history low sides entries told count seats fit s past = ⊎_elim
-    (λ (beyond : sides.lanes + sides.workers < s). (let none = none_outside sides s entries seats (and_right (leb 1 s) (leb s (sides.lanes + sides.workers)) (lt-leb s (sides.lanes + sides.workers) beyond)) in
-    record { intakes = subst (All (IsIntakeBy s)) (sym none) (λ k d less. absurd (omega arith));
-      apart = subst AreApart (sym none) (λ i j d less within. absurd (omega arith)) }))
+    (λ (beyond : sides.lanes + sides.workers < s). (let none =
+    none_outside sides s entries seats (and_right (leb 1 s) (leb s (sides.lanes + sides.workers)) (lt-leb s (sides.lanes + sides.workers) beyond)) in
+    record {
+      intakes = subst (All (IsIntakeBy s)) (sym none) (λ k d less. absurd (omega arith));
+      apart = subst AreApart (sym none) (λ i j d less within. absurd (omega arith));
+    }))
     (λ (within : s ≤ sides.lanes + sides.workers). workers_told history low (1 + sides.lanes) entries told fit s (omega arith) (omega arith))
     (cases_lt (sides.lanes + sides.workers) s)

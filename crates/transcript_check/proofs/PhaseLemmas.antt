@@ -1,5 +1,5 @@
 -- Sections and workers side by side lead from one history to another exactly where each fits.
-use Rattle.std.proofs.Common.{ℕ, zero, suc, ◌≡◌, ◌≢◌, ◌+◌, ◌^◌, ◌≤◌, ◌<◌, Bool, true, false, cond, not, ◌&&◌, List, [], ◌∷◌, ◌++◌, length, map, refl, sym, ap, ◌∙◌, subst, append_assoc, length-append, arith, Option, Some, None, ◌⊎◌, inl, inr, ⊎_elim, eqb, leb}
+use Rattle.std.proofs.Common.{ℕ, suc, ◌≡◌, ◌≢◌, ◌+◌, ◌^◌, ◌≤◌, ◌<◌, Bool, true, false, cond, not, ◌&&◌, List, [], ◌∷◌, ◌++◌, length, refl, sym, ap, ◌∙◌, subst, append_assoc, length-append, arith, Option, Some, None, inr, ⊎_elim, leb}
 use Rattle.std.specs.Prelude.{bytes_eq, is_none}
 use Rattle.std.specs.List.{All, list_all}
 use Rattle.std.specs.Option.{option_and_then}
@@ -9,26 +9,24 @@ use Rattle.std.proofs.lemmas.List.{append-nil}
 use Rattle.std.proofs.lemmas.Bool.{cond-true, cond-false, and_parts, and_from, leb-true, leb-false, le-leb, lt-leb, not-true, not_from_false, cases_lt}
 use Rattle.list_laws.specs.Fronts.{IsFront}
 use Rattle.list_laws.proofs.BoolLemmas.{bool_cases}
-use Rattle.write_history.specs.declared.change.Change.{Change}
 use Rattle.write_history.specs.declared.change.Change.TheVariants.{Intake}
 use Rattle.write_history.specs.declared.entry.Entry.{Entry}
 use Rattle.write_history.specs.World.{file_of}
 use Rattle.write_history.specs.Effect.{stamp_of}
-use Rattle.write_history.specs.Fold.{ListRefusal, fold, list_refusal, IsLegal, IsLegalFrom}
+use Rattle.write_history.specs.Fold.{ListRefusal, fold, list_refusal, IsLegal}
 use Rattle.write_history.specs.Print.{entry_line}
-use Rattle.ide_calls.specs.Settle.{entry_of, intake_of, intake_entry}
-use Rattle.index_workers.specs.Work.{IsIntakeBy}
+use Rattle.ide_calls.specs.Settle.{entry_of, intake_entry}
 use Rattle.transcripts.specs.Fits.{made_by}
 use Rattle.transcript_check.specs.Reading.{seat_in, file_in}
 use Rattle.transcript_check.specs.Section.{Cursor, is_over}
 use Rattle.transcript_check.specs.Phase.{Sides, Went, Reached, is_seat, is_busy, section_went, has_taken, may_take, worker_went, seat_went, printed_so, next_went, all_told, reached, phase_from}
 use Rattle.transcript_check.specs.Checked.{entry_texts}
-use Rattle.transcript_check.proofs.TextLemmas.{seat_in-entry, file_in-intake}
+use Rattle.transcript_check.proofs.ReadLemmas.{seat-read, file-read}
 use Rattle.transcript_check.proofs.Texts.{text_is}
 use Rattle.transcript_check.proofs.StepLemmas.{Laws}
 use Rattle.transcript_check.proofs.CursorLemmas.{AreFew, one_more, none_some, some_some}
 use Rattle.transcript_check.proofs.WorkerLemmas.{MayMake, WorkersFrom, taken_anew, not_taken}
-use Rattle.transcript_check.proofs.SideLemmas.{CursorsFit, AreSeated, AllStop, ToldAll, all_told_fits, others_forth, others_back, section_forth, went_back, all_over_back, all_over_forth}
+use Rattle.transcript_check.proofs.SideLemmas.{CursorsFit, AreSeated, AllStop, all_told_fits, others_forth, others_back, section_forth, went_back, all_over_back, all_over_forth}
 use Rattle.transcript_check.proofs.IntakeLemmas.{FileLaws, accepted_intake, live_small}
 
 -- all entries have seats of the lanes and workers
@@ -61,7 +59,8 @@ module _ (laws : Laws) (sides : Sides) where
   ends : (added : List Entry) (cursors : List Cursor) (left : List (List ℕ)) (r : Reached) → reached added (all_told sides added cursors) left ≡ Some r
       → PhaseGoes sides added cursors left r
   ends added cursors left r h = bool_cases (list_all is_over (all_told sides added cursors))
-      (λ (b : Bool). (list_all is_over (all_told sides added cursors) ≡ b) → cond b (Some (record { added = added; left = left })) None ≡ Some r → PhaseGoes sides added cursors left r)
+      (λ (b : Bool). (list_all is_over (all_told sides added cursors) ≡ b) → cond b (Some (record { added = added; left = left })) None ≡ Some r
+      → PhaseGoes sides added cursors left r)
       (λ _ over g. (
       let here : List Entry = sides.before ++ added in
       let same : here ++ [] ≡ here = append-nil here in
@@ -126,7 +125,8 @@ module _ (laws : Laws) (sides : Sides) where
   -- the entry that goes in is printed so
   printed_is : (here : List Entry) (text : List ℕ) (v w : Went) → printed_so here text v ≡ Some w → (v ≡ w) × (entry_line (length here + 1) v.entry ≡ text)
   printed_is here text v w h = bool_cases (bytes_eq (entry_line (length here + 1) v.entry) text)
-      (λ (b : Bool). (bytes_eq (entry_line (length here + 1) v.entry) text ≡ b) → cond b (Some v) None ≡ Some w → (v ≡ w) × (entry_line (length here + 1) v.entry ≡ text))
+      (λ (b : Bool). (bytes_eq (entry_line (length here + 1) v.entry) text ≡ b) → cond b (Some v) None ≡ Some w
+      → (v ≡ w) × (entry_line (length here + 1) v.entry ≡ text))
       (λ _ same g. (some_some g, text_is (entry_line (length here + 1) v.entry) text same)) (λ _ other g. absurd (none_some g)) refl h
 
   -- one entry before those that follow it
@@ -141,7 +141,8 @@ module _ (laws : Laws) (sides : Sides) where
       let moved : sides.before ++ (added ++ e ∷ []) ≡ here ++ e ∷ [] = sym (append_assoc sides.before added (e ∷ [])) in
       let whole : (sides.before ++ (added ++ e ∷ [])) ++ rest.behind ≡ here ++ e ∷ rest.behind =
       ap (λ (es : List Entry). es ++ rest.behind) moved ∙ append_assoc here (e ∷ []) rest.behind in
-      let next : length (sides.before ++ (added ++ e ∷ [])) + 1 ≡ length here + 1 + 1 = ap (λ (es : List Entry). length es + 1) moved ∙ ap (λ (n : ℕ). n + 1) (one_more here e) in
+      let next : length (sides.before ++ (added ++ e ∷ [])) + 1 ≡ length here + 1 + 1 = ap (λ (es : List Entry). length es + 1) moved
+      ∙ ap (λ (n : ℕ). n + 1) (one_more here e) in
       let behind_fits : CursorsFit sides.beside (here ++ e ∷ rest.behind) (here ++ e ∷ []) w.cursors rest.behind =
       subst (λ (es : List Entry). CursorsFit sides.beside (here ++ e ∷ rest.behind) es w.cursors rest.behind) moved
       (subst (λ (es : List Entry). CursorsFit sides.beside es (sides.before ++ (added ++ e ∷ [])) w.cursors rest.behind) whole rest.fits) in
@@ -163,8 +164,10 @@ module _ (laws : Laws) (sides : Sides) where
       (λ (b : Bool). cond b (option_and_then (λ (w : Went). phase_from sides (added ++ w.entry ∷ []) w.cursors texts)
       (next_went sides added (all_told sides added cursors) text)) (reached added (all_told sides added cursors) (text ∷ texts)) ≡ Some r
       → PhaseGoes sides added cursors (text ∷ texts) r)
-      (λ seat h. option_and_then_some (λ (w : Went). phase_from sides (added ++ w.entry ∷ []) w.cursors texts) (next_went sides added (all_told sides added cursors) text) r h
-      (λ w goes later. option_and_then_some (printed_so (sides.before ++ added) text) (seat_went sides added (all_told sides added cursors) (seat_in text) text) w goes
+      (λ seat h. option_and_then_some (λ (w : Went). phase_from sides (added ++ w.entry ∷ []) w.cursors texts)
+      (next_went sides added (all_told sides added cursors) text) r h
+      (λ w goes later. option_and_then_some (printed_so (sides.before ++ added) text)
+      (seat_went sides added (all_told sides added cursors) (seat_in text) text) w goes
       (λ v is prints. (
       let here : List Entry = sides.before ++ added in
       let told : List Cursor = all_told sides added cursors in
@@ -189,7 +192,8 @@ record NextGoes (sides : Sides) (added : List Entry) (told : List Cursor) (histo
   seated : AreSeated 1 (suc sides.lanes) behind
   fits : CursorsFit sides.beside history (sides.before ++ added ++ e ∷ []) behind es
 
-module _ (laws : Laws) (files : FileLaws) (sides : Sides) (small : sides.lanes + sides.workers < 2 ^ 64) (history : List Entry) (few : AreFew history) (legal : IsLegal history) where
+module _ (laws : Laws) (files : FileLaws) (sides : Sides) (small : sides.lanes + sides.workers < 2 ^ 64) (history : List Entry) (few : AreFew history)
+    (legal : IsLegal history) where
   -- where all fits the end of the history, all is over
   over_is : (added : List Entry) (cursors : List Cursor) (left : List (List ℕ)) → history ≡ sides.before ++ added
       → CursorsFit sides.beside history (sides.before ++ added) cursors []
@@ -208,7 +212,7 @@ module _ (laws : Laws) (files : FileLaws) (sides : Sides) (small : sides.lanes +
   printed_goes added told behind e short seat_small goes =
       let here : List Entry = sides.before ++ added in
       let text : List ℕ = entry_line (length here + 1) e in
-      ap (λ (n : ℕ). option_and_then (printed_so here text) (seat_went sides added told n text)) (seat_in-entry (length here + 1) e short seat_small)
+      ap (λ (n : ℕ). option_and_then (printed_so here text) (seat_went sides added told n text)) (seat-read (length here + 1) e seat_small)
       ∙ (ap (option_and_then (printed_so here text)) goes
       ∙ cond-true (bytes_eq text text) (Some (record { entry = e; cursors = behind })) None ((bytes_eq-Decides text text).1 refl))
 
@@ -224,13 +228,15 @@ module _ (laws : Laws) (files : FileLaws) (sides : Sides) (small : sides.lanes +
       let here_legal = laws.shorter here (e ∷ es) (subst IsLegal whole legal) in
       let accepted : list_refusal (fold here) e.changes ≡ None = (laws.rest here (e ∷ es) (subst IsLegal whole legal)).0 in
       let e_is : e ≡ entry_of e.seat 0 (Intake file stamp ∷ []) = may.intake.is in
-      let lawful : list_refusal (fold here) (Intake file stamp ∷ []) ≡ None = subst (λ (x : Entry). list_refusal (fold here) x.changes ≡ None) e_is accepted in
+      let lawful : list_refusal (fold here) (Intake file stamp ∷ []) ≡ None =
+      subst (λ (x : Entry). list_refusal (fold here) x.changes ≡ None) e_is accepted in
       let there = accepted_intake (fold here) file stamp lawful in
       let known = live_small files here file here_legal there.0 in
       let long = ap length whole in
       let long' = length-append here (e ∷ es) in
       let short : length here + 1 < 2 ^ 64 = omega arith in
-      let reads : file_in text ≡ file = ap (λ (x : Entry). file_in (entry_line (length here + 1) x)) e_is ∙ file_in-intake (length here + 1) e.seat file stamp short seat_small known in
+      let reads : file_in text ≡ file = ap (λ (x : Entry). file_in (entry_line (length here + 1) x)) e_is
+      ∙ file-read (length here + 1) e.seat 0 file stamp known in
       let made : intake_entry here e.seat 0 file ≡ e = ap (λ (n : ℕ). entry_of e.seat 0 (Intake file n ∷ [])) (sym there.1) ∙ sym e_is in
       let others = others_forth laws sides.beside history here 1 (suc sides.lanes) told e es seated (inr past) stops whole fits in
       let anew : has_taken file (stamp_of (file_of (fold here) file)) (made_by e.seat added) ≡ false =
@@ -238,8 +244,10 @@ module _ (laws : Laws) (files : FileLaws) (sides : Sides) (small : sides.lanes +
       (subst (λ (n : ℕ). All (λ (d : Entry). d.changes ≢ Intake file n ∷ []) (made_by e.seat added)) there.1
       (subst (λ (x : Entry). All (λ (d : Entry). d.changes ≢ x.changes) (made_by e.seat added)) e_is may.anew)) in
       let takes : may_take here added e.seat file ≡ true =
-      and_from (is_none (list_refusal (fold here) (intake_entry here e.seat 0 file).changes)) (not (has_taken file (stamp_of (file_of (fold here) file)) (made_by e.seat added)))
-      (ap is_none (ap (λ (x : Entry). list_refusal (fold here) x.changes) made ∙ accepted)) (not_from_false (has_taken file (stamp_of (file_of (fold here) file)) (made_by e.seat added)) anew) in
+      and_from (is_none (list_refusal (fold here) (intake_entry here e.seat 0 file).changes))
+      (not (has_taken file (stamp_of (file_of (fold here) file)) (made_by e.seat added)))
+      (ap is_none (ap (λ (x : Entry). list_refusal (fold here) x.changes) made
+      ∙ accepted)) (not_from_false (has_taken file (stamp_of (file_of (fold here) file)) (made_by e.seat added)) anew) in
       let goes : worker_went here added e.seat file told ≡ Some (record { entry = e; cursors = told }) =
       cond-true (not (is_busy told) && may_take here added e.seat file) (Some (record { entry = intake_entry here e.seat 0 file; cursors = told })) None
       (and_from (not (is_busy told)) (may_take here added e.seat file) (not_from_false (is_busy told) others.0) takes)
@@ -247,7 +255,8 @@ module _ (laws : Laws) (files : FileLaws) (sides : Sides) (small : sides.lanes +
       record {
         behind = told;
         goes = printed_goes added told told e short seat_small
-            (cond-false (leb e.seat sides.lanes) (section_went e.seat here told) (worker_went here added e.seat (file_in text) told) (lt-leb e.seat sides.lanes past)
+            (cond-false (leb e.seat sides.lanes) (section_went e.seat here told) (worker_went here added e.seat (file_in text) told)
+            (lt-leb e.seat sides.lanes past)
             ∙ (ap (λ (n : ℕ). worker_went here added e.seat n told) reads ∙ goes));
         seated = seated;
         fits = others.1;
@@ -266,13 +275,15 @@ module _ (laws : Laws) (files : FileLaws) (sides : Sides) (small : sides.lanes +
       record {
         behind = goes.behind;
         goes = printed_goes added told goes.behind e (omega arith) seat_small
-            (cond-true (leb e.seat sides.lanes) (section_went e.seat here told) (worker_went here added e.seat (file_in text) told) (le-leb e.seat sides.lanes below) ∙ goes.goes);
+            (cond-true (leb e.seat sides.lanes) (section_went e.seat here told) (worker_went here added e.seat (file_in text) told)
+            (le-leb e.seat sides.lanes below) ∙ goes.goes);
         seated = goes.seated;
         fits = goes.fits;
       }
 
   next_goes : (added : List Entry) (told : List Cursor) (e : Entry) (es : List Entry) → history ≡ sides.before ++ added ++ e ∷ es
-      → AreSeated 1 (suc sides.lanes) told → AllStop sides.beside (sides.before ++ added) told → is_seat sides e.seat ≡ true → (sides.lanes < e.seat → MayMake added e)
+      → AreSeated 1 (suc sides.lanes) told → AllStop sides.beside (sides.before ++ added) told → is_seat sides e.seat ≡ true
+      → (sides.lanes < e.seat → MayMake added e)
       → CursorsFit sides.beside history (sides.before ++ added) told (e ∷ es) → NextGoes sides added told history e es
   next_goes added told e es whole seated stops seat may fits =
       let range = and_parts (leb 1 e.seat) (leb e.seat (sides.lanes + sides.workers)) seat in
@@ -284,7 +295,10 @@ module _ (laws : Laws) (files : FileLaws) (sides : Sides) (small : sides.lanes +
   pub complete : (behind added : List Entry) (cursors : List Cursor) (left : List (List ℕ)) → history ≡ sides.before ++ added ++ behind
       → AreSeated 1 (suc sides.lanes) cursors → StopsBefore sides left → AllSeats sides behind → WorkersFrom sides.lanes added behind
       → CursorsFit sides.beside history (sides.before ++ added) cursors behind
-      → phase_from sides added cursors (entry_texts (length (sides.before ++ added) + 1) behind ++ left) ≡ Some (record { added = added ++ behind; left = left })
+      → phase_from sides added cursors (entry_texts (length (sides.before ++ added) + 1) behind ++ left) ≡ Some (record {
+        added = added ++ behind;
+        left = left;
+      })
   complete [] added cursors left whole seated stop seats workers fits =
       let over = over_is added cursors left (whole ∙ append-nil (sides.before ++ added)) fits in
       by left stop over ∙ ap (λ (es : List Entry). Some (record { added = es; left = left })) (sym (append-nil added))
@@ -293,7 +307,8 @@ module _ (laws : Laws) (files : FileLaws) (sides : Sides) (small : sides.lanes +
           → phase_from sides added cursors left ≡ Some (record { added = added; left = left })
       by [] stop over = over
       by (text ∷ texts) stop over = cond-false (is_seat sides (seat_in text))
-          (option_and_then (λ (w : Went). phase_from sides (added ++ w.entry ∷ []) w.cursors texts) (next_went sides added (all_told sides added cursors) text))
+          (option_and_then (λ (w : Went). phase_from sides (added ++ w.entry ∷ []) w.cursors texts)
+          (next_went sides added (all_told sides added cursors) text))
           (reached added (all_told sides added cursors) (text ∷ texts)) stop ∙ over
   complete (e ∷ behind) added cursors left whole seated stop seats workers fits =
       let here : List Entry = sides.before ++ added in
@@ -305,8 +320,9 @@ module _ (laws : Laws) (files : FileLaws) (sides : Sides) (small : sides.lanes +
       let within = leb-true e.seat (sides.lanes + sides.workers) range.1 in
       let long = ap length whole in
       let long' = length-append here (e ∷ behind) in
-      let next = next_goes added told e behind whole (told_fit.seated 1 (suc sides.lanes) seated) told_fit.stops seats.0 workers.0 (told_fit.forth few (e ∷ behind) fits) in
-      let seat : is_seat sides (seat_in text) ≡ true = ap (is_seat sides) (seat_in-entry (length here + 1) e (omega arith) (omega arith)) ∙ seats.0 in
+      let next = next_goes added told e behind whole (told_fit.seated 1 (suc sides.lanes) seated) told_fit.stops seats.0 workers.0
+      (told_fit.forth few (e ∷ behind) fits) in
+      let seat : is_seat sides (seat_in text) ≡ true = ap (is_seat sides) (seat-read (length here + 1) e (omega arith)) ∙ seats.0 in
       let moved : here ++ e ∷ [] ≡ sides.before ++ (added ++ e ∷ []) = append_assoc sides.before added (e ∷ []) in
       let later : history ≡ sides.before ++ (added ++ e ∷ []) ++ behind =
       whole ∙ (sym (append_assoc here (e ∷ []) behind) ∙ ap (λ (es : List Entry). es ++ behind) moved) in
@@ -314,7 +330,8 @@ module _ (laws : Laws) (files : FileLaws) (sides : Sides) (small : sides.lanes +
       (subst (λ (es : List Entry). CursorsFit sides.beside history es next.behind behind) moved next.fits) in
       let position : length (sides.before ++ (added ++ e ∷ [])) + 1 ≡ length here + 1 + 1 =
       ap (λ (es : List Entry). length es + 1) (sym moved) ∙ ap (λ (n : ℕ). n + 1) (one_more here e) in
-      cond-true (is_seat sides (seat_in text)) (option_and_then (λ (w : Went). phase_from sides (added ++ w.entry ∷ []) w.cursors texts) (next_went sides added told text))
+      cond-true (is_seat sides (seat_in text)) (option_and_then (λ (w : Went). phase_from sides (added ++ w.entry ∷ []) w.cursors texts)
+      (next_went sides added told text))
       (reached added told (text ∷ texts)) seat
       ∙ (ap (option_and_then (λ (w : Went). phase_from sides (added ++ w.entry ∷ []) w.cursors texts)) next.goes
       ∙ (ap (λ (n : ℕ). phase_from sides (added ++ e ∷ []) next.behind (entry_texts n behind ++ left)) (sym position)

@@ -1,8 +1,8 @@
 -- Sections side by side: each fits what is behind them all.
-use Rattle.std.proofs.Common.{ℕ, zero, suc, ◌≡◌, ◌+◌, ◌≤◌, ◌<◌, Bool, true, false, cond, not, ◌&&◌, ◌||◌, List, [], ◌∷◌, ◌++◌, length, map, refl, sym, ap, ◌∙◌, subst, append_assoc, length-append, arith, Option, Some, None, ◌⊎◌, inl, inr, ⊎_elim, eqb}
+use Rattle.std.proofs.Common.{ℕ, suc, ◌≡◌, ◌≤◌, ◌<◌, Bool, true, false, cond, List, [], ◌∷◌, ◌++◌, map, refl, sym, ap, ◌∙◌, subst, arith, Option, Some, None, ◌⊎◌, inl, inr, ⊎_elim, eqb}
 use Rattle.std.specs.Prelude.{option_map}
-use Rattle.std.specs.List.{list_all, list_any}
-use Rattle.std.proofs.lemmas.Bool.{cond-true, cond-false, eqb-true, eqb-false, or_parts, or_from, and_parts, and_from, eq-eqb, ne_eqb, cases_lt}
+use Rattle.std.specs.List.{list_all}
+use Rattle.std.proofs.lemmas.Bool.{cond-true, cond-false, eqb-true, eqb-false, or_parts, or_from, and_parts, and_from, cases_lt}
 use Rattle.list_laws.specs.Fronts.{IsFront}
 use Rattle.list_laws.proofs.BoolLemmas.{bool_cases}
 use Rattle.write_history.specs.declared.entry.Entry.{Entry}
@@ -58,10 +58,16 @@ module _ (laws : Laws) (beside : Bool) (history : List Entry) where
       let rest = all_told_fits here cs front in
       let told : Cursor = told_here beside here c in
       record {
-        forth = λ few behind fits. (subst (λ (n : ℕ). CursorFits beside history here told (made_by n behind)) (sym one.seat_is)
-            (one.forth few (made_by c.seat behind) fits.0), rest.forth few behind fits.1);
-        back = λ behind fits. (one.back (made_by c.seat behind)
-            (subst (λ (n : ℕ). CursorFits beside history here told (made_by n behind)) one.seat_is fits.0), rest.back behind fits.1);
+        forth = λ few behind fits. (
+          subst (λ (n : ℕ). CursorFits beside history here told (made_by n behind)) (sym one.seat_is)
+              (one.forth few (made_by c.seat behind) fits.0),
+          rest.forth few behind fits.1,
+        );
+        back = λ behind fits. (
+          one.back (made_by c.seat behind)
+              (subst (λ (n : ℕ). CursorFits beside history here told (made_by n behind)) one.seat_is fits.0),
+          rest.back behind fits.1,
+        );
         seated = λ first past seated. (one.seat_is ∙ seated.0, rest.seated (suc first) past seated.1);
         stops = (subst (λ (n : ℕ). StopsAt beside here n told.settling told.lines told.texts) (sym one.seat_is) one.stops, rest.stops);
       }
@@ -76,9 +82,10 @@ module _ (laws : Laws) (beside : Bool) (history : List Entry) where
       let other : e.seat ≡ c.seat → ⊥ = λ same. none_first first past e.seat (omega arith) none (same ∙ seated.0) in
       let one = other_forth laws beside history c.seat here c.settling c.lines c.texts e es (made_by c.seat es) stops.0 parts other
       (subst (CursorFits beside history here c) (made_by-other c.seat e es other) fits.0) in
-      let rest = others_forth here (suc first) past cs e es seated.1 (none_later first past e.seat none) stops.1 parts fits.1 in
-      (or_from c.settling (is_busy cs) one.0 rest.0,
-      (subst (λ (b : Bool). StateFits beside history (here ++ e ∷ []) c.seat b c.lines c.texts (made_by c.seat es)) (sym one.0) one.1, rest.1))
+      let rest = others_forth here (suc first) past cs e es seated.1 (none_later first past e.seat none) stops.1 parts fits.1 in (
+        or_from c.settling (is_busy cs) one.0 rest.0,
+        (subst (λ (b : Bool). StateFits beside history (here ++ e ∷ []) c.seat b c.lines c.texts (made_by c.seat es)) (sym one.0) one.1, rest.1),
+      )
 
   pub others_back : (here : List Entry) (first past : ℕ) (cursors : List Cursor) (e : Entry) (es : List Entry) → AreSeated first past cursors
       → IsNoneOf first past e.seat → is_busy cursors ≡ false → CursorsFit beside history (here ++ e ∷ []) cursors es
@@ -87,10 +94,11 @@ module _ (laws : Laws) (beside : Bool) (history : List Entry) where
   others_back here first past (c ∷ cs) e es seated none quiet fits =
       let rise = seats_rise (suc first) past cs seated.1 in
       let other : e.seat ≡ c.seat → ⊥ = λ same. none_first first past e.seat (omega arith) none (same ∙ seated.0) in
-      let parts = or_parts c.settling (is_busy cs) quiet in
-      (subst (CursorFits beside history here c) (sym (made_by-other c.seat e es other))
-      (other_back laws beside history c.seat here c.settling c.lines c.texts e (made_by c.seat es) parts.0 fits.0),
-      others_back here (suc first) past cs e es seated.1 (none_later first past e.seat none) parts.1 fits.1)
+      let parts = or_parts c.settling (is_busy cs) quiet in (
+        subst (CursorFits beside history here c) (sym (made_by-other c.seat e es other))
+            (other_back laws beside history c.seat here c.settling c.lines c.texts e (made_by c.seat es) parts.0 fits.0),
+        others_back here (suc first) past cs e es seated.1 (none_later first past e.seat none) parts.1 fits.1,
+      )
 
   -- the next entry is that of one of them
   pub record SectionGoes (here : List Entry) (first past : ℕ) (cursors : List Cursor) (e : Entry) (es : List Entry) : Type 0 where
@@ -159,7 +167,8 @@ pub went_back : (laws : Laws) (here : List Entry) (first past seat : ℕ) (curso
     → section_went seat here cursors ≡ Some w → SectionWent laws here first past seat cursors w
 went_back laws here first past seat [] w seated goes = absurd (none_some goes)
 went_back laws here first past seat (c ∷ cs) w seated goes = bool_cases (eqb c.seat seat)
-    (λ (b : Bool). cond b (went_first cs (made_here here c)) (went_later c (section_went seat here cs)) ≡ Some w → SectionWent laws here first past seat (c ∷ cs) w)
+    (λ (b : Bool). cond b (went_first cs (made_here here c)) (went_later c (section_went seat here cs)) ≡ Some w
+    → SectionWent laws here first past seat (c ∷ cs) w)
     (λ yes first_goes. own yes first_goes)
     (λ fails later_goes. later (λ v is. went_back laws here (suc first) past seat cs v seated.1 is) fails later_goes) goes
   where
@@ -181,17 +190,20 @@ went_back laws here first past seat (c ∷ cs) w seated goes = bool_cases (eqb c
           below = omega arith;
           seated = (keeps.0 ∙ seated.0, seated.1);
           lawful = made_lawful laws true [] c.seat here c.lines c.texts m step.is;
-          back = λ beside history es front fits.
-              (subst (CursorFits beside history here c) (sym (made_by-own c.seat m.entry es keeps.1))
-              (own_back laws beside history c.seat here c.settling c.lines c.texts m (made_by c.seat es) step.is front
-              (subst (λ (n : ℕ). CursorFits beside history (here ++ m.entry ∷ []) m.cursor (made_by n es)) keeps.0 fits.0)),
-              others_back laws beside history here (suc first) past cs m.entry es seated.1
-              (inl (let is = keeps.1 in omega arith)) quiet fits.1);
+          back = λ beside history es front fits. (
+            subst (CursorFits beside history here c) (sym (made_by-own c.seat m.entry es keeps.1))
+                (own_back laws beside history c.seat here c.settling c.lines c.texts m (made_by c.seat es) step.is front
+                (subst (λ (n : ℕ). CursorFits beside history (here ++ m.entry ∷ []) m.cursor (made_by n es)) keeps.0 fits.0)),
+            others_back laws beside history here (suc first) past cs m.entry es seated.1
+                (inl (let is = keeps.1 in omega arith)) quiet fits.1,
+          );
         })))
+
     later : ((v : Went) → section_went seat here cs ≡ Some v → SectionWent laws here (suc first) past seat cs v) → eqb c.seat seat ≡ false
         → went_later c (section_went seat here cs) ≡ Some w → SectionWent laws here first past seat (c ∷ cs) w
     later others fails = bool_cases c.settling
-        (λ (b : Bool). (c.settling ≡ b) → cond b None (option_map (λ (v : Went). record { entry = v.entry; cursors = c ∷ v.cursors }) (section_went seat here cs)) ≡ Some w
+        (λ (b : Bool). (c.settling ≡ b) → cond b None
+        (option_map (λ (v : Went). record { entry = v.entry; cursors = c ∷ v.cursors }) (section_went seat here cs)) ≡ Some w
         → SectionWent laws here first past seat (c ∷ cs) w)
         (λ busy is h. absurd (none_some h))
         (λ quiet is h. (
@@ -205,10 +217,11 @@ went_back laws here first past seat (c ∷ cs) w seated goes = bool_cases (eqb c
           below = rest.below;
           seated = (seated.0, rest.seated);
           lawful = rest.lawful;
-          back = λ beside history es front fits.
-              (subst (CursorFits beside history here c) (sym (made_by-other c.seat step.value.entry es other))
-              (other_back laws beside history c.seat here c.settling c.lines c.texts step.value.entry (made_by c.seat es) quiet fits.0),
-              rest.back beside history es front fits.1);
+          back = λ beside history es front fits. (
+            subst (CursorFits beside history here c) (sym (made_by-other c.seat step.value.entry es other))
+                (other_back laws beside history c.seat here c.settling c.lines c.texts step.value.entry (made_by c.seat es) quiet fits.0),
+            rest.back beside history es front fits.1,
+          );
         }))) refl
 
 -- at the end of a history each section fits it where it is over

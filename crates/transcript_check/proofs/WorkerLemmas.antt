@@ -1,11 +1,11 @@
 -- What workers may make, entry by entry.
-use Rattle.std.proofs.Common.{ℕ, suc, ◌≡◌, ◌≢◌, ◌+◌, ◌≤◌, ◌<◌, Bool, true, false, List, [], ◌∷◌, ◌++◌, length, get_or, refl, sym, ap, ◌∙◌, subst, append_assoc, length-append, arith, ◌⊎◌, inl, inr, ⊎_elim, eqb, not, ◌&&◌}
-use Rattle.std.specs.List.{All, AllPairs, list_any}
+use Rattle.std.proofs.Common.{ℕ, suc, ◌≡◌, ◌≢◌, ◌<◌, true, false, List, [], ◌∷◌, ◌++◌, length, get_or, refl, sym, ap, ◌∙◌, subst, append_assoc, length-append, arith, eqb}
+use Rattle.std.specs.List.{All, AllPairs}
 use Rattle.std.proofs.Math.Seq.{get_or-append_seam}
 use Rattle.std.proofs.lemmas.List.{get_or_append_left}
 use Rattle.std.proofs.lemmas.List.Elements.{All-append, filter-append}
 use Rattle.std.proofs.lemmas.List.Quantifiers.{all_pairs_push}
-use Rattle.std.proofs.lemmas.Bool.{false≢true, eqb-true, eqb-false, eq-eqb, both_ways, or_parts, or_from, and_parts, and_from, false_from_ne_true}
+use Rattle.std.proofs.lemmas.Bool.{false≢true, eqb-true, eq-eqb, both_ways, or_parts, or_from, and_parts, and_from, false_from_ne_true}
 use Rattle.list_laws.proofs.BoolLemmas.{bool_cases}
 use Rattle.list_laws.proofs.FrontLemmas.{All-cons, filter_more, filter_same}
 use Rattle.write_history.specs.declared.change.Change.{Change}
@@ -52,9 +52,10 @@ may_make added e es workers =
 
 pub workers_from : (lanes : ℕ) (added es : List Entry) → ((seat : ℕ) → lanes < seat → AreWorkers seat (added ++ es)) → WorkersFrom lanes added es
 workers_from lanes added [] workers = tt
-workers_from lanes added (e ∷ es) workers =
-    ((λ past. may_make added e es (workers e.seat past)),
-    workers_from lanes (added ++ e ∷ []) es (λ seat past. subst (AreWorkers seat) (sym (append_assoc added (e ∷ []) es)) (workers seat past)))
+workers_from lanes added (e ∷ es) workers = (
+  (λ past. may_make added e es (workers e.seat past)),
+  workers_from lanes (added ++ e ∷ []) es (λ seat past. subst (AreWorkers seat) (sym (append_assoc added (e ∷ []) es)) (workers seat past)),
+)
 
 -- one entry more that the worker may make
 workers_push : (seat : ℕ) (added : List Entry) (e : Entry) → AreWorkers seat added → (e.seat ≡ seat → MayMake added e) → AreWorkers seat (added ++ e ∷ [])
@@ -62,7 +63,8 @@ workers_push seat added e workers may = bool_cases (eqb e.seat seat) (λ b. AreW
     (λ yes. (let own = eqb-true e.seat seat yes in let make = may own in
     let grown : made_by seat (added ++ e ∷ []) ≡ made_by seat added ++ e ∷ [] = filter_more (λ (x : Entry). eqb x.seat seat) added e yes in
     let is_one : IsIntakeBy seat e = subst (λ (n : ℕ). IsIntakeBy n e) own make.intake in
-    let anew : All (λ (d : Entry). d.changes ≢ e.changes) (made_by seat added) = subst (λ (n : ℕ). All (λ (d : Entry). d.changes ≢ e.changes) (made_by n added)) own make.anew in
+    let anew : All (λ (d : Entry). d.changes ≢ e.changes) (made_by seat added) =
+    subst (λ (n : ℕ). All (λ (d : Entry). d.changes ≢ e.changes) (made_by n added)) own make.anew in
     record {
       intakes = subst (All (IsIntakeBy seat)) (sym grown) (All-append (IsIntakeBy seat) (made_by seat added) (e ∷ []) workers.intakes
           (All-cons (IsIntakeBy seat) e [] is_one (λ k d less. absurd (omega arith))));
@@ -103,10 +105,12 @@ taken_anew file stamp [] none = λ k d less. absurd (omega arith)
 taken_anew file stamp (e ∷ entries) none =
     let parts = or_parts (is_intake_at file stamp e.changes) (has_taken file stamp entries) none in
     All-cons (λ (d : Entry). d.changes ≢ Intake file stamp ∷ []) e entries
-    (λ same. both_ways (is_intake_at file stamp e.changes) parts.0 (subst (λ (cs : List Change). is_intake_at file stamp cs ≡ true) (sym same) (intake_same file stamp)))
+    (λ same. both_ways (is_intake_at file stamp e.changes) parts.0
+    (subst (λ (cs : List Change). is_intake_at file stamp cs ≡ true) (sym same) (intake_same file stamp)))
     (taken_anew file stamp entries parts.1)
 
-pub not_taken : (file stamp : ℕ) (entries : List Entry) → All (λ (d : Entry). d.changes ≢ Intake file stamp ∷ []) entries → has_taken file stamp entries ≡ false
+pub not_taken : (file stamp : ℕ) (entries : List Entry) → All (λ (d : Entry). d.changes ≢ Intake file stamp ∷ []) entries
+    → has_taken file stamp entries ≡ false
 not_taken file stamp [] anew = refl
 not_taken file stamp (e ∷ entries) anew = or_from (is_intake_at file stamp e.changes) (has_taken file stamp entries)
     (false_from_ne_true (is_intake_at file stamp e.changes) (λ h. anew 0 e (omega arith) (intake_is file stamp e.changes h)))

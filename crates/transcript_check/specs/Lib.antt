@@ -4,3 +4,4 @@ pub mod Phase
 pub mod Checked
 pub mod Blocks
 pub mod Texts
+pub mod Verdict

@@ -3,10 +3,13 @@ ghost use Rattle.std.specs.Prelude.{ℕ, ◌≡◌, ◌+◌, ◌<◌, ◌^◌, t
 ghost use Rattle.script_lang.specs.Held.{AreOfScript};
 ghost use Rattle.script_lang.specs.Parts.{Parts};
 ghost use Rattle.transcripts.specs.declared.loaded.Loaded.{Loaded};
+ghost use Rattle.transcripts.specs.Play.{IsTranscriptOf};
 ghost use Rattle.transcript_check.specs.Checked.{are_checked, AreTextsOfRun};
+ghost use Rattle.transcript_check.specs.Verdict.{verdict_of};
 
+use crate::blocks::{blocks_join, transcripts_are_cut};
 use ide_calls::laws::a_settle_goes_by_the_lowest;
-use transcripts::laws::a_section_alone_is_serial;
+use transcripts::laws::{a_run_alone_is_serial, a_section_alone_is_serial};
 use write_history::laws::{histories_go_on, ids_are_places};
 
 /// Texts of entries and records that are checked are those of a run of the script, and all those of a run are checked.
@@ -21,4 +24,18 @@ pub fn checked_texts_are_those_of_a_run()
     ids_are_places();
     a_settle_goes_by_the_lowest();
     a_section_alone_is_serial();
+}
+
+/// Bytes that are found good are a transcript of the script, and all its transcripts are found good.
+pub fn a_verdict_is_good_for_transcripts_alone()
+    ensures sound { (loads : List Loaded) (script : Parts) (workers : ℕ) (bytes : List ℕ)
+        → verdict_of loads script workers bytes ≡ true → IsTranscriptOf loads script workers bytes }
+    ensures complete { (loads : List Loaded) (script : Parts) (workers : ℕ) (bytes : List ℕ)
+        → AreOfScript script → workers < 2 ^ 32 → IsTranscriptOf loads script workers bytes
+        → verdict_of loads script workers bytes ≡ true }
+{
+    checked_texts_are_those_of_a_run();
+    a_run_alone_is_serial();
+    blocks_join();
+    transcripts_are_cut();
 }

@@ -1,4 +1,4 @@
-use Rattle.std.proofs.Common.{ℕ, ◌≤◌, ◌<◌, ◌^◌, length, arith}
+use Rattle.std.proofs.Common.{◌≤◌, length, arith}
 use Rattle.script_lang.specs.Reading.{max_lanes}
 use Rattle.transcript_check.proofs.StepLemmas.{Laws}
 use Rattle.transcript_check.proofs.IntakeLemmas.{FileLaws}
