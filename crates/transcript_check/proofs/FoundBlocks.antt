@@ -5,7 +5,9 @@ use Rattle.std.specs.Option.{option_map_or}
 use Rattle.std.specs.Fmt.{decimal}
 use Rattle.std.specs.List.{flat_map, AllByRecursion}
 use Rattle.std.proofs.lemmas.Bool.{cond_both}
-use Rattle.dumb_mode.specs.Filter.{is_java}
+use Rattle.dumb_mode.specs.declared.kind.FileKind.{FileKind}
+use Rattle.dumb_mode.specs.declared.kind.FileKind.TheVariants.{Java, Properties}
+use Rattle.dumb_mode.specs.Filter.{has_kind}
 use Rattle.stub_tree.specs.declared.stub.Stub.{Stub}
 use Rattle.stub_tree.specs.declared.stub_kind.StubKind.TheVariants as declares
 use Rattle.stub_tree.specs.Stub.{code_of, is_type}
@@ -24,8 +26,8 @@ use Rattle.query_engine.specs.declared.answer.Answer.TheVariants.{Rows}
 use Rattle.query_engine.specs.declared.answer.AskRefusal.{AskRefusal}
 use Rattle.query_engine.specs.Fits.{is_class, has_super, is_method}
 use Rattle.query_engine.specs.Inheritors.{Listing, names_any, names_of, levels_from, inheritors_of}
-use Rattle.query_engine.specs.Reply.{row_of, rows_in, word_row, word_in, of_java, of_files, of_world, place_row, uses_in, types_in, types_of, listed_row, level_row, unless_unready, all_rows, listing_reply, reply}
-use Rattle.transcripts.specs.Transcript.{joined, mask_text, word_line, kind_text, indent, super_text, supers_text, place_text, name_place_text, declared_text, found_line, outline_line, usage_line, level_line, count_line, files_text, open_text, unready_text, counts_line, found_text}
+use Rattle.query_engine.specs.Reply.{row_of, rows_in, word_row, word_in, of_kind, of_files, of_world, place_row, uses_in, keys_in, types_in, types_of, listed_row, level_row, unless_unready, all_rows, listing_reply, reply}
+use Rattle.transcripts.specs.Transcript.{joined, mask_text, word_line, kind_text, indent, super_text, supers_text, place_text, name_place_text, declared_text, found_line, outline_line, usage_line, key_line, level_line, count_line, files_text, open_text, unready_text, counts_line, found_text}
 use Rattle.transcript_check.specs.Blocks.{space, EndsOnce}
 use Rattle.transcript_check.proofs.PlainLemmas.{is_plain, plain-append, plain-decimal, plain-then, line-ends, ends-then, GoesOn, goes_on-each}
 
@@ -75,15 +77,15 @@ files-shown [] each = tt
 files-shown (file ∷ files) each = (each 0, files-shown files (λ place. each (suc place)))
 
 -- what holds of all that each live file gives holds of all that they give
-of_files-all : {X : Type 0} (P : X → Type 0) (rows : ℕ → File → List X) (id : ℕ) (files : List (Option File)) → AllByRecursion IsShownFile files
-    → ((id : ℕ) (file : File) → IsShown file.path → AllByRecursion P (rows id file)) → AllByRecursion P (of_files rows id files)
-of_files-all P rows id [] shown each = tt
-of_files-all P rows id (file ∷ files) shown each =
-    all-append P (of_java rows id file) (of_files rows (id + 1) files) (java id file shown.0) (of_files-all P rows (id + 1) files shown.1 each)
+of_files-all : {X : Type 0} (kind : FileKind) (P : X → Type 0) (rows : ℕ → File → List X) (id : ℕ) (files : List (Option File)) → AllByRecursion IsShownFile files
+    → ((id : ℕ) (file : File) → IsShown file.path → AllByRecursion P (rows id file)) → AllByRecursion P (of_files kind rows id files)
+of_files-all kind P rows id [] shown each = tt
+of_files-all kind P rows id (file ∷ files) shown each =
+    all-append P (of_kind kind rows id file) (of_files kind rows (id + 1) files) (one id file shown.0) (of_files-all kind P rows (id + 1) files shown.1 each)
   where
-    java : (id : ℕ) (file : Option File) → IsShownFile file → AllByRecursion P (of_java rows id file)
-    java id None shown = tt
-    java id (Some file) shown = cond_both (is_java file.path) (rows id file) [] (AllByRecursion P) (λ _. each id file shown) (λ _. tt)
+    one : (id : ℕ) (file : Option File) → IsShownFile file → AllByRecursion P (of_kind kind rows id file)
+    one id None shown = tt
+    one id (Some file) shown = cond_both (has_kind kind file.path) (rows id file) [] (AllByRecursion P) (λ _. each id file shown) (λ _. tt)
 
 -- ---- lines of rows
 
@@ -146,6 +148,14 @@ usage-goes_on name row shown =
       line-ends (at ++ codes " usage " ++ encode_utf8_all name)
           (plain-append (at ++ codes " usage ") (encode_utf8_all name)
           (plain-append at (codes " usage ") (place-plain row.path row.line row.column shown.0) refl) shown.1),
+    )
+
+key-goes_on : (row : PlaceRow) → IsShown row.path → GoesOn (key_line row)
+key-goes_on row shown =
+    let at : List ℕ = place_text row.path row.line row.column in (
+      refl,
+      subst EndsOnce (append_assoc at (codes " property") (codes "\n"))
+          (line-ends (at ++ codes " property") (plain-append at (codes " property") (place-plain row.path row.line row.column shown) refl)),
     )
 
 -- the places of a mask
@@ -280,12 +290,19 @@ module _ (texts : Texts) (world : World) (live : (id : ℕ) → IsShownFile (fil
           some : (at : ℕ) (ats : List ℕ) → at ∷ ats ≡ [] → ⊥
           some at ats e = cc
 
+  keys_in-shown : (key : List ℕ) (id : ℕ) (file : File) → IsShown file.path → AllByRecursion (λ (row : PlaceRow). IsShown row.path) (keys_in key id file)
+  keys_in-shown key id file shown = each _
+    where
+      each : (ats : List ℕ) → AllByRecursion (λ (row : PlaceRow). IsShown row.path) (map (place_row id file.path (shown_text file)) ats)
+      each [] = tt
+      each (at ∷ ats) = (shown, each ats)
+
   -- the types of a world
   abbrev TypeShown : Listing → Type 0
   TypeShown t = IsShownStub t.1
 
   types-shown : AllByRecursion TypeShown (types_of world)
-  types-shown = of_files-all TypeShown types_in 1 world.files all_shown
+  types-shown = of_files-all Java TypeShown types_in 1 world.files all_shown
       (λ id file shown. all-map IsShownStub TypeShown (λ stub. (id, stub)) (filter is_type (listing_of (shown_text file))) (λ stub is. is)
       (all-filter IsShownStub is_type (listing_of (shown_text file)) (texts.stubs (shown_text file))))
 
@@ -318,9 +335,9 @@ module _ (texts : Texts) (world : World) (live : (id : ℕ) → IsShownFile (fil
   unless-ends None finding ends = ends
   unless-ends (Some file) finding ends = tt
 
-  rows_of-end : (fits : Stub → Bool) → EndsOnce (found_text (Rows (of_world (rows_in fits) world)))
-  rows_of-end fits = rows-end IsShownRow found_line (of_world (rows_in fits) world) found-goes_on
-      (of_files-all IsShownRow (rows_in fits) 1 world.files all_shown (rows_in-shown fits))
+  rows_of-end : (fits : Stub → Bool) → EndsOnce (found_text (Rows (of_world Java (rows_in fits) world)))
+  rows_of-end fits = rows-end IsShownRow found_line (of_world Java (rows_in fits) world) found-goes_on
+      (of_files-all Java IsShownRow (rows_in fits) 1 world.files all_shown (rows_in-shown fits))
 
   outline-ends : (id : Option ℕ) → EndsIfFound (listing_reply world id)
   outline-ends None = tt
@@ -332,14 +349,17 @@ module _ (texts : Texts) (world : World) (live : (id : ℕ) → IsShownFile (fil
   reply-ends (query.Supers name) = unless-ends (lowest_unready world) _ (rows_of-end (has_super name))
   reply-ends (query.Method name) = unless-ends (lowest_unready world) _ (rows_of-end (is_method name))
   reply-ends (query.Word name) = unless-ends (lowest_unready world) _
-      (rows-end (λ (row : WordRow). IsShown row.path) word_line (of_world (word_in name) world) word-goes_on
-      (of_files-all (λ (row : WordRow). IsShown row.path) (word_in name) 1 world.files all_shown (word_in-shown name)))
+      (rows-end (λ (row : WordRow). IsShown row.path) word_line (of_world Java (word_in name) world) word-goes_on
+      (of_files-all Java (λ (row : WordRow). IsShown row.path) (word_in name) 1 world.files all_shown (word_in-shown name)))
   reply-ends (query.Usages name) = unless-ends (lowest_unready world) _
-      (rows-end (λ (row : PlaceRow). IsShown row.path × IsShown name) (usage_line name) (of_world (uses_in name) world) (usage-goes_on name)
-      (of_files-all (λ (row : PlaceRow). IsShown row.path × IsShown name) (uses_in name) 1 world.files all_shown (uses_in-shown name)))
+      (rows-end (λ (row : PlaceRow). IsShown row.path × IsShown name) (usage_line name) (of_world Java (uses_in name) world) (usage-goes_on name)
+      (of_files-all Java (λ (row : PlaceRow). IsShown row.path × IsShown name) (uses_in name) 1 world.files all_shown (uses_in-shown name)))
   reply-ends (query.Inheritors name) = unless-ends (lowest_unready world) _
       (rows-end (λ (found : LevelRow). IsShownRow found.row) level_line (map (level_row world) (inheritors_of name (types_of world))) level-goes_on
       (all-map (λ (found : ℕ × Listing). TypeShown found.1) (λ (found : LevelRow). IsShownRow found.row) (level_row world) (inheritors_of name (types_of world))
       (λ found is. listed-shown found.1 is) (levels-shown (length (types_of world)) 1 (name ∷ []) (types_of world) types-shown)))
+  reply-ends (query.Key key) = unless-ends (lowest_unready world) _
+      (rows-end (λ (row : PlaceRow). IsShown row.path) key_line (of_world Properties (keys_in key) world) key-goes_on
+      (of_files-all Properties (λ (row : PlaceRow). IsShown row.path) (keys_in key) 1 world.files all_shown (keys_in-shown key)))
   reply-ends (query.Outline path) = outline-ends (id_at world path)
   reply-ends query.Status = counts-end (count_of is_some world) (count_of is_open world) (count_of is_unready world)
