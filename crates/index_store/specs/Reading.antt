@@ -74,11 +74,15 @@ data_at Properties len bytes = do
   Ok (record { stubs = []; words = []; keys = keys.0 }, keys.1)
 
 -- the kind of a code
+abbrev pub kind_by : ℕ → FileKind
+kind_by code = if code == 1 then Java else Properties
+
+-- the kind whose code stands at the front
 unfoldable pub kind_at : List ℕ → Result (FileKind × List ℕ) ℕ
 kind_at bytes = do
   code ← byte_at bytes
   known ← checked (nat_le 1 code.0 && nat_le code.0 2) bytes
-  Ok (if code.0 == 1 then Java else Properties, code.1)
+  Ok (kind_by code.0, code.1)
 
 -- whether characters are those of a text: not too many, and no carriage return
 abbrev pub may_be_text : List ℕ → Bool

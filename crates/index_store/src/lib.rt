@@ -2,8 +2,11 @@
 #![tactic(auto)]
 
 mod data_reading;
+mod kind_code;
 mod reading;
 mod refusal;
+mod row_reading;
 mod spelled;
+mod versions;
 
 pub use refusal::StoreRefusal;
