@@ -19,10 +19,9 @@ pub enum StubRefusal {
 
 /// Why a field wasn't read.
 #[derive(Debug, Drop)]
-pub enum Fault {
+pub(crate) enum Fault {
     /// The field is cut by the end or unlawful: so many bytes stand from its first on.
     Unlawful(usize),
-    /// There was no memory.
     Memory,
 }
 

@@ -2,10 +2,9 @@
 #![tactic(auto)]
 
 mod fault;
-pub mod fields;
 mod reading;
 mod writing;
 
-pub use fault::{Fault, StubRefusal};
+pub use fault::StubRefusal;
 pub use reading::decode;
-pub use writing::{encode, put_name, put_number};
+pub use writing::encode;
