@@ -1,9 +1,10 @@
 //! A workspace that one thread goes through.
-ghost use Rattle.std.specs.Prelude.{◌≡◌, ◌≢◌, Ok, Err, IfOk, IfErr, OnOk, OnErr, List, None, true, option_map};
+ghost use Rattle.std.specs.Prelude.{◌≡◌, ◌≢◌, ◌≤◌, Ok, Err, IfOk, IfErr, OnOk, OnErr, List, None, true, option_map};
 ghost use Rattle.std.specs.List.{list_all};
 ghost use Rattle.std.specs.Option.{option_copied};
 ghost use Rattle.write_history.specs.declared.change.Change.{Change};
 ghost use Rattle.write_history.specs.World.{empty_world, file_of, lowest_unready};
+ghost use Rattle.write_history.specs.Effect.{max_entries};
 ghost use Rattle.write_history.specs.Fold.{list_refusal, after_list};
 ghost use Rattle.ide_world.specs.Ready.{is_edit, told, IsReadyFor, Makes};
 ghost use Rattle.query_engine.specs.Reply.{reply, IsRefusalOf};
@@ -124,10 +125,13 @@ impl Replay {
         ask_unwatched(alloc, &self.state, query)
     }
 
-    /// How many entries were accepted. Constant time.
+    /// How many entries were accepted, 1,048,576 at most. Constant time.
     pub fn entries(&self) -> u64
-        ensures { result ≡ self.now.entries }
+        ensures value { result ≡ self.now.entries }
+        ensures few { result ≤ max_entries }
     {
+        // Its contract says that the world is sound, so within its limits.
+        let _made = self.state.made();
         self.state.entries()
     }
 
