@@ -1,0 +1,4 @@
+pub mod Reading
+pub mod Section
+pub mod Phase
+pub mod Checked
