@@ -9,5 +9,5 @@ mod record;
 mod rows;
 
 pub use loaded::Loaded;
-pub use print::{summary, transcript};
+pub use print::{record_text, summary, transcript};
 pub use record::{Answer, Played, Record, Records};
