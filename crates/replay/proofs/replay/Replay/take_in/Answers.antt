@@ -1,4 +1,4 @@
-use Rattle.std.proofs.Common.{ap, subst, sym}
+use Rattle.std.proofs.Common.{subst}
 use Rattle.write_history.specs.World.{World}
 use Rattle.ide_world.specs.Ready.{Makes}
 use Rattle.replay.specs.Steps.{intake_of}
