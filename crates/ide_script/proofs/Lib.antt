@@ -1,3 +1,2 @@
 pub mod EntryLemmas
-pub mod LoadsLemmas
 pub mod RunLemmas

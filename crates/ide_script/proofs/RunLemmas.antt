@@ -1,5 +1,6 @@
 -- How a run ends, by how its bytes were written.
-use Rattle.std.proofs.Common.{ℕ, List, inr, refl}
+use Rattle.std.proofs.Common.{ℕ, List, Option, inr, refl}
+use Rattle.ide_io.specs.Files.{Files}
 use Rattle.ide_io.specs.Asks.{AsksEach}
 use Rattle.ide_io.proofs.AskLemmas.{AsksFront-all}
 use Rattle.ide_io.specs.declared.source.Source
@@ -8,10 +9,11 @@ use Rattle.ide_io.specs.declared.sink.Sink
 use Rattle.script_lang.specs.Parts.{Parts}
 use Rattle.index_workers.specs.declared.worked.Worked.{Worked}
 use Rattle.transcripts.specs.Serial.{Ended}
+use Rattle.transcripts.specs.Loads.{paths_of}
+use Rattle.transcripts.specs.Play.{Plays, IsTranscript}
 use Rattle.transcripts.specs.Transcript.{transcript_of, summary_of}
 use Rattle.ide_script.specs.declared.status.Status.{Status}
 use Rattle.ide_script.specs.declared.status.Status.TheVariants.{Done, Usage, BadScript, SourceFault, TreeFault, SinkFault, OutOfMemory, ScriptTooLong}
-use Rattle.ide_script.specs.Play.{Plays, paths_of}
 use Rattle.ide_script.specs.Run.{DemoEnds, GivesScript, PlayEnds, PlaysDemo, WriteEnds}
 
 -- once a demo was played, its run ends as the writing of its summary does
@@ -28,6 +30,15 @@ demo_ends k seed files edits workers told ended sink sink' played SourceFault ne
 demo_ends k seed files edits workers told ended sink sink' played TreeFault never = never
 demo_ends k seed files edits workers told ended sink sink' played ScriptTooLong never = never
 
+-- what prints a played script is a transcript of it
+is_transcript : (files : Option Files) (script : Parts) (workers : ℕ) (told : List Worked) (ended : Ended) → Plays files script workers told ended
+    → IsTranscript files script workers (transcript_of ended)
+is_transcript files script workers told ended played = record {
+  loads = played.loads;
+  read = played.read;
+  is = record { told = told; ended = ended; played = played.leads; printed = refl };
+}
+
 -- once a script was played, its run ends as the writing of its transcript does
 module _ {S T K : Type 0} (s : Source.Ghosts S) (t : Tree.Ghosts T) (k : Sink.Ghosts K) (workers : ℕ) (source source' : S) (tree tree' : T) (sink sink' : K)
     (script : Parts) (told : List Worked) (ended : Ended) where
@@ -35,12 +46,12 @@ module _ {S T K : Type 0} (s : Source.Ghosts S) (t : Tree.Ghosts T) (k : Sink.Gh
       → (status : Status) → WriteEnds k sink sink' (transcript_of ended) status → PlayEnds s t k workers source source' tree tree' sink sink' status
   play_ends gives asked played Done taken = record {
     bytes = transcript_of ended;
-    tells = record { script = script; read = gives; asked = asked; is = record { told = told; ended = ended; played = played; printed = refl } };
+    tells = record { script = script; read = gives; asked = asked; is = is_transcript (t.files tree) script workers told ended played };
     taken = taken;
   }
   play_ends gives asked played SinkFault (fault, taken) = record {
     bytes = transcript_of ended;
-    tells = record { script = script; read = gives; asked = asked; is = record { told = told; ended = ended; played = played; printed = refl } };
+    tells = record { script = script; read = gives; asked = asked; is = is_transcript (t.files tree) script workers told ended played };
     taken = taken;
     fault = fault;
   }

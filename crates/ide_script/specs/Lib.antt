@@ -1,5 +1,4 @@
--- Where a script leads, and how a run ends
-pub mod Play
+-- How a run ends
 pub mod Status
 pub mod Run
 -- What these cite from below: words, scripts, transcripts, the history, and the outside
@@ -10,6 +9,7 @@ pub use Rattle.transcripts.specs.Loads
 pub use Rattle.transcripts.specs.Serial
 pub use Rattle.transcripts.specs.Fits
 pub use Rattle.transcripts.specs.Transcript
+pub use Rattle.transcripts.specs.Play
 pub use Rattle.write_history.specs.World
 pub use Rattle.write_history.specs.Effect
 pub use Rattle.write_history.specs.Fold

@@ -19,11 +19,12 @@ use Rattle.script_lang.specs.declared.refusal.ScriptRefusal.TheVariants.{BadLine
 use Rattle.index_workers.specs.declared.worked.Worked.{Worked}
 use Rattle.transcripts.specs.Serial.{Ended, run_of}
 use Rattle.transcripts.specs.Fits.{RunFits}
-use Rattle.transcripts.specs.Transcript.{transcript_of, summary_of}
+use Rattle.transcripts.specs.Loads.{paths_of}
+use Rattle.transcripts.specs.Transcript.{summary_of}
+use Rattle.transcripts.specs.Play.{IsTranscript}
 use Rattle.ide_script.specs.declared.status.Status.{Status}
 use Rattle.ide_script.specs.declared.status.Status.TheVariants.{Done, Usage, BadScript, SourceFault, TreeFault, SinkFault, OutOfMemory, ScriptTooLong}
 use Rattle.ide_script.specs.Status.{number_of, fault_line}
-use Rattle.ide_script.specs.Play.{Plays, paths_of}
 
 -- the words of a command line: the program's name where the system gives none
 abbrev pub given_words : List (List ℕ) → List (List ℕ)
@@ -41,13 +42,6 @@ pub record GivesBadLine {S : Type 0} (s : Source.Ghosts S) (old new : S) (line :
   pub bytes : List ℕ
   pub read : ReadsToEnd s.left s.ends old new bytes
   pub is : IsRefused bytes (BadLine line)
-
--- these bytes print the history and the records that a run of the script with so many workers leads to
-pub record IsTranscript (files : Option Files) (script : Parts) (workers : ℕ) (bytes : List ℕ) : Type 0 where
-  pub told : List Worked
-  pub ended : Ended
-  pub played : Plays files script workers told ended
-  pub printed : bytes ≡ transcript_of ended
 
 -- the source gave a script, the tree was asked for the files of its loads, each once, in their order and for no other, and these bytes are a
 -- transcript of the script

@@ -2,7 +2,6 @@
 #![tactic(auto)]
 
 mod entry;
-mod loads;
 mod over_tree;
 mod refusal;
 mod run;

@@ -3,18 +3,18 @@ ghost use Rattle.std.specs.Prelude.{◌≡◌, ◌≢◌, ◌≤◌, IfOk, OnOk,
 ghost use Rattle.command_line.specs.Request.{max_workers};
 ghost use Rattle.ide_io.specs.Asks.{AsksEach, AsksFront, AsksSome};
 ghost use Rattle.ide_io.specs.Fault.{HasFault};
-ghost use Rattle.ide_script.specs.Play.{Plays, paths_of};
+ghost use Rattle.transcripts.specs.Loads.{paths_of};
+ghost use Rattle.transcripts.specs.Play.{Plays};
 
 use crate::PlayRefusal;
-use crate::loads::read_loads;
 use action_lock::Gate;
 use ide_io::Tree;
 use script_lang::Script;
 use std::alloc::Global;
 use std::sync::Wait;
 use std::thread::Threads;
-use transcripts::Played;
 use transcripts::laws::a_run_alone_is_serial;
+use transcripts::{LoadRefusal, Played, read_loads};
 
 /// Plays a script from the empty workspace: the prelude, then its lanes and so many workers, each on a thread of its own
 /// beside the others, then the last section. What the loads ask for is read before all else; a tree that fails ends it. A
@@ -40,6 +40,10 @@ pub fn play<R: Threads + Wait + Sync, T: Tree, G: Gate + Sync>(
     ensures quiet { result ≢ Err PlayRefusal.TreeFault → T.faults tree.new ≡ T.faults tree.old }
 {
     a_run_alone_is_serial();
-    let loads = read_loads(alloc, script.prelude(), tree)?;
+    let loads = match read_loads(alloc, script.prelude(), tree) {
+        Ok(loads) => loads,
+        Err(LoadRefusal::TreeFault) => return Err(PlayRefusal::TreeFault),
+        Err(LoadRefusal::OutOfMemory) => return Err(PlayRefusal::OutOfMemory),
+    };
     Ok(playing::play(rt, alloc, script, &loads, workers, gate)?)
 }

@@ -1,5 +1,5 @@
 //! Why a script isn't played to its end.
-use std::alloc::{AllocError, AllocFailed};
+use std::alloc::AllocError;
 
 /// Why a script isn't played to its end.
 #[derive(Clone, Copy, Debug, PartialEq, Eq)]
@@ -17,17 +17,6 @@ impl From<AllocError> for PlayRefusal {
     ghost from_gives = { λ _ refusal. refusal ≡ OutOfMemory };
 
     fn from(_: AllocError) -> PlayRefusal {
-        PlayRefusal::OutOfMemory
-    }
-}
-
-impl<T: Drop> From<AllocFailed<T>> for PlayRefusal {
-    ghost use Rattle.std.specs.Prelude.{◌≡◌};
-    ghost use Rattle.ide_script.specs.declared.refusal.PlayRefusal.TheVariants.{OutOfMemory};
-
-    ghost from_gives = { λ _ refusal. refusal ≡ OutOfMemory };
-
-    fn from(_: AllocFailed<T>) -> PlayRefusal {
         PlayRefusal::OutOfMemory
     }
 }

@@ -1,25 +1,25 @@
 -- A section on its way fits what is behind it exactly where it fits what is behind its next record or entry.
-use Rattle.std.proofs.Common.{ℕ, zero, suc, ◌≡◌, ◌+◌, ◌^◌, ◌≤◌, ◌<◌, Bool, true, false, cond, not, ◌&&◌, ◌||◌, List, [], ◌∷◌, ◌++◌, length, map, refl, sym, ap, ◌∙◌, subst, append_assoc, length-append, arith, Option, Some, None, ◌⊎◌, inl, inr, ⊎_elim, eqb}
+use Rattle.std.proofs.Common.{ℕ, ◌≡◌, ◌+◌, ◌^◌, ◌≤◌, ◌<◌, Bool, true, false, cond, not, ◌&&◌, List, [], ◌∷◌, ◌++◌, length, refl, sym, ap, ◌∙◌, subst, append_assoc, length-append, arith, Some, None, ◌⊎◌, inl, inr, ⊎_elim, eqb}
 use Rattle.std.specs.Prelude.{bytes_eq}
 use Rattle.std.proofs.lemmas.Slice.Eq.{bytes_eq-Decides}
-use Rattle.std.proofs.lemmas.Bool.{both_ways, and_parts, and_from, or_left, or_right, or_cases, cond-true, cond-false, eqb-true, eqb-false, cases_lt}
+use Rattle.std.proofs.lemmas.Bool.{both_ways, and_parts, and_from, or_left, or_right, or_cases, eqb-true, cases_lt}
 use Rattle.std.proofs.lemmas.List.{append_cancel_left, append-nil}
 use Rattle.std.proofs.lemmas.List.Elements.{filter-append}
 use Rattle.list_laws.specs.Fronts.{IsFront}
 use Rattle.list_laws.proofs.BoolLemmas.{bool_cases}
 use Rattle.list_laws.proofs.RowLemmas.{count_le}
-use Rattle.list_laws.proofs.FrontLemmas.{front_length, front_shorter, front_trans, front_whole}
+use Rattle.list_laws.proofs.FrontLemmas.{front_length, front_shorter, front_whole}
 use Rattle.write_history.specs.declared.entry.Entry.{Entry}
 use Rattle.write_history.specs.Fold.{fold, list_refusal}
 use Rattle.script_lang.specs.declared.line.Line.{Line}
 use Rattle.transcripts.specs.declared.loaded.Loaded.TheVariants.{Nothing}
 use Rattle.transcripts.specs.declared.record.Answer.{Answer}
-use Rattle.transcripts.specs.Serial.{Step, step_of, settle_step}
+use Rattle.transcripts.specs.Serial.{Step, settle_step}
 use Rattle.transcripts.specs.Fits.{made_by}
-use Rattle.transcript_check.specs.Section.{Cursor, Made, is_nil, line_step, told_text, tells, given_up, tells_given_up, is_told_here, told_from, told_here, is_over, is_settle, made_by_line, made_from, made_here}
+use Rattle.transcript_check.specs.Section.{Cursor, Made, is_nil, line_step, told_text, tells, given_up, tells_given_up, is_told_here, told_from, is_over, is_settle, made_by_line, made_from}
 use Rattle.transcript_check.proofs.TextLemmas.{at_of, IsShort, same_at}
-use Rattle.transcript_check.proofs.StepLemmas.{Laws, TellsAt, IsStep, step_is, step_one, settle_steps, settle_later, settle_sooner, made_by-own, made_by-other}
-use Rattle.transcript_check.proofs.Texts.{DoneBehind, DoneLate, WasGivenUp, TextFits, FirstFits, TextsFit, GaveUp, gave_up, text_is}
+use Rattle.transcript_check.proofs.StepLemmas.{Laws, TellsAt, IsStep, step_is, step_one, settle_steps, settle_later, settle_sooner, made_by-own}
+use Rattle.transcript_check.proofs.Texts.{DoneBehind, DoneLate, WasGivenUp, FirstFits, TextsFit, GaveUp, gave_up, text_is}
 
 -- a section behind `here` fits the whole history, of which these are its own entries behind `here`; a settle that has begun goes on right here
 abbrev pub StateFits : Bool → List Entry → List Entry → ℕ → Bool → List Line → List (List ℕ) → List Entry → Type 0
@@ -70,7 +70,7 @@ stand history before behind start made parts late front =
       whole = front.1;
     }
 
-one_more : (here : List Entry) (e : Entry) → length (here ++ e ∷ []) ≡ length here + 1
+pub one_more : (here : List Entry) (e : Entry) → length (here ++ e ∷ []) ≡ length here + 1
 one_more here e = length-append here (e ∷ [])
 
 same_head : {e f : Entry} {es fs : List Entry} → e ∷ es ≡ f ∷ fs → e ≡ f
@@ -85,17 +85,17 @@ text_head h = cc
 text_tail : {t u : List ℕ} {ts us : List (List ℕ)} → t ∷ ts ≡ u ∷ us → ts ≡ us
 text_tail h = cc
 
-none_some : {X : Type 0} {x : X} → None ≡ Some x → ⊥
+pub none_some : {X : Type 0} {x : X} → None ≡ Some x → ⊥
 none_some h = cc
 
-some_some : {X : Type 0} {x y : X} → Some x ≡ Some y → x ≡ y
+pub some_some : {X : Type 0} {x y : X} → Some x ≡ Some y → x ≡ y
 some_some h = cc
 
-nil_cons : {X : Type 0} {x : X} {xs : List X} → [] ≡ x ∷ xs → ⊥
+pub nil_cons : {X : Type 0} {x : X} {xs : List X} → [] ≡ x ∷ xs → ⊥
 nil_cons h = cc
 
 -- where all of a list that is not empty has a seat, the first has it
-first_seat : (seat : ℕ) (e : Entry) (es : List Entry) → made_by seat (e ∷ es) ≡ e ∷ es → e.seat ≡ seat
+pub first_seat : (seat : ℕ) (e : Entry) (es : List Entry) → made_by seat (e ∷ es) ≡ e ∷ es → e.seat ≡ seat
 first_seat seat e es all = bool_cases (eqb e.seat seat) (λ b. cond b (e ∷ made_by seat es) (made_by seat es) ≡ e ∷ es → e.seat ≡ seat)
     (λ yes h. eqb-true e.seat seat yes)
     (λ none h. let long = ap length h in let few = count_le (λ (x : Entry). eqb x.seat seat) es in absurd (omega arith)) all
@@ -104,7 +104,8 @@ module _ (laws : Laws) (beside : Bool) (history : List Entry) (seat : ℕ) where
   stepped : (start : List Entry) (line : Line) → IsStep start seat (line_step start seat line)
   stepped start line = step_is laws seat Nothing start line.number line.command
 
-  made_seated : (start : List Entry) (line : Line) (made : List Entry) (text : List ℕ) → DoneBehind history start seat line made text → made_by seat made ≡ made
+  made_seated : (start : List Entry) (line : Line) (made : List Entry) (text : List ℕ) → DoneBehind history start seat line made text
+      → made_by seat made ≡ made
   made_seated start line made text done = subst (λ (s : Step). made_by seat s.added ≡ s.added) done.step (stepped start line).seated
 
   -- a section may have seen less
@@ -113,12 +114,29 @@ module _ (laws : Laws) (beside : Bool) (history : List Entry) (seat : ℕ) where
   sooner [] len less texts own below fits = fits
   sooner (line ∷ lines) len less texts own below fits = ⊎_elim
       (λ (late : DoneLate history seat line len fits.made fits.text fits.between). (let begins : len ≤ length late.start = late.late in
-      record { text = fits.text; made = fits.made; between = fits.between; later = fits.later; made_later = fits.made_later; texts_are = fits.texts_are; own_is = fits.own_is;
-        first = inl (record { start = late.start; late = omega arith; done = late.done; between_is = late.between_is }); rest = fits.rest }))
+      record {
+        text = fits.text;
+        made = fits.made;
+        between = fits.between;
+        later = fits.later;
+        made_later = fits.made_later;
+        texts_are = fits.texts_are;
+        own_is = fits.own_is;
+        first = inl (record { start = late.start; late = omega arith; done = late.done; between_is = late.between_is });
+        rest = fits.rest;
+      }))
       (λ (given : (beside ≡ true) × WasGivenUp seat line len fits.made fits.text fits.between). (let stays : fits.between ≡ len = given.1.between_is in
-      record { text = fits.text; made = fits.made; between = less; later = fits.later; made_later = fits.made_later; texts_are = fits.texts_are; own_is = fits.own_is;
+      record {
+        text = fits.text;
+        made = fits.made;
+        between = less;
+        later = fits.later;
+        made_later = fits.made_later;
+        texts_are = fits.texts_are;
+        own_is = fits.own_is;
         first = inr (given.0, record { told = given.1.told; nothing = given.1.nothing; between_is = refl });
-        rest = sooner lines fits.between less fits.later fits.made_later (omega arith) fits.rest })) fits.first
+        rest = sooner lines fits.between less fits.later fits.made_later (omega arith) fits.rest;
+      })) fits.first
 
   -- a section has no more entries of its own than there are with its seat behind what it had seen
   pub few_own : (lines : List Line) (texts : List (List ℕ)) (own before behind : List Entry) → history ≡ before ++ behind
@@ -142,14 +160,36 @@ module _ (laws : Laws) (beside : Bool) (history : List Entry) (seat : ℕ) where
       (subst (λ (n : ℕ). TextsFit beside history seat n lines fits.later fits.made_later) given.1.between_is fits.rest) in
       let nothing = ap length given.1.nothing in omega arith)) fits.first
 
+  -- all entries of a section have its seat
+  pub own_seated : (lines : List Line) (len : ℕ) (texts : List (List ℕ)) (own : List Entry) → TextsFit beside history seat len lines texts own
+      → made_by seat own ≡ own
+  own_seated [] len texts own fits = subst (λ (es : List Entry). made_by seat es ≡ es) (sym fits.1) refl
+  own_seated (line ∷ lines) len texts own fits =
+      let made : made_by seat fits.made ≡ fits.made = ⊎_elim
+      (λ (late : DoneLate history seat line len fits.made fits.text fits.between). made_seated late.start line fits.made fits.text late.done)
+      (λ (given : (beside ≡ true) × WasGivenUp seat line len fits.made fits.text fits.between).
+      subst (λ (es : List Entry). made_by seat es ≡ es) (sym given.1.nothing) refl) fits.first in
+      let rest = own_seated lines fits.between fits.later fits.made_later fits.rest in
+      subst (λ (es : List Entry). made_by seat es ≡ es) (sym fits.own_is)
+      (filter-append (λ (x : Entry). eqb x.seat seat) fits.made fits.made_later ∙ λ i. made i ++ rest i)
+
   -- a settle that has begun is a line that was done behind what the section had seen
   pub loosen : (here : List Entry) (settling : Bool) (lines : List Line) (texts : List (List ℕ)) (own : List Entry)
       → StateFits beside history here seat true lines texts own → StateFits beside history here seat settling lines texts own
   loosen here true lines texts own fits = fits
   loosen here false [] texts own fits = absurd fits
   loosen here false (line ∷ lines) texts own fits =
-      record { text = fits.text; made = fits.made; between = fits.between; later = fits.later; made_later = fits.made_later; texts_are = fits.texts_are; own_is = fits.own_is;
-        first = inl (record { start = here; late = omega arith; done = fits.first.0; between_is = fits.first.1 }); rest = fits.rest }
+      record {
+        text = fits.text;
+        made = fits.made;
+        between = fits.between;
+        later = fits.later;
+        made_later = fits.made_later;
+        texts_are = fits.texts_are;
+        own_is = fits.own_is;
+        first = inl (record { start = here; late = omega arith; done = fits.first.0; between_is = fits.first.1 });
+        rest = fits.rest;
+      }
 
   -- WHAT IS TOLD HERE
 
@@ -160,7 +200,8 @@ module _ (laws : Laws) (beside : Bool) (history : List Entry) (seat : ℕ) where
     text_is : told_text seat line.number answer ≡ text
     how : (line_step here seat line ≡ record { added = []; answer = answer }) ⊎ ((b ≡ true) × (tells_given_up seat line.number line.command text ≡ true))
 
-  told_by_step : (here : List Entry) (b : Bool) (line : Line) (text : List ℕ) → tells seat line.number (line_step here seat line) text ≡ true → Told here b line text
+  told_by_step : (here : List Entry) (b : Bool) (line : Line) (text : List ℕ) → tells seat line.number (line_step here seat line) text ≡ true
+      → Told here b line text
   told_by_step here b line text holds =
       let step : Step = line_step here seat line in
       let parts = and_parts (is_nil step.added) (bytes_eq (told_text seat line.number step.answer) text) holds in
@@ -172,14 +213,16 @@ module _ (laws : Laws) (beside : Bool) (history : List Entry) (seat : ℕ) where
         how = inl (λ i. record { added = none i; answer = step.answer });
       }
 
-  told_given : (here : List Entry) (b : Bool) (line : Line) (text : List ℕ) → b ≡ true → tells_given_up seat line.number line.command text ≡ true → Told here b line text
+  told_given : (here : List Entry) (b : Bool) (line : Line) (text : List ℕ) → b ≡ true → tells_given_up seat line.number line.command text ≡ true
+      → Told here b line text
   told_given here b line text may holds =
       let gave : GaveUp seat line text = gave_up seat line.number line.command text holds in
       record { answer = given_up seat gave.attempts; tells = inl refl; text_is = gave.told; how = inr (may, holds) }
 
   told_is : (here : List Entry) (b : Bool) (line : Line) (text : List ℕ) → is_told_here b here seat line text ≡ true → Told here b line text
   told_is here b line text holds = ⊎_elim (told_by_step here b line text)
-      (λ (h : (b && tells_given_up seat line.number line.command text) ≡ true). (let parts = and_parts b (tells_given_up seat line.number line.command text) h in
+      (λ (h : (b && tells_given_up seat line.number line.command text) ≡ true). (let parts =
+      and_parts b (tells_given_up seat line.number line.command text) h in
       told_given here b line text parts.0 parts.1))
       (or_cases (tells seat line.number (line_step here seat line) text) (b && tells_given_up seat line.number line.command text) holds)
 
@@ -251,23 +294,55 @@ module _ (laws : Laws) (beside : Bool) (history : List Entry) (seat : ℕ) where
   done_here : (here : List Entry) (b : Bool) (line : Line) (text : List ℕ) (told : Told here b line text) → IsFront here history
       → line_step here seat line ≡ record { added = []; answer = told.answer } → DoneBehind history here seat line [] text
   done_here here b line text told front step =
-      record { answer = told.answer; stands = subst (λ (es : List Entry). IsFront es history) (sym (append-nil here)) front; step = step; told = told.text_is }
+      record {
+        answer = told.answer;
+        stands = subst (λ (es : List Entry). IsFront es history) (sym (append-nil here)) front;
+        step = step;
+        told = told.text_is;
+      }
 
-  tell_back : (here : List Entry) (settling : Bool) (line : Line) (lines : List Line) (text : List ℕ) (texts : List (List ℕ)) (own : List Entry) → IsFront here history
+  tell_back : (here : List Entry) (settling : Bool) (line : Line) (lines : List Line) (text : List ℕ) (texts : List (List ℕ)) (own : List Entry)
+      → IsFront here history
       → Told here (beside && not settling) line text → TextsFit beside history seat (length here) lines texts own
       → StateFits beside history here seat settling (line ∷ lines) (text ∷ texts) own
   tell_back here true line lines text texts own front told fits =
-      record { text = text; made = []; between = length here; later = texts; made_later = own; texts_are = refl; own_is = refl; rest = fits;
-        first = (⊎_elim (λ (step : line_step here seat line ≡ record { added = []; answer = told.answer }).
-        done_here here (beside && false) line text told front step)
-        (λ (given : ((beside && false) ≡ true) × (tells_given_up seat line.number line.command text ≡ true)).
-        absurd (both_ways false refl (and_parts beside false given.0).1)) told.how, sym (ap length (append-nil here))) }
+      record {
+        text = text;
+        made = [];
+        between = length here;
+        later = texts;
+        made_later = own;
+        texts_are = refl;
+        own_is = refl;
+        rest = fits;
+        first = (
+          ⊎_elim (λ (step : line_step here seat line ≡ record { added = []; answer = told.answer }).
+              done_here here (beside && false) line text told front step)
+              (λ (given : ((beside && false) ≡ true) × (tells_given_up seat line.number line.command text ≡ true)).
+              absurd (both_ways false refl (and_parts beside false given.0).1)) told.how,
+          sym (ap length (append-nil here)),
+        );
+      }
   tell_back here false line lines text texts own front told fits =
-      record { text = text; made = []; between = length here; later = texts; made_later = own; texts_are = refl; own_is = refl; rest = fits;
+      record {
+        text = text;
+        made = [];
+        between = length here;
+        later = texts;
+        made_later = own;
+        texts_are = refl;
+        own_is = refl;
+        rest = fits;
         first = ⊎_elim (λ (step : line_step here seat line ≡ record { added = []; answer = told.answer }).
-        inl (record { start = here; late = omega arith; done = done_here here (beside && true) line text told front step; between_is = sym (ap length (append-nil here)) }))
-        (λ (given : ((beside && true) ≡ true) × (tells_given_up seat line.number line.command text ≡ true)).
-        inr ((and_parts beside true given.0).0, record { told = given.1; nothing = refl; between_is = refl })) told.how }
+            inl (record {
+              start = here;
+              late = omega arith;
+              done = done_here here (beside && true) line text told front step;
+              between_is = sym (ap length (append-nil here));
+            }))
+            (λ (given : ((beside && true) ≡ true) × (tells_given_up seat line.number line.command text ≡ true)).
+            inr ((and_parts beside true given.0).0, record { told = given.1; nothing = refl; between_is = refl })) told.how;
+      }
 
   -- a section behind all records that are told here fits where it did before them
   pub record ToldFits (here : List Entry) (settling : Bool) (lines : List Line) (texts : List (List ℕ)) (c : Cursor) : Type 0 where
@@ -326,7 +401,7 @@ module _ (laws : Laws) (beside : Bool) (history : List Entry) (seat : ℕ) where
       subst (λ (es : List Entry). DoneBehind history es seat line made text) same done
 
   -- the next entry is another's: the section isn't in the middle of a settle, and fits behind that entry
-  other_forth : (here : List Entry) (settling : Bool) (lines : List Line) (texts : List (List ℕ)) (e : Entry) (es own : List Entry)
+  pub other_forth : (here : List Entry) (settling : Bool) (lines : List Line) (texts : List (List ℕ)) (e : Entry) (es own : List Entry)
       → StopsAt beside here seat settling lines texts → history ≡ here ++ e ∷ es → (e.seat ≡ seat → ⊥)
       → StateFits beside history here seat settling lines texts own
       → (settling ≡ false) × StateFits beside history (here ++ e ∷ []) seat false lines texts own
@@ -341,19 +416,33 @@ module _ (laws : Laws) (beside : Bool) (history : List Entry) (seat : ℕ) where
       let first : DoneBehind history here seat line fits.made text =
       subst (DoneBehind history here seat line fits.made) (sym (text_head fits.texts_are)) fits.first.0 in
       absurd (other (first_made here (beside && false) line text e es fits.made stops parts first).own)
-  other_forth here false (line ∷ lines) (text ∷ texts) e es own stops parts other fits = (refl, ⊎_elim
-      (λ (late : DoneLate history seat line (length here) fits.made fits.text fits.between). ⊎_elim
-      (λ (past : length here < length late.start). (let grown = one_more here e in
-      record { text = fits.text; made = fits.made; between = fits.between; later = fits.later; made_later = fits.made_later; texts_are = fits.texts_are; own_is = fits.own_is;
-        first = inl (record { start = late.start; late = omega arith; done = late.done; between_is = late.between_is }); rest = fits.rest }))
-      (λ (not_past : length late.start ≤ length here). (
-      let done = done_exactly here late.start line fits.made fits.text (e ∷ es, parts) not_past late.late late.done in
-      let first : DoneBehind history here seat line fits.made text = subst (DoneBehind history here seat line fits.made) (sym (text_head fits.texts_are)) done in
-      absurd (other (first_made here (beside && true) line text e es fits.made stops parts first).own)))
-      (cases_lt (length here) (length late.start)))
-      (λ (given : (beside ≡ true) × WasGivenUp seat line (length here) fits.made fits.text fits.between). absurd (not_given here (beside && true) line text stops
-      (and_from beside true given.0 refl)
-      (subst (λ (t : List ℕ). tells_given_up seat line.number line.command t ≡ true) (sym (text_head fits.texts_are)) given.1.told))) fits.first)
+  other_forth here false (line ∷ lines) (text ∷ texts) e es own stops parts other fits = (
+    refl,
+    ⊎_elim
+        (λ (late : DoneLate history seat line (length here) fits.made fits.text fits.between). ⊎_elim
+        (λ (past : length here < length late.start). (let grown = one_more here e in
+        record {
+          text = fits.text;
+          made = fits.made;
+          between = fits.between;
+          later = fits.later;
+          made_later = fits.made_later;
+          texts_are = fits.texts_are;
+          own_is = fits.own_is;
+          first = inl (record { start = late.start; late = omega arith; done = late.done; between_is = late.between_is });
+          rest = fits.rest;
+        }))
+        (λ (not_past : length late.start ≤ length here). (
+        let done = done_exactly here late.start line fits.made fits.text (e ∷ es, parts) not_past late.late late.done in
+        let first : DoneBehind history here seat line fits.made text =
+        subst (DoneBehind history here seat line fits.made) (sym (text_head fits.texts_are)) done in
+        absurd (other (first_made here (beside && true) line text e es fits.made stops parts first).own)))
+        (cases_lt (length here) (length late.start)))
+        (λ (given : (beside ≡ true) × WasGivenUp seat line (length here) fits.made fits.text fits.between). absurd
+        (not_given here (beside && true) line text stops
+        (and_from beside true given.0 refl)
+        (subst (λ (t : List ℕ). tells_given_up seat line.number line.command t ≡ true) (sym (text_head fits.texts_are)) given.1.told))) fits.first,
+  )
 
   -- the next entry is the section's own: it was made right here
   pinned : (here : List Entry) (settling : Bool) (line : Line) (lines : List Line) (text : List ℕ) (texts : List (List ℕ)) (e : Entry) (es : List Entry)
@@ -366,8 +455,17 @@ module _ (laws : Laws) (beside : Bool) (history : List Entry) (seat : ℕ) where
       (λ (past : length here < length late.start). (
       let grown = one_more here e in
       let behind : TextsFit beside history seat (length (here ++ e ∷ [])) (line ∷ lines) (text ∷ texts) (made_by seat (e ∷ es)) =
-      record { text = fits.text; made = fits.made; between = fits.between; later = fits.later; made_later = fits.made_later; texts_are = fits.texts_are; own_is = fits.own_is;
-        first = inl (record { start = late.start; late = omega arith; done = late.done; between_is = late.between_is }); rest = fits.rest } in
+      record {
+        text = fits.text;
+        made = fits.made;
+        between = fits.between;
+        later = fits.later;
+        made_later = fits.made_later;
+        texts_are = fits.texts_are;
+        own_is = fits.own_is;
+        first = inl (record { start = late.start; late = omega arith; done = late.done; between_is = late.between_is });
+        rest = fits.rest;
+      } in
       let few = few_own (line ∷ lines) (text ∷ texts) (made_by seat (e ∷ es)) (here ++ e ∷ []) es (parts ∙ sym (append_assoc here (e ∷ []) es)) behind in
       let more = ap length (made_by-own seat e es own) in absurd (omega arith)))
       (λ (not_past : length late.start ≤ length here). (
@@ -376,10 +474,20 @@ module _ (laws : Laws) (beside : Bool) (history : List Entry) (seat : ℕ) where
       let whole = length-append late.start fits.made in
       let whole' = length-append here fits.made in
       let between : fits.between ≡ length (late.start ++ fits.made) = late.between_is in
-      record { text = fits.text; made = fits.made; between = fits.between; later = fits.later; made_later = fits.made_later; texts_are = fits.texts_are; own_is = fits.own_is;
-        first = (done, omega arith); rest = fits.rest }))
+      record {
+        text = fits.text;
+        made = fits.made;
+        between = fits.between;
+        later = fits.later;
+        made_later = fits.made_later;
+        texts_are = fits.texts_are;
+        own_is = fits.own_is;
+        first = (done, omega arith);
+        rest = fits.rest;
+      }))
       (cases_lt (length here) (length late.start)))
-      (λ (given : (beside ≡ true) × WasGivenUp seat line (length here) fits.made fits.text fits.between). absurd (not_given here (beside && true) line text stops
+      (λ (given : (beside ≡ true) × WasGivenUp seat line (length here) fits.made fits.text fits.between). absurd
+      (not_given here (beside && true) line text stops
       (and_from beside true given.0 refl)
       (subst (λ (t : List ℕ). tells_given_up seat line.number line.command t ≡ true) (sym (text_head fits.texts_are)) given.1.told))) fits.first
 
@@ -391,7 +499,8 @@ module _ (laws : Laws) (beside : Bool) (history : List Entry) (seat : ℕ) where
     pub fits : CursorFits beside history (here ++ e ∷ []) cursor own
 
   -- by whether the line is a settle
-  goes_on_by : (here : List Entry) (line : Line) (lines : List Line) (text : List ℕ) (texts : List (List ℕ)) (e : Entry) (more own : List Entry) (between : ℕ) (settles : Bool)
+  goes_on_by : (here : List Entry) (line : Line) (lines : List Line) (text : List ℕ) (texts : List (List ℕ)) (e : Entry) (more own : List Entry)
+      (between : ℕ) (settles : Bool)
       → is_settle line.command ≡ settles → DoneBehind history here seat line (e ∷ more) text → between ≡ length (here ++ e ∷ more)
       → TextsFit beside history seat between lines texts own
       → GoesOn here (line ∷ lines) (text ∷ texts) e (more ++ own)
@@ -407,14 +516,26 @@ module _ (laws : Laws) (beside : Bool) (history : List Entry) (seat : ℕ) where
         makes = ap (λ (b : Bool). made_by_line b told on_the_way over (line_step here seat line).added) is
             ∙ ap (λ (es : List Entry). made_by_line true told on_the_way over es) (ap (λ (s : Step). s.added) done.step);
         seat_is = refl;
-        fits = record { text = text; made = more; between = between; later = texts; made_later = own; texts_are = refl; own_is = refl; rest = rest;
-          first = (record {
-            answer = done.answer;
-            stands = subst (λ (es : List Entry). IsFront es history) (sym moved) done.stands;
-            step = settle_steps laws seat Nothing (here ++ e ∷ []) line.number line.command is
-                ∙ settle_later laws seat line.number here e more done.answer settle;
-            told = done.told;
-          }, at ∙ ap length (sym moved)) };
+        fits = record {
+          text = text;
+          made = more;
+          between = between;
+          later = texts;
+          made_later = own;
+          texts_are = refl;
+          own_is = refl;
+          rest = rest;
+          first = (
+            record {
+              answer = done.answer;
+              stands = subst (λ (es : List Entry). IsFront es history) (sym moved) done.stands;
+              step = settle_steps laws seat Nothing (here ++ e ∷ []) line.number line.command is
+                  ∙ settle_later laws seat line.number here e more done.answer settle;
+              told = done.told;
+            },
+            at ∙ ap length (sym moved),
+          );
+        };
       }
   goes_on_by here line lines text texts e more own between false is done at rest =
       let on_the_way : Cursor = record { seat = seat; lines = line ∷ lines; texts = text ∷ texts; settling = true } in
@@ -425,7 +546,8 @@ module _ (laws : Laws) (beside : Bool) (history : List Entry) (seat : ℕ) where
       (ap (λ (s : Step). told_text seat line.number s.answer) done.step ∙ done.told) in
       record {
         cursor = over;
-        makes = ap (λ (b : Bool). made_by_line b (bytes_eq (told_text seat line.number (line_step here seat line).answer) text) on_the_way over (line_step here seat line).added) is
+        makes = ap (λ (b : Bool). made_by_line b (bytes_eq (told_text seat line.number (line_step here seat line).answer) text) on_the_way over
+            (line_step here seat line).added) is
             ∙ (ap (λ (b : Bool). made_by_line false b on_the_way over (line_step here seat line).added) told
             ∙ ap (λ (es : List Entry). made_by_line false true on_the_way over es) (ap (λ (s : Step). s.added) done.step));
         seat_is = refl;
@@ -433,7 +555,7 @@ module _ (laws : Laws) (beside : Bool) (history : List Entry) (seat : ℕ) where
             (subst (TextsFit beside history seat between lines texts) (sym (ap (λ (es : List Entry). es ++ own) none)) rest);
       }
 
-  own_forth : (here : List Entry) (settling : Bool) (lines : List Line) (texts : List (List ℕ)) (e : Entry) (es : List Entry)
+  pub own_forth : (here : List Entry) (settling : Bool) (lines : List Line) (texts : List (List ℕ)) (e : Entry) (es : List Entry)
       → StopsAt beside here seat settling lines texts → history ≡ here ++ e ∷ es → e.seat ≡ seat
       → StateFits beside history here seat settling lines texts (made_by seat (e ∷ es))
       → GoesOn here lines texts e (made_by seat es)
@@ -455,7 +577,8 @@ module _ (laws : Laws) (beside : Bool) (history : List Entry) (seat : ℕ) where
       (goes_on_by here line lines text texts e first.more here_fits.made_later here_fits.between (is_settle line.command) refl
       (subst (λ (xs : List Entry). DoneBehind history here seat line xs text) first.made_is done)
       (here_fits.first.1 ∙ ap (λ (xs : List Entry). length (here ++ xs)) first.made_is)
-      (subst (λ (ts : List (List ℕ)). TextsFit beside history seat here_fits.between lines ts here_fits.made_later) (sym (text_tail here_fits.texts_are)) here_fits.rest))
+      (subst (λ (ts : List (List ℕ)). TextsFit beside history seat here_fits.between lines ts here_fits.made_later)
+      (sym (text_tail here_fits.texts_are)) here_fits.rest))
 
   -- how an entry was made: by a settle that is on its way, or by a line whose record is this text
   record WasMade (settles told : Bool) (on_the_way over : Cursor) (added : List Entry) (m : Made) : Type 0 where
@@ -467,16 +590,24 @@ module _ (laws : Laws) (beside : Bool) (history : List Entry) (seat : ℕ) where
       → WasMade settles told on_the_way over added m
   was_made settles told on_the_way over [] m h = absurd (none_some h)
   was_made true told on_the_way over (e ∷ added) m h =
-      let is = some_some h in record { more = added; added_is = ap (λ (x : Made). x.entry ∷ added) is; how = inl (refl, sym (ap (λ (x : Made). x.cursor) is)) }
+      let is = some_some h in record {
+        more = added;
+        added_is = ap (λ (x : Made). x.entry ∷ added) is;
+        how = inl (refl, sym (ap (λ (x : Made). x.cursor) is));
+      }
   was_made false true on_the_way over (e ∷ added) m h =
-      let is = some_some h in record { more = added; added_is = ap (λ (x : Made). x.entry ∷ added) is; how = inr (refl, refl, sym (ap (λ (x : Made). x.cursor) is)) }
+      let is = some_some h in record {
+        more = added;
+        added_is = ap (λ (x : Made). x.entry ∷ added) is;
+        how = inr (refl, refl, sym (ap (λ (x : Made). x.cursor) is));
+      }
   was_made false false on_the_way over (e ∷ added) m h = absurd (none_some h)
 
   -- what a section that makes an entry here is: it fits where it fits behind that entry
   pub own_back : (here : List Entry) (settling : Bool) (lines : List Line) (texts : List (List ℕ)) (m : Made) (own : List Entry)
       → made_from here seat lines texts ≡ Some m → IsFront (here ++ m.entry ∷ []) history
       → CursorFits beside history (here ++ m.entry ∷ []) m.cursor own
-      → (m.cursor.seat ≡ seat) × (m.entry.seat ≡ seat) × StateFits beside history here seat settling lines texts (m.entry ∷ own)
+      → StateFits beside history here seat settling lines texts (m.entry ∷ own)
   own_back here settling [] texts m own makes front fits = absurd (none_some makes)
   own_back here settling (line ∷ lines) [] m own makes front fits = absurd (none_some makes)
   own_back here settling (line ∷ lines) (text ∷ texts) m own makes front fits =
@@ -484,11 +615,9 @@ module _ (laws : Laws) (beside : Bool) (history : List Entry) (seat : ℕ) where
       let over : Cursor = record { seat = seat; lines = lines; texts = texts; settling = false } in
       let told : Bool = bytes_eq (told_text seat line.number (line_step here seat line).answer) text in
       let made = was_made (is_settle line.command) told on_the_way over (line_step here seat line).added m makes in
-      let seated : made_by seat (m.entry ∷ made.more) ≡ m.entry ∷ made.more =
-      subst (λ (xs : List Entry). made_by seat xs ≡ xs) made.added_is (stepped here line).seated in
-      let own_seat = first_seat seat m.entry made.more seated in
       ⊎_elim (λ (how : (is_settle line.command ≡ true) × (m.cursor ≡ on_the_way)). (
-      let behind : CursorFits beside history (here ++ m.entry ∷ []) on_the_way own = subst (λ (c : Cursor). CursorFits beside history (here ++ m.entry ∷ []) c own) how.1 fits in
+      let behind : CursorFits beside history (here ++ m.entry ∷ []) on_the_way own =
+      subst (λ (c : Cursor). CursorFits beside history (here ++ m.entry ∷ []) c own) how.1 fits in
       let moved : (here ++ m.entry ∷ []) ++ behind.made ≡ here ++ m.entry ∷ behind.made = append_assoc here (m.entry ∷ []) behind.made in
       let settles = settle_steps laws seat Nothing here line.number line.command how.0 in
       let later = settle_steps laws seat Nothing (here ++ m.entry ∷ []) line.number line.command how.0 in
@@ -499,10 +628,18 @@ module _ (laws : Laws) (beside : Bool) (history : List Entry) (seat : ℕ) where
             (sym (ap (λ (s : Step). s.added) settles) ∙ made.added_is) (sym later ∙ behind.first.0.step);
         told = behind.first.0.told;
       } in
-      (ap (λ (c : Cursor). c.seat) how.1, own_seat, loosen here settling (line ∷ lines) (text ∷ texts) (m.entry ∷ own)
-      (record { text = behind.text; made = m.entry ∷ behind.made; between = behind.between; later = behind.later; made_later = behind.made_later;
-        texts_are = behind.texts_are; own_is = ap (λ (xs : List Entry). m.entry ∷ xs) behind.own_is;
-        first = (done, behind.first.1 ∙ ap length moved); rest = behind.rest }))))
+      loosen here settling (line ∷ lines) (text ∷ texts) (m.entry ∷ own)
+      (record {
+        text = behind.text;
+        made = m.entry ∷ behind.made;
+        between = behind.between;
+        later = behind.later;
+        made_later = behind.made_later;
+        texts_are = behind.texts_are;
+        own_is = ap (λ (xs : List Entry). m.entry ∷ xs) behind.own_is;
+        first = (done, behind.first.1 ∙ ap length moved);
+        rest = behind.rest;
+      })))
       (λ (how : (is_settle line.command ≡ false) × (told ≡ true) × (m.cursor ≡ over)). (
       let none = step_one laws seat Nothing here line.number line.command m.entry made.more how.0 made.added_is in
       let added : (line_step here seat line).added ≡ m.entry ∷ [] = made.added_is ∙ ap (λ (xs : List Entry). m.entry ∷ xs) none in
@@ -514,9 +651,46 @@ module _ (laws : Laws) (beside : Bool) (history : List Entry) (seat : ℕ) where
         step = λ i. record { added = added i; answer = (line_step here seat line).answer };
         told = text_is (told_text seat line.number (line_step here seat line).answer) text how.1;
       } in
-      (ap (λ (c : Cursor). c.seat) how.2, own_seat, loosen here settling (line ∷ lines) (text ∷ texts) (m.entry ∷ own)
-      (record { text = text; made = m.entry ∷ []; between = length (here ++ m.entry ∷ []); later = texts; made_later = own; texts_are = refl; own_is = refl;
-        first = (done, refl); rest = rest })))) made.how
+      loosen here settling (line ∷ lines) (text ∷ texts) (m.entry ∷ own)
+      (record {
+        text = text;
+        made = m.entry ∷ [];
+        between = length (here ++ m.entry ∷ []);
+        later = texts;
+        made_later = own;
+        texts_are = refl;
+        own_is = refl;
+        first = (done, refl);
+        rest = rest;
+      }))) made.how
+
+  -- the next record of a section may fit later, where it isn't in the middle of a settle
+  pub other_back : (here : List Entry) (settling : Bool) (lines : List Line) (texts : List (List ℕ)) (e : Entry) (own : List Entry) → settling ≡ false
+      → StateFits beside history (here ++ e ∷ []) seat settling lines texts own → StateFits beside history here seat settling lines texts own
+  other_back here false lines texts e own quiet fits =
+      let grown = one_more here e in sooner lines (length (here ++ e ∷ [])) (length here) texts own (omega arith) fits
+  other_back here true lines texts e own quiet fits = absurd (both_ways true quiet refl)
+
+  -- a section keeps its seat, which its entry has
+  pub made_seat : (here : List Entry) (lines : List Line) (texts : List (List ℕ)) (m : Made) → made_from here seat lines texts ≡ Some m
+      → (m.cursor.seat ≡ seat) × (m.entry.seat ≡ seat)
+  made_seat here [] texts m makes = absurd (none_some makes)
+  made_seat here (line ∷ lines) [] m makes = absurd (none_some makes)
+  made_seat here (line ∷ lines) (text ∷ texts) m makes =
+      let made = was_made (is_settle line.command) (bytes_eq (told_text seat line.number (line_step here seat line).answer) text)
+      (record { seat = seat; lines = line ∷ lines; texts = text ∷ texts; settling = true }) (record {
+        seat = seat;
+        lines = lines;
+        texts = texts;
+        settling = false;
+      })
+      (line_step here seat line).added m makes in (
+        ⊎_elim (λ (how : (is_settle line.command ≡ true) × (m.cursor ≡ record { seat = seat; lines = line ∷ lines; texts = text ∷ texts; settling = true })).
+            ap (λ (c : Cursor). c.seat) how.1)
+            (λ (how : (is_settle line.command ≡ false) × (bytes_eq (told_text seat line.number (line_step here seat line).answer) text ≡ true)
+            × (m.cursor ≡ record { seat = seat; lines = lines; texts = texts; settling = false })). ap (λ (c : Cursor). c.seat) how.2) made.how,
+        first_seat seat m.entry made.more (subst (λ (xs : List Entry). made_by seat xs ≡ xs) made.added_is (stepped here line).seated),
+      )
 
   -- an entry that a section makes isn't refused where it stands
   pub made_lawful : (here : List Entry) (lines : List Line) (texts : List (List ℕ)) (m : Made) → made_from here seat lines texts ≡ Some m
@@ -525,7 +699,12 @@ module _ (laws : Laws) (beside : Bool) (history : List Entry) (seat : ℕ) where
   made_lawful here (line ∷ lines) [] m makes = absurd (none_some makes)
   made_lawful here (line ∷ lines) (text ∷ texts) m makes =
       let made = was_made (is_settle line.command) (bytes_eq (told_text seat line.number (line_step here seat line).answer) text)
-      (record { seat = seat; lines = line ∷ lines; texts = text ∷ texts; settling = true }) (record { seat = seat; lines = lines; texts = texts; settling = false })
+      (record { seat = seat; lines = line ∷ lines; texts = text ∷ texts; settling = true }) (record {
+        seat = seat;
+        lines = lines;
+        texts = texts;
+        settling = false;
+      })
       (line_step here seat line).added m makes in
       (stepped here line).lawful m.entry made.more made.added_is
 
@@ -561,7 +740,8 @@ module _ (laws : Laws) (beside : Bool) (history : List Entry) (seat : ℕ) where
   over_forth false (line ∷ lines) (text ∷ texts) stops fits = absurd (⊎_elim
       (λ (late : DoneLate history seat line (length history) fits.made fits.text fits.between). ended fits.made
       (subst (DoneBehind history late.start seat line fits.made) (sym (text_head fits.texts_are)) late.done) late.late)
-      (λ (given : (beside ≡ true) × WasGivenUp seat line (length history) fits.made fits.text fits.between). not_given history (beside && true) line text stops
+      (λ (given : (beside ≡ true) × WasGivenUp seat line (length history) fits.made fits.text fits.between). not_given history
+      (beside && true) line text stops
       (and_from beside true given.0 refl)
       (subst (λ (t : List ℕ). tells_given_up seat line.number line.command t ≡ true) (sym (text_head fits.texts_are)) given.1.told)) fits.first)
     where

@@ -1,5 +1,5 @@
 -- What a step adds and tells, by its command.
-use Rattle.std.proofs.Common.{ℕ, zero, suc, ◌≡◌, ◌+◌, ◌<◌, ◌≤◌, Bool, true, false, cond, List, [], ◌∷◌, ◌++◌, length, refl, sym, ap, ◌∙◌, subst, append_assoc, arith, Some, None, ◌⊎◌, inl, inr, eqb}
+use Rattle.std.proofs.Common.{ℕ, ◌≡◌, ◌+◌, Bool, true, false, cond, List, [], ◌∷◌, ◌++◌, length, refl, sym, ap, ◌∙◌, subst, append_assoc, arith, Some, None, ◌⊎◌, inl, inr, eqb}
 use Rattle.std.specs.Prelude.{Option, option_map}
 use Rattle.std.proofs.lemmas.List.{append-nil}
 use Rattle.std.proofs.lemmas.Bool.{cond-true, cond-false, eq-eqb, ne_eqb}
@@ -10,16 +10,15 @@ use Rattle.write_history.specs.declared.refusal.Refusal.{Refusal}
 use Rattle.write_history.specs.declared.refusal.Refusal.TheVariants as why
 use Rattle.write_history.specs.Path.{is_path}
 use Rattle.write_history.specs.World.{lowest_unready, unready_ids}
-use Rattle.write_history.specs.Fold.{ListRefusal, fold, fold_from, list_refusal, after_list, IsLegal}
+use Rattle.write_history.specs.Fold.{ListRefusal, fold, fold_from, list_refusal, IsLegal, IsLegalFrom}
 use Rattle.ide_calls.specs.Settle.{Settled, all_settled, refused_for, with_entry, entry_of, intake_of, intake_entry, settled_unless, settled_from, settled}
 use Rattle.script_lang.specs.declared.command.Command.{Command}
 use Rattle.script_lang.specs.declared.command.Command.TheVariants as command
-use Rattle.script_lang.specs.declared.line.Line.{Line}
 use Rattle.transcripts.specs.declared.loaded.Loaded.{Loaded}
 use Rattle.transcripts.specs.declared.loaded.Loaded.TheVariants as loaded
 use Rattle.transcripts.specs.declared.record.Answer.{Answer}
-use Rattle.transcripts.specs.declared.record.Answer.TheVariants.{Accepted, Refused, NotText, TooLong, Smart, NotReady, Found}
-use Rattle.transcripts.specs.Serial.{Step, told, step_unless, changes_step, create_of, load_step, settle_answer, settle_step, answer_of, refused_answer, query_step, step_of}
+use Rattle.transcripts.specs.declared.record.Answer.TheVariants.{Refused, NotText, TooLong}
+use Rattle.transcripts.specs.Serial.{Step, told, step_unless, create_of, load_step, settle_answer, settle_step, answer_of, step_of}
 use Rattle.transcripts.specs.Fits.{made_by}
 use Rattle.query_engine.specs.declared.answer.Answer.{Answer as Finding}
 use Rattle.query_engine.specs.declared.answer.AskRefusal.{AskRefusal}
@@ -33,6 +32,7 @@ use Rattle.transcript_check.proofs.TextLemmas.{at_of}
 pub record Laws : Type 0 where
   pub goes_on : (earlier later : List Entry) → fold (earlier ++ later) ≡ fold_from (fold earlier) later
   pub legal : (entries : List Entry) (entry : Entry) → IsLegal entries → list_refusal (fold entries) entry.changes ≡ None → IsLegal (entries ++ entry ∷ [])
+  pub rest : (earlier later : List Entry) → IsLegal (earlier ++ later) → IsLegalFrom (fold earlier) later
   pub shorter : (earlier later : List Entry) → IsLegal (earlier ++ later) → IsLegal earlier
   pub settle_over : (history : List Entry) (seat line : ℕ) → lowest_unready (fold history) ≡ None → settled history seat line ≡ all_settled
   pub settle_ends : (history : List Entry) (seat line id : ℕ) (why : Refusal) → lowest_unready (fold history) ≡ Some id
@@ -126,7 +126,8 @@ module _ (laws : Laws) (seat : ℕ) where
     pub lawful : list_refusal (fold history) entry.changes ≡ None
     pub goes_on : settled history seat line ≡ with_entry entry (settled (history ++ entry ∷ []) seat line)
 
-  begins_by : (line : ℕ) (history : List Entry) (entry : Entry) (more : List Entry) (id : ℕ) (refusal : Option ListRefusal) → lowest_unready (fold history) ≡ Some id
+  begins_by : (line : ℕ) (history : List Entry) (entry : Entry) (more : List Entry) (id : ℕ) (refusal : Option ListRefusal)
+      → lowest_unready (fold history) ≡ Some id
       → list_refusal (fold history) (intake_of (fold history) id) ≡ refusal → (settled history seat line).added ≡ entry ∷ more
       → Begins line history entry
   begins_by line history entry more id None lowest accepted adds =
@@ -213,7 +214,10 @@ module _ (laws : Laws) (seat : ℕ) where
   settle_later line history entry more answer is =
       let begins = settle_begins line history entry more (ap (λ (s : Step). s.added) is) in
       let rest : Settled = settled (history ++ entry ∷ []) seat line in
-      let step : settle_step history seat line ≡ record { added = entry ∷ rest.added; answer = settle_answer (length (history ++ entry ∷ rest.added)) rest.refused } =
+      let step : settle_step history seat line ≡ record {
+        added = entry ∷ rest.added;
+        answer = settle_answer (length (history ++ entry ∷ rest.added)) rest.refused;
+      } =
       ap (λ (s : Settled). record { added = s.added; answer = settle_answer (length (history ++ s.added)) s.refused }) begins.goes_on in
       let both : record { added = entry ∷ rest.added; answer = settle_answer (length (history ++ entry ∷ rest.added)) rest.refused }
       ≡ record { added = entry ∷ more; answer = answer } = sym step ∙ is in
@@ -234,7 +238,10 @@ module _ (laws : Laws) (seat : ℕ) where
   settle_sooner line history entry rest more answer adds is =
       let begins = settle_begins line history entry rest adds in
       let later : Settled = settled (history ++ entry ∷ []) seat line in
-      let step : settle_step history seat line ≡ record { added = entry ∷ later.added; answer = settle_answer (length (history ++ entry ∷ later.added)) later.refused } =
+      let step : settle_step history seat line ≡ record {
+        added = entry ∷ later.added;
+        answer = settle_answer (length (history ++ entry ∷ later.added)) later.refused;
+      } =
       ap (λ (s : Settled). record { added = s.added; answer = settle_answer (length (history ++ s.added)) s.refused }) begins.goes_on in
       let added : later.added ≡ more = ap (λ (s : Step). s.added) is in
       let told : settle_answer (length (history ++ entry ∷ [] ++ later.added)) later.refused ≡ answer = ap (λ (s : Step). s.answer) is in
@@ -271,7 +278,8 @@ module _ (laws : Laws) (seat : ℕ) where
   step_one load history line (command.Soft attempts query) e more other h = absurd cc
 
   -- a settle is one
-  pub settle_steps : (load : Loaded) (history : List Entry) (line : ℕ) (c : Command) → is_settle c ≡ true → step_of load history seat line c ≡ settle_step history seat line
+  pub settle_steps : (load : Loaded) (history : List Entry) (line : ℕ) (c : Command) → is_settle c ≡ true
+      → step_of load history seat line c ≡ settle_step history seat line
   settle_steps load history line command.Settle is = refl
   settle_steps load history line (command.Change change) is = absurd cc
   settle_steps load history line (command.Group changes) is = absurd cc

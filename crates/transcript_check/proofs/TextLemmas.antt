@@ -1,16 +1,20 @@
 -- What is read of a text is what was printed.
-use Rattle.std.proofs.Common.{ℕ, zero, suc, ◌≡◌, ◌+◌, ◌-◌, ◌*◌, ◌^◌, ◌<◌, ◌≤◌, Bool, true, false, cond, List, [], ◌∷◌, ◌++◌, take, drop, length, refl, sym, ap, ◌∙◌, subst, append_assoc, arith, Some, None, ◌⊎◌, inl, inr}
+use Rattle.std.proofs.Common.{ℕ, ◌≡◌, ◌+◌, ◌-◌, ◌*◌, ◌^◌, ◌<◌, true, false, List, [], ◌∷◌, ◌++◌, take, drop, refl, sym, ap, ◌∙◌, append_assoc, arith, eqb, Some, None}
 use Rattle.std.specs.Prelude.{Option, codes, bytes_eq, decimal, if◌then◌else◌}
-use Rattle.std.specs.Str.Parse.{AllDigits, digits_value_after, digits_value, IsNumeral}
+use Rattle.std.specs.Str.Parse.{AllDigits, digits_value_after}
 use Rattle.std.specs.Char.{digit_value}
 use Rattle.std.proofs.lemmas.Fmt.{decimal_is_IsNumeral}
 use Rattle.std.proofs.lemmas.List.{append_cancel_left}
-use Rattle.std.proofs.lemmas.Bool.{cond-true, cond-false, le-leb, lt-leb, and_from, leb-true, leb-false, and_parts}
+use Rattle.std.proofs.lemmas.Bool.{cond-true, cond-false}
 use Rattle.std.proofs.lemmas.Bool.Decides.{nat_tests}
+use Rattle.write_history.specs.declared.change.Change.TheVariants.{Intake}
+use Rattle.write_history.specs.declared.entry.Entry.{Entry}
+use Rattle.write_history.specs.Print.{entry_line, changes_text}
+use Rattle.ide_calls.specs.Settle.{entry_of}
 use Rattle.transcripts.specs.declared.record.Answer.{Answer}
 use Rattle.transcripts.specs.declared.record.Answer.TheVariants.{Accepted, Refused, NotText, TooLong, Smart, NotReady, Found, Cancelled}
 use Rattle.transcripts.specs.Transcript.{prefix_text, answer_text}
-use Rattle.transcript_check.specs.Reading.{after_space, is_digit, number_from, number_at}
+use Rattle.transcript_check.specs.Reading.{after_space, is_digit, number_from, number_at, seat_in, file_in}
 use Rattle.transcript_check.specs.Section.{told_text}
 
 -- a byte that stands for a digit
@@ -73,4 +77,45 @@ same_at seat number a b short_a short_b same =
     let head : List ℕ = decimal number ++ codes " " in
     let parts : head ++ (prefix_text a ++ answer_text a) ≡ head ++ (prefix_text b ++ answer_text b) =
     sym (append_assoc head (prefix_text a) (answer_text a)) ∙ (same ∙ append_assoc head (prefix_text b) (answer_text b)) in
-    sym (at_read-answer a short_a) ∙ (ap at_read (append_cancel_left head (prefix_text a ++ answer_text a) (prefix_text b ++ answer_text b) parts) ∙ at_read-answer b short_b)
+    sym (at_read-answer a short_a) ∙ (ap at_read (append_cancel_left head (prefix_text a ++ answer_text a) (prefix_text b ++ answer_text b) parts)
+    ∙ at_read-answer b short_b)
+
+-- digits hold no space
+after_space-digits : (ds rest : List ℕ) → AllDigits 10 ds → after_space (ds ++ 32 ∷ rest) ≡ rest
+after_space-digits [] rest all = refl
+after_space-digits (d ∷ ds) rest all =
+    cond-false (eqb d 32) (ds ++ 32 ∷ rest) (after_space (ds ++ 32 ∷ rest)) (no_space d all.0) ∙ after_space-digits ds rest all.1
+  where
+    no_space : (c : ℕ) → digit_value c < 10 → eqb c 32 ≡ false
+    no_space c small = grind (arith, nat_tests)
+
+after_space-decimal : (n : ℕ) (rest : List ℕ) → n < 2 ^ 64 → after_space (decimal n ++ 32 ∷ rest) ≡ rest
+after_space-decimal n rest small = after_space-digits (decimal n) rest (decimal_is_IsNumeral n small).0.1
+
+-- the parts of an entry's text
+entry_parts : (position : ℕ) (e : Entry)
+    → entry_line position e ≡ decimal position ++ 32 ∷ (decimal e.seat ++ 32 ∷ (decimal e.line ++ 32 ∷ changes_text e.changes))
+entry_parts position e = simp append_assoc
+
+-- the seat of an entry is read back
+pub seat_in-entry : (position : ℕ) (e : Entry) → position < 2 ^ 64 → e.seat < 2 ^ 64 → seat_in (entry_line position e) ≡ e.seat
+seat_in-entry position e few small =
+    ap seat_in (entry_parts position e)
+    ∙ (ap number_at (after_space-decimal position (decimal e.seat ++ 32 ∷ (decimal e.line ++ 32 ∷ changes_text e.changes)) few)
+    ∙ number_at-decimal e.seat (decimal e.line ++ 32 ∷ changes_text e.changes) small)
+
+-- the file of an intake without a line is read back
+pub file_in-intake : (position seat file stamp : ℕ) → position < 2 ^ 64 → seat < 2 ^ 64 → file < 2 ^ 64
+    → file_in (entry_line position (entry_of seat 0 (Intake file stamp ∷ []))) ≡ file
+file_in-intake position seat file stamp few small known =
+    let e : Entry = entry_of seat 0 (Intake file stamp ∷ []) in
+    let tail : List ℕ = decimal 0 ++ 32 ∷ changes_text e.changes in
+    let zero_small : 0 < 2 ^ 64 = omega arith in
+    ap file_in (entry_parts position e)
+    ∙ (ap (λ (t : List ℕ). number_at (after_space (after_space (after_space t)))) (after_space-decimal position (decimal seat ++ 32 ∷ tail) few)
+    ∙ (ap (λ (t : List ℕ). number_at (after_space (after_space t))) (after_space-decimal seat tail small)
+    ∙ (ap (λ (t : List ℕ). number_at (after_space t)) (after_space-decimal 0 (changes_text e.changes) zero_small)
+    ∙ (ap number_at (intake_parts (decimal file) (decimal stamp)) ∙ number_at-decimal file (decimal stamp ++ codes "\n") known))))
+  where
+    intake_parts : (f s : List ℕ) → ((f ++ codes " ") ++ s) ++ codes "\n" ≡ f ++ 32 ∷ (s ++ codes "\n")
+    intake_parts f s = simp append_assoc

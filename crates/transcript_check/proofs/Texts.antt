@@ -1,12 +1,8 @@
 -- A section by the texts of its records: what `SectionFits` says, without what isn't printed.
-use Rattle.std.proofs.Common.{ℕ, zero, suc, ◌≡◌, ◌+◌, ◌≤◌, ◌<◌, Bool, true, false, List, [], ◌∷◌, ◌++◌, length, map, refl, sym, ap, ◌∙◌, subst, append_assoc, length-append, arith, Some, None, ◌⊎◌, inl, inr, ⊎_elim}
+use Rattle.std.proofs.Common.{ℕ, ◌≡◌, ◌+◌, ◌≤◌, Bool, true, List, [], ◌∷◌, ◌++◌, length, map, refl, sym, ap, ◌∙◌, subst, arith, ◌⊎◌, inl, inr, ⊎_elim}
 use Rattle.std.specs.Prelude.{bytes_eq}
 use Rattle.std.proofs.lemmas.Slice.Eq.{bytes_eq-Decides}
-use Rattle.std.proofs.lemmas.List.{append_cancel_left}
-use Rattle.std.proofs.lemmas.List.Elements.{filter-append}
 use Rattle.list_laws.specs.Fronts.{IsFront}
-use Rattle.list_laws.proofs.FrontLemmas.{front_length, front_shorter, front_trans}
-use Rattle.action_lock.specs.Counts.{HasRisenBy}
 use Rattle.write_history.specs.declared.entry.Entry.{Entry}
 use Rattle.queries.specs.declared.query.Query.{Query}
 use Rattle.ide_calls.specs.Sighting.{Sighting}
@@ -17,11 +13,9 @@ use Rattle.transcripts.specs.declared.loaded.Loaded.TheVariants.{Nothing}
 use Rattle.transcripts.specs.declared.record.Answer.{Answer}
 use Rattle.transcripts.specs.declared.record.Answer.TheVariants.{Cancelled}
 use Rattle.transcripts.specs.declared.record.Record.{Record}
-use Rattle.transcripts.specs.Serial.{Step, step_of}
-use Rattle.transcripts.specs.Fits.{Mark, IsDone, IsGivenUp, Fits, FitsFirst, SectionFits, made_by}
+use Rattle.transcripts.specs.Fits.{Mark, IsDone, IsGivenUp, Fits, SectionFits}
 use Rattle.transcripts.specs.Transcript.{record_text}
 use Rattle.transcript_check.specs.Section.{line_step, told_text, given_up, tells_given_up}
-use Rattle.transcript_check.proofs.StepLemmas.{Laws, IsStep, step_is}
 
 -- A line was done behind `start`: what it made stands right behind that, and this is the text of its record
 pub record DoneBehind (history start : List Entry) (seat : ℕ) (line : Line) (made : List Entry) (text : List ℕ) : Type 0 where
@@ -119,14 +113,16 @@ texts_of_section beside history seat low high (line ∷ lines) records own fits 
 }
 
 -- and back: the records can be told so, whatever the sights at the beginning
-pub record RecordsFit (beside : Bool) (history : List Entry) (seat len sights : ℕ) (lines : List Line) (texts : List (List ℕ)) (own : List Entry) : Type 0 where
+pub record RecordsFit (beside : Bool) (history : List Entry) (seat len sights : ℕ) (lines : List Line) (texts : List (List ℕ))
+    (own : List Entry) : Type 0 where
   pub records : List Record
   pub high : Mark
   pub fits : SectionFits beside history seat (record { seen = len; sights = sights }) lines [] records own high
   pub texts_are : map record_text records ≡ texts
 
 -- the first record fits, up to a mark
-record RecordFits (beside : Bool) (history : List Entry) (seat : ℕ) (line : Line) (len sights : ℕ) (made : List Entry) (text : List ℕ) (between : ℕ) : Type 0 where
+record RecordFits (beside : Bool) (history : List Entry) (seat : ℕ) (line : Line) (len sights : ℕ) (made : List Entry) (text : List ℕ)
+    (between : ℕ) : Type 0 where
   answer : Answer
   later_sights : ℕ
   fits : Fits beside history seat line Nothing (record { seen = len; sights = sights }) made answer (record { seen = between; sights = later_sights })
@@ -139,7 +135,8 @@ pub record GaveUp (seat : ℕ) (line : Line) (text : List ℕ) : Type 0 where
   pub soft : line.command ≡ command.Soft attempts query
   pub told : told_text seat line.number (given_up seat attempts) ≡ text
 
-pub gave_up : (seat number : ℕ) (c : Command) (text : List ℕ) → tells_given_up seat number c text ≡ true → GaveUp seat (record { number = number; command = c }) text
+pub gave_up : (seat number : ℕ) (c : Command) (text : List ℕ) → tells_given_up seat number c text ≡ true
+    → GaveUp seat (record { number = number; command = c }) text
 gave_up seat number (command.Soft attempts query) text told =
     record { attempts = attempts; query = query; soft = refl; told = text_is (told_text seat number (given_up seat attempts)) text told }
 gave_up seat number (command.Change change) text told = absurd cc
@@ -148,7 +145,8 @@ gave_up seat number (command.Load path) text told = absurd cc
 gave_up seat number command.Settle text told = absurd cc
 gave_up seat number (command.Ask query) text told = absurd cc
 
-record_given : (beside : Bool) (history : List Entry) (seat : ℕ) (line : Line) (len sights : ℕ) (made : List Entry) (text : List ℕ) (between : ℕ) → beside ≡ true
+record_given : (beside : Bool) (history : List Entry) (seat : ℕ) (line : Line) (len sights : ℕ) (made : List Entry) (text : List ℕ) (between : ℕ)
+    → beside ≡ true
     → WasGivenUp seat line len made text between → RecordFits beside history seat line len sights made text between
 record_given beside history seat line len sights made text between is given =
     let gave : GaveUp seat line text = gave_up seat line.number line.command text given.told in
@@ -156,20 +154,23 @@ record_given beside history seat line len sights made text between is given =
     record {
       answer = Cancelled sighted;
       later_sights = sights + gave.attempts;
-      fits = inr (is, record {
-        attempts = gave.attempts;
-        query = gave.query;
-        soft = gave.soft;
-        sighted = sighted;
-        told = refl;
-        nothing = given.nothing;
-        seat_is = refl;
-        allowed = refl;
-        before = omega arith;
-        risen = inl (omega arith);
-        seen = given.between_is;
-        sights = refl;
-      });
+      fits = inr (
+        is,
+        record {
+          attempts = gave.attempts;
+          query = gave.query;
+          soft = gave.soft;
+          sighted = sighted;
+          told = refl;
+          nothing = given.nothing;
+          seat_is = refl;
+          allowed = refl;
+          before = omega arith;
+          risen = inl (omega arith);
+          seen = given.between_is;
+          sights = refl;
+        },
+      );
       text_is = gave.told;
     }
 

@@ -2,3 +2,7 @@ pub mod Reading
 pub mod Section
 pub mod Phase
 pub mod Checked
+pub mod Blocks
+pub mod Texts
+pub mod Verdict
+pub mod Here

@@ -1,5 +1,5 @@
 -- Sections and workers side by side, entry by entry: each text of an entry says whose it is, and all else is computed.
-use Rattle.std.specs.Prelude.{ℕ, suc, ◌+◌, ◌==◌, ◌&&◌, nat_le, not, Bool, true, false, List, [], ◌∷◌, ◌++◌, map, length, take, drop, Option, Some, None, is_none, option_map, if◌then◌else◌, bytes_eq}
+use Rattle.std.specs.Prelude.{ℕ, suc, ◌+◌, ◌==◌, ◌&&◌, nat_le, not, Bool, false, List, [], ◌∷◌, ◌++◌, map, length, take, drop, Option, Some, None, is_none, option_map, if◌then◌else◌, bytes_eq}
 use Rattle.std.specs.List.{list_any, list_all}
 use Rattle.std.specs.Option.{option_and_then}
 use Rattle.write_history.specs.declared.change.Change.{Change}
@@ -109,7 +109,7 @@ phase_from sides added cursors [] = reached added (all_told sides added cursors)
 phase_from sides added cursors (text ∷ texts) =
     if is_seat sides (seat_in text)
     then option_and_then (λ (w : Went). phase_from sides (added ++ w.entry ∷ []) w.cursors texts)
-        (next_went sides added (all_told sides added cursors) text)
+    (next_went sides added (all_told sides added cursors) text)
     else reached added (all_told sides added cursors) (text ∷ texts)
 
 -- lanes with their lines, the first of which has this seat, and with the texts of their records

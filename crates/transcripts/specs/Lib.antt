@@ -5,6 +5,8 @@ pub mod Serial
 pub mod Fits
 -- What is printed
 pub mod Transcript
+-- Where a script leads, and which bytes print it
+pub mod Play
 -- What these cite from below: scripts, answers, and the history
 pub use Rattle.list_laws.specs.Fronts
 pub use Rattle.script_lang.specs.Grammar
@@ -15,3 +17,4 @@ pub use Rattle.write_history.specs.Fold
 pub use Rattle.ide_calls.specs.Settle
 pub use Rattle.ide_calls.specs.Sighting
 pub use Rattle.index_workers.specs.Work
+pub use Rattle.ide_io.specs.Fault

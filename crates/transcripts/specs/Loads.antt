@@ -1,5 +1,6 @@
 -- What is read for the loads of a prelude.
-use Rattle.std.specs.Prelude.{ℕ, ◌≡◌, ◌≤◌, IsTrue, List, [], ◌∷◌, length, Option, Some, IfSome, Result, Ok, Err}
+use Rattle.std.specs.Prelude.{ℕ, ◌≡◌, ◌≤◌, List, [], ◌∷◌, length, Option, Some, IfSome, Result, Ok, Err, if◌then◌else◌}
+use Rattle.std.specs.List.{flat_map}
 use Rattle.ide_io.specs.Files.{Files, max_file_len}
 use Rattle.ide_text.specs.Text.{text_of}
 use Rattle.ide_text.specs.declared.text.TextRefusal.{TextRefusal}
@@ -29,14 +30,27 @@ pub record IsRead (files : Option Files) (path : List ℕ) (load : Loaded) : Typ
   pub told : IfSome files (λ at. at path ≡ Some bytes)
   pub gives : load ≡ loaded_of bytes
 
--- for a load of a lawful path the tree was read, and for no other line
+-- the paths for which a command asks the tree: that of a load, where it is lawful
+abbrev pub paths_asked : Command → List (List ℕ)
+paths_asked (command.Load path) = if is_path path then path ∷ [] else []
+paths_asked (command.Change change) = []
+paths_asked (command.Group changes) = []
+paths_asked command.Settle = []
+paths_asked (command.Ask query) = []
+paths_asked (command.Soft attempts query) = []
+
+-- the paths for which lines ask the tree, in their order
+abbrev pub paths_of : List Line → List (List ℕ)
+paths_of lines = flat_map (λ (line : Line). paths_asked line.command) lines
+
+-- what was read where these paths are asked for, of which there is one at most: nothing where there is none
+abbrev pub IsReadFor : Option Files → List (List ℕ) → Loaded → Type 0
+IsReadFor files [] load = load ≡ Nothing
+IsReadFor files (path ∷ paths) load = IsRead files path load
+
+-- for a load of a lawful path the tree was read, and for any other line nothing
 abbrev pub IsLoadOf : Option Files → Command → Loaded → Type 0
-IsLoadOf files (command.Load path) load = IsTrue (is_path path) → IsRead files path load
-IsLoadOf files (command.Change change) load = Unit {0}
-IsLoadOf files (command.Group changes) load = Unit {0}
-IsLoadOf files command.Settle load = Unit {0}
-IsLoadOf files (command.Ask query) load = Unit {0}
-IsLoadOf files (command.Soft attempts query) load = Unit {0}
+IsLoadOf files command load = IsReadFor files (paths_asked command) load
 
 -- what was read for each line, in order
 abbrev pub AreLoadsOf : Option Files → List Line → List Loaded → Type 0

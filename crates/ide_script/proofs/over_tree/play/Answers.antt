@@ -1,6 +1,6 @@
 use Rattle.std.proofs.Common.{rules, subst}
 use Rattle.ide_io.specs.Asks.{AsksSome}
-use Rattle.ide_script.specs.Play.{paths_of}
+use Rattle.transcripts.specs.Loads.{paths_of}
 use Rattle.ide_script.proofs.over_tree.play.Goals as goal
 
 pub returns-in_err-loads-clause-asks_some : goal.returns-in_err-loads-clause-asks_some

@@ -1,6 +1,6 @@
 use Rattle.std.proofs.Common.{sym}
-use Rattle.ide_script.proofs.LoadsLemmas.{load_asks_some}
-use Rattle.ide_script.proofs.loads.read_load.Goals as goal
+use Rattle.transcripts.proofs.LoadsLemmas.{load_asks_some}
+use Rattle.transcripts.proofs.loads.read_load.Goals as goal
 
 pub returns-in-Err-Failed-clause-asks : goal.returns-in-Err-Failed-clause-asks
 returns-in-Err-Failed-clause-asks g c = (load_asks_some _ _ _ _ _ c.in-Load.is (sym c.if-is_lawful_path.ensures) c.read_file.ensures.asks).first

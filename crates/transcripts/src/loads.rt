@@ -2,30 +2,30 @@
 ghost use Rattle.std.specs.Prelude.{◌≡◌, ◌≢◌, IfOk, OnOk, Err};
 ghost use Rattle.ide_io.specs.Asks.{AsksEach, AsksFront, AsksSome};
 ghost use Rattle.ide_io.specs.Fault.{HasFault};
-ghost use Rattle.transcripts.specs.Loads.{AreLoadsOf, IsLoadOf, loaded_of};
-ghost use Rattle.ide_script.specs.Play.{paths_asked, paths_of};
+ghost use Rattle.transcripts.specs.Loads.{AreLoadsOf, IsLoadOf, loaded_of, paths_asked, paths_of};
 
-use crate::PlayRefusal;
+use crate::{LoadRefusal, Loaded};
 use ide_io::{ReadFileError, Tree};
 use ide_text::{Name, SharedText, Text, TextRefusal};
 use script_lang::{Command, Line};
 use std::alloc::{AllocError, Global};
-use transcripts::Loaded;
 use write_history::is_lawful_path;
 
-/// Reads the file of each load of a lawful path, in the order of the lines. A tree that fails ends it.
-pub(crate) fn read_loads<T: Tree>(
+/// Reads the file of each load of a lawful path, in the order of the lines, and gives for each line what was read for it:
+/// nothing for every other line. The tree is asked for each such file once and for no other; `TreeFault` where it fails at
+/// one, and no later one is asked for then. The cost is that of the lines, and of reading each file as a text.
+pub fn read_loads<T: Tree>(
     alloc: Global,
     lines: &[Line],
     tree: &mut T,
-) -> Result<Vec<Loaded>, PlayRefusal>
+) -> Result<Vec<Loaded>, LoadRefusal>
     ensures loads { IfOk result (λ loads. AreLoadsOf (T.files tree.old) lines.now loads.items) }
     ensures asks { AsksFront T.asks tree.old (paths_of lines.now) tree.new }
     ensures asks_each { OnOk result (AsksEach T.asks tree.old (paths_of lines.now) tree.new) }
-    ensures asks_some { result ≡ Err PlayRefusal.TreeFault → AsksSome T.asks tree.old (paths_of lines.now) tree.new }
-    ensures fault { result ≡ Err PlayRefusal.TreeFault → HasFault (T.faults tree.old) (T.faults tree.new) }
+    ensures asks_some { result ≡ Err LoadRefusal.TreeFault → AsksSome T.asks tree.old (paths_of lines.now) tree.new }
+    ensures fault { result ≡ Err LoadRefusal.TreeFault → HasFault (T.faults tree.old) (T.faults tree.new) }
     ensures files { T.files tree.new ≡ T.files tree.old }
-    ensures quiet { result ≢ Err PlayRefusal.TreeFault → T.faults tree.new ≡ T.faults tree.old }
+    ensures quiet { result ≢ Err LoadRefusal.TreeFault → T.faults tree.new ≡ T.faults tree.old }
 {
     let mut loads = Vec::new(alloc);
     for line in lines {
@@ -36,21 +36,21 @@ pub(crate) fn read_loads<T: Tree>(
 }
 
 /// Reads the file of a command, where it is a load of a lawful path.
-fn read_load<T: Tree>(alloc: Global, command: &Command, tree: &mut T) -> Result<Loaded, PlayRefusal>
+fn read_load<T: Tree>(alloc: Global, command: &Command, tree: &mut T) -> Result<Loaded, LoadRefusal>
     ensures load { IfOk result (λ load. IsLoadOf (T.files tree.old) command.now load) }
     ensures asks { AsksFront T.asks tree.old (paths_asked command.now) tree.new }
     ensures asks_each { OnOk result (AsksEach T.asks tree.old (paths_asked command.now) tree.new) }
-    ensures asks_some { result ≡ Err PlayRefusal.TreeFault → AsksSome T.asks tree.old (paths_asked command.now) tree.new }
-    ensures fault { result ≡ Err PlayRefusal.TreeFault → HasFault (T.faults tree.old) (T.faults tree.new) }
+    ensures asks_some { result ≡ Err LoadRefusal.TreeFault → AsksSome T.asks tree.old (paths_asked command.now) tree.new }
+    ensures fault { result ≡ Err LoadRefusal.TreeFault → HasFault (T.faults tree.old) (T.faults tree.new) }
     ensures files { T.files tree.new ≡ T.files tree.old }
-    ensures quiet { result ≢ Err PlayRefusal.TreeFault → T.faults tree.new ≡ T.faults tree.old }
+    ensures quiet { result ≢ Err LoadRefusal.TreeFault → T.faults tree.new ≡ T.faults tree.old }
 {
     match command {
         Command::Load { path } if is_lawful_path(path) => {
             let bytes = match tree.read_file(alloc, path) {
                 Ok(bytes) => bytes,
-                Err(ReadFileError::Failed) => return Err(PlayRefusal::TreeFault),
-                Err(ReadFileError::OutOfMemory) => return Err(PlayRefusal::OutOfMemory),
+                Err(ReadFileError::Failed) => return Err(LoadRefusal::TreeFault),
+                Err(ReadFileError::OutOfMemory) => return Err(LoadRefusal::OutOfMemory),
             };
             Ok(loaded(alloc, &bytes)?)
         }

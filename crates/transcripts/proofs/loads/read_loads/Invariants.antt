@@ -1,8 +1,8 @@
 use Rattle.std.proofs.Common.{◌≡◌, ◌++◌, List, drop}
 use Rattle.transcripts.specs.declared.loaded.Loaded.{Loaded}
 use Rattle.transcripts.specs.Loads.{AreLoadsOf}
-use Rattle.ide_script.proofs.LoadsLemmas.{HasAsked}
-use Rattle.ide_script.proofs.loads.read_loads.Given as goal
+use Rattle.transcripts.proofs.LoadsLemmas.{HasAsked}
+use Rattle.transcripts.proofs.loads.read_loads.Given as goal
 
 -- what was read so far and what is read for the rest are all; the tree was asked for the files of the lines so far, and no fault was met
 abbrev pub invariant-loop-line : goal.invariant-loop-line

@@ -1,7 +1,7 @@
 use Rattle.std.proofs.Common.{arith, rules, subst}
 use Rattle.transcripts.specs.Loads.{IsLoadOf}
-use Rattle.ide_script.proofs.LoadsLemmas.{loads_end, loads_turn, has_asked_turn, has_asked_all, has_asked_front, has_asked_some, has_asked_so_far}
-use Rattle.ide_script.proofs.loads.read_loads.Goals as goal
+use Rattle.transcripts.proofs.LoadsLemmas.{loads_end, loads_turn, has_asked_turn, has_asked_all, has_asked_front, has_asked_some, has_asked_so_far}
+use Rattle.transcripts.proofs.loads.read_loads.Goals as goal
 
 pub returns-clause-loads : goal.returns-clause-loads
 returns-clause-loads g c = loads_end _ c.args.lines.now c.loop-line.loads.items c.loop-line.line-index (omega (arith, c.loop-line-test.false)) c.loop-line.invariant.loads

@@ -9,8 +9,7 @@ use Rattle.script_lang.specs.declared.command.Command.{Command}
 use Rattle.script_lang.specs.declared.command.Command.TheVariants.{Load}
 use Rattle.script_lang.specs.declared.line.Line.{Line}
 use Rattle.transcripts.specs.declared.loaded.Loaded.{Loaded}
-use Rattle.transcripts.specs.Loads.{AreLoadsOf, IsLoadOf}
-use Rattle.ide_script.specs.Play.{paths_asked, paths_of}
+use Rattle.transcripts.specs.Loads.{AreLoadsOf, IsLoadOf, paths_asked, paths_of}
 
 -- what was read for all lines, once no line is left
 pub loads_end : (files : Option Files) (lines : List Line) (loads : List Loaded) (i : ℕ) → length lines ≤ i
