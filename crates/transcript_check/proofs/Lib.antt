@@ -17,3 +17,5 @@ pub mod HereLemmas
 pub mod HeadLemmas
 pub mod MakeLemmas
 pub mod ToldLemmas
+pub mod NumberLemmas
+pub mod RoundLemmas

@@ -6,3 +6,4 @@ pub mod Blocks
 pub mod Texts
 pub mod Verdict
 pub mod Here
+pub mod Numbers

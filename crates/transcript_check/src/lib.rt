@@ -7,6 +7,8 @@ pub mod blocks;
 mod cursor;
 mod entering;
 pub mod laws;
+mod numbers;
+mod round;
 mod told;
 
 pub use block::Block;
