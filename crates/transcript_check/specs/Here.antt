@@ -1,5 +1,5 @@
 -- What a line does in a world, said of every history that leads there.
-use Rattle.std.specs.Prelude.{ℕ, ◌≡◌, ◌+◌, ◌&&◌, nat_le, Bool, true, false, List, [], ◌∷◌, ◌++◌, length, Option, Some, None, is_none, if◌then◌else◌, bytes_eq, codes}
+use Rattle.std.specs.Prelude.{ℕ, ◌≡◌, ◌+◌, ◌&&◌, nat_le, Bool, true, false, List, [], ◌∷◌, ◌++◌, length, Option, Some, None, is_none, if◌then◌else◌, bytes_eq, codes, map}
 use Rattle.std.specs.Option.{option_map_or}
 use Rattle.std.specs.Fmt.{decimal}
 use Rattle.write_history.specs.declared.change.Change.{Change}
@@ -120,3 +120,7 @@ IsMadeAs (Some made) history after cursor' text went =
 -- the same of what the section makes next behind each history that leads to a world
 pub record HasMadeNext (world after : World) (cursor cursor' : Cursor) (text : List ℕ) (went : Bool) : Type 0 where
   pub is : (history : List Entry) → fold history ≡ world → IsMadeAs (made_here history cursor) history after cursor' text went
+
+-- each section stands behind all records that are told in a world
+pub record AreToldAll (beside : Bool) (world : World) (cursors cursors' : List Cursor) : Type 0 where
+  pub is : (history : List Entry) → fold history ≡ world → cursors' ≡ map (told_here beside history) cursors

@@ -3,7 +3,7 @@ ghost use Rattle.std.specs.Prelude.{◌≡◌, OnOk};
 ghost use Rattle.std.specs.List.{list_all};
 ghost use Rattle.transcript_check.specs.Section.{is_over};
 ghost use Rattle.transcript_check.specs.Phase.{is_busy};
-ghost use Rattle.transcript_check.specs.Numbers.{AreToldAll};
+ghost use Rattle.transcript_check.specs.Here.{AreToldAll};
 
 use crate::cursor::Cursor;
 use replay::Replay;
