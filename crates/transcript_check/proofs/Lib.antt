@@ -19,3 +19,9 @@ pub mod SerialLemmas
 pub mod CheckedLemmas
 pub mod ChangeLemmas
 pub mod VerdictLemmas
+pub mod EditLemmas
+pub mod HereLemmas
+pub mod HeadLemmas
+pub mod MakeLemmas
+pub mod ToldLemmas
+pub mod RoundLemmas

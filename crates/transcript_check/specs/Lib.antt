@@ -5,3 +5,5 @@ pub mod Checked
 pub mod Blocks
 pub mod Texts
 pub mod Verdict
+pub mod Here
+pub mod Numbers

@@ -13,6 +13,6 @@ mod rows;
 
 pub use loaded::Loaded;
 pub use loads::read_loads;
-pub use print::{summary, transcript};
+pub use print::{record_text, summary, transcript};
 pub use record::{Answer, Played, Record, Records};
 pub use refusal::LoadRefusal;

@@ -33,6 +33,15 @@ pub fn summary(alloc: Global, played: &Played) -> Result<Vec<u8>, AllocError>
     Ok(out)
 }
 
+/// The text of a record, in UTF-8: the line of its answer, then one for each row. Linear in it.
+pub fn record_text(alloc: Global, reply: &Record) -> Result<Vec<u8>, AllocError>
+    ensures { IfOk result (λ bytes. bytes.items ≡ record_text reply.now) }
+{
+    let mut out = Vec::new(alloc);
+    push_record(alloc, &mut out, reply)?;
+    Ok(out)
+}
+
 /// Adds the history: its length, then the lines of each entry.
 fn push_history(alloc: Global, out: &mut Vec<u8>, history: &History) -> Result<(), AllocError>
     ensures { OnOk result (out.new.items ≡ out.old.items ++ history_text history.now.entries) }

@@ -1,0 +1,181 @@
+-- What a section makes next.
+use Rattle.std.proofs.Common.{ℕ, ◌≡◌, ◌+◌, Bool, true, false, List, [], ◌∷◌, ◌++◌, length, refl, sym, ap, ◌∙◌, subst, Some, None, Option, ◌⊎◌, inl, inr}
+use Rattle.std.specs.Prelude.{◌&&◌, option_map, is_none, if◌then◌else◌, bytes_eq}
+use Rattle.list_laws.proofs.BoolLemmas.{bool_cases}
+use Rattle.write_history.specs.declared.change.Change.{Change}
+use Rattle.write_history.specs.declared.entry.Entry.{Entry}
+use Rattle.write_history.specs.declared.refusal.Refusal.TheVariants.{BadPath}
+use Rattle.write_history.specs.Path.{is_path}
+use Rattle.write_history.specs.World.{World, lowest_unready}
+use Rattle.write_history.specs.Fold.{fold, fold_from, list_refusal, ListRefusal}
+use Rattle.write_history.specs.Print.{entry_line}
+use Rattle.ide_calls.specs.Settle.{Settled, settled, entry_of, intake_of}
+use Rattle.script_lang.specs.declared.command.Command.{Command}
+use Rattle.script_lang.specs.declared.command.Command.TheVariants as command
+use Rattle.script_lang.specs.declared.line.Line.{Line}
+use Rattle.transcripts.specs.declared.loaded.Loaded.TheVariants.{Nothing}
+use Rattle.transcripts.specs.declared.record.Answer.TheVariants.{Accepted, NotText, Refused}
+use Rattle.transcripts.specs.Serial.{Step, told as no_more, step_unless, changes_step, step_of}
+use Rattle.transcript_check.specs.Section.{Cursor, told_text, is_settle, made_by_line, line_step}
+use Rattle.transcript_check.specs.Here.{goes_in, HasGoneIn, IsTakenLowest, HasTakenLowest, HasEnteredSo, HasChangedBy, HasChanged, IsMadeAs, HasMadeNext}
+use Rattle.transcript_check.proofs.HereLemmas.{Counts, GoesByLowest}
+
+-- a longer history goes on from the world of the shorter one
+abbrev pub FoldsOn : Type 0
+FoldsOn = (earlier later : List Entry) → fold (earlier ++ later) ≡ fold_from (fold earlier) later
+
+module _ (counts : Counts) (goes : GoesByLowest) (folds : FoldsOn) (history : List Entry) (after : World) where
+  -- changes that aren't refused go in where their entry is printed so
+  went_in : (cursor : Cursor) (text : List ℕ) (went : Bool) (seat number : ℕ) (changes : List Change) → list_refusal (fold history) changes ≡ None
+      → HasGoneIn (fold history) after seat number changes text went
+      → IsMadeAs (Some (record { entry = entry_of seat number changes; cursor = cursor })) history after cursor text went
+  went_in cursor text went seat number changes accepted gone =
+      let e : Entry = entry_of seat number changes in (
+        gone.is ∙ ap (λ (r : Option ListRefusal). is_none r && bytes_eq (entry_line ((fold history).entries + 1) e) text) accepted
+            ∙ ap (λ (n : ℕ). bytes_eq (entry_line (n + 1) e) text) (counts history),
+        λ t. (gone.then_after t ∙ sym (folds history (e ∷ [])), refl),
+      )
+
+  -- changes that are refused don't
+  not_in : (text : List ℕ) (went : Bool) (seat number : ℕ) (changes : List Change) (r : ListRefusal) → list_refusal (fold history) changes ≡ Some r
+      → HasGoneIn (fold history) after seat number changes text went → went ≡ false
+  not_in text went seat number changes r refused gone =
+      gone.is ∙ ap (λ (o : Option ListRefusal). is_none o && bytes_eq (entry_line ((fold history).entries + 1) (entry_of seat number changes)) text) refused
+
+  settle_made : (cursor done : Cursor) (told went : Bool) (text : List ℕ) (seat number : ℕ)
+      → IsTakenLowest (lowest_unready (fold history)) (fold history) after seat number text went
+      → IsMadeAs (made_by_line true told cursor done (settled history seat number).added) history after cursor text went
+  settle_made cursor done told went text seat number h = by_lowest (lowest_unready (fold history)) refl h
+    where
+      Is : Settled → Type 0
+      Is s = IsMadeAs (made_by_line true told cursor done s.added) history after cursor text went
+
+      by_refusal : (id : ℕ) → lowest_unready (fold history) ≡ Some id → HasGoneIn (fold history) after seat number (intake_of (fold history) id) text went
+          → (r : Option ListRefusal) → list_refusal (fold history) (intake_of (fold history) id) ≡ r → Is (settled history seat number)
+      by_refusal id lowest gone None accepted =
+          subst Is (sym (goes.goes_on history seat number id lowest accepted)) (went_in cursor text went seat number (intake_of (fold history) id) accepted gone)
+      by_refusal id lowest gone (Some r) refused =
+          subst Is (sym (goes.ends history seat number id r.why lowest (ap (option_map (λ (x : ListRefusal). x.why)) refused)))
+          (not_in text went seat number (intake_of (fold history) id) r refused gone)
+
+      by_lowest : (o : Option ℕ) → lowest_unready (fold history) ≡ o → IsTakenLowest o (fold history) after seat number text went
+          → Is (settled history seat number)
+      by_lowest None lowest gone = subst Is (sym (goes.over history seat number lowest)) gone
+      by_lowest (Some id) lowest gone = by_refusal id lowest gone (list_refusal (fold history) (intake_of (fold history) id)) refl
+
+  and_never : (a b : Bool) → (a && (false && b)) ≡ false
+  and_never true b = refl
+  and_never false b = refl
+
+  changes_made : (place : ℕ → Option ℕ) (on_the_way done : Cursor) (told text : List ℕ) (went : Bool) (seat number : ℕ) (changes : List Change)
+      → HasEnteredSo (fold history) after seat number changes told text went
+      → IsMadeAs
+      (made_by_line false (bytes_eq (told_text seat number (changes_step place history seat number changes).answer) told) on_the_way done
+      (changes_step place history seat number changes).added)
+      history after done text went
+  changes_made place on_the_way done told text went seat number changes h = by_refusal (list_refusal (fold history) changes) refl
+    where
+      e : Entry
+      e = entry_of seat number changes
+
+      Is : Option ListRefusal → Type 0
+      Is r = IsMadeAs
+          (made_by_line false (bytes_eq (told_text seat number (step_unless r place history e).answer) told) on_the_way done (step_unless r place history e).added)
+          history after done text went
+
+      said : Bool
+      said = bytes_eq (told_text seat number (Accepted (length history + 1))) told
+
+      here : went ≡ (said && goes_in (fold history) seat number changes text)
+      here = h.is ∙ ap (λ (n : ℕ). bytes_eq (told_text seat number (Accepted (n + 1))) told && goes_in (fold history) seat number changes text) (counts history)
+
+      by_refusal : (r : Option ListRefusal) → list_refusal (fold history) changes ≡ r → Is r
+      by_refusal None accepted = bool_cases said
+          (λ b. went ≡ (b && goes_in (fold history) seat number changes text)
+          → IsMadeAs (if b then Some (record { entry = e; cursor = done }) else None) history after done text went)
+          (λ t is. went_in done text went seat number changes accepted (record { is = is; then_after = h.then_after }))
+          (λ f is. is)
+          here
+      by_refusal (Some r) refused =
+          here ∙ ap (λ (o : Option ListRefusal). said && (is_none o && bytes_eq (entry_line ((fold history).entries + 1) e) text)) refused
+          ∙ and_never said (bytes_eq (entry_line ((fold history).entries + 1) e) text)
+
+  -- what a line makes that is no settle
+  line_made : (line : Line) (on_the_way done : Cursor) (told text : List ℕ) (went : Bool) (seat : ℕ) → is_settle line.command ≡ false
+      → HasChangedBy (fold history) after seat line.number line.command told text went
+      → IsMadeAs
+      (made_by_line (is_settle line.command) (bytes_eq (told_text seat line.number (line_step history seat line).answer) told) on_the_way done
+      (line_step history seat line).added)
+      history after done text went
+  line_made line on_the_way done told text went seat no_settle h = by_command line.command no_settle h
+    where
+      load : Bool → Step
+      load b = if b then no_more (NotText 0) else no_more (Refused (length history) None BadPath)
+
+      Loads : Bool → Type 0
+      Loads b = IsMadeAs (made_by_line false (bytes_eq (told_text seat line.number (load b).answer) told) on_the_way done (load b).added) history after done text went
+
+      by_command : (c : Command) → is_settle c ≡ false → HasChangedBy (fold history) after seat line.number c told text went
+          → IsMadeAs
+          (made_by_line (is_settle c) (bytes_eq (told_text seat line.number (step_of Nothing history seat line.number c).answer) told) on_the_way done
+          (step_of Nothing history seat line.number c).added)
+          history after done text went
+      by_command (command.Change change) no_settle h = changes_made (λ place. None) on_the_way done told text went seat line.number (change ∷ []) h
+      by_command (command.Group changes) no_settle h = changes_made Some on_the_way done told text went seat line.number changes h
+      by_command (command.Load path) no_settle h = bool_cases (is_path path) Loads (λ t. h) (λ f. h)
+      by_command command.Settle no_settle h = absurd (cc)
+      by_command (command.Ask query) no_settle h = h
+      by_command (command.Soft attempts query) no_settle h = h
+
+-- what a section makes next whose next line is a settle
+pub taken_next : Counts → GoesByLowest → FoldsOn → (world after : World) (seat : ℕ) (line : Line) (later : List Line) (told : List ℕ) (rest : List (List ℕ))
+    (settling : Bool) (text : List ℕ) (went : Bool) → is_settle line.command ≡ true → HasTakenLowest world after seat line.number text went
+    → HasMadeNext world after (record { seat = seat; lines = line ∷ later; texts = told ∷ rest; settling = settling })
+    (record { seat = seat; lines = line ∷ later; texts = told ∷ rest; settling = true }) text went
+taken_next counts goes folds world after seat line later told rest settling text went settles h = record {
+  is = λ history is. by_settle line.command settles refl history is;
+}
+  where
+    on_the_way : Cursor
+    on_the_way = record { seat = seat; lines = line ∷ later; texts = told ∷ rest; settling = true }
+
+    done : Cursor
+    done = record { seat = seat; lines = later; texts = rest; settling = false }
+
+    by_settle : (c : Command) → is_settle c ≡ true → line.command ≡ c → (history : List Entry) → fold history ≡ world
+        → IsMadeAs
+        (made_by_line (is_settle line.command) (bytes_eq (told_text seat line.number (line_step history seat line).answer) told) on_the_way done
+        (line_step history seat line).added)
+        history after on_the_way text went
+    by_settle (command.Change change) s e history is = absurd (cc)
+    by_settle (command.Group changes) s e history is = absurd (cc)
+    by_settle (command.Load path) s e history is = absurd (cc)
+    by_settle (command.Ask query) s e history is = absurd (cc)
+    by_settle (command.Soft attempts query) s e history is = absurd (cc)
+    by_settle command.Settle s e history is =
+        let M : Command → Type 0 = λ c. IsMadeAs
+        (made_by_line (is_settle c) (bytes_eq (told_text seat line.number (step_of Nothing history seat line.number c).answer) told) on_the_way done
+        (step_of Nothing history seat line.number c).added)
+        history after on_the_way text went in
+        subst M (sym e)
+        (settle_made counts goes folds history after on_the_way done (bytes_eq (told_text seat line.number (step_of Nothing history seat line.number command.Settle).answer) told)
+        went text seat line.number (subst (λ (w : World). IsTakenLowest (lowest_unready w) w after seat line.number text went) (sym is) h.is))
+
+-- what a section makes next whose next line is none
+pub changed_next : Counts → GoesByLowest → FoldsOn → (world after : World) (seat : ℕ) (line : Line) (later : List Line) (told : List ℕ) (rest : List (List ℕ))
+    (settling : Bool) (text : List ℕ) (went : Bool) → is_settle line.command ≡ false → HasChanged world after seat line told text went
+    → HasMadeNext world after (record { seat = seat; lines = line ∷ later; texts = told ∷ rest; settling = settling })
+    (record { seat = seat; lines = later; texts = rest; settling = false }) text went
+changed_next counts goes folds world after seat line later told rest settling text went no_settle h = record {
+  is = λ history is. line_made counts goes folds history after line (record { seat = seat; lines = line ∷ later; texts = told ∷ rest; settling = true })
+      (record { seat = seat; lines = later; texts = rest; settling = false }) told text went seat no_settle
+      (subst (λ (w : World). HasChangedBy w after seat line.number line.command told text went) (sym is) h.is);
+}
+
+-- a section without a line or without a text makes nothing
+pub nothing_next : (world after : World) (seat : ℕ) (lines : List Line) (texts : List (List ℕ)) (settling : Bool) (cursor' : Cursor) (text : List ℕ)
+    → (lines ≡ []) ⊎ (texts ≡ []) → HasMadeNext world after (record { seat = seat; lines = lines; texts = texts; settling = settling }) cursor' text false
+nothing_next world after seat [] texts settling cursor' text none = record { is = λ history is. refl }
+nothing_next world after seat (line ∷ lines) [] settling cursor' text none = record { is = λ history is. refl }
+nothing_next world after seat (line ∷ lines) (told ∷ texts) settling cursor' text (inl h) = absurd (cc)
+nothing_next world after seat (line ∷ lines) (told ∷ texts) settling cursor' text (inr h) = absurd (cc)

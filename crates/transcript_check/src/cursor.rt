@@ -1,0 +1,198 @@
+//! A section on its way through a history.
+ghost use Rattle.std.specs.Prelude.{◌≡◌, ◌<◌, length, true, IfOk, OnOk};
+ghost use Rattle.std.specs.List.{list_all};
+ghost use Rattle.ide_world.specs.Ready.{is_edit};
+ghost use Rattle.script_lang.specs.Held.{IsOfLine};
+ghost use Rattle.transcript_check.specs.Section.{is_settle};
+ghost use Rattle.transcript_check.specs.Here.{HasToldOne, IsToldAll, HasMadeNext, HasChanged, HasTakenLowest, HasEnteredSo};
+
+use crate::block::Block;
+use crate::entering::{enter_so, take_so};
+use crate::told::is_told_here;
+use ide_calls::laws::a_settle_goes_by_the_lowest;
+use replay::Replay;
+use script_lang::{Command, Line};
+use std::alloc::{AllocError, Global};
+use std::marker::Model;
+use transcripts::{Answer, Record, record_text};
+use write_history::Changes;
+use write_history::laws::histories_go_on;
+
+/// A section on its way: its lines that are left, with the texts of their records, and whether it is in the middle of a
+/// settle.
+#[derive(Drop)]
+pub(crate) struct Cursor<'a> {
+    pub(crate) seat: u32,
+    pub(crate) lines: &'a [Line],
+    pub(crate) texts: &'a [Block<'a>],
+    pub(crate) settling: bool,
+}
+
+impl<'a> Model for Cursor<'a> {
+    ghost use Rattle.script_lang.specs.Held.{AreOfSection};
+    ghost use Rattle.transcript_check.specs.Section.{Cursor as Way};
+
+    ghost Value = { Way };
+
+    ghost view = { λ c. record { seat = c.seat; lines = c.lines.now; texts = c.texts.now; settling = c.settling } };
+
+    ghost invariant = { λ c. AreOfSection c.lines.now };
+}
+
+impl<'a> Cursor<'a> {
+    /// Goes behind all records that are told here, one after another.
+    pub(crate) fn tell(
+        &mut self,
+        alloc: Global,
+        replay: &Replay,
+        beside: bool,
+    ) -> Result<(), AllocError>
+        ensures { OnOk result (IsToldAll beside replay.now self.old self.new) }
+    {
+        while self.tell_one(alloc, replay, beside)? {}
+        Ok(())
+    }
+
+    /// Goes behind the next record where it is told here, and answers whether it is.
+    fn tell_one(&mut self, alloc: Global, replay: &Replay, beside: bool) -> Result<bool, AllocError>
+        ensures told { IfOk result (HasToldOne beside replay.now self.old self.new) }
+        ensures fewer { IfOk result (λ told. told ≡ true → length self.new.lines < length self.old.lines) }
+    {
+        let lines = self.lines;
+        let texts = self.texts;
+        let Some((line, later)) = lines.split_first() else {
+            return Ok(false);
+        };
+        let Some((text, rest)) = texts.split_first() else {
+            return Ok(false);
+        };
+        if !is_told_here(
+            alloc,
+            replay,
+            beside & !self.settling,
+            self.seat,
+            line,
+            text,
+        )? {
+            return Ok(false);
+        }
+        *self = Cursor {
+            seat: self.seat,
+            lines: later,
+            texts: rest,
+            settling: false,
+        };
+        Ok(true)
+    }
+
+    /// Makes the next entry of the section where it is printed so, and goes behind it.
+    pub(crate) fn make(
+        &mut self,
+        alloc: Global,
+        replay: &mut Replay,
+        text: &Block<'_>,
+    ) -> Result<bool, AllocError>
+        ensures { IfOk result (HasMadeNext replay.old replay.new self.old self.new text.now) }
+    {
+        histories_go_on();
+        a_settle_goes_by_the_lowest();
+        let seat = self.seat;
+        let lines = self.lines;
+        let texts = self.texts;
+        let Some((line, later)) = lines.split_first() else {
+            return Ok(false);
+        };
+        let Some((told, rest)) = texts.split_first() else {
+            return Ok(false);
+        };
+        if is_settle(&line.command) {
+            self.settling = true;
+            return take_lowest_so(alloc, replay, seat, line.number, text);
+        }
+        *self = Cursor {
+            seat,
+            lines: later,
+            texts: rest,
+            settling: false,
+        };
+        change_so(alloc, replay, seat, line, told, text)
+    }
+}
+
+/// Whether a command is a settle.
+fn is_settle(command: &Command) -> bool
+    ensures { result ≡ is_settle command.now }
+{
+    matches!(command, Command::Settle)
+}
+
+/// Takes the unready file with the lowest id in as the entry with this text.
+fn take_lowest_so(
+    alloc: Global,
+    replay: &mut Replay,
+    seat: u32,
+    line: u32,
+    text: &Block<'_>,
+) -> Result<bool, AllocError>
+    ensures { IfOk result (HasTakenLowest replay.old replay.new seat line text.now) }
+{
+    match replay.lowest_unready() {
+        Some(file) => take_so(alloc, replay, seat, line, file, text),
+        None => Ok(false),
+    }
+}
+
+/// Makes the changes of a line as the entry with this text, where the line's record tells that they were accepted.
+fn change_so(
+    alloc: Global,
+    replay: &mut Replay,
+    seat: u32,
+    line: &Line,
+    told: &Block<'_>,
+    text: &Block<'_>,
+) -> Result<bool, AllocError>
+    requires { IsOfLine line.now.command }
+    ensures { IfOk result (HasChanged replay.old replay.new seat line.now told.now text.now) }
+{
+    match &line.command {
+        Command::Change(change) => {
+            let changes = Changes::one(change.copy()?);
+            accept_so(alloc, replay, seat, line.number, changes, told, text)
+        }
+        Command::Group(changes) => {
+            accept_so(
+                alloc,
+                replay,
+                seat,
+                line.number,
+                changes.copy()?,
+                told,
+                text,
+            )
+        }
+        _ => Ok(false),
+    }
+}
+
+/// Makes changes as the entry with this text, where the record of their line tells that they were accepted.
+fn accept_so(
+    alloc: Global,
+    replay: &mut Replay,
+    seat: u32,
+    line: u32,
+    changes: Changes,
+    told: &Block<'_>,
+    text: &Block<'_>,
+) -> Result<bool, AllocError>
+    requires { list_all is_edit changes ≡ true }
+    ensures { IfOk result (HasEnteredSo replay.old replay.new seat line changes told.now text.now) }
+{
+    let answer = Answer::Accepted {
+        at: replay.entries() + 1,
+    };
+    let wanted = record_text(alloc, &Record { seat, line, answer })?;
+    if !told.is(&wanted) {
+        return Ok(false);
+    }
+    enter_so(alloc, replay, seat, line, changes, text)
+}
