@@ -7,3 +7,4 @@ pub mod Texts
 pub mod Verdict
 pub mod Here
 pub mod Numbers
+pub mod Going
