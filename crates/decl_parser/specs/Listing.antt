@@ -81,3 +81,10 @@ pub record IsNamedIn (text : List ℕ) (s : Stub) : Type 0 where
   pub identifier : is_identifier_token text token ≡ true
   pub place : s.at ≡ token.at
   pub name : s.name ≡ characters_of text token
+
+-- the name is that of an identifier of the text
+pub record IsIdentifierOf (text : List ℕ) (name : List ℕ) : Type 0 where
+  pub token : Token
+  pub token_of : Contains (tokens_of text) token
+  pub identifier : is_identifier_token text token ≡ true
+  pub is : name ≡ characters_of text token

@@ -8,7 +8,7 @@ ghost use Rattle.java_tokens.specs.Words.{is_comment};
 ghost use Rattle.stub_tree.specs.Lawful.{IsLawfulList};
 ghost use Rattle.stub_tree.specs.Stub.{is_type};
 ghost use Rattle.decl_parser.specs.Forest.{forest_of};
-ghost use Rattle.decl_parser.specs.Listing.{listing_of, IsNamedIn};
+ghost use Rattle.decl_parser.specs.Listing.{listing_of, IsIdentifierOf, IsNamedIn};
 ghost use Rattle.decl_parser.specs.Rule.{DeclaresNoType};
 ghost use Rattle.decl_parser.specs.Unit.{units_of};
 
@@ -26,6 +26,11 @@ pub fn offsets_rise()
 /// Each declaration of a listing is named by an identifier of the text, which stands at its offset.
 pub fn names_are_identifiers()
     ensures { (text : List ℕ) → All (IsNamedIn text) (listing_of text) }
+{}
+
+/// Each super of a declaration of a listing is an identifier of the text.
+pub fn supers_are_identifiers()
+    ensures { (text : List ℕ) → All (λ s. All (IsIdentifierOf text) s.supers) (listing_of text) }
 {}
 
 /// Comments count for nothing: the forest of groups, from which the listing is made, is that of the other tokens.

@@ -9,3 +9,4 @@ pub mod AsciiWords
 pub mod IdentifierLemmas
 pub mod FrontLemmas
 pub mod PlaceLemmas
+pub mod WholeWords

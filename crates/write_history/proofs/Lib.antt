@@ -6,3 +6,4 @@ pub mod SoundLemmas
 pub mod UnreadyLemmas
 pub mod CountLemmas
 pub mod TextLemmas
+pub mod NamedLemmas

@@ -13,6 +13,8 @@ ghost use Rattle.write_history.specs.declared.refusal.Refusal.{Refusal};
 ghost use Rattle.ide_text.specs.Text.{max_chars};
 ghost use Rattle.document_buf.specs.Document.{Document};
 ghost use Rattle.write_history.specs.Texts.{GivesContent};
+ghost use Rattle.write_history.specs.Named.{NamesPaths};
+ghost use Rattle.write_history.specs.Path.{is_path};
 ghost use Rattle.write_history.specs.Stamps.{stamps_drawn, files_made, IsAsStamped, KeepsOrRenews};
 
 /// A longer history goes on from the world of the shorter one. It is legal where the shorter one is and none of its
@@ -129,6 +131,15 @@ pub fn live_files_have_paths_of_their_own()
     ensures file { (world : World) (path : List ℕ) (id : ℕ) → id_at world path ≡ Some id
         → (file : File) × (file_of world id ≡ Some file) × (file.path ≡ path) }
     ensures none { (world : World) (id : ℕ) (file : File) → id_at world file.path ≡ None → file_of world id ≡ Some file → ⊥ }
+{}
+
+/// The entries of a legal history name lawful paths alone, and after it each live file has one: a file gets no other path,
+/// and a change of a path that no live file has is refused.
+pub fn paths_are_lawful()
+    ensures named { (entries : List Entry) → IsLegal entries
+        → All (λ entry. All (NamesPaths (λ path. is_path path ≡ true)) entry.changes) entries }
+    ensures live { (entries : List Entry) (id : ℕ) (file : File) → IsLegal entries → file_of (fold entries) id ≡ Some file
+        → is_path file.path ≡ true }
 {}
 
 /// After a legal history a saved document has the file's content.
