@@ -19,8 +19,8 @@ Each public definition that contracts cite, with the sentence that stands above 
 
 ## The headline, sentence by sentence
 
-Of every run of `ide play` that ends with status 0, in `run_ide`'s clause `ends` (`IsTranscript`, which is `RunFits` of what
-is printed):
+Of every run of `ide play` that ends with status 0, in `run_ide`'s clause `ends` (`IsTranscript`, which is `IsTranscriptOf` of
+what was read for the loads, and so `RunFits` of what is printed):
 
 | what the headline says | where it stands |
 |---|---|
@@ -53,7 +53,8 @@ declarations (`stub_tree`), the stages of a listing (`decl_parser`), tokens (`ja
 | one record of a run beside others; a section; lanes; workers; the whole run | `IsDone`, `IsGivenUp`; `SectionFits`; `LanesFit`; `WorkerFits`; `RunFits` | `transcripts/specs/Fits.antt` |
 | what was read for the loads | `AreLoadsOf` | `transcripts/specs/Loads.antt` |
 | the bytes that print a history and records | `transcript_of`; `entry_line` | `transcripts/specs/Transcript.antt`; `write_history/specs/Print.antt` |
-| a played script; its transcript; how the program ends | `Plays`; `IsTranscript`, `PlayEnds`, `RunEnds` | `ide_script/specs/Play.antt`; `Run.antt` |
+| a played script and its transcript, where this was read for its loads; the same with what a tree gives for them | `PlaysWith`, `IsTranscriptOf`; `Plays`, `IsTranscript` | `transcripts/specs/Play.antt` |
+| how the program ends | `PlayEnds`, `RunEnds` | `ide_script/specs/Run.antt` |
 
 What the proofs over threads speak of stands in sources besides: `src/rule.rt` and `src/plays.rt` of `action_lock`, and
 `src/rule.rt` of `job_queue`, are statements (the rule that holds between any two atomic steps, and what each step tells the

@@ -1,0 +1,218 @@
+-- A section by the texts of its records: what `SectionFits` says, without what isn't printed.
+use Rattle.std.proofs.Common.{ℕ, zero, suc, ◌≡◌, ◌+◌, ◌≤◌, ◌<◌, Bool, true, false, List, [], ◌∷◌, ◌++◌, length, map, refl, sym, ap, ◌∙◌, subst, append_assoc, length-append, arith, Some, None, ◌⊎◌, inl, inr, ⊎_elim}
+use Rattle.std.specs.Prelude.{bytes_eq}
+use Rattle.std.proofs.lemmas.Slice.Eq.{bytes_eq-Decides}
+use Rattle.std.proofs.lemmas.List.{append_cancel_left}
+use Rattle.std.proofs.lemmas.List.Elements.{filter-append}
+use Rattle.list_laws.specs.Fronts.{IsFront}
+use Rattle.list_laws.proofs.FrontLemmas.{front_length, front_shorter, front_trans}
+use Rattle.action_lock.specs.Counts.{HasRisenBy}
+use Rattle.write_history.specs.declared.entry.Entry.{Entry}
+use Rattle.queries.specs.declared.query.Query.{Query}
+use Rattle.ide_calls.specs.Sighting.{Sighting}
+use Rattle.script_lang.specs.declared.command.Command.{Command}
+use Rattle.script_lang.specs.declared.command.Command.TheVariants as command
+use Rattle.script_lang.specs.declared.line.Line.{Line}
+use Rattle.transcripts.specs.declared.loaded.Loaded.TheVariants.{Nothing}
+use Rattle.transcripts.specs.declared.record.Answer.{Answer}
+use Rattle.transcripts.specs.declared.record.Answer.TheVariants.{Cancelled}
+use Rattle.transcripts.specs.declared.record.Record.{Record}
+use Rattle.transcripts.specs.Serial.{Step, step_of}
+use Rattle.transcripts.specs.Fits.{Mark, IsDone, IsGivenUp, Fits, FitsFirst, SectionFits, made_by}
+use Rattle.transcripts.specs.Transcript.{record_text}
+use Rattle.transcript_check.specs.Section.{line_step, told_text, given_up, tells_given_up}
+use Rattle.transcript_check.proofs.StepLemmas.{Laws, IsStep, step_is}
+
+-- A line was done behind `start`: what it made stands right behind that, and this is the text of its record
+pub record DoneBehind (history start : List Entry) (seat : ℕ) (line : Line) (made : List Entry) (text : List ℕ) : Type 0 where
+  pub answer : Answer
+  pub stands : IsFront (start ++ made) history
+  pub step : line_step start seat line ≡ record { added = made; answer = answer }
+  pub told : told_text seat line.number answer ≡ text
+
+-- a line was done behind all of so many entries
+pub record DoneLate (history : List Entry) (seat : ℕ) (line : Line) (len : ℕ) (made : List Entry) (text : List ℕ) (between : ℕ) : Type 0 where
+  pub start : List Entry
+  pub late : len ≤ length start
+  pub done : DoneBehind history start seat line made text
+  pub between_is : between ≡ length (start ++ made)
+
+-- the soft question of a line was given up, by the text of its record
+pub record WasGivenUp (seat : ℕ) (line : Line) (len : ℕ) (made : List Entry) (text : List ℕ) (between : ℕ) : Type 0 where
+  pub told : tells_given_up seat line.number line.command text ≡ true
+  pub nothing : made ≡ []
+  pub between_is : between ≡ len
+
+-- what the text of a line's record says
+abbrev pub TextFits : Bool → List Entry → ℕ → Line → ℕ → List Entry → List ℕ → ℕ → Type 0
+TextFits beside history seat line len made text between =
+    DoneLate history seat line len made text between ⊎ ((beside ≡ true) × WasGivenUp seat line len made text between)
+
+-- the first text fits, and the others
+pub record FirstFits (First : List Entry → List ℕ → ℕ → Type 0) (Rest : List (List ℕ) → List Entry → ℕ → Type 0)
+    (texts : List (List ℕ)) (own : List Entry) : Type 0 where
+  pub text : List ℕ
+  pub made : List Entry
+  pub between : ℕ
+  pub later : List (List ℕ)
+  pub made_later : List Entry
+  pub texts_are : texts ≡ text ∷ later
+  pub own_is : own ≡ made ++ made_later
+  pub first : First made text between
+  pub rest : Rest later made_later between
+
+-- the texts of a section's records fit the history from so many entries on, of which these are its own
+abbrev pub TextsFit : Bool → List Entry → ℕ → ℕ → List Line → List (List ℕ) → List Entry → Type 0
+TextsFit beside history seat len [] texts own = (texts ≡ []) × (own ≡ [])
+TextsFit beside history seat len (line ∷ lines) texts own =
+    FirstFits (TextFits beside history seat line len) (λ later made_later between. TextsFit beside history seat between lines later made_later) texts own
+
+pub text_is : (xs ys : List ℕ) → bytes_eq xs ys ≡ true → xs ≡ ys
+text_is xs ys = (bytes_eq-Decides xs ys).0
+
+-- from the records to their texts
+soft_told : (seat number attempts : ℕ) (query : Query) (c : Command) → c ≡ command.Soft attempts query
+    → tells_given_up seat number c (told_text seat number (given_up seat attempts)) ≡ true
+soft_told seat number attempts query c is =
+    subst (λ (d : Command). tells_given_up seat number d (told_text seat number (given_up seat attempts)) ≡ true) (sym is)
+    ((bytes_eq-Decides (told_text seat number (given_up seat attempts)) (told_text seat number (given_up seat attempts))).1 refl)
+
+given_text : (seat : ℕ) (line : Line) (low high : Mark) (made : List Entry) (answer : Answer) → IsGivenUp seat line low made answer high
+    → WasGivenUp seat line low.seen made (record_text (record { seat = seat; line = line.number; answer = answer })) high.seen
+given_text seat line low high made answer given =
+    let same : told_text seat line.number answer ≡ told_text seat line.number (given_up seat given.attempts) =
+    ap (told_text seat line.number) given.told ∙ ap (λ (n : ℕ). told_text seat line.number (given_up seat n)) given.allowed in
+    record {
+      told = subst (λ (t : List ℕ). tells_given_up seat line.number line.command t ≡ true) (sym same)
+          (soft_told seat line.number given.attempts given.query line.command given.soft);
+      nothing = given.nothing;
+      between_is = given.seen;
+    }
+
+done_text : (history : List Entry) (seat : ℕ) (line : Line) (low high : Mark) (made : List Entry) (answer : Answer)
+    → IsDone history seat line Nothing low made answer high
+    → DoneLate history seat line low.seen made (record_text (record { seat = seat; line = line.number; answer = answer })) high.seen
+done_text history seat line low high made answer done = record {
+  start = done.start;
+  late = done.late;
+  done = record { answer = answer; stands = done.stands; step = done.step; told = refl };
+  between_is = done.seen;
+}
+
+pub texts_of_section : (beside : Bool) (history : List Entry) (seat : ℕ) (low high : Mark) (lines : List Line) (records : List Record) (own : List Entry)
+    → SectionFits beside history seat low lines [] records own high
+    → TextsFit beside history seat low.seen lines (map record_text records) own
+texts_of_section beside history seat low high [] records own fits = (ap (map record_text) fits.0, fits.1)
+texts_of_section beside history seat low high (line ∷ lines) records own fits = record {
+  text = record_text (record { seat = seat; line = line.number; answer = fits.answer });
+  made = fits.made;
+  between = fits.between.seen;
+  later = map record_text fits.later;
+  made_later = fits.made_later;
+  texts_are = ap (map record_text) fits.records_are;
+  own_is = fits.own_is;
+  first = ⊎_elim (λ (done : IsDone history seat line Nothing low fits.made fits.answer fits.between).
+      inl (done_text history seat line low fits.between fits.made fits.answer done))
+      (λ (given : (beside ≡ true) × IsGivenUp seat line low fits.made fits.answer fits.between).
+      inr (given.0, given_text seat line low fits.between fits.made fits.answer given.1)) fits.first;
+  rest = texts_of_section beside history seat fits.between high lines fits.later fits.made_later fits.rest;
+}
+
+-- and back: the records can be told so, whatever the sights at the beginning
+pub record RecordsFit (beside : Bool) (history : List Entry) (seat len sights : ℕ) (lines : List Line) (texts : List (List ℕ)) (own : List Entry) : Type 0 where
+  pub records : List Record
+  pub high : Mark
+  pub fits : SectionFits beside history seat (record { seen = len; sights = sights }) lines [] records own high
+  pub texts_are : map record_text records ≡ texts
+
+-- the first record fits, up to a mark
+record RecordFits (beside : Bool) (history : List Entry) (seat : ℕ) (line : Line) (len sights : ℕ) (made : List Entry) (text : List ℕ) (between : ℕ) : Type 0 where
+  answer : Answer
+  later_sights : ℕ
+  fits : Fits beside history seat line Nothing (record { seen = len; sights = sights }) made answer (record { seen = between; sights = later_sights })
+  text_is : told_text seat line.number answer ≡ text
+
+-- a soft question that was given up, with the number of its attempts
+pub record GaveUp (seat : ℕ) (line : Line) (text : List ℕ) : Type 0 where
+  pub attempts : ℕ
+  pub query : Query
+  pub soft : line.command ≡ command.Soft attempts query
+  pub told : told_text seat line.number (given_up seat attempts) ≡ text
+
+pub gave_up : (seat number : ℕ) (c : Command) (text : List ℕ) → tells_given_up seat number c text ≡ true → GaveUp seat (record { number = number; command = c }) text
+gave_up seat number (command.Soft attempts query) text told =
+    record { attempts = attempts; query = query; soft = refl; told = text_is (told_text seat number (given_up seat attempts)) text told }
+gave_up seat number (command.Change change) text told = absurd cc
+gave_up seat number (command.Group changes) text told = absurd cc
+gave_up seat number (command.Load path) text told = absurd cc
+gave_up seat number command.Settle text told = absurd cc
+gave_up seat number (command.Ask query) text told = absurd cc
+
+record_given : (beside : Bool) (history : List Entry) (seat : ℕ) (line : Line) (len sights : ℕ) (made : List Entry) (text : List ℕ) (between : ℕ) → beside ≡ true
+    → WasGivenUp seat line len made text between → RecordFits beside history seat line len sights made text between
+record_given beside history seat line len sights made text between is given =
+    let gave : GaveUp seat line text = gave_up seat line.number line.command text given.told in
+    let sighted : Sighting = record { seat = seat; attempts = gave.attempts; before = sights; after = sights + gave.attempts } in
+    record {
+      answer = Cancelled sighted;
+      later_sights = sights + gave.attempts;
+      fits = inr (is, record {
+        attempts = gave.attempts;
+        query = gave.query;
+        soft = gave.soft;
+        sighted = sighted;
+        told = refl;
+        nothing = given.nothing;
+        seat_is = refl;
+        allowed = refl;
+        before = omega arith;
+        risen = inl (omega arith);
+        seen = given.between_is;
+        sights = refl;
+      });
+      text_is = gave.told;
+    }
+
+record_done : (beside : Bool) (history : List Entry) (seat : ℕ) (line : Line) (len sights : ℕ) (made : List Entry) (text : List ℕ) (between : ℕ)
+    → DoneLate history seat line len made text between → RecordFits beside history seat line len sights made text between
+record_done beside history seat line len sights made text between late = record {
+  answer = late.done.answer;
+  later_sights = sights;
+  fits = inl (record {
+    start = late.start;
+    late = late.late;
+    stands = late.done.stands;
+    step = late.done.step;
+    seen = late.between_is;
+    sights = omega arith;
+  });
+  text_is = late.done.told;
+}
+
+pub section_of_texts : (beside : Bool) (history : List Entry) (seat len sights : ℕ) (lines : List Line) (texts : List (List ℕ)) (own : List Entry)
+    → TextsFit beside history seat len lines texts own → RecordsFit beside history seat len sights lines texts own
+section_of_texts beside history seat len sights [] texts own fits =
+    record { records = []; high = record { seen = len; sights = sights }; fits = (refl, fits.1, refl); texts_are = sym fits.0 }
+section_of_texts beside history seat len sights (line ∷ lines) texts own fits =
+    let first : RecordFits beside history seat line len sights fits.made fits.text fits.between =
+    ⊎_elim (λ (late : DoneLate history seat line len fits.made fits.text fits.between).
+    record_done beside history seat line len sights fits.made fits.text fits.between late)
+    (λ (given : (beside ≡ true) × WasGivenUp seat line len fits.made fits.text fits.between).
+    record_given beside history seat line len sights fits.made fits.text fits.between given.0 given.1) fits.first in
+    let rest = section_of_texts beside history seat fits.between first.later_sights lines fits.later fits.made_later fits.rest in
+    record {
+      records = record { seat = seat; line = line.number; answer = first.answer } ∷ rest.records;
+      high = rest.high;
+      fits = record {
+        answer = first.answer;
+        made = fits.made;
+        between = record { seen = fits.between; sights = first.later_sights };
+        later = rest.records;
+        made_later = fits.made_later;
+        records_are = refl;
+        own_is = fits.own_is;
+        first = first.fits;
+        rest = rest.fits;
+      };
+      texts_are = (λ i. first.text_is i ∷ rest.texts_are i) ∙ sym fits.texts_are;
+    }

@@ -1,0 +1,5 @@
+use Rattle.transcript_check.proofs.BlockLemmas.{blocks-joined}
+use Rattle.transcript_check.proofs.blocks.blocks_join.Goals as goal
+
+pub returns : goal.returns
+returns c = blocks-joined

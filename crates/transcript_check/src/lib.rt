@@ -1,0 +1,4 @@
+//! Checks a transcript without running its script again beside threads: the history and the records, one after another.
+#![tactic(auto)]
+
+pub mod blocks;
