@@ -51,7 +51,8 @@ module _ (text : List ℕ) (Has : Stub → Type 0) (has : (depth lo hi : ℕ) (d
   declared-has depth lo mid hi members body (Some d) below r sound =
       let holder : Option Holder = Some (record { kind = d.kind; name = d.name }) in (
         has depth lo mid d sound,
-        cond_keeps AllHave (is_type (stub_of text depth d)) (members holder (units_of body)) [] (below holder mid hi (units_of body) (rises-units text mid hi body r)) tt,
+        cond_keeps AllHave (is_type (stub_of text depth d)) (members holder (units_of body)) []
+            (below holder mid hi (units_of body) (rises-units text mid hi body r)) tt,
       )
 
   items-have : (depth lo hi : ℕ) (members : Option Holder → List UnitOf → List Stub) (holder : Option Holder) (items : List Item)
@@ -80,13 +81,15 @@ module _ (text : List ℕ) (Has : Stub → Type 0) (has : (depth lo hi : ℕ) (d
           items-have depth lo hi members holder (items_of us) below (items_from-rise text lo lo hi [] us (omega arith) r)
       enum_or_not true depth lo hi members holder us below r =
           let body = constants-rise text lo lo hi [] us (omega arith) r in
-          have-append (map (constant_stub text depth) (constants_after [] us)) (flat_map (item_stubs text depth members holder) (items_of (behind_semicolon us)))
+          have-append (map (constant_stub text depth) (constants_after [] us))
+          (flat_map (item_stubs text depth members holder) (items_of (behind_semicolon us)))
           (constants-have depth lo body.0 (constants_after [] us) body.1)
           (items-have depth body.0 hi members holder (items_of (behind_semicolon us)) below
           (items_from-rise text body.0 body.0 hi [] (behind_semicolon us) (omega arith) body.2))
 
 -- what each stub of a sound declaration has, each of a listing has
-listing-has : (text : List ℕ) (Has : Stub → Type 0) → ((depth lo hi : ℕ) (d : Declaration) → IsSound text lo hi d → Has (stub_of text depth d)) → All Has (listing_of text)
+listing-has : (text : List ℕ) (Has : Stub → Type 0)
+    → ((depth lo hi : ℕ) (d : Declaration) → IsSound text lo hi d → Has (stub_of text depth d)) → All Has (listing_of text)
 unfolding listing_of
 listing-has text Has has =
     let nodes = forest_of text (tokens_of text) in

@@ -77,7 +77,8 @@ identifier-is_word text token among is =
     contained (IsWhole text) (tokens_of text) token (whole-within (length text) 0 text (omega arith)) among (identifier-kind text token is)
 
 -- what a name is used as is a whole word
-used-is_word : (name text : List ℕ) (ts : List Token) → AllByRecursion (IsWhole text) ts → map (λ (t : Token). t.at) (filter (is_use_of name text) ts) ≢ [] → is_word name ≡ true
+used-is_word : (name text : List ℕ) (ts : List Token) → AllByRecursion (IsWhole text) ts
+    → map (λ (t : Token). t.at) (filter (is_use_of name text) ts) ≢ [] → is_word name ≡ true
 used-is_word name text [] whole used = absurd (used refl)
 used-is_word name text (t ∷ ts) whole used = by (is_use_of name text t) refl
     (λ later. used-is_word name text ts whole.1 later) used

@@ -1,5 +1,5 @@
 -- Cutting bytes into blocks, and joining them again.
-use Rattle.std.proofs.Common.{◌≡◌, ℕ, zero, suc, ◌<◌, ◌≤◌, Bool, true, false, not, ◌&&◌, ◌==◌, cond, List, [], ◌∷◌, ◌++◌, length, map, take, drop, refl, sym, ap, ◌∙◌, append-nil, append_assoc, arith, Bor}
+use Rattle.std.proofs.Common.{◌≡◌, ℕ, suc, ◌<◌, ◌≤◌, Bool, true, false, not, ◌&&◌, ◌==◌, cond, List, [], ◌∷◌, ◌++◌, length, map, take, drop, refl, sym, ap, ◌∙◌, append-nil, append_assoc, arith, Bor}
 use Rattle.std.specs.Prelude.{All}
 use Rattle.std.specs.List.{concat, AllByRecursion}
 use Rattle.std.proofs.lemmas.Bool.{eqb-true}
@@ -29,7 +29,8 @@ blocks-joined [] = refl
 blocks-joined (byte ∷ bytes) = joined-cond (ends_block byte bytes) byte (blocks_of bytes) bytes (blocks-joined bytes)
 
 -- the first block and the others
-pub blocks-first : (byte : ℕ) (bytes : List ℕ) → blocks_of (byte ∷ bytes) ≡ take (first_len (byte ∷ bytes)) (byte ∷ bytes) ∷ blocks_of (drop (first_len (byte ∷ bytes)) (byte ∷ bytes))
+pub blocks-first : (byte : ℕ) (bytes : List ℕ) → blocks_of (byte ∷ bytes)
+    ≡ take (first_len (byte ∷ bytes)) (byte ∷ bytes) ∷ blocks_of (drop (first_len (byte ∷ bytes)) (byte ∷ bytes))
 unfolding blocks_of
 blocks-first byte [] = by (ends_block byte [])
   where
@@ -78,14 +79,16 @@ pub cut-turn : (done more : List (Bor (List ℕ))) (block : Bor (List ℕ)) (lef
 cut-turn done more block [] later all some grown first rest so_far = absurd (omega arith)
 cut-turn done more block (byte ∷ bytes) later all some grown first rest so_far =
     let left : List ℕ = byte ∷ bytes in
-    let here : blocks_of left ≡ block.now ∷ blocks_of later = blocks-first byte bytes ∙ ap (λ b. b ∷ blocks_of (drop (first_len left) left)) (sym first) ∙ ap (λ bs. block.now ∷ blocks_of bs) (sym rest) in
+    let here : blocks_of left ≡ block.now ∷ blocks_of later =
+    blocks-first byte bytes ∙ ap (λ b. b ∷ blocks_of (drop (first_len left) left)) (sym first) ∙ ap (λ bs. block.now ∷ blocks_of bs) (sym rest) in
     ap (λ bs. map (λ b. b.now) bs ++ blocks_of later) grown
     ∙ ap (λ bs. bs ++ blocks_of later) (map-append (λ (b : Bor (List ℕ)). b.now) done (block ∷ []))
     ∙ append_assoc (map (λ b. b.now) done) (block.now ∷ []) (blocks_of later)
     ∙ ap (λ bs. map (λ b. b.now) done ++ bs) (sym here) ∙ so_far
 
 -- nothing is left to cut
-pub cut-end : (done : List (Bor (List ℕ))) (left : List ℕ) (all : List (List ℕ)) → length left ≡ 0 → map (λ b. b.now) done ++ blocks_of left ≡ all → map (λ b. b.now) done ≡ all
+pub cut-end : (done : List (Bor (List ℕ))) (left : List ℕ) (all : List (List ℕ))
+    → length left ≡ 0 → map (λ b. b.now) done ++ blocks_of left ≡ all → map (λ b. b.now) done ≡ all
 unfolding blocks_of
 cut-end done [] all nothing so_far = sym (append-nil (map (λ b. b.now) done)) ∙ so_far
 cut-end done (byte ∷ bytes) all nothing so_far = absurd (omega arith)
@@ -104,7 +107,8 @@ blocks-behind (byte ∷ []) bytes ends begins =
     ap (λ b. cond (byte == line_break && not b) ((byte ∷ []) ∷ blocks_of bytes) (before_first byte (blocks_of bytes))) begins
     ∙ ap (λ n. cond (n == line_break && true) ((byte ∷ []) ∷ blocks_of bytes) (before_first byte (blocks_of bytes))) ends
 blocks-behind (byte ∷ next ∷ text) bytes ends begins =
-    ap (λ b. cond b ((byte ∷ []) ∷ blocks_of ((next ∷ text) ++ bytes)) (before_first byte (blocks_of ((next ∷ text) ++ bytes)))) (goes_on byte next (text ++ bytes) ends.0)
+    ap (λ b. cond b ((byte ∷ []) ∷ blocks_of ((next ∷ text) ++ bytes)) (before_first byte (blocks_of ((next ∷ text) ++ bytes))))
+    (goes_on byte next (text ++ bytes) ends.0)
     ∙ ap (before_first byte) (blocks-behind (next ∷ text) bytes ends.1 begins)
 
 -- joined texts that are blocks don't begin with a space

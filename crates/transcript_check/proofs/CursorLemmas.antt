@@ -113,12 +113,29 @@ module _ (laws : Laws) (beside : Bool) (history : List Entry) (seat : ℕ) where
   sooner [] len less texts own below fits = fits
   sooner (line ∷ lines) len less texts own below fits = ⊎_elim
       (λ (late : DoneLate history seat line len fits.made fits.text fits.between). (let begins : len ≤ length late.start = late.late in
-      record { text = fits.text; made = fits.made; between = fits.between; later = fits.later; made_later = fits.made_later; texts_are = fits.texts_are; own_is = fits.own_is;
-        first = inl (record { start = late.start; late = omega arith; done = late.done; between_is = late.between_is }); rest = fits.rest }))
+      record {
+        text = fits.text;
+        made = fits.made;
+        between = fits.between;
+        later = fits.later;
+        made_later = fits.made_later;
+        texts_are = fits.texts_are;
+        own_is = fits.own_is;
+        first = inl (record { start = late.start; late = omega arith; done = late.done; between_is = late.between_is });
+        rest = fits.rest;
+      }))
       (λ (given : (beside ≡ true) × WasGivenUp seat line len fits.made fits.text fits.between). (let stays : fits.between ≡ len = given.1.between_is in
-      record { text = fits.text; made = fits.made; between = less; later = fits.later; made_later = fits.made_later; texts_are = fits.texts_are; own_is = fits.own_is;
+      record {
+        text = fits.text;
+        made = fits.made;
+        between = less;
+        later = fits.later;
+        made_later = fits.made_later;
+        texts_are = fits.texts_are;
+        own_is = fits.own_is;
         first = inr (given.0, record { told = given.1.told; nothing = given.1.nothing; between_is = refl });
-        rest = sooner lines fits.between less fits.later fits.made_later (omega arith) fits.rest })) fits.first
+        rest = sooner lines fits.between less fits.later fits.made_later (omega arith) fits.rest;
+      })) fits.first
 
   -- a section has no more entries of its own than there are with its seat behind what it had seen
   pub few_own : (lines : List Line) (texts : List (List ℕ)) (own before behind : List Entry) → history ≡ before ++ behind
@@ -148,8 +165,17 @@ module _ (laws : Laws) (beside : Bool) (history : List Entry) (seat : ℕ) where
   loosen here true lines texts own fits = fits
   loosen here false [] texts own fits = absurd fits
   loosen here false (line ∷ lines) texts own fits =
-      record { text = fits.text; made = fits.made; between = fits.between; later = fits.later; made_later = fits.made_later; texts_are = fits.texts_are; own_is = fits.own_is;
-        first = inl (record { start = here; late = omega arith; done = fits.first.0; between_is = fits.first.1 }); rest = fits.rest }
+      record {
+        text = fits.text;
+        made = fits.made;
+        between = fits.between;
+        later = fits.later;
+        made_later = fits.made_later;
+        texts_are = fits.texts_are;
+        own_is = fits.own_is;
+        first = inl (record { start = here; late = omega arith; done = fits.first.0; between_is = fits.first.1 });
+        rest = fits.rest;
+      }
 
   -- WHAT IS TOLD HERE
 
@@ -257,17 +283,38 @@ module _ (laws : Laws) (beside : Bool) (history : List Entry) (seat : ℕ) where
       → Told here (beside && not settling) line text → TextsFit beside history seat (length here) lines texts own
       → StateFits beside history here seat settling (line ∷ lines) (text ∷ texts) own
   tell_back here true line lines text texts own front told fits =
-      record { text = text; made = []; between = length here; later = texts; made_later = own; texts_are = refl; own_is = refl; rest = fits;
-        first = (⊎_elim (λ (step : line_step here seat line ≡ record { added = []; answer = told.answer }).
-        done_here here (beside && false) line text told front step)
-        (λ (given : ((beside && false) ≡ true) × (tells_given_up seat line.number line.command text ≡ true)).
-        absurd (both_ways false refl (and_parts beside false given.0).1)) told.how, sym (ap length (append-nil here))) }
+      record {
+        text = text;
+        made = [];
+        between = length here;
+        later = texts;
+        made_later = own;
+        texts_are = refl;
+        own_is = refl;
+        rest = fits;
+        first = (
+          ⊎_elim (λ (step : line_step here seat line ≡ record { added = []; answer = told.answer }).
+              done_here here (beside && false) line text told front step)
+              (λ (given : ((beside && false) ≡ true) × (tells_given_up seat line.number line.command text ≡ true)).
+              absurd (both_ways false refl (and_parts beside false given.0).1)) told.how,
+          sym (ap length (append-nil here)),
+        );
+      }
   tell_back here false line lines text texts own front told fits =
-      record { text = text; made = []; between = length here; later = texts; made_later = own; texts_are = refl; own_is = refl; rest = fits;
+      record {
+        text = text;
+        made = [];
+        between = length here;
+        later = texts;
+        made_later = own;
+        texts_are = refl;
+        own_is = refl;
+        rest = fits;
         first = ⊎_elim (λ (step : line_step here seat line ≡ record { added = []; answer = told.answer }).
-        inl (record { start = here; late = omega arith; done = done_here here (beside && true) line text told front step; between_is = sym (ap length (append-nil here)) }))
-        (λ (given : ((beside && true) ≡ true) × (tells_given_up seat line.number line.command text ≡ true)).
-        inr ((and_parts beside true given.0).0, record { told = given.1; nothing = refl; between_is = refl })) told.how }
+            inl (record { start = here; late = omega arith; done = done_here here (beside && true) line text told front step; between_is = sym (ap length (append-nil here)) }))
+            (λ (given : ((beside && true) ≡ true) × (tells_given_up seat line.number line.command text ≡ true)).
+            inr ((and_parts beside true given.0).0, record { told = given.1; nothing = refl; between_is = refl })) told.how;
+      }
 
   -- a section behind all records that are told here fits where it did before them
   pub record ToldFits (here : List Entry) (settling : Bool) (lines : List Line) (texts : List (List ℕ)) (c : Cursor) : Type 0 where
@@ -341,19 +388,31 @@ module _ (laws : Laws) (beside : Bool) (history : List Entry) (seat : ℕ) where
       let first : DoneBehind history here seat line fits.made text =
       subst (DoneBehind history here seat line fits.made) (sym (text_head fits.texts_are)) fits.first.0 in
       absurd (other (first_made here (beside && false) line text e es fits.made stops parts first).own)
-  other_forth here false (line ∷ lines) (text ∷ texts) e es own stops parts other fits = (refl, ⊎_elim
-      (λ (late : DoneLate history seat line (length here) fits.made fits.text fits.between). ⊎_elim
-      (λ (past : length here < length late.start). (let grown = one_more here e in
-      record { text = fits.text; made = fits.made; between = fits.between; later = fits.later; made_later = fits.made_later; texts_are = fits.texts_are; own_is = fits.own_is;
-        first = inl (record { start = late.start; late = omega arith; done = late.done; between_is = late.between_is }); rest = fits.rest }))
-      (λ (not_past : length late.start ≤ length here). (
-      let done = done_exactly here late.start line fits.made fits.text (e ∷ es, parts) not_past late.late late.done in
-      let first : DoneBehind history here seat line fits.made text = subst (DoneBehind history here seat line fits.made) (sym (text_head fits.texts_are)) done in
-      absurd (other (first_made here (beside && true) line text e es fits.made stops parts first).own)))
-      (cases_lt (length here) (length late.start)))
-      (λ (given : (beside ≡ true) × WasGivenUp seat line (length here) fits.made fits.text fits.between). absurd (not_given here (beside && true) line text stops
-      (and_from beside true given.0 refl)
-      (subst (λ (t : List ℕ). tells_given_up seat line.number line.command t ≡ true) (sym (text_head fits.texts_are)) given.1.told))) fits.first)
+  other_forth here false (line ∷ lines) (text ∷ texts) e es own stops parts other fits = (
+    refl,
+    ⊎_elim
+        (λ (late : DoneLate history seat line (length here) fits.made fits.text fits.between). ⊎_elim
+        (λ (past : length here < length late.start). (let grown = one_more here e in
+        record {
+          text = fits.text;
+          made = fits.made;
+          between = fits.between;
+          later = fits.later;
+          made_later = fits.made_later;
+          texts_are = fits.texts_are;
+          own_is = fits.own_is;
+          first = inl (record { start = late.start; late = omega arith; done = late.done; between_is = late.between_is });
+          rest = fits.rest;
+        }))
+        (λ (not_past : length late.start ≤ length here). (
+        let done = done_exactly here late.start line fits.made fits.text (e ∷ es, parts) not_past late.late late.done in
+        let first : DoneBehind history here seat line fits.made text = subst (DoneBehind history here seat line fits.made) (sym (text_head fits.texts_are)) done in
+        absurd (other (first_made here (beside && true) line text e es fits.made stops parts first).own)))
+        (cases_lt (length here) (length late.start)))
+        (λ (given : (beside ≡ true) × WasGivenUp seat line (length here) fits.made fits.text fits.between). absurd (not_given here (beside && true) line text stops
+        (and_from beside true given.0 refl)
+        (subst (λ (t : List ℕ). tells_given_up seat line.number line.command t ≡ true) (sym (text_head fits.texts_are)) given.1.told))) fits.first,
+  )
 
   -- the next entry is the section's own: it was made right here
   pinned : (here : List Entry) (settling : Bool) (line : Line) (lines : List Line) (text : List ℕ) (texts : List (List ℕ)) (e : Entry) (es : List Entry)
@@ -366,8 +425,17 @@ module _ (laws : Laws) (beside : Bool) (history : List Entry) (seat : ℕ) where
       (λ (past : length here < length late.start). (
       let grown = one_more here e in
       let behind : TextsFit beside history seat (length (here ++ e ∷ [])) (line ∷ lines) (text ∷ texts) (made_by seat (e ∷ es)) =
-      record { text = fits.text; made = fits.made; between = fits.between; later = fits.later; made_later = fits.made_later; texts_are = fits.texts_are; own_is = fits.own_is;
-        first = inl (record { start = late.start; late = omega arith; done = late.done; between_is = late.between_is }); rest = fits.rest } in
+      record {
+        text = fits.text;
+        made = fits.made;
+        between = fits.between;
+        later = fits.later;
+        made_later = fits.made_later;
+        texts_are = fits.texts_are;
+        own_is = fits.own_is;
+        first = inl (record { start = late.start; late = omega arith; done = late.done; between_is = late.between_is });
+        rest = fits.rest;
+      } in
       let few = few_own (line ∷ lines) (text ∷ texts) (made_by seat (e ∷ es)) (here ++ e ∷ []) es (parts ∙ sym (append_assoc here (e ∷ []) es)) behind in
       let more = ap length (made_by-own seat e es own) in absurd (omega arith)))
       (λ (not_past : length late.start ≤ length here). (
@@ -376,8 +444,17 @@ module _ (laws : Laws) (beside : Bool) (history : List Entry) (seat : ℕ) where
       let whole = length-append late.start fits.made in
       let whole' = length-append here fits.made in
       let between : fits.between ≡ length (late.start ++ fits.made) = late.between_is in
-      record { text = fits.text; made = fits.made; between = fits.between; later = fits.later; made_later = fits.made_later; texts_are = fits.texts_are; own_is = fits.own_is;
-        first = (done, omega arith); rest = fits.rest }))
+      record {
+        text = fits.text;
+        made = fits.made;
+        between = fits.between;
+        later = fits.later;
+        made_later = fits.made_later;
+        texts_are = fits.texts_are;
+        own_is = fits.own_is;
+        first = (done, omega arith);
+        rest = fits.rest;
+      }))
       (cases_lt (length here) (length late.start)))
       (λ (given : (beside ≡ true) × WasGivenUp seat line (length here) fits.made fits.text fits.between). absurd (not_given here (beside && true) line text stops
       (and_from beside true given.0 refl)
@@ -407,14 +484,26 @@ module _ (laws : Laws) (beside : Bool) (history : List Entry) (seat : ℕ) where
         makes = ap (λ (b : Bool). made_by_line b told on_the_way over (line_step here seat line).added) is
             ∙ ap (λ (es : List Entry). made_by_line true told on_the_way over es) (ap (λ (s : Step). s.added) done.step);
         seat_is = refl;
-        fits = record { text = text; made = more; between = between; later = texts; made_later = own; texts_are = refl; own_is = refl; rest = rest;
-          first = (record {
-            answer = done.answer;
-            stands = subst (λ (es : List Entry). IsFront es history) (sym moved) done.stands;
-            step = settle_steps laws seat Nothing (here ++ e ∷ []) line.number line.command is
-                ∙ settle_later laws seat line.number here e more done.answer settle;
-            told = done.told;
-          }, at ∙ ap length (sym moved)) };
+        fits = record {
+          text = text;
+          made = more;
+          between = between;
+          later = texts;
+          made_later = own;
+          texts_are = refl;
+          own_is = refl;
+          rest = rest;
+          first = (
+            record {
+              answer = done.answer;
+              stands = subst (λ (es : List Entry). IsFront es history) (sym moved) done.stands;
+              step = settle_steps laws seat Nothing (here ++ e ∷ []) line.number line.command is
+                  ∙ settle_later laws seat line.number here e more done.answer settle;
+              told = done.told;
+            },
+            at ∙ ap length (sym moved),
+          );
+        };
       }
   goes_on_by here line lines text texts e more own between false is done at rest =
       let on_the_way : Cursor = record { seat = seat; lines = line ∷ lines; texts = text ∷ texts; settling = true } in
@@ -498,11 +587,22 @@ module _ (laws : Laws) (beside : Bool) (history : List Entry) (seat : ℕ) where
         step = settles ∙ settle_sooner laws seat line.number here m.entry made.more behind.made behind.first.0.answer
             (sym (ap (λ (s : Step). s.added) settles) ∙ made.added_is) (sym later ∙ behind.first.0.step);
         told = behind.first.0.told;
-      } in
-      (ap (λ (c : Cursor). c.seat) how.1, own_seat, loosen here settling (line ∷ lines) (text ∷ texts) (m.entry ∷ own)
-      (record { text = behind.text; made = m.entry ∷ behind.made; between = behind.between; later = behind.later; made_later = behind.made_later;
-        texts_are = behind.texts_are; own_is = ap (λ (xs : List Entry). m.entry ∷ xs) behind.own_is;
-        first = (done, behind.first.1 ∙ ap length moved); rest = behind.rest }))))
+      } in (
+        ap (λ (c : Cursor). c.seat) how.1,
+        own_seat,
+        loosen here settling (line ∷ lines) (text ∷ texts) (m.entry ∷ own)
+            (record {
+              text = behind.text;
+              made = m.entry ∷ behind.made;
+              between = behind.between;
+              later = behind.later;
+              made_later = behind.made_later;
+              texts_are = behind.texts_are;
+              own_is = ap (λ (xs : List Entry). m.entry ∷ xs) behind.own_is;
+              first = (done, behind.first.1 ∙ ap length moved);
+              rest = behind.rest;
+            }),
+      )))
       (λ (how : (is_settle line.command ≡ false) × (told ≡ true) × (m.cursor ≡ over)). (
       let none = step_one laws seat Nothing here line.number line.command m.entry made.more how.0 made.added_is in
       let added : (line_step here seat line).added ≡ m.entry ∷ [] = made.added_is ∙ ap (λ (xs : List Entry). m.entry ∷ xs) none in
@@ -513,10 +613,22 @@ module _ (laws : Laws) (beside : Bool) (history : List Entry) (seat : ℕ) where
         stands = front;
         step = λ i. record { added = added i; answer = (line_step here seat line).answer };
         told = text_is (told_text seat line.number (line_step here seat line).answer) text how.1;
-      } in
-      (ap (λ (c : Cursor). c.seat) how.2, own_seat, loosen here settling (line ∷ lines) (text ∷ texts) (m.entry ∷ own)
-      (record { text = text; made = m.entry ∷ []; between = length (here ++ m.entry ∷ []); later = texts; made_later = own; texts_are = refl; own_is = refl;
-        first = (done, refl); rest = rest })))) made.how
+      } in (
+        ap (λ (c : Cursor). c.seat) how.2,
+        own_seat,
+        loosen here settling (line ∷ lines) (text ∷ texts) (m.entry ∷ own)
+            (record {
+              text = text;
+              made = m.entry ∷ [];
+              between = length (here ++ m.entry ∷ []);
+              later = texts;
+              made_later = own;
+              texts_are = refl;
+              own_is = refl;
+              first = (done, refl);
+              rest = rest;
+            }),
+      ))) made.how
 
   -- an entry that a section makes isn't refused where it stands
   pub made_lawful : (here : List Entry) (lines : List Line) (texts : List (List ℕ)) (m : Made) → made_from here seat lines texts ≡ Some m

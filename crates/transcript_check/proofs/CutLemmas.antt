@@ -1,5 +1,5 @@
 -- What the laws below give: no path of a legal history and no word of a text has a line break.
-use Rattle.std.proofs.Common.{◌≡◌, ◌≢◌, ℕ, Bool, true, List, [], ◌∷◌, ◌++◌, length, refl, sym, ap, ◌∙◌, subst, Some, None}
+use Rattle.std.proofs.Common.{◌≡◌, ◌≢◌, ℕ, true, List, [], ◌∷◌, ◌++◌, refl, sym, subst, Some, None}
 use Rattle.std.specs.Prelude.{All, Contains, Option}
 use Rattle.std.specs.List.{list_all, AllByRecursion}
 use Rattle.std.proofs.lemmas.List.Elements.{recursion_from_All}
@@ -18,9 +18,9 @@ use Rattle.write_history.specs.Print.{entry_line}
 use Rattle.write_history.specs.World.{File, file_of}
 use Rattle.write_history.specs.Fold.{fold, IsLegal}
 use Rattle.transcript_check.specs.Blocks.{IsBlock}
-use Rattle.transcript_check.proofs.PlainLemmas.{is_plain, plain-characters}
+use Rattle.transcript_check.proofs.PlainLemmas.{plain-characters}
 use Rattle.transcript_check.proofs.EntryBlocks.{entry-block, plain-path}
-use Rattle.transcript_check.proofs.FoundBlocks.{IsShown, IsShownStub, IsShownFile, Texts}
+use Rattle.transcript_check.proofs.FoundBlocks.{IsShown, IsShownStub, IsShownFile}
 use Rattle.transcript_check.proofs.RecordBlocks.{Below}
 
 -- the laws of the crates below
@@ -30,7 +30,8 @@ pub record Laws : Type 0 where
   pub live : (entries : List Entry) (id : ℕ) (file : File) → IsLegal entries → file_of (fold entries) id ≡ Some file → is_path file.path ≡ true
   pub names : (text : List ℕ) → All (IsNamedIn text) (listing_of text)
   pub supers : (text : List ℕ) → All (λ (s : Stub). All (IsIdentifierOf text) s.supers) (listing_of text)
-  pub token : (text : List ℕ) (token : Token) → Contains (tokens_of text) token → is_identifier_token text token ≡ true → is_word (characters_of text token) ≡ true
+  pub token : (text : List ℕ) (token : Token) → Contains (tokens_of text) token → is_identifier_token text token ≡ true
+      → is_word (characters_of text token) ≡ true
   pub place : (name text : List ℕ) → places_of name text ≢ [] → is_word name ≡ true
   pub in_line : (name : List ℕ) → is_word name ≡ true → list_all is_in_line name ≡ true
 
@@ -51,10 +52,13 @@ module _ (laws : Laws) where
   stubs-shown : (text : List ℕ) (stubs : List Stub) → AllByRecursion (IsNamedIn text) stubs
       → AllByRecursion (λ (s : Stub). All (IsIdentifierOf text) s.supers) stubs → AllByRecursion IsShownStub stubs
   stubs-shown text [] names supers = tt
-  stubs-shown text (stub ∷ stubs) names supers = (record {
-    name = named-shown text names.0.token stub.name names.0.token_of names.0.identifier names.0.name;
-    supers = supers-shown text stub.supers (recursion_from_All (IsIdentifierOf text) stub.supers supers.0);
-  }, stubs-shown text stubs names.1 supers.1)
+  stubs-shown text (stub ∷ stubs) names supers = (
+    record {
+      name = named-shown text names.0.token stub.name names.0.token_of names.0.identifier names.0.name;
+      supers = supers-shown text stub.supers (recursion_from_All (IsIdentifierOf text) stub.supers supers.0);
+    },
+    stubs-shown text stubs names.1 supers.1,
+  )
 
   live-shown : (entries : List Entry) → IsLegal entries → (id : ℕ) → IsShownFile (file_of (fold entries) id)
   live-shown entries legal id = by (file_of (fold entries) id) refl

@@ -1,5 +1,5 @@
 -- The lines of an entry are one block, where the paths that it names are lawful.
-use Rattle.std.proofs.Common.{◌≡◌, ℕ, ◌+◌, Bool, true, false, not, ◌&&◌, ◌||◌, ◌==◌, List, [], ◌∷◌, ◌++◌, length, encode_utf8_all, refl, sym, ap, ◌∙◌, subst, codes}
+use Rattle.std.proofs.Common.{◌≡◌, ℕ, Bool, true, false, not, ◌&&◌, ◌==◌, List, [], ◌∷◌, ◌++◌, length, encode_utf8_all, refl, ap, ◌∙◌, subst, codes}
 use Rattle.std.specs.Prelude.{All}
 use Rattle.std.specs.Fmt.{decimal}
 use Rattle.std.specs.List.{list_all, flat_map, AllByRecursion}
@@ -59,11 +59,13 @@ change-plain (Intake file stamp) lawful =
     and_number (codes "intake " ++ decimal file) stamp (plain-append (codes "intake ") (decimal file) refl (plain-decimal file))
 change-plain (Move path to) lawful =
     let front : List ℕ = codes "move " ++ encode_utf8_all path in
-    plain-append (front ++ codes " ") (encode_utf8_all to) (plain-append front (codes " ") (one_path (codes "move ") path refl lawful.0) refl) (plain-path to lawful.1)
+    plain-append (front ++ codes " ") (encode_utf8_all to) (plain-append front (codes " ") (one_path (codes "move ") path refl lawful.0) refl)
+    (plain-path to lawful.1)
 
 -- the line of a change of a group goes on with a block
 group_line-goes_on : (change : Change) → NamesPaths (λ path. is_path path ≡ true) change → GoesOn (group_line change)
-group_line-goes_on change lawful = (refl, line-ends (codes "  " ++ change_text change) (plain-append (codes "  ") (change_text change) refl (change-plain change lawful)))
+group_line-goes_on change lawful =
+    (refl, line-ends (codes "  " ++ change_text change) (plain-append (codes "  ") (change_text change) refl (change-plain change lawful)))
 
 abbrev AllNamed : List Change → Type 0
 AllNamed changes = AllByRecursion (NamesPaths (λ path. is_path path ≡ true)) changes
@@ -92,7 +94,8 @@ entry-block position entry lawful =
     let line : List ℕ = seat ++ codes " " ++ decimal entry.line in
     let plain : is_plain line ≡ true = and_number seat entry.line (and_number (decimal position) entry.seat (plain-decimal position)) in
     record {
-      begins = begins-with_no_space (begins-more (changes_text entry.changes) (begins-more (codes " ") (begins-more (decimal entry.line) (begins-more (codes " ")
+      begins = begins-with_no_space (begins-more (changes_text entry.changes)
+          (begins-more (codes " ") (begins-more (decimal entry.line) (begins-more (codes " ")
           (begins-more (decimal entry.seat) (begins-more (codes " ") (begins-decimal position)))))));
       ends = plain-then (line ++ codes " ") (changes_text entry.changes) (plain-append line (codes " ") plain refl)
           (changes-end entry.changes (recursion_from_All (NamesPaths (λ path. is_path path ≡ true)) entry.changes lawful));

@@ -1,6 +1,6 @@
 -- What a question finds ends as a block does, where the workspace has what a legal history makes.
-use Rattle.std.proofs.Common.{◌≡◌, ◌≢◌, ℕ, zero, suc, ◌+◌, Bool, true, false, not, ◌==◌, cond, List, [], ◌∷◌, ◌++◌, length, map, filter, encode_utf8_all, refl, sym, ap, ◌∙◌, subst, append_assoc, Some, None, codes}
-use Rattle.std.specs.Prelude.{Option, Result, Ok, Err, bit_and, slice_index_or}
+use Rattle.std.proofs.Common.{◌≡◌, ◌≢◌, ℕ, zero, suc, ◌+◌, Bool, true, false, not, ◌==◌, cond, List, [], ◌∷◌, ◌++◌, length, map, encode_utf8_all, refl, sym, ap, ◌∙◌, subst, append_assoc, Some, None, codes}
+use Rattle.std.specs.Prelude.{Option, Result, Ok, Err, filter, is_some, bit_and, slice_index_or}
 use Rattle.std.specs.Option.{option_map_or}
 use Rattle.std.specs.Fmt.{decimal}
 use Rattle.std.specs.List.{flat_map, AllByRecursion}
@@ -12,7 +12,7 @@ use Rattle.stub_tree.specs.Stub.{code_of, is_type}
 use Rattle.decl_parser.specs.Listing.{listing_of}
 use Rattle.java_tokens.specs.Words.{words_of, mask_in}
 use Rattle.java_tokens.specs.Places.{places_of}
-use Rattle.write_history.specs.World.{World, File, file_of, id_at, shown_text, lowest_unready}
+use Rattle.write_history.specs.World.{World, File, file_of, id_at, shown_text, lowest_unready, count_of, is_open, is_unready}
 use Rattle.queries.specs.declared.query.Query.{Query}
 use Rattle.queries.specs.declared.query.Query.TheVariants as query
 use Rattle.query_engine.specs.declared.answer.Row.{Row}
@@ -20,12 +20,12 @@ use Rattle.query_engine.specs.declared.answer.WordRow.{WordRow}
 use Rattle.query_engine.specs.declared.answer.PlaceRow.{PlaceRow}
 use Rattle.query_engine.specs.declared.answer.LevelRow.{LevelRow}
 use Rattle.query_engine.specs.declared.answer.Answer.{Answer as Finding}
-use Rattle.query_engine.specs.declared.answer.Answer.TheVariants.{Rows, Outline, Words, Usages, Inheritors, Counts}
+use Rattle.query_engine.specs.declared.answer.Answer.TheVariants.{Rows}
 use Rattle.query_engine.specs.declared.answer.AskRefusal.{AskRefusal}
 use Rattle.query_engine.specs.Fits.{is_class, has_super, is_method}
 use Rattle.query_engine.specs.Inheritors.{Listing, names_any, names_of, levels_from, inheritors_of}
 use Rattle.query_engine.specs.Reply.{row_of, rows_in, word_row, word_in, of_java, of_files, of_world, place_row, uses_in, types_in, types_of, listed_row, level_row, unless_unready, all_rows, listing_reply, reply}
-use Rattle.transcripts.specs.Transcript.{place_if, mask_places, joined, mask_text, word_line, kind_text, indent, super_text, supers_text, place_text, name_place_text, declared_text, found_line, outline_line, usage_line, level_line, count_line, files_text, open_text, unready_text, counts_line, found_text}
+use Rattle.transcripts.specs.Transcript.{joined, mask_text, word_line, kind_text, indent, super_text, supers_text, place_text, name_place_text, declared_text, found_line, outline_line, usage_line, level_line, count_line, files_text, open_text, unready_text, counts_line, found_text}
 use Rattle.transcript_check.specs.Blocks.{space, EndsOnce}
 use Rattle.transcript_check.proofs.PlainLemmas.{is_plain, plain-append, plain-decimal, plain-then, line-ends, ends-then, GoesOn, goes_on-each}
 
@@ -50,7 +50,7 @@ IsShownFile (Some file) = IsShown file.path
 
 -- ---- lists
 
-all-append : {X : Type 0} (P : X → Type 0) (xs ys : List X) → AllByRecursion P xs → AllByRecursion P ys → AllByRecursion P (xs ++ ys)
+pub all-append : {X : Type 0} (P : X → Type 0) (xs ys : List X) → AllByRecursion P xs → AllByRecursion P ys → AllByRecursion P (xs ++ ys)
 all-append P [] ys first later = later
 all-append P (x ∷ xs) ys first later = (first.0, all-append P xs ys first.1 later)
 
@@ -62,7 +62,8 @@ all-filter P test (x ∷ xs) all = by (test x) (all-filter P test xs all.1)
     by true later = (all.0, later)
     by false later = later
 
-all-map : {X Y : Type 0} (P : X → Type 0) (Q : Y → Type 0) (f : X → Y) (xs : List X) → ((x : X) → P x → Q (f x)) → AllByRecursion P xs → AllByRecursion Q (map f xs)
+all-map : {X Y : Type 0} (P : X → Type 0) (Q : Y → Type 0) (f : X → Y) (xs : List X)
+    → ((x : X) → P x → Q (f x)) → AllByRecursion P xs → AllByRecursion Q (map f xs)
 all-map P Q f [] each all = tt
 all-map P Q f (x ∷ xs) each all = (each x all.0, all-map P Q f xs each all.1)
 
@@ -110,7 +111,8 @@ place-plain path line column shown =
     let at_line : List ℕ = front ++ codes ":" ++ decimal line in
     plain-append (at_line ++ codes ":") (decimal column)
     (plain-append at_line (codes ":")
-    (plain-append (front ++ codes ":") (decimal line) (plain-append front (codes ":") (plain-append (codes "  ") (encode_utf8_all path) refl shown) refl) (plain-decimal line))
+    (plain-append (front ++ codes ":") (decimal line)
+    (plain-append front (codes ":") (plain-append (codes "  ") (encode_utf8_all path) refl shown) refl) (plain-decimal line))
     refl)
     (plain-decimal column)
 
@@ -129,17 +131,22 @@ found-goes_on row shown = (refl, line-ends (name_place_text row ++ declared_text
 
 level-goes_on : (found : LevelRow) → IsShownRow found.row → GoesOn (level_line found)
 level-goes_on found shown =
-    let front : List ℕ = name_place_text found.row ++ declared_text found.row ++ codes " level " in
-    (refl, line-ends (front ++ decimal found.level)
-    (plain-append front (decimal found.level) (plain-append (name_place_text found.row ++ declared_text found.row) (codes " level ") (row-plain found.row shown) refl)
-    (plain-decimal found.level)))
+    let front : List ℕ = name_place_text found.row ++ declared_text found.row ++ codes " level " in (
+      refl,
+      line-ends (front ++ decimal found.level)
+          (plain-append front (decimal found.level)
+          (plain-append (name_place_text found.row ++ declared_text found.row) (codes " level ") (row-plain found.row shown) refl)
+          (plain-decimal found.level)),
+    )
 
 usage-goes_on : (name : List ℕ) (row : PlaceRow) → IsShown row.path × IsShown name → GoesOn (usage_line name row)
 usage-goes_on name row shown =
-    let at : List ℕ = place_text row.path row.line row.column in
-    (refl, line-ends (at ++ codes " usage " ++ encode_utf8_all name)
-    (plain-append (at ++ codes " usage ") (encode_utf8_all name)
-    (plain-append at (codes " usage ") (place-plain row.path row.line row.column shown.0) refl) shown.1))
+    let at : List ℕ = place_text row.path row.line row.column in (
+      refl,
+      line-ends (at ++ codes " usage " ++ encode_utf8_all name)
+          (plain-append (at ++ codes " usage ") (encode_utf8_all name)
+          (plain-append at (codes " usage ") (place-plain row.path row.line row.column shown.0) refl) shown.1),
+    )
 
 -- the places of a mask
 mask-plain : (mask : ℕ) → is_plain (mask_text mask) ≡ true
@@ -157,10 +164,12 @@ mask-plain mask = by (bit_and mask 1 == 0) (bit_and mask 2 == 0) (bit_and mask 4
 
 word-goes_on : (row : WordRow) → IsShown row.path → GoesOn (word_line row)
 word-goes_on row shown =
-    let front : List ℕ = codes "  " ++ encode_utf8_all row.path in
-    (refl, line-ends (front ++ codes " " ++ mask_text row.mask)
-    (plain-append (front ++ codes " ") (mask_text row.mask)
-    (plain-append front (codes " ") (plain-append (codes "  ") (encode_utf8_all row.path) refl shown) refl) (mask-plain row.mask)))
+    let front : List ℕ = codes "  " ++ encode_utf8_all row.path in (
+      refl,
+      line-ends (front ++ codes " " ++ mask_text row.mask)
+          (plain-append (front ++ codes " ") (mask_text row.mask)
+          (plain-append front (codes " ") (plain-append (codes "  ") (encode_utf8_all row.path) refl shown) refl) (mask-plain row.mask)),
+    )
 
 -- the names of supers
 names-plain : (names : List (List ℕ)) → AllByRecursion IsShown names → is_plain (flat_map super_text names) ≡ true
@@ -188,9 +197,9 @@ outline-goes_on row shown =
     let front : List ℕ = indent row.depth ++ name_place_text row in
     let line : List ℕ = front ++ declared_text row ++ supers_text row.supers in
     let ends : EndsOnce (line ++ codes "\n") = line-ends line
-        (plain-append (front ++ declared_text row) (supers_text row.supers)
-        (plain-append front (declared_text row) (plain-append (indent row.depth) (name_place_text row) (indent-plain row.depth)
-        (place-plain row.path row.line row.column shown.path)) (declared-plain row shown)) (supers-plain row.supers shown.supers)) in
+    (plain-append (front ++ declared_text row) (supers_text row.supers)
+    (plain-append front (declared_text row) (plain-append (indent row.depth) (name_place_text row) (indent-plain row.depth)
+    (place-plain row.path row.line row.column shown.path)) (declared-plain row shown)) (supers-plain row.supers shown.supers)) in
     begins (indent-begins row.depth (space ∷ encode_utf8_all row.path ++ codes ":" ++ decimal row.line ++ codes ":" ++ decimal row.column)) ends
   where
     behind : {more : List ℕ} (text a b c : List ℕ) → text ≡ space ∷ more → ((text ++ a) ++ b) ++ c ≡ space ∷ (((more ++ a) ++ b) ++ c)
@@ -216,7 +225,8 @@ rows-end : {X : Type 0} (P : X → Type 0) (line : X → List ℕ) (rows : List 
     → EndsOnce (count_line (length rows) ++ flat_map line rows)
 rows-end P line rows each all =
     let head : List ℕ = codes "rows " ++ decimal (length rows) in
-    ends-then (head ++ codes "\n") (flat_map line rows) (line-ends head (plain-append (codes "rows ") (decimal (length rows)) refl (plain-decimal (length rows))))
+    ends-then (head ++ codes "\n") (flat_map line rows)
+    (line-ends head (plain-append (codes "rows ") (decimal (length rows)) refl (plain-decimal (length rows))))
     (goes_on-each line rows (each-goes_on P line rows each all))
 
 counts-end : (files docs unready : ℕ) → EndsOnce (counts_line files docs unready)
@@ -257,14 +267,15 @@ module _ (texts : Texts) (world : World) (live : (id : ℕ) → IsShownFile (fil
       → AllByRecursion (λ (row : PlaceRow). IsShown row.path × IsShown name) (uses_in name id file)
   uses_in-shown name id file shown = by (places_of name (shown_text file)) refl
     where
-      each : (ats : List ℕ) → IsShown name → AllByRecursion (λ (row : PlaceRow). IsShown row.path × IsShown name) (map (place_row id file.path (shown_text file)) ats)
+      each : (ats : List ℕ) → IsShown name
+          → AllByRecursion (λ (row : PlaceRow). IsShown row.path × IsShown name) (map (place_row id file.path (shown_text file)) ats)
       each [] name_shown = tt
       each (at ∷ ats) name_shown = ((shown, name_shown), each ats name_shown)
 
       by : (ats : List ℕ) → places_of name (shown_text file) ≡ ats
           → AllByRecursion (λ (row : PlaceRow). IsShown row.path × IsShown name) (map (place_row id file.path (shown_text file)) ats)
       by [] is = tt
-      by (at ∷ ats) is = each (at ∷ ats) (texts.used name (shown_text file) (λ none. absurd (some at ats (sym is ∙ none))))
+      by (at ∷ ats) is = each (at ∷ ats) (texts.used name (shown_text file) (λ none. some at ats (sym is ∙ none)))
         where
           some : (at : ℕ) (ats : List ℕ) → at ∷ ats ≡ [] → ⊥
           some at ats e = cc
@@ -299,7 +310,7 @@ module _ (texts : Texts) (world : World) (live : (id : ℕ) → IsShownFile (fil
       by (Some file) shown = record { path = shown; name = is.name; supers = is.supers }
 
   -- what a question finds
-  pub abbrev EndsIfFound : Result Finding AskRefusal → Type 0
+  abbrev pub EndsIfFound : Result Finding AskRefusal → Type 0
   EndsIfFound (Ok finding) = EndsOnce (found_text finding)
   EndsIfFound (Err refusal) = Unit {0}
 
@@ -308,11 +319,13 @@ module _ (texts : Texts) (world : World) (live : (id : ℕ) → IsShownFile (fil
   unless-ends (Some file) finding ends = tt
 
   rows_of-end : (fits : Stub → Bool) → EndsOnce (found_text (Rows (of_world (rows_in fits) world)))
-  rows_of-end fits = rows-end IsShownRow found_line (of_world (rows_in fits) world) found-goes_on (of_files-all IsShownRow (rows_in fits) 1 world.files all_shown (rows_in-shown fits))
+  rows_of-end fits = rows-end IsShownRow found_line (of_world (rows_in fits) world) found-goes_on
+      (of_files-all IsShownRow (rows_in fits) 1 world.files all_shown (rows_in-shown fits))
 
   outline-ends : (id : Option ℕ) → EndsIfFound (listing_reply world id)
   outline-ends None = tt
-  outline-ends (Some id) = rows-end IsShownRow outline_line (option_map_or (all_rows id) (file_of world id) []) outline-goes_on (all_rows-shown id (file_of world id) (live id))
+  outline-ends (Some id) = rows-end IsShownRow outline_line (option_map_or (all_rows id) (file_of world id) [])
+      outline-goes_on (all_rows-shown id (file_of world id) (live id))
 
   pub reply-ends : (q : Query) → EndsIfFound (reply world q)
   reply-ends (query.Class name) = unless-ends (lowest_unready world) _ (rows_of-end (is_class name))
@@ -329,4 +342,4 @@ module _ (texts : Texts) (world : World) (live : (id : ℕ) → IsShownFile (fil
       (all-map (λ (found : ℕ × Listing). TypeShown found.1) (λ (found : LevelRow). IsShownRow found.row) (level_row world) (inheritors_of name (types_of world))
       (λ found is. listed-shown found.1 is) (levels-shown (length (types_of world)) 1 (name ∷ []) (types_of world) types-shown)))
   reply-ends (query.Outline path) = outline-ends (id_at world path)
-  reply-ends query.Status = counts-end _ _ _
+  reply-ends query.Status = counts-end (count_of is_some world) (count_of is_open world) (count_of is_unready world)

@@ -6,3 +6,7 @@ pub mod TextLemmas
 pub mod StepLemmas
 pub mod Texts
 pub mod CursorLemmas
+pub mod EntryBlocks
+pub mod CutLemmas
+pub mod ReadLemmas
+pub mod NumberLemmas

@@ -1,12 +1,12 @@
 -- Texts without a line break, and the blocks that lines of them make.
-use Rattle.std.proofs.Common.{◌≡◌, ◌≢◌, ℕ, zero, suc, ◌+◌, ◌/◌, ◌%◌, ◌<◌, ◌≤◌, Bool, true, false, not, ◌&&◌, ◌||◌, ◌==◌, cond, List, [], ◌∷◌, ◌++◌, length, encode_utf8_all, refl, sym, ap, ◌∙◌, subst, arith, codes}
+use Rattle.std.proofs.Common.{◌≡◌, ◌≢◌, ℕ, zero, suc, ◌+◌, ◌/◌, ◌%◌, ◌<◌, ◌≤◌, Bool, true, false, not, ◌&&◌, ◌==◌, List, [], ◌∷◌, ◌++◌, encode_utf8_all, refl, ap, ◌∙◌, subst, arith, codes}
 use Rattle.std.specs.Prelude.{nat_lt}
 use Rattle.std.specs.Char.{encode_utf8}
 use Rattle.std.specs.Fmt.{decimal, digits, digits_onto, digit_glyph}
 use Rattle.std.specs.List.{list_all, flat_map, AllByRecursion}
-use Rattle.std.proofs.lemmas.Bool.{and_parts, cond_both, eqb-true, ltb-true, ltb-false, ne_eqb}
+use Rattle.std.proofs.lemmas.Bool.{and_parts, cond_both, ne_eqb}
 use Rattle.std.proofs.lemmas.List.Folds.{list_all-append}
-use Rattle.transcript_check.specs.Blocks.{line_break, space, begins_with_space, EndsOnce, IsBlock}
+use Rattle.transcript_check.specs.Blocks.{line_break, space, begins_with_space, EndsOnce}
 
 -- none of some bytes is this one
 abbrev pub is_free : ℕ → List ℕ → Bool
@@ -40,7 +40,7 @@ free-digits : (other : ℕ) → other < 48 → (k n : ℕ) (acc : List ℕ) → 
 free-digits other low zero n acc free = free
 free-digits other low (suc k) n acc free =
     let more : is_free other (digit_glyph false (n % 10) ∷ acc) ≡ true =
-        glyph-by (λ g. is_free other (g ∷ acc) ≡ true) (n % 10) (λ g above. free-cons other g acc (λ e. omega arith) free) in
+    glyph-by (λ g. is_free other (g ∷ acc) ≡ true) (n % 10) (λ g above. free-cons other g acc (λ e. omega arith) free) in
     cond_both (n / 10 == 0) _ _ (λ l. is_free other l ≡ true) (λ _. more) (λ _. free-digits other low k (n / 10) (digit_glyph false (n % 10) ∷ acc) more)
 
 -- a number has digits alone
@@ -63,14 +63,14 @@ begins-digits : (k n : ℕ) (acc : List ℕ) → BeginsOtherwise acc → BeginsO
 begins-digits zero n acc begins = begins
 begins-digits (suc k) n acc begins =
     let glyph : (rest : List ℕ) → BeginsOtherwise (digit_glyph false (n % 10) ∷ rest) =
-        λ rest. glyph-by (λ g. BeginsOtherwise (g ∷ rest)) (n % 10) (λ g above. record { first = g; rest = rest; is = refl; other = λ e. omega arith }) in
+    λ rest. glyph-by (λ g. BeginsOtherwise (g ∷ rest)) (n % 10) (λ g above. record { first = g; rest = rest; is = refl; other = λ e. omega arith }) in
     cond_both (n / 10 == 0) _ _ BeginsOtherwise (λ _. glyph acc) (λ _. begins-digits k (n / 10) (digit_glyph false (n % 10) ∷ acc) (glyph acc))
 
 pub begins-decimal : (n : ℕ) → BeginsOtherwise (decimal n)
 unfolding digits
 begins-decimal n =
     let glyph : BeginsOtherwise (digit_glyph false (n % 10) ∷ []) =
-        glyph-by (λ g. BeginsOtherwise (g ∷ [])) (n % 10) (λ g above. record { first = g; rest = []; is = refl; other = λ e. omega arith }) in
+    glyph-by (λ g. BeginsOtherwise (g ∷ [])) (n % 10) (λ g above. record { first = g; rest = []; is = refl; other = λ e. omega arith }) in
     cond_both (n / 10 == 0) _ _ BeginsOtherwise (λ _. glyph) (λ _. begins-digits 63 (n / 10) (digit_glyph false (n % 10) ∷ []) glyph)
 
 -- so does what goes on
@@ -87,7 +87,7 @@ unfolding encode_utf8
 plain-encode c bytes other plain =
     let P : List ℕ → Type 0 = λ l. is_plain (l ++ bytes) ≡ true in
     let tail : (q : ℕ) (rest : List ℕ) → is_plain rest ≡ true → is_plain ((128 + q) ∷ rest) ≡ true =
-        λ q rest p. plain-cons (128 + q) rest (λ e. omega arith) p in
+    λ q rest p. plain-cons (128 + q) rest (λ e. omega arith) p in
     let one : List ℕ = (128 + c % 64) ∷ bytes in
     let two : List ℕ = (128 + c / 64 % 64) ∷ one in
     let three : List ℕ = (128 + c / 4096 % 64) ∷ two in

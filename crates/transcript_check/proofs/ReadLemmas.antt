@@ -1,10 +1,10 @@
 -- The numbers that are read from an entry's text are those that were printed.
-use Rattle.std.proofs.Common.{◌≡◌, ℕ, ◌^◌, ◌<◌, Bool, true, false, not, ◌==◌, cond, List, [], ◌∷◌, ◌++◌, refl, sym, ap, ◌∙◌, append_assoc, arith, codes}
+use Rattle.std.proofs.Common.{◌≡◌, ℕ, ◌^◌, ◌<◌, Bool, true, false, not, ◌==◌, cond, List, [], ◌∷◌, ◌++◌, refl, ap, ◌∙◌, append_assoc, arith, codes}
 use Rattle.std.specs.Fmt.{decimal}
 use Rattle.std.proofs.lemmas.Bool.{and_parts}
 use Rattle.write_history.specs.declared.change.Change.TheVariants.{Intake}
 use Rattle.write_history.specs.declared.entry.Entry.{Entry}
-use Rattle.write_history.specs.Print.{change_text, changes_text, entry_line}
+use Rattle.write_history.specs.Print.{changes_text, entry_line}
 use Rattle.transcript_check.specs.Blocks.{space}
 use Rattle.transcript_check.specs.Reading.{after_space, number_at, seat_in, file_in}
 use Rattle.transcript_check.proofs.PlainLemmas.{is_free, free-decimal}
@@ -50,9 +50,9 @@ file-read position seat line file stamp small =
     let entry : Entry = record { seat = seat; line = line; changes = Intake file stamp ∷ [] } in
     let number : List ℕ = decimal file ++ space ∷ (decimal stamp ++ codes "\n") in
     let intake : changes_text entry.changes ≡ codes "intake " ++ number =
-        append_assoc (codes "intake " ++ decimal file ++ codes " ") (decimal stamp) (codes "\n")
-        ∙ append_assoc (codes "intake " ++ decimal file) (codes " ") (decimal stamp ++ codes "\n")
-        ∙ append_assoc (codes "intake ") (decimal file) (space ∷ (decimal stamp ++ codes "\n")) in
+    append_assoc (codes "intake " ++ decimal file ++ codes " ") (decimal stamp) (codes "\n")
+    ∙ append_assoc (codes "intake " ++ decimal file) (codes " ") (decimal stamp ++ codes "\n")
+    ∙ append_assoc (codes "intake ") (decimal file) (space ∷ (decimal stamp ++ codes "\n")) in
     ap file_in (entry_line-from position entry)
     ∙ ap (λ l. number_at (after_space (after_space (after_space l))))
     (after_space-decimal position (decimal seat ++ space ∷ (decimal line ++ space ∷ changes_text entry.changes)))

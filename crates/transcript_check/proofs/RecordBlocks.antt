@@ -1,22 +1,20 @@
 -- The text of each record of a run is one block, and so is each text of its transcript.
-use Rattle.std.proofs.Common.{◌≡◌, ℕ, suc, ◌+◌, Bool, true, false, List, [], ◌∷◌, ◌++◌, length, map, encode_utf8_all, refl, sym, ap, ◌∙◌, subst, append_assoc, Some, None, codes, ◌⊎◌, inl, inr}
+use Rattle.std.proofs.Common.{◌≡◌, ℕ, suc, ◌+◌, Bool, true, false, List, [], ◌∷◌, ◌++◌, length, encode_utf8_all, refl, sym, ap, ◌∙◌, subst, append_assoc, Some, None, codes, inl, inr}
 use Rattle.std.specs.Prelude.{All, Option, Result, Ok, Err}
 use Rattle.std.specs.Option.{option_map_or}
 use Rattle.std.specs.Fmt.{decimal}
 use Rattle.std.specs.List.{concat, flat_map, AllByRecursion}
 use Rattle.std.proofs.lemmas.Bool.{cond_both}
-use Rattle.std.proofs.lemmas.List.Elements.{All-from_recursion, recursion_from_All}
+use Rattle.std.proofs.lemmas.List.Elements.{All-from_recursion}
 use Rattle.std.proofs.lemmas.List.Folds.{concat-append}
-use Rattle.list_laws.specs.Fronts.{IsFront}
-use Rattle.write_history.specs.declared.change.Change.{Change}
 use Rattle.write_history.specs.declared.entry.Entry.{Entry}
 use Rattle.write_history.specs.declared.refusal.Refusal.{Refusal}
 use Rattle.write_history.specs.declared.refusal.Refusal.TheVariants as why
 use Rattle.write_history.specs.Path.{is_path}
 use Rattle.write_history.specs.Print.{why_text, entry_line}
 use Rattle.write_history.specs.World.{World, File, file_of}
-use Rattle.write_history.specs.Fold.{fold, list_refusal, ListRefusal, IsLegal}
-use Rattle.ide_calls.specs.Settle.{entry_of, settled}
+use Rattle.write_history.specs.Fold.{fold, ListRefusal, IsLegal}
+use Rattle.ide_calls.specs.Settle.{settled}
 use Rattle.script_lang.specs.declared.command.Command.{Command}
 use Rattle.script_lang.specs.declared.command.Command.TheVariants as command
 use Rattle.script_lang.specs.declared.line.Line.{Line}
@@ -33,9 +31,9 @@ use Rattle.transcripts.specs.declared.loaded.Loaded.TheVariants as loaded
 use Rattle.transcripts.specs.declared.record.Answer.{Answer}
 use Rattle.transcripts.specs.declared.record.Answer.TheVariants.{Accepted, Refused, NotText, TooLong, Smart, NotReady, Found, Cancelled}
 use Rattle.transcripts.specs.declared.record.Record.{Record}
-use Rattle.transcripts.specs.Serial.{Ended, step_unless, changes_step, create_of, load_step, settle_answer, answer_of, refused_answer, step_of, first_load, later_loads}
-use Rattle.transcripts.specs.Fits.{Mark, mark_at, IsDone, IsGivenUp, Fits, FitsFirst, SectionFits, FitsLane, LanesFit, RunFits, made_by, run_beside}
-use Rattle.transcripts.specs.Transcript.{place_of_refusal, prefix_text, answer_text, record_text, entry_lines, history_text, transcript_of}
+use Rattle.transcripts.specs.Serial.{Ended, Step, step_unless, create_of, settle_answer, answer_of, refused_answer, step_of, first_load, later_loads}
+use Rattle.transcripts.specs.Fits.{Mark, mark_at, IsDone, Fits, SectionFits, LanesFit, RunFits, made_by, run_beside}
+use Rattle.transcripts.specs.Transcript.{place_of_refusal, prefix_text, answer_text, record_text, entry_lines, transcript_of}
 use Rattle.transcript_check.specs.Blocks.{blocks_of, EndsOnce, IsBlock}
 use Rattle.transcript_check.specs.Checked.{entry_texts, record_texts}
 use Rattle.transcript_check.specs.Texts.{history_line, texts_of}
@@ -67,7 +65,8 @@ why-plain why.DocsFull = refl
 why-plain (why.TextFull count) = plain-append (codes "text-full ") (decimal count) refl (plain-decimal count)
 why-plain (why.Stale made present) =
     let front : List ℕ = codes "stale " ++ decimal made in
-    plain-append (front ++ codes " ") (decimal present) (plain-append front (codes " ") (plain-append (codes "stale ") (decimal made) refl (plain-decimal made)) refl)
+    plain-append (front ++ codes " ") (decimal present)
+    (plain-append front (codes " ") (plain-append (codes "stale ") (decimal made) refl (plain-decimal made)) refl)
     (plain-decimal present)
 why-plain why.HistoryFull = refl
 why-plain why.OutOfMemory = refl
@@ -96,17 +95,17 @@ smart-ends at = line-ends (codes "smart") refl
 not_ready-ends : (at : ℕ) (path : List ℕ) → IsShown path → EndsOnce (answer_text (NotReady at path))
 not_ready-ends at path shown = line-ends (codes "not-ready " ++ encode_utf8_all path) (plain-append (codes "not-ready ") (encode_utf8_all path) refl shown)
 
+at-plain : (at : ℕ) → is_plain (codes "at " ++ decimal at ++ codes " ") ≡ true
+at-plain at = plain-append (codes "at " ++ decimal at) (codes " ") (plain-append (codes "at ") (decimal at) refl (plain-decimal at)) refl
+
 prefix-plain : (answer : Answer) → is_plain (prefix_text answer) ≡ true
-prefix-plain (Accepted at) = at_plain at
-  where
-    at_plain : (at : ℕ) → is_plain (codes "at " ++ decimal at ++ codes " ") ≡ true
-    at_plain at = plain-append (codes "at " ++ decimal at) (codes " ") (plain-append (codes "at ") (decimal at) refl (plain-decimal at)) refl
-prefix-plain (Refused at place refusal) = prefix-plain (Accepted at)
+prefix-plain (Accepted at) = at-plain at
+prefix-plain (Refused at place refusal) = at-plain at
 prefix-plain (NotText at) = refl
 prefix-plain (TooLong count) = refl
-prefix-plain (Smart at) = prefix-plain (Accepted at)
-prefix-plain (NotReady at path) = prefix-plain (Accepted at)
-prefix-plain (Found at finding) = prefix-plain (Accepted at)
+prefix-plain (Smart at) = at-plain at
+prefix-plain (NotReady at path) = at-plain at
+prefix-plain (Found at finding) = at-plain at
 prefix-plain (Cancelled sighted) = refl
 
 -- a record whose answer ends once is one block
@@ -114,9 +113,11 @@ pub record-block : (reply : Record) → EndsOnce (answer_text reply.answer) → 
 record-block reply ends =
     let front : List ℕ = decimal reply.line ++ codes " " in
     record {
-      begins = begins-with_no_space (begins-more (answer_text reply.answer) (begins-more (prefix_text reply.answer) (begins-more (codes " ") (begins-decimal reply.line))));
+      begins = begins-with_no_space (begins-more (answer_text reply.answer)
+          (begins-more (prefix_text reply.answer) (begins-more (codes " ") (begins-decimal reply.line))));
       ends = plain-then (front ++ prefix_text reply.answer) (answer_text reply.answer)
-          (plain-append front (prefix_text reply.answer) (plain-append (decimal reply.line) (codes " ") (plain-decimal reply.line) refl) (prefix-plain reply.answer)) ends;
+          (plain-append front (prefix_text reply.answer) (plain-append (decimal reply.line) (codes " ") (plain-decimal reply.line) refl)
+          (prefix-plain reply.answer)) ends;
     }
 
 -- ---- steps
@@ -153,7 +154,8 @@ module _ (below : Below) where
     where
       refused-so : (refusal : AskRefusal) → AnswerEnds (refused_answer (fold start) (length start) refusal)
       refused-so refused.NoSuchFile = refused-ends (length start) None why.NoSuchFile
-      refused-so (refused.NotReady file) = not_ready-ends (length start) (path_at (fold start) file) (path_at-shown (fold start) file (below.live start legal file))
+      refused-so (refused.NotReady file) = not_ready-ends (length start) (path_at (fold start) file)
+          (path_at-shown (fold start) file (below.live start legal file))
       refused-so refused.Cancelled = refused-ends (length start) None why.OutOfMemory
       refused-so refused.OutOfMemory = refused-ends (length start) None why.OutOfMemory
 
@@ -168,7 +170,7 @@ module _ (below : Below) where
   step-ends load start legal seat line (command.Change change) = unless-ends _ (λ place. None) start _
   step-ends load start legal seat line (command.Group changes) = unless-ends _ Some start _
   step-ends load start legal seat line (command.Load path) =
-      cond_both (is_path path) _ _ (λ step. AnswerEnds step.answer) (λ _. create-ends start seat line path load)
+      cond_both (is_path path) _ _ (λ (step : Step). AnswerEnds step.answer) (λ _. create-ends start seat line path load)
       (λ _. refused-ends (length start) None why.BadPath)
   step-ends load start legal seat line command.Settle = settle-ends _ (settled start seat line).refused
   step-ends load start legal seat line (command.Ask query) = asked-ends start legal query
@@ -197,9 +199,11 @@ module _ (below : Below) where
       (own : List Entry) (high : Mark) → IsLegal history → SectionFits beside history seat low lines loads records own high → AreBlocks records
   section-blocks beside history seat low [] loads records own high legal fits = subst AreBlocks (sym fits.0) tt
   section-blocks beside history seat low (line ∷ lines) loads records own high legal first =
-      subst AreBlocks (sym first.records_are)
-      (record-block _ (fits-end beside history seat line (first_load loads) low first.made first.answer first.between legal first.first),
-      section-blocks beside history seat first.between lines (later_loads loads) first.later first.made_later high legal first.rest)
+      let reply : Record = record { seat = seat; line = line.number; answer = first.answer } in
+      subst AreBlocks (sym first.records_are) (
+        record-block reply (fits-end beside history seat line (first_load loads) low first.made first.answer first.between legal first.first),
+        section-blocks beside history seat first.between lines (later_loads loads) first.later first.made_later high legal first.rest,
+      )
 
   lanes-blocks : (beside : Bool) (history : List Entry) (low : Mark) (seat : ℕ) (lanes : List (List Line)) (entries : List Entry) (records : List Record)
       → IsLegal history → LanesFit beside history low seat lanes entries records → AreBlocks records
@@ -239,12 +243,15 @@ module _ (below : Below) where
   history-block entries = record { begins = refl; ends = numbered-ends (codes "history ") entries refl }
 
   -- each text of the transcript of a run that fits is one block
-  pub texts-blocks : (loads : List Loaded) (script : Parts) (told : List Worked) (ended : Ended) → RunFits loads script told ended → All IsBlock (texts_of ended)
+  pub texts-blocks : (loads : List Loaded) (script : Parts) (told : List Worked) (ended : Ended) → RunFits loads script told ended
+      → All IsBlock (texts_of ended)
   texts-blocks loads script told ended fits =
-      All-from_recursion IsBlock (texts_of ended) (history-block (length ended.history),
-      all-append IsBlock (entry_texts 1 ended.history) (record_texts (ended.records ++ ended.last))
-      (entries-blocks 1 ended.history (below.entries ended.history fits.legal))
-      (records-blocks (ended.records ++ ended.last) (run-blocks loads script told ended fits)))
+      All-from_recursion IsBlock (texts_of ended) (
+        history-block (length ended.history),
+        all-append IsBlock (entry_texts 1 ended.history) (record_texts (ended.records ++ ended.last))
+            (entries-blocks 1 ended.history (below.entries ended.history fits.legal))
+            (records-blocks (ended.records ++ ended.last) (run-blocks loads script told ended fits)),
+      )
 
 -- the texts of entries, joined
 entries-joined : (position : ℕ) (entries : List Entry) → concat (entry_texts position entries) ≡ entry_lines position entries

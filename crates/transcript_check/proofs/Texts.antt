@@ -156,20 +156,23 @@ record_given beside history seat line len sights made text between is given =
     record {
       answer = Cancelled sighted;
       later_sights = sights + gave.attempts;
-      fits = inr (is, record {
-        attempts = gave.attempts;
-        query = gave.query;
-        soft = gave.soft;
-        sighted = sighted;
-        told = refl;
-        nothing = given.nothing;
-        seat_is = refl;
-        allowed = refl;
-        before = omega arith;
-        risen = inl (omega arith);
-        seen = given.between_is;
-        sights = refl;
-      });
+      fits = inr (
+        is,
+        record {
+          attempts = gave.attempts;
+          query = gave.query;
+          soft = gave.soft;
+          sighted = sighted;
+          told = refl;
+          nothing = given.nothing;
+          seat_is = refl;
+          allowed = refl;
+          before = omega arith;
+          risen = inl (omega arith);
+          seen = given.between_is;
+          sights = refl;
+        },
+      );
       text_is = gave.told;
     }
 

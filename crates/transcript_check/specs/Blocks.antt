@@ -1,5 +1,5 @@
 -- Cutting a transcript into blocks: each is a line with the lines behind it that begin with a space.
-use Rattle.std.specs.Prelude.{ℕ, zero, suc, ◌≡◌, Bool, false, not, ◌&&◌, ◌==◌, List, [], ◌∷◌, if◌then◌else◌}
+use Rattle.std.specs.Prelude.{ℕ, suc, ◌≡◌, Bool, false, not, ◌&&◌, ◌==◌, List, [], ◌∷◌, if◌then◌else◌}
 
 -- the byte that ends a line
 abbrev pub line_break : ℕ

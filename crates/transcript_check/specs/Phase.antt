@@ -109,7 +109,7 @@ phase_from sides added cursors [] = reached added (all_told sides added cursors)
 phase_from sides added cursors (text ∷ texts) =
     if is_seat sides (seat_in text)
     then option_and_then (λ (w : Went). phase_from sides (added ++ w.entry ∷ []) w.cursors texts)
-        (next_went sides added (all_told sides added cursors) text)
+    (next_went sides added (all_told sides added cursors) text)
     else reached added (all_told sides added cursors) (text ∷ texts)
 
 -- lanes with their lines, the first of which has this seat, and with the texts of their records

@@ -1,5 +1,5 @@
 -- The texts of which a transcript is made: the line of the history, then one for each entry, then one for each record.
-use Rattle.std.specs.Prelude.{ℕ, List, [], ◌∷◌, ◌++◌, length, codes}
+use Rattle.std.specs.Prelude.{ℕ, List, ◌∷◌, ◌++◌, length, codes}
 use Rattle.std.specs.Fmt.{decimal}
 use Rattle.transcripts.specs.Serial.{Ended}
 use Rattle.transcript_check.specs.Checked.{entry_texts, record_texts}

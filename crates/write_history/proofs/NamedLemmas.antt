@@ -64,7 +64,8 @@ put_lawful world (Insert path at text) r h =
 put_lawful world (Erase path from to) r h =
     edit_lawful world path 0 (λ file. Some (edited (erased from to) file)) (accepted_reasons world (Erase path from to) r).0 h (λ file k. k)
 put_lawful world (Commit path) r h = edit_lawful world path 0 (λ file. Some (edited committed file)) (accepted_reasons world (Commit path) r).0 h (λ file k. k)
-put_lawful world (Save path) r h = edit_lawful world path 1 (λ file. Some (saved world.next_stamp file)) (accepted_reasons world (Save path) r).0 h (λ file k. k)
+put_lawful world (Save path) r h = edit_lawful world path 1 (λ file. Some (saved world.next_stamp file))
+    (accepted_reasons world (Save path) r).0 h (λ file k. k)
 put_lawful world (CloseDoc path) r h = edit_lawful world path 0 (λ file. Some (closed file)) (accepted_reasons world (CloseDoc path) r).0 h (λ file k. k)
 put_lawful world (Intake file stamp) r h = taken_in_lawful stamp (file_of world file) (h file)
 put_lawful world (Move path to) r h =

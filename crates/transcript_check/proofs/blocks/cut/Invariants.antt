@@ -1,4 +1,4 @@
-use Rattle.std.proofs.Common.{◌≡◌, ◌++◌, length, map, ℕ}
+use Rattle.std.proofs.Common.{◌≡◌, ◌++◌, length, map}
 use Rattle.transcript_check.specs.Blocks.{blocks_of}
 use Rattle.transcript_check.proofs.blocks.cut.Given as goal
 

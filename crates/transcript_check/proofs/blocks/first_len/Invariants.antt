@@ -1,4 +1,4 @@
-use Rattle.std.proofs.Common.{◌≡◌, ◌+◌, length, ℕ}
+use Rattle.std.proofs.Common.{◌≡◌, ◌+◌, length}
 use Rattle.transcript_check.specs.Blocks.{first_len}
 use Rattle.transcript_check.proofs.blocks.first_len.Given as goal
 
