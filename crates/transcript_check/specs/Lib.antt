@@ -7,4 +7,3 @@ pub mod Texts
 pub mod Verdict
 pub mod Here
 pub mod Numbers
-pub mod Going

@@ -1,78 +1,57 @@
 //! A table of words with what they ask for, where there is memory enough.
 use crate::tables::command_words;
 use command_line::{Request, WordsRefusal, request_of};
-use ide_text::Name;
-use std::alloc::{AllocError, Global};
 use std::test::Fail;
-
-/// What words ask for, spelled out.
-#[derive(Clone, Copy)]
-enum Wanted {
-    Play {
-        workers: u32,
-    },
-    Demo {
-        seed: u32,
-        files: u32,
-        edits: u32,
-        workers: u32,
-    },
-    Check {
-        path: &'static str,
-        workers: u32,
-    },
-    Usage,
-}
 
 /// The words behind the program's name, and what they ask for.
 struct Case {
     words: &'static [&'static str],
-    gives: Wanted,
+    gives: Result<Request, WordsRefusal>,
 }
 
-static CASES: [Case; 56] = [
+static CASES: [Case; 43] = [
     // The subcommands, and their defaults.
     Case {
         words: &[],
-        gives: Wanted::Play { workers: 0 },
+        gives: Ok(Request::Play { workers: 0 }),
     },
     Case {
         words: &["play"],
-        gives: Wanted::Play { workers: 0 },
+        gives: Ok(Request::Play { workers: 0 }),
     },
     Case {
         words: &["play", "--workers", "0"],
-        gives: Wanted::Play { workers: 0 },
+        gives: Ok(Request::Play { workers: 0 }),
     },
     Case {
         words: &["play", "--workers=0"],
-        gives: Wanted::Play { workers: 0 },
+        gives: Ok(Request::Play { workers: 0 }),
     },
     Case {
         words: &["play", "--workers", "1"],
-        gives: Wanted::Play { workers: 1 },
+        gives: Ok(Request::Play { workers: 1 }),
     },
     Case {
         words: &["play", "--workers=8"],
-        gives: Wanted::Play { workers: 8 },
+        gives: Ok(Request::Play { workers: 8 }),
     },
     Case {
         words: &["demo"],
-        gives: Wanted::Demo {
+        gives: Ok(Request::Demo {
             seed: 1,
             files: 8,
             edits: 32,
             workers: 0,
-        },
+        }),
     },
     Case {
         words: &["demo", "--seed", "0", "--files", "1", "--edits", "0"],
-        gives: Wanted::Demo {
+        gives: Ok(Request::Demo {
             seed: 0,
             files: 1,
             edits: 0,
             workers: 0,
-        },
+        }),
     },
     Case {
         words: &[
@@ -85,264 +64,166 @@ static CASES: [Case; 56] = [
             "--workers",
             "0",
         ],
-        gives: Wanted::Demo {
+        gives: Ok(Request::Demo {
             seed: 2147483647,
             files: 10000,
             edits: 50000,
             workers: 0,
-        },
+        }),
     },
     Case {
         words: &["demo", "--workers", "8"],
-        gives: Wanted::Demo {
+        gives: Ok(Request::Demo {
             seed: 1,
             files: 8,
             edits: 32,
             workers: 8,
-        },
-    },
-    // A path is any word.
-    Case {
-        words: &["check", "t"],
-        gives: Wanted::Check {
-            path: "t",
-            workers: 0,
-        },
-    },
-    Case {
-        words: &["check", "out/a b.txt", "--workers", "8"],
-        gives: Wanted::Check {
-            path: "out/a b.txt",
-            workers: 8,
-        },
-    },
-    Case {
-        words: &["check", "--workers=1", "check"],
-        gives: Wanted::Check {
-            path: "check",
-            workers: 1,
-        },
-    },
-    Case {
-        words: &["check", "--", "--workers"],
-        gives: Wanted::Check {
-            path: "--workers",
-            workers: 0,
-        },
-    },
-    Case {
-        words: &["check", "é\u{1F600}"],
-        gives: Wanted::Check {
-            path: "é\u{1F600}",
-            workers: 0,
-        },
-    },
-    Case {
-        words: &["check", ""],
-        gives: Wanted::Check {
-            path: "",
-            workers: 0,
-        },
+        }),
     },
     // Past a bound.
     Case {
         words: &["demo", "--seed", "2147483648"],
-        gives: Wanted::Usage,
+        gives: Err(WordsRefusal::Usage),
     },
     Case {
         words: &["demo", "--files", "0"],
-        gives: Wanted::Usage,
+        gives: Err(WordsRefusal::Usage),
     },
     Case {
         words: &["demo", "--files", "10001"],
-        gives: Wanted::Usage,
+        gives: Err(WordsRefusal::Usage),
     },
     Case {
         words: &["demo", "--edits", "50001"],
-        gives: Wanted::Usage,
+        gives: Err(WordsRefusal::Usage),
     },
     Case {
         words: &["demo", "--seed", "4294967297"],
-        gives: Wanted::Usage,
+        gives: Err(WordsRefusal::Usage),
     },
     Case {
         words: &["play", "--workers", "9"],
-        gives: Wanted::Usage,
+        gives: Err(WordsRefusal::Usage),
     },
     Case {
         words: &["demo", "--workers", "9"],
-        gives: Wanted::Usage,
-    },
-    Case {
-        words: &["check", "t", "--workers", "9"],
-        gives: Wanted::Usage,
+        gives: Err(WordsRefusal::Usage),
     },
     // Numbers out of form.
     Case {
-        words: &["check", "t", "--workers", "01"],
-        gives: Wanted::Usage,
-    },
-    Case {
         words: &["demo", "--seed", "01"],
-        gives: Wanted::Usage,
+        gives: Err(WordsRefusal::Usage),
     },
     Case {
         words: &["demo", "--seed", "+1"],
-        gives: Wanted::Usage,
+        gives: Err(WordsRefusal::Usage),
     },
     Case {
         words: &["demo", "--seed", "1_0"],
-        gives: Wanted::Usage,
+        gives: Err(WordsRefusal::Usage),
     },
     Case {
         words: &["demo", "--seed", "-1"],
-        gives: Wanted::Usage,
+        gives: Err(WordsRefusal::Usage),
     },
     Case {
         words: &["demo", "--seed", "0x1"],
-        gives: Wanted::Usage,
+        gives: Err(WordsRefusal::Usage),
     },
     Case {
         words: &["demo", "--seed", ""],
-        gives: Wanted::Usage,
+        gives: Err(WordsRefusal::Usage),
     },
     Case {
         words: &["demo", "--seed", "00"],
-        gives: Wanted::Usage,
+        gives: Err(WordsRefusal::Usage),
     },
     Case {
         words: &["demo", "--seed="],
-        gives: Wanted::Usage,
+        gives: Err(WordsRefusal::Usage),
     },
     Case {
         words: &["play", "--workers", "00"],
-        gives: Wanted::Usage,
+        gives: Err(WordsRefusal::Usage),
     },
     Case {
         words: &["play", "--workers", "03"],
-        gives: Wanted::Usage,
+        gives: Err(WordsRefusal::Usage),
     },
     // Outside what clap takes.
     Case {
         words: &["demo", "--seed"],
-        gives: Wanted::Usage,
+        gives: Err(WordsRefusal::Usage),
     },
     Case {
         words: &["demo", "--seed", "1", "--seed", "2"],
-        gives: Wanted::Usage,
+        gives: Err(WordsRefusal::Usage),
     },
     Case {
         words: &["demo", "--see", "1"],
-        gives: Wanted::Usage,
+        gives: Err(WordsRefusal::Usage),
     },
     Case {
         words: &["demo", "-s", "1"],
-        gives: Wanted::Usage,
+        gives: Err(WordsRefusal::Usage),
     },
     Case {
         words: &["demo", "7"],
-        gives: Wanted::Usage,
+        gives: Err(WordsRefusal::Usage),
     },
     Case {
         words: &["play", "play"],
-        gives: Wanted::Usage,
-    },
-    Case {
-        words: &["check"],
-        gives: Wanted::Usage,
-    },
-    Case {
-        words: &["check", "a", "b"],
-        gives: Wanted::Usage,
-    },
-    Case {
-        words: &["check", "-t"],
-        gives: Wanted::Usage,
-    },
-    Case {
-        words: &["check", "t", "--path", "t"],
-        gives: Wanted::Usage,
-    },
-    Case {
-        words: &["--workers", "1", "check", "t"],
-        gives: Wanted::Usage,
+        gives: Err(WordsRefusal::Usage),
     },
     Case {
         words: &["--workers", "0"],
-        gives: Wanted::Usage,
+        gives: Err(WordsRefusal::Usage),
     },
     Case {
         words: &["--seed", "1", "demo"],
-        gives: Wanted::Usage,
+        gives: Err(WordsRefusal::Usage),
     },
     Case {
         words: &["play", "--seed", "1"],
-        gives: Wanted::Usage,
+        gives: Err(WordsRefusal::Usage),
     },
     Case {
         words: &["record"],
-        gives: Wanted::Usage,
+        gives: Err(WordsRefusal::Usage),
     },
     Case {
         words: &[""],
-        gives: Wanted::Usage,
+        gives: Err(WordsRefusal::Usage),
     },
     // Words that ask for help, and those that end the options.
     Case {
         words: &["--help"],
-        gives: Wanted::Usage,
+        gives: Err(WordsRefusal::Usage),
     },
     Case {
         words: &["-h"],
-        gives: Wanted::Usage,
+        gives: Err(WordsRefusal::Usage),
     },
     Case {
         words: &["help"],
-        gives: Wanted::Usage,
+        gives: Err(WordsRefusal::Usage),
     },
     Case {
         words: &["--version"],
-        gives: Wanted::Usage,
+        gives: Err(WordsRefusal::Usage),
     },
     Case {
         words: &["demo", "--help"],
-        gives: Wanted::Usage,
+        gives: Err(WordsRefusal::Usage),
     },
 ];
-
-/// What is wanted, as `request_of` gives it.
-fn wanted_request(
-    alloc: Global,
-    wanted: Wanted,
-) -> Result<Result<Request, WordsRefusal>, AllocError> {
-    Ok(match wanted {
-        Wanted::Play { workers } => Ok(Request::Play { workers }),
-        Wanted::Demo {
-            seed,
-            files,
-            edits,
-            workers,
-        } => Ok(Request::Demo {
-            seed,
-            files,
-            edits,
-            workers,
-        }),
-        Wanted::Check { path, workers } => Ok(Request::Check {
-            path: Name::of(alloc, path)?,
-            workers,
-        }),
-        Wanted::Usage => Err(WordsRefusal::Usage),
-    })
-}
 
 #[test]
 fn words_and_requests(rt: HostRuntime) -> Result<(), Fail> {
     for case in CASES.iter() {
         let words = command_words(rt.alloc(), case.words)?;
-        let wanted = wanted_request(rt.alloc(), case.gives)?;
         let request = request_of(rt.alloc(), words.as_slice());
-        assert_eq!(rt; request, wanted, "{:?}", case.words);
+        assert_eq!(rt; request, case.gives, "{:?}", case.words);
     }
     Ok(())
 }
