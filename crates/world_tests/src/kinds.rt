@@ -18,13 +18,21 @@ pub fn tell(alloc: Global, home: &mut IdeHome, edits: &[Edit]) -> Result<String,
 }
 
 /// How many files have a word.
-fn word_count(alloc: Global, state: &State, word: &str) -> Result<usize, AllocError> {
+fn word_count(alloc: Global, state: &State, word: &str) -> Result<u32, AllocError> {
     let name = Name::of(alloc, word)?;
-    Ok(state.word_rows(&name).count())
+    let mut count: u32 = 0;
+    for _ in state.word_rows(&name) {
+        count = count.saturating_add(1);
+    }
+    Ok(count)
 }
 
 /// How often a key stands in the files.
-fn key_count(alloc: Global, state: &State, key: &str) -> Result<usize, AllocError> {
+fn key_count(alloc: Global, state: &State, key: &str) -> Result<u32, AllocError> {
     let name = Name::of(alloc, key)?;
-    Ok(state.key_rows(&name).count())
+    let mut count: u32 = 0;
+    for _ in state.key_rows(&name) {
+        count = count.saturating_add(1);
+    }
+    Ok(count)
 }
