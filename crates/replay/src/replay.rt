@@ -1,10 +1,10 @@
 //! A workspace that one thread goes through.
-ghost use Rattle.std.specs.Prelude.{◌≡◌, ◌≢◌, ◌≤◌, Ok, Err, IfOk, IfErr, OnOk, OnErr, List, None, true, option_map};
+ghost use Rattle.std.specs.Prelude.{◌≡◌, ◌≢◌, ◌≤◌, Ok, Err, IfOk, IfErr, OnOk, OnErr, List, None, true, length, option_map};
 ghost use Rattle.std.specs.List.{list_all};
 ghost use Rattle.std.specs.Option.{option_copied};
 ghost use Rattle.write_history.specs.declared.change.Change.{Change};
 ghost use Rattle.write_history.specs.World.{empty_world, file_of, lowest_unready};
-ghost use Rattle.write_history.specs.Effect.{max_entries};
+ghost use Rattle.write_history.specs.Effect.{max_entries, max_files};
 ghost use Rattle.write_history.specs.Fold.{list_refusal, after_list};
 ghost use Rattle.ide_world.specs.Ready.{is_edit, told, IsReadyFor, Makes};
 ghost use Rattle.query_engine.specs.Reply.{reply, IsRefusalOf};
@@ -133,6 +133,14 @@ impl Replay {
         // Its contract says that the world is sound, so within its limits.
         let _made = self.state.made();
         self.state.entries()
+    }
+
+    /// How many files were made, deleted ones among them; 65,536 at most. Constant time.
+    pub fn made(&self) -> usize
+        ensures value { result ≡ length self.now.files }
+        ensures few { result ≤ max_files }
+    {
+        self.state.made()
     }
 
     /// The unready file with the lowest id. Logarithmic in the number of unready files.

@@ -2,7 +2,7 @@
 ghost use Rattle.std.specs.Prelude.{◌≡◌, ◌≤◌, ◌<◌, IfOk, IfErr, MatchResult, Ok, Some, length, nat_le, slice_get};
 ghost use Rattle.script_lang.specs.Reading.{script_of, IsRefusalOf, max_lanes};
 ghost use Rattle.script_lang.specs.Grammar.{IsScript, IsRefused};
-ghost use Rattle.script_lang.specs.Held.{AreOfPrelude, AreOfSection, RiseFrom, all_lines};
+ghost use Rattle.script_lang.specs.Held.{AreOfPrelude, AreOfSection, AreOfScript};
 ghost use Rattle.script_lang.specs.Lines.{max_bytes};
 ghost use Rattle.script_lang.specs.Parts.{Parts};
 
@@ -68,9 +68,9 @@ impl Script {
         self.sections.last.as_slice()
     }
 
-    /// A law: the numbers of the commands rise through the sections in order.
-    pub fn lines_rise(&self)
-        ensures { RiseFrom 1 (all_lines self.now) }
+    /// A law: its sections hold the commands of a script, whose numbers rise through them in order.
+    pub fn is_of_script(&self)
+        ensures { AreOfScript self.now }
     {
         let _ = &self.sections;
     }
