@@ -1,9 +1,8 @@
 -- Cutting bytes into blocks, and joining them again.
-use Rattle.std.proofs.Common.{◌≡◌, ℕ, suc, ◌<◌, ◌≤◌, Bool, true, false, not, ◌&&◌, ◌==◌, cond, List, [], ◌∷◌, ◌++◌, length, map, take, drop, refl, sym, ap, ◌∙◌, append-nil, append_assoc, arith, Bor}
+use Rattle.std.proofs.Common.{◌≡◌, ℕ, suc, ◌<◌, ◌≤◌, Bool, true, false, not, ◌&&◌, ◌==◌, cond, List, [], ◌∷◌, ◌++◌, length, take, drop, refl, sym, ap, ◌∙◌, append-nil, append_assoc, arith}
 use Rattle.std.specs.Prelude.{All}
 use Rattle.std.specs.List.{concat, AllByRecursion}
 use Rattle.std.proofs.lemmas.Bool.{eqb-true}
-use Rattle.std.proofs.lemmas.List.{map-append}
 use Rattle.std.proofs.lemmas.List.Elements.{recursion_from_All}
 use Rattle.transcript_check.specs.Blocks.{line_break, space, begins_with_space, ends_block, first_len, before_first, blocks_of, EndsOnce, IsBlock}
 
@@ -73,24 +72,20 @@ pub none-left : (left : List ℕ) (empty : Bool) → empty ≡ (length left == 0
 none-left left empty is all = eqb-true (length left) 0 (sym is ∙ all)
 
 -- one block more: what was cut so far and what is left to cut are all
-pub cut-turn : (done more : List (Bor (List ℕ))) (block : Bor (List ℕ)) (left later : List ℕ) (all : List (List ℕ)) → 0 < length left
-    → more ≡ done ++ block ∷ [] → block.now ≡ take (first_len left) left → later ≡ drop (first_len left) left
-    → map (λ b. b.now) done ++ blocks_of left ≡ all → map (λ b. b.now) more ++ blocks_of later ≡ all
+pub cut-turn : (done more : List (List ℕ)) (block left later : List ℕ) (all : List (List ℕ)) → 0 < length left → more ≡ done ++ block ∷ []
+    → block ≡ take (first_len left) left → later ≡ drop (first_len left) left
+    → done ++ blocks_of left ≡ all → more ++ blocks_of later ≡ all
 cut-turn done more block [] later all some grown first rest so_far = absurd (omega arith)
 cut-turn done more block (byte ∷ bytes) later all some grown first rest so_far =
     let left : List ℕ = byte ∷ bytes in
-    let here : blocks_of left ≡ block.now ∷ blocks_of later =
-    blocks-first byte bytes ∙ ap (λ b. b ∷ blocks_of (drop (first_len left) left)) (sym first) ∙ ap (λ bs. block.now ∷ blocks_of bs) (sym rest) in
-    ap (λ bs. map (λ b. b.now) bs ++ blocks_of later) grown
-    ∙ ap (λ bs. bs ++ blocks_of later) (map-append (λ (b : Bor (List ℕ)). b.now) done (block ∷ []))
-    ∙ append_assoc (map (λ b. b.now) done) (block.now ∷ []) (blocks_of later)
-    ∙ ap (λ bs. map (λ b. b.now) done ++ bs) (sym here) ∙ so_far
+    let here : blocks_of left ≡ block ∷ blocks_of later =
+    blocks-first byte bytes ∙ ap (λ b. b ∷ blocks_of (drop (first_len left) left)) (sym first) ∙ ap (λ bs. block ∷ blocks_of bs) (sym rest) in
+    ap (λ bs. bs ++ blocks_of later) grown ∙ append_assoc done (block ∷ []) (blocks_of later) ∙ ap (λ bs. done ++ bs) (sym here) ∙ so_far
 
 -- nothing is left to cut
-pub cut-end : (done : List (Bor (List ℕ))) (left : List ℕ) (all : List (List ℕ))
-    → length left ≡ 0 → map (λ b. b.now) done ++ blocks_of left ≡ all → map (λ b. b.now) done ≡ all
+pub cut-end : (done : List (List ℕ)) (left : List ℕ) (all : List (List ℕ)) → length left ≡ 0 → done ++ blocks_of left ≡ all → done ≡ all
 unfolding blocks_of
-cut-end done [] all nothing so_far = sym (append-nil (map (λ b. b.now) done)) ∙ so_far
+cut-end done [] all nothing so_far = sym (append-nil done) ∙ so_far
 cut-end done (byte ∷ bytes) all nothing so_far = absurd (omega arith)
 
 -- a byte that is no line break, or has a space behind it, ends no block

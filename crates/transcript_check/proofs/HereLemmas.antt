@@ -62,7 +62,7 @@ full_alone world id live =
     let same = eq-eqb (stamp_of (file_of world id)) (stamp_of (file_of world id)) refl in rw live (rw same refl)
 
 -- the intake of the lowest unready file is refused where the history is full, and only there
-intake_refusal : LowestIsUnready → (world : World) (id : ℕ) → lowest_unready world ≡ Some id
+pub intake_refusal : LowestIsUnready → (world : World) (id : ℕ) → lowest_unready world ≡ Some id
     → list_refusal world (intake_of world id) ≡ refusal_or (if nat_le max_entries world.entries then Some HistoryFull else None) None
 intake_refusal unready world id lowest =
     ap (λ (o : Option Refusal). refusal_or o None) (full_alone world id (live_where_unready (file_of world id) (unready world id lowest)))
@@ -82,7 +82,7 @@ none_of_settled : (history : List Entry) (s : Settled) → is_nil s.added ≡ fa
     → None ≡ told_by (record { added = s.added; answer = settle_answer (length (history ++ s.added)) s.refused })
 none_of_settled history s some = rw some refl
 
-settle_told : Counts → LowestIsUnready → GoesByLowest → (history : List Entry) (seat line : ℕ)
+pub settle_told : Counts → LowestIsUnready → GoesByLowest → (history : List Entry) (seat line : ℕ)
     → settle_in (fold history) (lowest_unready (fold history)) ≡ told_by (settle_step history seat line)
 settle_told counts unready goes history seat line = by_lowest (lowest_unready (fold history)) refl
   where

@@ -25,3 +25,11 @@ pub mod HeadLemmas
 pub mod MakeLemmas
 pub mod ToldLemmas
 pub mod RoundLemmas
+pub mod GoneLemmas
+pub mod JudgeLemmas
+pub mod StepSeats
+pub mod SeatLemmas
+pub mod TakenLemmas
+pub mod ReachLemmas
+pub mod AloneLemmas
+pub mod JudgedLemmas

@@ -1,5 +1,5 @@
 -- What is read of a text is what was printed.
-use Rattle.std.proofs.Common.{ℕ, ◌≡◌, ◌+◌, ◌-◌, ◌*◌, ◌^◌, ◌<◌, true, false, List, [], ◌∷◌, ◌++◌, take, drop, refl, sym, ap, ◌∙◌, append_assoc, arith, eqb, Some, None}
+use Rattle.std.proofs.Common.{ℕ, ◌≡◌, ◌+◌, ◌-◌, ◌*◌, ◌^◌, ◌<◌, true, false, List, [], ◌∷◌, ◌++◌, take, drop, refl, sym, ap, ◌∙◌, append_assoc, arith, Some, None}
 use Rattle.std.specs.Prelude.{Option, codes, bytes_eq, decimal, if◌then◌else◌}
 use Rattle.std.specs.Str.Parse.{AllDigits, digits_value_after}
 use Rattle.std.specs.Char.{digit_value}
@@ -7,14 +7,10 @@ use Rattle.std.proofs.lemmas.Fmt.{decimal_is_IsNumeral}
 use Rattle.std.proofs.lemmas.List.{append_cancel_left}
 use Rattle.std.proofs.lemmas.Bool.{cond-true, cond-false}
 use Rattle.std.proofs.lemmas.Bool.Decides.{nat_tests}
-use Rattle.write_history.specs.declared.change.Change.TheVariants.{Intake}
-use Rattle.write_history.specs.declared.entry.Entry.{Entry}
-use Rattle.write_history.specs.Print.{entry_line, changes_text}
-use Rattle.ide_calls.specs.Settle.{entry_of}
 use Rattle.transcripts.specs.declared.record.Answer.{Answer}
 use Rattle.transcripts.specs.declared.record.Answer.TheVariants.{Accepted, Refused, NotText, TooLong, Smart, NotReady, Found, Cancelled}
 use Rattle.transcripts.specs.Transcript.{prefix_text, answer_text}
-use Rattle.transcript_check.specs.Reading.{after_space, is_digit, number_from, number_at, seat_in, file_in}
+use Rattle.transcript_check.specs.Reading.{is_digit, number_from, number_at}
 use Rattle.transcript_check.specs.Section.{told_text}
 
 -- a byte that stands for a digit

@@ -1,5 +1,5 @@
 //! What the command of a line is answered where it adds nothing.
-ghost use Rattle.std.specs.Prelude.{◌≡◌, true, IfOk, IsSome, None, Some};
+ghost use Rattle.std.specs.Prelude.{◌≡◌, true, IfOk, IsSome, None, Some, is_none};
 ghost use Rattle.std.specs.List.{list_all};
 ghost use Rattle.write_history.specs.World.{file_of, lowest_unready};
 ghost use Rattle.write_history.specs.Fold.{list_refusal};
@@ -111,6 +111,13 @@ fn settle_answer(replay: &Replay) -> Option<Answer>
         place: None,
         why: Refusal::HistoryFull,
     })
+}
+
+/// Whether a settle takes something in here.
+pub(crate) fn settle_goes_on(replay: &Replay) -> bool
+    ensures { result ≡ is_none (settle_in replay.now (lowest_unready replay.now)) }
+{
+    settle_answer(replay).is_none()
 }
 
 /// The answer to a question.

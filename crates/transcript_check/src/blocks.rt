@@ -1,5 +1,5 @@
 //! Cutting a transcript into blocks, and the laws of it: functions that do nothing, whose contracts are the laws.
-ghost use Rattle.std.specs.Prelude.{◌≡◌, ◌^◌, ◌<◌, ℕ, List, [], ◌∷◌, IfOk, map, All};
+ghost use Rattle.std.specs.Prelude.{◌≡◌, ◌^◌, ◌<◌, ℕ, List, [], ◌∷◌, IfOk, All};
 ghost use Rattle.std.specs.List.{concat};
 ghost use Rattle.write_history.specs.declared.change.Change.TheVariants.{Intake};
 ghost use Rattle.write_history.specs.declared.entry.Entry.{Entry};
@@ -14,6 +14,7 @@ ghost use Rattle.transcript_check.specs.Blocks.{blocks_of, ends_block, first_len
 ghost use Rattle.transcript_check.specs.Reading.{file_in, seat_in};
 ghost use Rattle.transcript_check.specs.Texts.{texts_of};
 
+use crate::block::Block;
 use decl_parser::laws::{names_are_identifiers, supers_are_identifiers};
 use java_tokens::laws::identifiers_are_words;
 use std::alloc::{AllocError, Global};
@@ -22,14 +23,14 @@ use write_history::laws::{histories_go_on, paths_are_lawful};
 /// The blocks of some bytes, as parts of them: each is a line with the lines behind it that begin with a space. Joined they
 /// are the bytes: where these begin with a space, so does the first block, and where no line break ends them, none ends the
 /// last. The cost is linear in the bytes.
-pub(crate) fn cut(alloc: Global, bytes: &[u8]) -> Result<Vec<&[u8]>, AllocError>
-    ensures { IfOk result (λ parts. map (λ part. part.now) parts.items ≡ blocks_of bytes.now) }
+pub(crate) fn cut(alloc: Global, bytes: &[u8]) -> Result<Vec<Block<'_>>, AllocError>
+    ensures { IfOk result (λ parts. parts.items ≡ blocks_of bytes.now) }
 {
     let mut parts = Vec::new(alloc);
     let mut left = bytes;
     while !left.is_empty() {
         let (block, later) = left.split_at(first_len(left));
-        parts.push(block)?;
+        parts.push(Block { bytes: block })?;
         left = later;
     }
     Ok(parts)

@@ -127,7 +127,7 @@ fn is_settle(command: &Command) -> bool
 }
 
 /// Takes the unready file with the lowest id in as the entry with this text.
-fn take_lowest_so(
+pub(crate) fn take_lowest_so(
     alloc: Global,
     replay: &mut Replay,
     seat: u32,
@@ -143,7 +143,7 @@ fn take_lowest_so(
 }
 
 /// Makes the changes of a line as the entry with this text, where the line's record tells that they were accepted.
-fn change_so(
+pub(crate) fn change_so(
     alloc: Global,
     replay: &mut Replay,
     seat: u32,

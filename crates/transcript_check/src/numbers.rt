@@ -1,7 +1,7 @@
 //! The numbers at the beginning of an entry's text.
 ghost use Rattle.std.specs.Prelude.{◌≡◌, ◌+◌, ◌-◌, ◌*◌, ◌≤◌};
 ghost use Rattle.transcript_check.specs.Reading.{after_space, is_digit, number_at, seat_in, file_in};
-ghost use Rattle.transcript_check.specs.Numbers.{IsNumber};
+ghost use Rattle.transcript_check.specs.Numbers.{IsNumber, IsSeatHere};
 
 use crate::block::Block;
 
@@ -10,6 +10,18 @@ pub(crate) fn seat_in(text: &Block<'_>) -> Option<u32>
     ensures { IsNumber (seat_in text.now) result }
 {
     number_at(after_space(text.bytes))
+}
+
+/// The seat of an entry, where it is that of a lane or worker: from 1 to the last.
+pub(crate) fn seat_here(text: &Block<'_>, last: u32) -> Option<u32>
+    ensures { IsSeatHere last (seat_in text.now) result }
+{
+    let seat = seat_in(text)?;
+    if 1 <= seat && seat <= last {
+        Some(seat)
+    } else {
+        None
+    }
 }
 
 /// The file of an intake, where it fits.

@@ -97,7 +97,7 @@ fn holds_here(
 }
 
 /// Whether the line adds nothing here and its record has this text.
-fn is_answered_so(
+pub(crate) fn is_answered_so(
     alloc: Global,
     replay: &Replay,
     seat: u32,

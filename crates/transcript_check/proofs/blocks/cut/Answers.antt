@@ -12,7 +12,7 @@ loop-left-smaller c =
 
 pub loop-left-preserved : goal.loop-left-preserved
 loop-left-preserved c =
-    cut-turn c.loop-left.parts.items c.push.new.self.items c.split_at.result.0 c.loop-left.left.now c.split_at.result.1.now _ (some-left _ _ c.is_empty.ensures c.loop-left-test.true) (search rules) (search rules) (search rules) c.loop-left.invariant
+    cut-turn c.loop-left.parts.items c.push.new.self.items c.split_at.result.0.now c.loop-left.left.now c.split_at.result.1.now _ (some-left _ _ c.is_empty.ensures c.loop-left-test.true) (search rules) (search rules) (search rules) c.loop-left.invariant
 
 pub returns : goal.returns
 returns c = cut-end c.loop-left.parts.items c.loop-left.left.now _ (none-left _ _ c.is_empty.ensures c.loop-left-test.false) c.loop-left.invariant

@@ -1,0 +1,10 @@
+use Rattle.std.proofs.Common.{◌≡◌, ◌≤◌, ◌++◌, suc, length, drop}
+use Rattle.transcript_check.specs.Phase.{cursors_of}
+use Rattle.transcript_check.proofs.judging.cursors_of.Given as goal
+
+-- the lanes so far and those to come are all
+abbrev pub invariant-loop-place : goal.invariant-loop-place
+invariant-loop-place l = record {
+  within : l.at ≤ length l.records;
+  whole : l.cursors.items ++ cursors_of (suc l.place) (drop l.place l.script.lanes) (drop l.at l.records) ≡ cursors_of 1 l.script.lanes l.records;
+}
