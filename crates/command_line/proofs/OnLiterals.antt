@@ -2,7 +2,7 @@
 use Rattle.std.proofs.Common.{◌≡◌, [], ◌∷◌, Some, None, codes, refl}
 use Rattle.clap.specs.Words.{Text}
 use Rattle.clap.proofs.OnLiterals.{clap_on_literals}
-use Rattle.command_line.specs.declared.request.Request.TheVariants.{Play, Demo}
+use Rattle.command_line.specs.declared.request.Request.TheVariants.{Play, Demo, Check}
 use Rattle.std.specs.Fmt.{digits}
 use Rattle.command_line.specs.Number.{number_of}
 use Rattle.command_line.specs.Request.{request_of}
@@ -49,6 +49,28 @@ leading_zero name = refl
 given_twice : (name : Text) → request_of (name ∷ codes "demo" ∷ codes "--seed" ∷ codes "1" ∷ codes "--seed" ∷ codes "1" ∷ []) ≡ None
 unfolding clap_on_literals number_of digits
 given_twice name = refl
+
+-- a path is what its word says, before the option or behind it
+check_given : (name : Text) → request_of (name ∷ codes "check" ∷ codes "a b/t.txt" ∷ codes "--workers" ∷ codes "2" ∷ []) ≡ Some (Check (codes "a b/t.txt") 2)
+unfolding clap_on_literals number_of digits
+check_given name = refl
+
+path_last : (name : Text) → request_of (name ∷ codes "check" ∷ codes "--workers=0" ∷ codes "play" ∷ []) ≡ Some (Check (codes "play") 0)
+unfolding clap_on_literals number_of digits
+path_last name = refl
+
+-- a path that begins with `-` stands behind `--`
+check_dash : (name : Text) → request_of (name ∷ codes "check" ∷ codes "--" ∷ codes "-t" ∷ []) ≡ Some (Check (codes "-t") 0)
+unfolding clap_on_literals number_of digits
+check_dash name = refl
+
+no_path : (name : Text) → request_of (name ∷ codes "check" ∷ []) ≡ None
+unfolding clap_on_literals number_of digits
+no_path name = refl
+
+two_paths : (name : Text) → request_of (name ∷ codes "check" ∷ codes "a" ∷ codes "b" ∷ []) ≡ None
+unfolding clap_on_literals number_of digits
+two_paths name = refl
 
 -- an option stands behind the subcommand
 option_first : (name : Text) → request_of (name ∷ codes "--workers" ∷ codes "0" ∷ codes "play" ∷ []) ≡ None

@@ -1,19 +1,23 @@
 -- What is read from clap's answers is what the definitions read.
-use Rattle.std.proofs.Common.{◌≡◌, ◌∙◌, ℕ, ◌≤◌, true, false, Bool, leb, List, [], Option, Some, None, cond, refl, sym, subst, arith}
+use Rattle.std.proofs.Common.{◌≡◌, ◌∙◌, ℕ, ◌≤◌, true, false, Bool, leb, List, [], ◌∷◌, Option, Some, None, Result, Ok, Err, cond, refl, sym, ap, subst, inl, inr, arith}
 use Rattle.std.specs.Option.{option_map, ok_or}
 use Rattle.std.specs.Prelude.{option_and_then, codes, IfOk}
-use Rattle.std.specs.Str.{bytes_eq}
+use Rattle.std.specs.Str.{bytes_eq, chars}
 use Rattle.std.proofs.lemmas.Bool.{leb-true}
 use Rattle.std.proofs.lemmas.Option.{none-some, same_Some}
-use Rattle.clap.specs.Walk.{Row, Text, first_of}
-use Rattle.clap.specs.Words.{fault_of, is_simple, is_simple_and_free, subcommand_of}
+use Rattle.clap.specs.Walk.{Row, Text, first_of, is_empty}
+use Rattle.clap.specs.Words.{HasKind, IsAmong, Kinds, fault_of, kind_of, is_simple, is_simple_and_free, subcommand_of}
+use Rattle.clap.specs.declared.error.Error.{Error}
+use Rattle.clap.specs.declared.error.kind.ErrorKind.{ErrorKind}
+use Rattle.clap.specs.declared.error.kind.ErrorKind.TheVariants as kind
 use Rattle.clap.proofs.OnLiterals.{clap_on_literals}
 use Rattle.command_line.specs.declared.request.Request.{Request}
-use Rattle.command_line.specs.declared.request.Request.TheVariants.{Play, Demo}
-use Rattle.command_line.specs.declared.request.WordsRefusal.TheVariants.{Usage}
+use Rattle.command_line.specs.declared.request.Request.TheVariants.{Play, Demo, Check}
+use Rattle.command_line.specs.declared.request.WordsRefusal.{WordsRefusal}
+use Rattle.command_line.specs.declared.request.WordsRefusal.TheVariants.{Usage, OutOfMemory}
 use Rattle.command_line.specs.Grammar.{command}
 use Rattle.command_line.specs.Number.{if_between, number_between, number_of}
-use Rattle.command_line.specs.Request.{IsInRange, demo_by, number_in, play_by, request_by, request_of, max_seed, max_files, max_edits, max_workers}
+use Rattle.command_line.specs.Request.{IsInRange, ReadsAs, check_by, demo_by, named_by, number_in, play_by, request_by, request_of, text_in, max_seed, max_files, max_edits, max_workers}
 
 -- ---- what is read lies within its bounds
 
@@ -59,13 +63,44 @@ demo_by-in_range options r e =
     let w = number_in-bounds options (codes "workers") 0 max_workers workers.0 workers.1 in
     subst IsInRange workers.2 (s.1, f.0, f.1, m.1, w.1)
 
+check_by-in_range : (options : List Row) (r : Request) → check_by options ≡ Some r → IsInRange r
+check_by-in_range options r e =
+    let workers = chain _ (number_in options (codes "workers") 0 max_workers) r e in
+    let path = mapped (λ (p : Text). Check (chars p) workers.0) (text_in options (codes "path")) r workers.2 in
+    subst IsInRange path.2 (number_in-bounds options (codes "workers") 0 max_workers workers.0 workers.1).1
+
+named_by-in_range : (name : Text) (options : List Row) (r : Request) → named_by name options ≡ Some r → IsInRange r
+named_by-in_range name options r e = by_name (bytes_eq name (codes "play")) (bytes_eq name (codes "demo")) e
+  where
+    by_name : (play demo : Bool) → cond play (play_by options) (cond demo (demo_by options) (check_by options)) ≡ Some r → IsInRange r
+    by_name true demo e = play_by-in_range options r e
+    by_name false true e = demo_by-in_range options r e
+    by_name false false e = check_by-in_range options r e
+
 request_by-in_range : (o : Option (Text × List Row)) (r : Request) → request_by o ≡ Some r → IsInRange r
 request_by-in_range None r e = subst IsInRange (same_Some (Play 0) r e) (omega arith)
-request_by-in_range (Some p) r e = by_name (bytes_eq p.0 (codes "play")) e
-  where
-    by_name : (b : Bool) → cond b (play_by p.1) (demo_by p.1) ≡ Some r → IsInRange r
-    by_name true e = play_by-in_range p.1 r e
-    by_name false e = demo_by-in_range p.1 r e
+request_by-in_range (Some p) r e = named_by-in_range p.0 p.1 r e
+
+-- ---- what `check` asks for
+
+-- what an option was, by what it becomes
+pub was_some : {A : Type 0} (o : Option A) (e : WordsRefusal) (a : A) → ok_or o e ≡ Ok a → Some a ≡ o
+was_some None e a same = cc
+was_some (Some b) e a same = cc
+
+pub was_none : {A : Type 0} (o : Option A) (e f : WordsRefusal) → ok_or o e ≡ Err f → None ≡ o
+was_none None e f same = refl
+was_none (Some b) e f same = cc
+
+-- with a number of workers and no path it asks for nothing
+pub check_by-none : (options : List Row) (workers : ℕ) → Some workers ≡ number_in options (codes "workers") 0 max_workers → None ≡ text_in options (codes "path")
+    → (result : Result Request WordsRefusal) → result ≡ Err Usage → ReadsAs (check_by options) result
+check_by-none options workers counted none result is = rw (← counted, ← none) is
+
+-- with both it asks for that
+pub check_by-some : (options : List Row) (workers : ℕ) (word : Text) → Some workers ≡ number_in options (codes "workers") 0 max_workers → Some word ≡ text_in options (codes "path")
+    → (result : Result Request WordsRefusal) → ReadsAs (Some (Check (chars word) workers)) result → ReadsAs (check_by options) result
+check_by-some options workers word counted given result reads = rw (← counted, ← given) reads
 
 -- ---- what clap took
 
@@ -82,14 +117,53 @@ has_exact_matches = refl
 taken : (words : List Text) (o : Option (Text × List Row)) → fault_of command words ≡ [] → o ≡ subcommand_of command words → request_by o ≡ request_of words
 taken words o none is = rw (none, is) refl
 
--- an answer has what is read, where something is read
-answers : (read : Option Request) (P : Request → Type 0) → ((r : Request) → read ≡ Some r → P r) → IfOk (ok_or read Usage) P
-answers None P h = tt
-answers (Some r) P h = h r refl
+-- answers of different kinds differ
+ok≢err : (q : Request) (e : WordsRefusal) → ◌≡◌ {A = Result Request WordsRefusal} (Ok q) (Err e) → ⊥
+ok≢err q e same = cc
 
-pub ok_of-taken : (words : List Text) (o : Option (Text × List Row)) → fault_of command words ≡ [] → o ≡ subcommand_of command words
-    → IfOk (ok_or (request_by o) Usage) (λ request. request_of words ≡ Some request)
-ok_of-taken words o none is = answers (request_by o) (λ r. request_of words ≡ Some r) (λ r reads. sym (taken words o none is) ∙ reads)
+same_Ok : (q r : Request) → ◌≡◌ {A = Result Request WordsRefusal} (Ok q) (Ok r) → q ≡ r
+same_Ok q r same = cc
 
-pub in_range-read : (o : Option (Text × List Row)) → IfOk (ok_or (request_by o) Usage) IsInRange
-in_range-read o = answers (request_by o) IsInRange (request_by-in_range o)
+short≢usage : ◌≡◌ {A = Result Request WordsRefusal} (Err OutOfMemory) (Err Usage) → ⊥
+short≢usage same = cc
+
+-- where clap refuses the words, they ask for nothing
+among-some : (k : ErrorKind) (kinds : Kinds) → IsAmong k kinds → is_empty kinds ≡ false
+among-some k [] never = absurd never
+among-some k (first ∷ rest) among = grind arith
+
+pub usage-told : (words : List Text) (e : Error) (told : WordsRefusal) → HasKind (fault_of command words) e → (kind_of e ≡ kind.OutOfMemory → told ≡ OutOfMemory)
+    → ◌≡◌ {A = Result Request WordsRefusal} (Err told) (Err Usage) → request_of words ≡ None
+usage-told words e told has short is = elim has [
+  | inl memory ↦ absurd (short≢usage (ap (λ r. Err r) (sym (short memory)) ∙ is))
+  | inr among ↦ rw (among-some (kind_of e) (fault_of command words) among) refl
+]
+
+-- an answer has what is read
+answers : (read : Option Request) (result : Result Request WordsRefusal) (P : Request → Type 0) → ReadsAs read result
+    → ((r : Request) → read ≡ Some r → P r) → IfOk result P
+answers read (Err e) P reads h = tt
+answers None (Ok q) P reads h = absurd (ok≢err q Usage reads)
+answers (Some r) (Ok q) P reads h = elim reads [
+  | inl is ↦ subst P (sym (same_Ok q r is)) (h r refl)
+  | inr short ↦ absurd (ok≢err q OutOfMemory short.0)
+]
+
+-- where the words are refused, nothing is read
+refused : (read : Option Request) (result : Result Request WordsRefusal) → ReadsAs read result → result ≡ Err Usage → read ≡ None
+refused None result reads is = refl
+refused (Some r) result reads is = elim reads [
+  | inl ok ↦ absurd (ok≢err r Usage (sym ok ∙ is))
+  | inr short ↦ absurd (short≢usage (sym short.0 ∙ is))
+]
+
+module _ (words : List Text) (o : Option (Text × List Row)) (none : fault_of command words ≡ []) (is : o ≡ subcommand_of command words)
+    (result : Result Request WordsRefusal) (reads : ReadsAs (request_by o) result) where
+  pub ok-taken : IfOk result (λ request. request_of words ≡ Some request)
+  ok-taken = answers (request_by o) result (λ r. request_of words ≡ Some r) reads (λ r read. sym (taken words o none is) ∙ read)
+
+  pub usage-taken : result ≡ Err Usage → request_of words ≡ None
+  usage-taken usage = sym (taken words o none is) ∙ refused (request_by o) result reads usage
+
+pub in_range-read : (o : Option (Text × List Row)) (result : Result Request WordsRefusal) → ReadsAs (request_by o) result → IfOk result IsInRange
+in_range-read o result reads = answers (request_by o) result IsInRange reads (request_by-in_range o)

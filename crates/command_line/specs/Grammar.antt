@@ -1,5 +1,5 @@
 -- The command as clap is told of it.
-use Rattle.std.specs.Prelude.{◌≡◌, false, [], ◌∷◌, Some, codes}
+use Rattle.std.specs.Prelude.{◌≡◌, true, false, [], ◌∷◌, Some, codes}
 use Rattle.clap.specs.Words.{App, Rule, Text, app_of, new_app, new_rule, with_rule, with_subcommand}
 use Rattle.clap.specs.declared.builder.command.Command.{Command}
 use Rattle.clap.specs.declared.builder.command.Command.TheViews.{out-Command as fields_of}
@@ -7,6 +7,10 @@ use Rattle.clap.specs.declared.builder.command.Command.TheViews.{out-Command as 
 -- an option `--name N`, with the digits that it has where it isn't given
 abbrev pub number_option : Text → Text → Rule
 number_option name default = record (new_rule name) { long = Some name; defaults = default ∷ [] }
+
+-- a path that has to be given, as a word of its own
+abbrev pub path_argument : Rule
+path_argument = record (new_rule (codes "path")) { required = true }
 
 -- `play --workers N`
 abbrev pub play_command : App
@@ -21,9 +25,13 @@ demo_command =
     (number_option (codes "edits") (codes "32")))
     (number_option (codes "workers") (codes "0"))
 
--- the whole command, with these two subcommands
+-- `check PATH --workers N`
+abbrev pub check_command : App
+check_command = with_rule (with_rule (new_app (codes "check")) path_argument) (number_option (codes "workers") (codes "0"))
+
+-- the whole command, with these three subcommands
 abbrev pub command : App
-command = with_subcommand (with_subcommand (new_app (codes "ide")) play_command.top) demo_command.top
+command = with_subcommand (with_subcommand (with_subcommand (new_app (codes "ide")) play_command.top) demo_command.top) check_command.top
 
 -- what a parse reads of the command is this, and no argument of it is global
 pub record IsCommandOf (app : App) (c : Command) : Type 0 where

@@ -1,7 +1,7 @@
 //! The command as `clap` is told of it.
 ghost use Rattle.std.specs.Prelude.{◌≡◌, IfOk, false};
 ghost use Rattle.clap.specs.Words.{rule_of};
-ghost use Rattle.command_line.specs.Grammar.{number_option, play_command, demo_command, command, IsCommandOf};
+ghost use Rattle.command_line.specs.Grammar.{number_option, path_argument, play_command, demo_command, check_command, command, IsCommandOf};
 
 use clap::{Arg, Command};
 use std::alloc::{AllocError, Global};
@@ -12,6 +12,14 @@ fn number_option<'a>(alloc: Global, name: &'a str, default: &'a str) -> Arg<'a>
     ensures local { result.global ≡ false }
 {
     Arg::new(alloc, name).long(name).default_value(default)
+}
+
+/// A path that has to be given. It stands behind the subcommand, or behind `--` where it begins with a `-`.
+fn path_argument<'a>(alloc: Global) -> Arg<'a>
+    ensures rule { rule_of result ≡ path_argument }
+    ensures local { result.global ≡ false }
+{
+    Arg::new(alloc, "path").required(true)
 }
 
 /// The subcommand `play`.
@@ -32,11 +40,21 @@ fn demo_command<'a>(alloc: Global) -> Result<Command<'a>, AllocError>
         .arg(number_option(alloc, "workers", "0"))
 }
 
+/// The subcommand `check`.
+fn check_command<'a>(alloc: Global) -> Result<Command<'a>, AllocError>
+    ensures { IfOk result (IsCommandOf check_command) }
+{
+    Command::new(alloc, "check")
+        .arg(path_argument(alloc))?
+        .arg(number_option(alloc, "workers", "0"))
+}
+
 /// The whole command.
 pub fn command<'a>(alloc: Global) -> Result<Command<'a>, AllocError>
     ensures { IfOk result (IsCommandOf command) }
 {
     Command::new(alloc, "ide")
         .subcommand(play_command(alloc)?)?
-        .subcommand(demo_command(alloc)?)
+        .subcommand(demo_command(alloc)?)?
+        .subcommand(check_command(alloc)?)
 }

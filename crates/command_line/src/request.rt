@@ -1,13 +1,14 @@
 //! What the words ask for.
-ghost use Rattle.std.specs.Prelude.{◌≡◌, ◌↔◌, ok_or, map, string_bytes, IfOk};
+ghost use Rattle.std.specs.Prelude.{◌≡◌, ◌↔◌, option_map, map, string_bytes, IfOk};
 ghost use Rattle.clap.specs.Words.{found_of, rows_of, subcommand_rows_of, kind_of};
-ghost use Rattle.command_line.specs.Request.{number_in, play_by, demo_by, request_by, request_of, IsInRange};
+ghost use Rattle.command_line.specs.Request.{text_in, number_in, play_by, demo_by, check_by, named_by, request_by, request_of, IsInRange, ReadsAs};
 
 use crate::grammar::command;
 use crate::number::number_between;
 use clap::error::ErrorKind;
 use clap::{ArgMatches, Error};
-use std::alloc::Global;
+use ide_text::Name;
+use std::alloc::{AllocError, Global};
 
 /// The highest seed.
 const MAX_SEED: u32 = 2_147_483_647;
@@ -19,7 +20,7 @@ const MAX_EDITS: u32 = 50_000;
 const MAX_WORKERS: u32 = 8;
 
 /// What the program is asked to do.
-#[derive(Clone, Copy, Debug, PartialEq, Eq)]
+#[derive(Debug, PartialEq, Eq, Drop)]
 pub enum Request {
     /// A script is read from standard input and played, with so many workers beside its lanes.
     Play {
@@ -32,6 +33,12 @@ pub enum Request {
         edits: u32,
         workers: u32,
     },
+    /// A script is read from standard input, and the transcript at the path judged: whether it is one of that script with so
+    /// many workers beside its lanes.
+    Check {
+        path: Name,
+        workers: u32,
+    },
 }
 
 /// Why no request is read from the words.
@@ -40,6 +47,17 @@ pub enum WordsRefusal {
     /// The words are outside the grammar, or ask for help.
     Usage,
     OutOfMemory,
+}
+
+impl From<AllocError> for WordsRefusal {
+    ghost use Rattle.std.specs.Prelude.{◌≡◌};
+    ghost use Rattle.command_line.specs.declared.request.WordsRefusal.TheVariants.{OutOfMemory};
+
+    ghost from_gives = { λ _ refusal. refusal ≡ OutOfMemory };
+
+    fn from(_: AllocError) -> WordsRefusal {
+        WordsRefusal::OutOfMemory
+    }
 }
 
 /// What the words ask for. The first of them is the program's name.
@@ -52,7 +70,7 @@ pub fn request_of(alloc: Global, words: &[String]) -> Result<Request, WordsRefus
         return Err(WordsRefusal::OutOfMemory);
     };
     match command.try_get_matches_from(words) {
-        Ok(matches) => judged(&matches),
+        Ok(matches) => request_by(alloc, &matches),
         Err(error) => Err(refusal_by(&error)),
     }
 }
@@ -67,26 +85,26 @@ fn refusal_by(error: &Error) -> WordsRefusal
     }
 }
 
-/// What words that `clap` takes ask for. They are refused where a number in them is faulty.
-fn judged(matches: &ArgMatches<'_>) -> Result<Request, WordsRefusal>
-    ensures { result ≡ ok_or (request_by (subcommand_rows_of matches.now)) WordsRefusal.Usage }
-{
-    request_by(matches).ok_or(WordsRefusal::Usage)
-}
-
 /// What the subcommand asks for, where its numbers have the form and the range.
-fn request_by(matches: &ArgMatches<'_>) -> Option<Request>
-    ensures { result ≡ request_by (subcommand_rows_of matches.now) }
+fn request_by(alloc: Global, matches: &ArgMatches<'_>) -> Result<Request, WordsRefusal>
+    ensures { ReadsAs (request_by (subcommand_rows_of matches.now)) result }
 {
     match matches.subcommand() {
-        None => Some(Request::Play { workers: 0 }),
-        Some((name, options)) => {
-            if name == "play" {
-                play_by(options)
-            } else {
-                demo_by(options)
-            }
-        }
+        None => Ok(Request::Play { workers: 0 }),
+        Some((name, options)) => named_by(alloc, name, options),
+    }
+}
+
+/// What the subcommand of this name asks for, where its numbers have the form and the range.
+fn named_by(alloc: Global, name: &str, options: &ArgMatches<'_>) -> Result<Request, WordsRefusal>
+    ensures { ReadsAs (named_by name.now (rows_of (found_of options.now))) result }
+{
+    if name == "play" {
+        play_by(options).ok_or(WordsRefusal::Usage)
+    } else if name == "demo" {
+        demo_by(options).ok_or(WordsRefusal::Usage)
+    } else {
+        check_by(alloc, options)
     }
 }
 
@@ -114,9 +132,26 @@ fn demo_by(options: &ArgMatches<'_>) -> Option<Request>
     })
 }
 
+/// What `check` with these options asks for.
+fn check_by(alloc: Global, options: &ArgMatches<'_>) -> Result<Request, WordsRefusal>
+    ensures { ReadsAs (check_by (rows_of (found_of options.now))) result }
+{
+    let workers = number_in(options, "workers", 0, MAX_WORKERS).ok_or(WordsRefusal::Usage)?;
+    let path = text_in(options, "path").ok_or(WordsRefusal::Usage)?;
+    let path = Name::of(alloc, path)?;
+    Ok(Request::Check { path, workers })
+}
+
 /// The number that an option has, where it lies within these bounds.
 fn number_in(options: &ArgMatches<'_>, name: &str, least: u32, most: u32) -> Option<u32>
     ensures { result ≡ number_in (rows_of (found_of options.now)) name.now least most }
 {
-    number_between(least, most, options.get_str(name)?)
+    number_between(least, most, text_in(options, name)?)
+}
+
+/// The word that an option or an argument has.
+fn text_in<'a>(options: &ArgMatches<'a>, name: &str) -> Option<&'a str>
+    ensures { option_map (λ word. word.now) result ≡ text_in (rows_of (found_of options.now)) name.now }
+{
+    options.get_str(name)
 }

@@ -13,8 +13,9 @@ use Rattle.transcripts.specs.Loads.{paths_of}
 use Rattle.transcripts.specs.Play.{Plays, IsTranscript}
 use Rattle.transcripts.specs.Transcript.{transcript_of, summary_of}
 use Rattle.ide_script.specs.declared.status.Status.{Status}
-use Rattle.ide_script.specs.declared.status.Status.TheVariants.{Done, Usage, BadScript, SourceFault, TreeFault, SinkFault, OutOfMemory, ScriptTooLong}
-use Rattle.ide_script.specs.Run.{DemoEnds, GivesScript, PlayEnds, PlaysDemo, WriteEnds}
+use Rattle.ide_script.specs.declared.status.Status.TheVariants.{Done, Usage, BadScript, SourceFault, TreeFault, SinkFault, OutOfMemory, ScriptTooLong, Rejected}
+use Rattle.ide_script.specs.Reading.{GivesScript}
+use Rattle.ide_script.specs.Run.{DemoEnds, PlayEnds, PlaysDemo, WriteEnds}
 
 -- once a demo was played, its run ends as the writing of its summary does
 pub demo_ends : {K : Type 0} (k : Sink.Ghosts K) (seed files edits workers : ℕ) (told : List Worked) (ended : Ended) (sink sink' : K) → PlaysDemo seed files edits workers told ended
@@ -29,6 +30,7 @@ demo_ends k seed files edits workers told ended sink sink' played Usage never = 
 demo_ends k seed files edits workers told ended sink sink' played SourceFault never = never
 demo_ends k seed files edits workers told ended sink sink' played TreeFault never = never
 demo_ends k seed files edits workers told ended sink sink' played ScriptTooLong never = never
+demo_ends k seed files edits workers told ended sink sink' played Rejected never = never
 
 -- what prints a played script is a transcript of it
 is_transcript : (files : Option Files) (script : Parts) (workers : ℕ) (told : List Worked) (ended : Ended) → Plays files script workers told ended
@@ -61,3 +63,4 @@ module _ {S T K : Type 0} (s : Source.Ghosts S) (t : Tree.Ghosts T) (k : Sink.Gh
   play_ends gives asked played SourceFault never = absurd never
   play_ends gives asked played TreeFault never = absurd never
   play_ends gives asked played ScriptTooLong never = absurd never
+  play_ends gives asked played Rejected never = absurd never

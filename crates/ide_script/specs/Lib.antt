@@ -1,5 +1,7 @@
 -- How a run ends
 pub mod Status
+pub mod Reading
+pub mod Check
 pub mod Run
 -- What these cite from below: words, scripts, transcripts, the history, and the outside
 pub use Rattle.command_line.specs.Request
@@ -10,6 +12,7 @@ pub use Rattle.transcripts.specs.Serial
 pub use Rattle.transcripts.specs.Fits
 pub use Rattle.transcripts.specs.Transcript
 pub use Rattle.transcripts.specs.Play
+pub use Rattle.transcript_check.specs.Verdict
 pub use Rattle.write_history.specs.World
 pub use Rattle.write_history.specs.Effect
 pub use Rattle.write_history.specs.Fold

@@ -1,21 +1,19 @@
 -- How a run of the program ends.
-use Rattle.std.specs.Prelude.{ℕ, ◌≡◌, ◌≢◌, ◌+◌, ◌⊎◌, List, [], ◌∷◌, codes, length, Option, Some, None}
+use Rattle.std.specs.Prelude.{ℕ, ◌≡◌, ◌≢◌, ◌⊎◌, List, [], ◌∷◌, codes, length, Option, Some, None}
 use Rattle.std.specs.Io.KnownBytes.{append_known}
-use Rattle.ide_io.specs.Known.{ReadsToEnd, TakesPrefix, TakesCount}
+use Rattle.ide_io.specs.Known.{TakesPrefix}
 use Rattle.ide_io.specs.Fault.{HasFault, next_count}
 use Rattle.ide_io.specs.Files.{Files}
-use Rattle.ide_io.specs.Asks.{AsksEach, AsksFront, AsksSome}
+use Rattle.ide_io.specs.Asks.{AsksEach}
 use Rattle.ide_io.specs.declared.source.Source
 use Rattle.ide_io.specs.declared.tree.Tree
 use Rattle.ide_io.specs.declared.sink.Sink
 use Rattle.command_line.specs.declared.request.Request.{Request}
-use Rattle.command_line.specs.declared.request.Request.TheVariants.{Play, Demo}
+use Rattle.command_line.specs.declared.request.Request.TheVariants.{Play, Demo, Check}
 use Rattle.command_line.specs.Request.{request_of}
 use Rattle.demo.specs.Script.{demo_bytes}
-use Rattle.script_lang.specs.Lines.{max_bytes}
 use Rattle.script_lang.specs.Parts.{Parts}
-use Rattle.script_lang.specs.Grammar.{IsScript, IsRefused}
-use Rattle.script_lang.specs.declared.refusal.ScriptRefusal.TheVariants.{BadLine}
+use Rattle.script_lang.specs.Grammar.{IsScript}
 use Rattle.index_workers.specs.declared.worked.Worked.{Worked}
 use Rattle.transcripts.specs.Serial.{Ended, run_of}
 use Rattle.transcripts.specs.Fits.{RunFits}
@@ -23,25 +21,15 @@ use Rattle.transcripts.specs.Loads.{paths_of}
 use Rattle.transcripts.specs.Transcript.{summary_of}
 use Rattle.transcripts.specs.Play.{IsTranscript}
 use Rattle.ide_script.specs.declared.status.Status.{Status}
-use Rattle.ide_script.specs.declared.status.Status.TheVariants.{Done, Usage, BadScript, SourceFault, TreeFault, SinkFault, OutOfMemory, ScriptTooLong}
+use Rattle.ide_script.specs.declared.status.Status.TheVariants.{Done, Usage, BadScript, SourceFault, TreeFault, SinkFault, OutOfMemory, ScriptTooLong, Rejected}
 use Rattle.ide_script.specs.Status.{number_of, fault_line}
+use Rattle.ide_script.specs.Reading.{EndsUnwritten, GivesScript}
+use Rattle.ide_script.specs.Check.{CheckEnds}
 
 -- the words of a command line: the program's name where the system gives none
 abbrev pub given_words : List (List ℕ) → List (List ℕ)
 given_words [] = codes "ide" ∷ []
 given_words (name ∷ words) = name ∷ words
-
--- the source was read to its end, and its bytes spell the script
-pub record GivesScript {S : Type 0} (s : Source.Ghosts S) (old new : S) (script : Parts) : Type 0 where
-  pub bytes : List ℕ
-  pub read : ReadsToEnd s.left s.ends old new bytes
-  pub is : IsScript bytes script
-
--- the source was read to its end, and this line is the one that its bytes have outside the grammar
-pub record GivesBadLine {S : Type 0} (s : Source.Ghosts S) (old new : S) (line : ℕ) : Type 0 where
-  pub bytes : List ℕ
-  pub read : ReadsToEnd s.left s.ends old new bytes
-  pub is : IsRefused bytes (BadLine line)
 
 -- the source gave a script, the tree was asked for the files of its loads, each once, in their order and for no other, and these bytes are a
 -- transcript of the script
@@ -63,19 +51,6 @@ pub record WritesPrefix {S T K : Type 0} (s : Source.Ghosts S) (t : Tree.Ghosts 
   pub tells : TellsScript s t workers source source' tree tree' bytes
   pub taken : TakesPrefix (k.taken sink) (k.taken sink') bytes
   pub fault : HasFault (k.faults sink) (k.faults sink')
-
--- the source gave a script, and the tree met a fault at the file of one of its loads, having been asked for those of the loads before it alone
-pub record FailsAtLoad {S T : Type 0} (s : Source.Ghosts S) (t : Tree.Ghosts T) (source source' : S) (tree tree' : T) : Type 0 where
-  pub script : Parts
-  pub read : GivesScript s source source' script
-  pub asked : AsksSome t.asks tree (paths_of script.prelude) tree'
-  pub fault : HasFault (t.faults tree) (t.faults tree')
-
--- the source gave a script, and the tree was asked for the files of its first loads, and for no other
-pub record StopsAtLoad {S T : Type 0} (s : Source.Ghosts S) (t : Tree.Ghosts T) (source source' : S) (tree tree' : T) : Type 0 where
-  pub script : Parts
-  pub read : GivesScript s source source' script
-  pub asked : AsksFront t.asks tree (paths_of script.prelude) tree'
 
 -- a run of a demo's script with so many workers, which tell this: its summary is that of going through the script in order
 pub record PlaysDemo (seed files edits workers : ℕ) (told : List Worked) (ended : Ended) : Type 0 where
@@ -109,14 +84,7 @@ pub record WritesSummaryPrefix {K : Type 0} (k : Sink.Ghosts K) (seed files edit
 abbrev pub PlayEnds : {S T K : Type 0} → Source.Ghosts S → Tree.Ghosts T → Sink.Ghosts K → ℕ → S → S → T → T → K → K → Status → Type 0
 PlayEnds s t k workers source source' tree tree' sink sink' Done = WritesTranscript s t k workers source source' tree tree' sink sink'
 PlayEnds s t k workers source source' tree tree' sink sink' SinkFault = WritesPrefix s t k workers source source' tree tree' sink sink'
-PlayEnds s t k workers source source' tree tree' sink sink' (BadScript line) = GivesBadLine s source source' line × (tree' ≡ tree)
-PlayEnds s t k workers source source' tree tree' sink sink' ScriptTooLong =
-    TakesCount (max_bytes + 1) (s.left source) (s.left source') × (s.ends source' ≡ s.ends source) × (tree' ≡ tree)
-PlayEnds s t k workers source source' tree tree' sink sink' SourceFault =
-    HasFault (s.faults source) (s.faults source') × (s.ends source' ≡ s.ends source) × (tree' ≡ tree)
-PlayEnds s t k workers source source' tree tree' sink sink' TreeFault = FailsAtLoad s t source source' tree tree'
-PlayEnds s t k workers source source' tree tree' sink sink' OutOfMemory = (tree' ≡ tree) ⊎ StopsAtLoad s t source source' tree tree'
-PlayEnds s t k workers source source' tree tree' sink sink' Usage = ⊥
+PlayEnds s t k workers source source' tree tree' sink sink' status = EndsUnwritten s t [] source source' tree tree' status
 
 -- when each answer to a `demo` comes, and what was written then
 abbrev pub DemoEnds : {K : Type 0} → Sink.Ghosts K → ℕ → ℕ → ℕ → ℕ → K → K → Status → Type 0
@@ -128,6 +96,7 @@ DemoEnds k seed files edits workers sink sink' Usage = ⊥
 DemoEnds k seed files edits workers sink sink' SourceFault = ⊥
 DemoEnds k seed files edits workers sink sink' TreeFault = ⊥
 DemoEnds k seed files edits workers sink sink' ScriptTooLong = ⊥
+DemoEnds k seed files edits workers sink sink' Rejected = ⊥
 
 -- when each answer to faulty words comes
 abbrev pub WordsEnd : Status → Type 0
@@ -138,27 +107,18 @@ abbrev pub RunEnds : {S T K : Type 0} → Source.Ghosts S → Tree.Ghosts T → 
 RunEnds s t k None source source' tree tree' sink sink' status = WordsEnd status
 RunEnds s t k (Some (Play workers)) source source' tree tree' sink sink' status = PlayEnds s t k workers source source' tree tree' sink sink' status
 RunEnds s t k (Some (Demo seed files edits workers)) source source' tree tree' sink sink' status = DemoEnds k seed files edits workers sink sink' status
+RunEnds s t k (Some (Check path workers)) source source' tree tree' sink sink' status = CheckEnds s t k path workers source source' tree tree' sink sink' status
 
 -- words that ask for no script: faulty ones, and those of a demo
 abbrev pub AsksNothing : Option Request → Type 0
 AsksNothing None = Unit {0}
 AsksNothing (Some (Play workers)) = ⊥
 AsksNothing (Some (Demo seed files edits workers)) = Unit {0}
+AsksNothing (Some (Check path workers)) = ⊥
 
 -- the end was told once, or not at all
 abbrev pub TellsEndOnce : ℕ → ℕ → Type 0
 TellsEndOnce old new = (new ≡ old) ⊎ (new ≡ next_count old)
-
--- why a script wasn't read
-abbrev pub ReadStops : {S : Type 0} → Source.Ghosts S → S → S → Status → Type 0
-ReadStops s old new (BadScript line) = GivesBadLine s old new line
-ReadStops s old new ScriptTooLong = TakesCount (max_bytes + 1) (s.left old) (s.left new) × (s.ends new ≡ s.ends old)
-ReadStops s old new SourceFault = HasFault (s.faults old) (s.faults new) × (s.ends new ≡ s.ends old)
-ReadStops s old new OutOfMemory = Unit {0}
-ReadStops s old new Done = ⊥
-ReadStops s old new Usage = ⊥
-ReadStops s old new TreeFault = ⊥
-ReadStops s old new SinkFault = ⊥
 
 -- how the writing of some bytes ended
 abbrev pub WriteEnds : {K : Type 0} → Sink.Ghosts K → K → K → List ℕ → Status → Type 0
@@ -170,6 +130,7 @@ WriteEnds k old new bytes (BadScript line) = ⊥
 WriteEnds k old new bytes SourceFault = ⊥
 WriteEnds k old new bytes TreeFault = ⊥
 WriteEnds k old new bytes ScriptTooLong = ⊥
+WriteEnds k old new bytes Rejected = ⊥
 
 -- the line of the status was written, unless the stream for errors met a fault
 abbrev pub TellsStatus : {E : Type 0} → Sink.Ghosts E → E → E → Status → Type 0
@@ -183,7 +144,7 @@ pub record EndsWith {S T K E : Type 0} (s : Source.Ghosts S) (t : Tree.Ghosts T)
   pub line : TellsStatus e error error' status
   pub run : RunEnds s t k (request_of words) source source' tree tree' sink sink' status
   pub unread : AsksNothing (request_of words) → (source' ≡ source) × (tree' ≡ tree)
-  pub silent : status ≢ Done → status ≢ SinkFault → sink' ≡ sink
+  pub silent : status ≢ Done → status ≢ Rejected → status ≢ SinkFault → sink' ≡ sink
   pub source_quiet : status ≢ SourceFault → s.faults source' ≡ s.faults source
   pub tree_quiet : status ≢ TreeFault → t.faults tree' ≡ t.faults tree
   pub sink_quiet : status ≢ SinkFault → k.faults sink' ≡ k.faults sink

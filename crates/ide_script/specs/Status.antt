@@ -2,7 +2,7 @@
 use Rattle.std.specs.Prelude.{ℕ, List, [], ◌++◌, codes}
 use Rattle.std.specs.Fmt.{decimal}
 use Rattle.ide_script.specs.declared.status.Status.{Status}
-use Rattle.ide_script.specs.declared.status.Status.TheVariants.{Done, Usage, BadScript, SourceFault, TreeFault, SinkFault, OutOfMemory, ScriptTooLong}
+use Rattle.ide_script.specs.declared.status.Status.TheVariants.{Done, Usage, BadScript, SourceFault, TreeFault, SinkFault, OutOfMemory, ScriptTooLong, Rejected}
 
 -- the status of the process
 abbrev pub number_of : Status → ℕ
@@ -14,6 +14,7 @@ number_of TreeFault = 4
 number_of SinkFault = 5
 number_of OutOfMemory = 6
 number_of ScriptTooLong = 7
+number_of Rejected = 8
 
 -- the line on standard error; a run that is done writes none
 abbrev pub fault_line : Status → List ℕ
@@ -25,3 +26,4 @@ fault_line TreeFault = codes "ide: tree fault\n"
 fault_line SinkFault = codes "ide: sink fault\n"
 fault_line OutOfMemory = codes "ide: out of memory\n"
 fault_line ScriptTooLong = codes "ide: script too long\n"
+fault_line Rejected = codes "ide: bad transcript\n"

@@ -52,7 +52,7 @@ fn run_given<R: Threads + Wait + Sync, S: Source, T: Tree, K: Sink>(
     ensures within { result ≢ Status.ScriptTooLong → TakesAtMost max_bytes (S.left script.old) (S.left script.new) }
     ensures end_once { TellsEndOnce (S.ends script.old) (S.ends script.new) }
     ensures unread { AsksNothing (request_of (given_words (map string_bytes words.items))) → (script.new ≡ script.old) × (tree.new ≡ tree.old) }
-    ensures silent { result ≢ Status.Done → result ≢ Status.SinkFault → out.new ≡ out.old }
+    ensures silent { result ≢ Status.Done → result ≢ Status.Rejected → result ≢ Status.SinkFault → out.new ≡ out.old }
     ensures files { T.files tree.new ≡ T.files tree.old }
     ensures source_quiet { result ≢ Status.SourceFault → S.faults script.new ≡ S.faults script.old }
     ensures tree_quiet { result ≢ Status.TreeFault → T.faults tree.new ≡ T.faults tree.old }
@@ -121,6 +121,7 @@ fn write_line<E: Sink>(status: Status, error: &mut E) -> Result<(), Failed>
         Status::SinkFault => write_all(error, b"ide: sink fault\n"),
         Status::OutOfMemory => write_all(error, b"ide: out of memory\n"),
         Status::ScriptTooLong => write_all(error, b"ide: script too long\n"),
+        Status::Rejected => write_all(error, b"ide: bad transcript\n"),
     }
 }
 

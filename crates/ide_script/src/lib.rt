@@ -1,8 +1,11 @@
-//! The program `ide`: from the words of the command line and a script's bytes to the bytes of the transcript.
+//! The program `ide`: from the words of the command line and a script's bytes to the bytes of the transcript, or to whether
+//! bytes are one.
 #![tactic(auto)]
 
+mod check;
 mod entry;
 mod over_tree;
+mod reading;
 mod refusal;
 mod run;
 mod status;

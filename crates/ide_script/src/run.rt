@@ -1,29 +1,32 @@
 //! The whole program, over any source, tree and sink.
-ghost use Rattle.std.specs.Prelude.{◌≡◌, ◌≢◌, ◌<◌, ◌≤◌, List, Err, length, map, string_bytes, IfOk, IfErr};
+ghost use Rattle.std.specs.Prelude.{◌≡◌, ◌≢◌, ◌<◌, ◌≤◌, Some, length, map, string_bytes, IfOk};
 ghost use Rattle.ide_io.specs.Known.{TakesAtMost};
 ghost use Rattle.demo.specs.Script.{demo_bytes};
 ghost use Rattle.script_lang.specs.Grammar.{IsScript};
 ghost use Rattle.script_lang.specs.Lines.{max_bytes};
 ghost use Rattle.command_line.specs.Request.{request_of, IsInRange, max_workers, max_files, max_edits};
 ghost use Rattle.transcripts.specs.Transcript.{transcript_of, summary_of};
-ghost use Rattle.ide_script.specs.Run.{RunEnds, PlayEnds, DemoEnds, GivesScript, TellsEndOnce, ReadStops, WriteEnds, PlaysDemo, AsksNothing};
+ghost use Rattle.ide_script.specs.Run.{RunEnds, PlayEnds, DemoEnds, TellsEndOnce, WriteEnds, PlaysDemo, AsksNothing};
 
+use crate::check::run_check;
+use crate::reading::read_script;
 use crate::{PlayRefusal, Status, play};
 use command_line::{Request, WordsRefusal, request_of};
 use demo::demo_script;
 use demo_runs::agree::demo_runs_agree;
 use demo_runs::laws::{a_demo_is_lawful, no_demo_is_refused};
-use ide_io::{ReadAllError, Sink, Source, Tree, read_all, write_all};
+use ide_io::{Sink, Source, Tree, write_all};
 use playing::LaneGate;
-use script_lang::{MAX_BYTES, Script, ScriptRefusal, parse};
+use script_lang::{Script, ScriptRefusal, parse};
 use std::alloc::{AllocError, Global};
 use std::sync::Wait;
 use std::thread::Threads;
 use transcripts::{Played, summary, transcript};
 
 /// Runs the program. The words begin with its name. `play` takes its script from the source and what its loads ask for
-/// from the tree, and writes the transcript; `demo` writes the summary of a script of its own. Nothing is written before
-/// the run is known to end with `Done`, `SinkFault` or `OutOfMemory`. May block.
+/// from the tree, and writes the transcript; `demo` writes the summary of a script of its own; `check` takes the script from
+/// the source, a transcript and what the loads ask for from the tree, and writes whether it is one of the script. Nothing is
+/// written before the run is known to end with `Done`, `Rejected`, `SinkFault` or `OutOfMemory`. May block.
 pub fn run_ide<R: Threads + Wait + Sync, S: Source, T: Tree, K: Sink>(
     rt: &R,
     alloc: Global,
@@ -38,30 +41,54 @@ pub fn run_ide<R: Threads + Wait + Sync, S: Source, T: Tree, K: Sink>(
     ensures ends { RunEnds S.Source T.Tree K.Sink (request_of (map string_bytes words.now))
         script.old script.new tree.old tree.new out.old out.new result }
 
-    // How much is read: at most one byte past the longest script, and nothing after the end; nothing unless the words ask for `play`.
+    // How much is read: at most one byte past the longest script, and nothing after the end; nothing unless the words ask for `play` or `check`.
     ensures within { result ≢ Status.ScriptTooLong → TakesAtMost max_bytes (S.left script.old) (S.left script.new) }
     ensures end_once { TellsEndOnce (S.ends script.old) (S.ends script.new) }
     ensures unread { AsksNothing (request_of (map string_bytes words.now)) → (script.new ≡ script.old) × (tree.new ≡ tree.old) }
 
     // What stays the same: nothing is written before the run is known to end so, and no fault is met but that which is told.
-    ensures silent { result ≢ Status.Done → result ≢ Status.SinkFault → out.new ≡ out.old }
+    ensures silent { result ≢ Status.Done → result ≢ Status.Rejected → result ≢ Status.SinkFault → out.new ≡ out.old }
     ensures files { T.files tree.new ≡ T.files tree.old }
     ensures source_quiet { result ≢ Status.SourceFault → S.faults script.new ≡ S.faults script.old }
     ensures tree_quiet { result ≢ Status.TreeFault → T.faults tree.new ≡ T.faults tree.old }
     ensures sink_quiet { result ≢ Status.SinkFault → K.faults out.new ≡ K.faults out.old }
 {
     match request_of(alloc, words) {
-        Ok(Request::Play { workers }) => run_play(rt, alloc, workers, script, tree, out),
-        Ok(
-            Request::Demo {
-                seed,
-                files,
-                edits,
-                workers,
-            },
-        ) => run_demo(rt, alloc, seed, files, edits, workers, out),
+        Ok(request) => run_request(rt, alloc, &request, script, tree, out),
         Err(WordsRefusal::Usage) => Status::Usage,
         Err(WordsRefusal::OutOfMemory) => Status::OutOfMemory,
+    }
+}
+
+/// Does what is asked for. May block.
+fn run_request<R: Threads + Wait + Sync, S: Source, T: Tree, K: Sink>(
+    rt: &R,
+    alloc: Global,
+    request: &Request,
+    script: &mut S,
+    tree: &mut T,
+    out: &mut K,
+) -> Status
+    requires { IsInRange request.now }
+    ensures ends { RunEnds S.Source T.Tree K.Sink (Some request.now) script.old script.new tree.old tree.new out.old out.new result }
+    ensures within { result ≢ Status.ScriptTooLong → TakesAtMost max_bytes (S.left script.old) (S.left script.new) }
+    ensures end_once { TellsEndOnce (S.ends script.old) (S.ends script.new) }
+    ensures unread { AsksNothing (Some request.now) → (script.new ≡ script.old) × (tree.new ≡ tree.old) }
+    ensures silent { result ≢ Status.Done → result ≢ Status.Rejected → result ≢ Status.SinkFault → out.new ≡ out.old }
+    ensures files { T.files tree.new ≡ T.files tree.old }
+    ensures source_quiet { result ≢ Status.SourceFault → S.faults script.new ≡ S.faults script.old }
+    ensures tree_quiet { result ≢ Status.TreeFault → T.faults tree.new ≡ T.faults tree.old }
+    ensures sink_quiet { result ≢ Status.SinkFault → K.faults out.new ≡ K.faults out.old }
+{
+    match request {
+        Request::Play { workers } => run_play(rt, alloc, *workers, script, tree, out),
+        Request::Demo {
+            seed,
+            files,
+            edits,
+            workers,
+        } => run_demo(rt, alloc, *seed, *files, *edits, *workers, out),
+        Request::Check { path, workers } => run_check(alloc, path, *workers, script, tree, out),
     }
 }
 
@@ -93,27 +120,6 @@ fn run_play<R: Threads + Wait + Sync, S: Source, T: Tree, K: Sink>(
         Ok(played) => write_transcript(alloc, &played, out),
         Err(PlayRefusal::TreeFault) => Status::TreeFault,
         Err(PlayRefusal::OutOfMemory) => Status::OutOfMemory,
-    }
-}
-
-/// The script that the source gives.
-fn read_script<S: Source>(alloc: Global, source: &mut S) -> Result<Script, Status>
-    ensures ok { IfOk result (λ script. GivesScript S.Source source.old source.new script) }
-    ensures err { IfErr result (ReadStops S.Source source.old source.new) }
-    ensures within { result ≢ Err Status.ScriptTooLong → TakesAtMost max_bytes (S.left source.old) (S.left source.new) }
-    ensures end_once { TellsEndOnce (S.ends source.old) (S.ends source.new) }
-    ensures quiet { result ≢ Err Status.SourceFault → S.faults source.new ≡ S.faults source.old }
-{
-    let bytes = match read_all(alloc, source, MAX_BYTES) {
-        Ok(bytes) => bytes,
-        Err(ReadAllError::Failed) => return Err(Status::SourceFault),
-        Err(ReadAllError::TooLong) => return Err(Status::ScriptTooLong),
-        Err(ReadAllError::OutOfMemory) => return Err(Status::OutOfMemory),
-    };
-    match parse(alloc, &bytes) {
-        Ok(script) => Ok(script),
-        Err(ScriptRefusal::BadLine { number }) => Err(Status::BadScript { line: number }),
-        Err(ScriptRefusal::OutOfMemory) => Err(Status::OutOfMemory),
     }
 }
 

@@ -5,7 +5,7 @@ ghost use Rattle.ide_script.specs.Status.{number_of};
 /// How a run of the program ends. `main` ends with its number.
 #[derive(Clone, Copy, Debug, PartialEq, Eq)]
 pub enum Status {
-    /// The script was read to its end and the whole transcript written.
+    /// The script was read to its end and the whole output written; of a transcript that was to be judged, that it is good.
     Done,
     /// The words are outside the grammar of the command line.
     Usage,
@@ -17,6 +17,8 @@ pub enum Status {
     OutOfMemory,
     /// The script has more bytes than a script may have.
     ScriptTooLong,
+    /// The transcript that was to be judged is none of the script.
+    Rejected,
 }
 
 impl Status {
@@ -33,6 +35,7 @@ impl Status {
             Status::SinkFault => 5,
             Status::OutOfMemory => 6,
             Status::ScriptTooLong => 7,
+            Status::Rejected => 8,
         }
     }
 }

@@ -1,57 +1,78 @@
 //! A table of words with what they ask for, where there is memory enough.
 use crate::tables::command_words;
 use command_line::{Request, WordsRefusal, request_of};
+use ide_text::Name;
+use std::alloc::{AllocError, Global};
 use std::test::Fail;
+
+/// What words ask for, spelled out.
+#[derive(Clone, Copy)]
+enum Wanted {
+    Play {
+        workers: u32,
+    },
+    Demo {
+        seed: u32,
+        files: u32,
+        edits: u32,
+        workers: u32,
+    },
+    Check {
+        path: &'static str,
+        workers: u32,
+    },
+    Usage,
+}
 
 /// The words behind the program's name, and what they ask for.
 struct Case {
     words: &'static [&'static str],
-    gives: Result<Request, WordsRefusal>,
+    gives: Wanted,
 }
 
-static CASES: [Case; 43] = [
+static CASES: [Case; 56] = [
     // The subcommands, and their defaults.
     Case {
         words: &[],
-        gives: Ok(Request::Play { workers: 0 }),
+        gives: Wanted::Play { workers: 0 },
     },
     Case {
         words: &["play"],
-        gives: Ok(Request::Play { workers: 0 }),
+        gives: Wanted::Play { workers: 0 },
     },
     Case {
         words: &["play", "--workers", "0"],
-        gives: Ok(Request::Play { workers: 0 }),
+        gives: Wanted::Play { workers: 0 },
     },
     Case {
         words: &["play", "--workers=0"],
-        gives: Ok(Request::Play { workers: 0 }),
+        gives: Wanted::Play { workers: 0 },
     },
     Case {
         words: &["play", "--workers", "1"],
-        gives: Ok(Request::Play { workers: 1 }),
+        gives: Wanted::Play { workers: 1 },
     },
     Case {
         words: &["play", "--workers=8"],
-        gives: Ok(Request::Play { workers: 8 }),
+        gives: Wanted::Play { workers: 8 },
     },
     Case {
         words: &["demo"],
-        gives: Ok(Request::Demo {
+        gives: Wanted::Demo {
             seed: 1,
             files: 8,
             edits: 32,
             workers: 0,
-        }),
+        },
     },
     Case {
         words: &["demo", "--seed", "0", "--files", "1", "--edits", "0"],
-        gives: Ok(Request::Demo {
+        gives: Wanted::Demo {
             seed: 0,
             files: 1,
             edits: 0,
             workers: 0,
-        }),
+        },
     },
     Case {
         words: &[
@@ -64,166 +85,264 @@ static CASES: [Case; 43] = [
             "--workers",
             "0",
         ],
-        gives: Ok(Request::Demo {
+        gives: Wanted::Demo {
             seed: 2147483647,
             files: 10000,
             edits: 50000,
             workers: 0,
-        }),
+        },
     },
     Case {
         words: &["demo", "--workers", "8"],
-        gives: Ok(Request::Demo {
+        gives: Wanted::Demo {
             seed: 1,
             files: 8,
             edits: 32,
             workers: 8,
-        }),
+        },
+    },
+    // A path is any word.
+    Case {
+        words: &["check", "t"],
+        gives: Wanted::Check {
+            path: "t",
+            workers: 0,
+        },
+    },
+    Case {
+        words: &["check", "out/a b.txt", "--workers", "8"],
+        gives: Wanted::Check {
+            path: "out/a b.txt",
+            workers: 8,
+        },
+    },
+    Case {
+        words: &["check", "--workers=1", "check"],
+        gives: Wanted::Check {
+            path: "check",
+            workers: 1,
+        },
+    },
+    Case {
+        words: &["check", "--", "--workers"],
+        gives: Wanted::Check {
+            path: "--workers",
+            workers: 0,
+        },
+    },
+    Case {
+        words: &["check", "é\u{1F600}"],
+        gives: Wanted::Check {
+            path: "é\u{1F600}",
+            workers: 0,
+        },
+    },
+    Case {
+        words: &["check", ""],
+        gives: Wanted::Check {
+            path: "",
+            workers: 0,
+        },
     },
     // Past a bound.
     Case {
         words: &["demo", "--seed", "2147483648"],
-        gives: Err(WordsRefusal::Usage),
+        gives: Wanted::Usage,
     },
     Case {
         words: &["demo", "--files", "0"],
-        gives: Err(WordsRefusal::Usage),
+        gives: Wanted::Usage,
     },
     Case {
         words: &["demo", "--files", "10001"],
-        gives: Err(WordsRefusal::Usage),
+        gives: Wanted::Usage,
     },
     Case {
         words: &["demo", "--edits", "50001"],
-        gives: Err(WordsRefusal::Usage),
+        gives: Wanted::Usage,
     },
     Case {
         words: &["demo", "--seed", "4294967297"],
-        gives: Err(WordsRefusal::Usage),
+        gives: Wanted::Usage,
     },
     Case {
         words: &["play", "--workers", "9"],
-        gives: Err(WordsRefusal::Usage),
+        gives: Wanted::Usage,
     },
     Case {
         words: &["demo", "--workers", "9"],
-        gives: Err(WordsRefusal::Usage),
+        gives: Wanted::Usage,
+    },
+    Case {
+        words: &["check", "t", "--workers", "9"],
+        gives: Wanted::Usage,
     },
     // Numbers out of form.
     Case {
+        words: &["check", "t", "--workers", "01"],
+        gives: Wanted::Usage,
+    },
+    Case {
         words: &["demo", "--seed", "01"],
-        gives: Err(WordsRefusal::Usage),
+        gives: Wanted::Usage,
     },
     Case {
         words: &["demo", "--seed", "+1"],
-        gives: Err(WordsRefusal::Usage),
+        gives: Wanted::Usage,
     },
     Case {
         words: &["demo", "--seed", "1_0"],
-        gives: Err(WordsRefusal::Usage),
+        gives: Wanted::Usage,
     },
     Case {
         words: &["demo", "--seed", "-1"],
-        gives: Err(WordsRefusal::Usage),
+        gives: Wanted::Usage,
     },
     Case {
         words: &["demo", "--seed", "0x1"],
-        gives: Err(WordsRefusal::Usage),
+        gives: Wanted::Usage,
     },
     Case {
         words: &["demo", "--seed", ""],
-        gives: Err(WordsRefusal::Usage),
+        gives: Wanted::Usage,
     },
     Case {
         words: &["demo", "--seed", "00"],
-        gives: Err(WordsRefusal::Usage),
+        gives: Wanted::Usage,
     },
     Case {
         words: &["demo", "--seed="],
-        gives: Err(WordsRefusal::Usage),
+        gives: Wanted::Usage,
     },
     Case {
         words: &["play", "--workers", "00"],
-        gives: Err(WordsRefusal::Usage),
+        gives: Wanted::Usage,
     },
     Case {
         words: &["play", "--workers", "03"],
-        gives: Err(WordsRefusal::Usage),
+        gives: Wanted::Usage,
     },
     // Outside what clap takes.
     Case {
         words: &["demo", "--seed"],
-        gives: Err(WordsRefusal::Usage),
+        gives: Wanted::Usage,
     },
     Case {
         words: &["demo", "--seed", "1", "--seed", "2"],
-        gives: Err(WordsRefusal::Usage),
+        gives: Wanted::Usage,
     },
     Case {
         words: &["demo", "--see", "1"],
-        gives: Err(WordsRefusal::Usage),
+        gives: Wanted::Usage,
     },
     Case {
         words: &["demo", "-s", "1"],
-        gives: Err(WordsRefusal::Usage),
+        gives: Wanted::Usage,
     },
     Case {
         words: &["demo", "7"],
-        gives: Err(WordsRefusal::Usage),
+        gives: Wanted::Usage,
     },
     Case {
         words: &["play", "play"],
-        gives: Err(WordsRefusal::Usage),
+        gives: Wanted::Usage,
+    },
+    Case {
+        words: &["check"],
+        gives: Wanted::Usage,
+    },
+    Case {
+        words: &["check", "a", "b"],
+        gives: Wanted::Usage,
+    },
+    Case {
+        words: &["check", "-t"],
+        gives: Wanted::Usage,
+    },
+    Case {
+        words: &["check", "t", "--path", "t"],
+        gives: Wanted::Usage,
+    },
+    Case {
+        words: &["--workers", "1", "check", "t"],
+        gives: Wanted::Usage,
     },
     Case {
         words: &["--workers", "0"],
-        gives: Err(WordsRefusal::Usage),
+        gives: Wanted::Usage,
     },
     Case {
         words: &["--seed", "1", "demo"],
-        gives: Err(WordsRefusal::Usage),
+        gives: Wanted::Usage,
     },
     Case {
         words: &["play", "--seed", "1"],
-        gives: Err(WordsRefusal::Usage),
+        gives: Wanted::Usage,
     },
     Case {
         words: &["record"],
-        gives: Err(WordsRefusal::Usage),
+        gives: Wanted::Usage,
     },
     Case {
         words: &[""],
-        gives: Err(WordsRefusal::Usage),
+        gives: Wanted::Usage,
     },
     // Words that ask for help, and those that end the options.
     Case {
         words: &["--help"],
-        gives: Err(WordsRefusal::Usage),
+        gives: Wanted::Usage,
     },
     Case {
         words: &["-h"],
-        gives: Err(WordsRefusal::Usage),
+        gives: Wanted::Usage,
     },
     Case {
         words: &["help"],
-        gives: Err(WordsRefusal::Usage),
+        gives: Wanted::Usage,
     },
     Case {
         words: &["--version"],
-        gives: Err(WordsRefusal::Usage),
+        gives: Wanted::Usage,
     },
     Case {
         words: &["demo", "--help"],
-        gives: Err(WordsRefusal::Usage),
+        gives: Wanted::Usage,
     },
 ];
+
+/// What is wanted, as `request_of` gives it.
+fn wanted_request(
+    alloc: Global,
+    wanted: Wanted,
+) -> Result<Result<Request, WordsRefusal>, AllocError> {
+    Ok(match wanted {
+        Wanted::Play { workers } => Ok(Request::Play { workers }),
+        Wanted::Demo {
+            seed,
+            files,
+            edits,
+            workers,
+        } => Ok(Request::Demo {
+            seed,
+            files,
+            edits,
+            workers,
+        }),
+        Wanted::Check { path, workers } => Ok(Request::Check {
+            path: Name::of(alloc, path)?,
+            workers,
+        }),
+        Wanted::Usage => Err(WordsRefusal::Usage),
+    })
+}
 
 #[test]
 fn words_and_requests(rt: HostRuntime) -> Result<(), Fail> {
     for case in CASES.iter() {
         let words = command_words(rt.alloc(), case.words)?;
+        let wanted = wanted_request(rt.alloc(), case.gives)?;
         let request = request_of(rt.alloc(), words.as_slice());
-        assert_eq!(rt; request, case.gives, "{:?}", case.words);
+        assert_eq!(rt; request, wanted, "{:?}", case.words);
     }
     Ok(())
 }

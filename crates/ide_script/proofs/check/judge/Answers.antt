@@ -1,0 +1,17 @@
+use Rattle.ide_script.proofs.CheckLemmas.{asks_one, asks_then, asks_then_some}
+use Rattle.ide_script.proofs.check.judge.Goals as goal
+
+pub returns-in-Err-Failed-clause-asks : goal.returns-in-Err-Failed-clause-asks
+returns-in-Err-Failed-clause-asks g c = (asks_one _ _ _ c.args.path.now _ c.read_file.ensures.asks).first
+
+pub returns-in-Err-Failed-clause-asks_some : goal.returns-in-Err-Failed-clause-asks_some
+returns-in-Err-Failed-clause-asks_some g c = λ _. asks_one _ _ _ c.args.path.now _ c.read_file.ensures.asks
+
+pub returns-in-Err-OutOfMemory-clause-asks : goal.returns-in-Err-OutOfMemory-clause-asks
+returns-in-Err-OutOfMemory-clause-asks g c = (asks_one _ _ _ c.args.path.now _ c.read_file.ensures.asks).first
+
+pub returns-clause-asks : goal.returns-clause-asks
+returns-clause-asks g c = asks_then _ _ _ _ c.args.path.now _ c.read_file.ensures.asks c.verdict.ensures.asks
+
+pub returns-clause-asks_some : goal.returns-clause-asks_some
+returns-clause-asks_some g c = λ failed. asks_then_some _ _ _ _ c.args.path.now _ c.read_file.ensures.asks (c.verdict.ensures.asks_some failed)
