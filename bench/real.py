@@ -4,6 +4,8 @@
     bench/real.py FOLDER              the program of this repository
     bench/real.py --load FOLDER       the same files by `load`, a half and all of them, with 100 questions of all forms;
                                       OLD NEW .. may follow here too
+    bench/real.py --check FOLDER      four lanes that ask about these files, a half and all of them: `play`, and `check` of the
+                                      transcript, which is as long as one may be, or as the folder allows
     bench/real.py --ask FOLDER        usages and inheritors of some names over all files of a folder, beside grep
     bench/real.py FOLDER OLD NEW ..   several built programs in one run, with their ratios to the first
 
@@ -80,11 +82,11 @@ def make(folder, scratch):
     return sorted(scratch.iterdir())
 
 
-def used(command, script, folder=None):
-    """Seconds, processor seconds and megabytes that a command takes on a script, in a folder."""
-    with open(script, "rb") as source:
+def used(command, script, folder=None, written=os.devnull):
+    """Seconds, processor seconds and megabytes that a command takes on a script, in a folder; it writes to a file."""
+    with open(script, "rb") as source, open(written, "wb") as sink:
         start = time.perf_counter()
-        child = subprocess.Popen(command, stdin=source, stdout=subprocess.DEVNULL, stderr=subprocess.PIPE, cwd=folder)
+        child = subprocess.Popen(command, stdin=source, stdout=sink, stderr=subprocess.PIPE, cwd=folder)
         _, status, usage = os.wait4(child.pid, 0)
         took = time.perf_counter() - start
     if status != 0:
@@ -140,6 +142,58 @@ def load(folder, programs):
             rows(script.name, programs, size, folder)
 
 
+def lanes(names, share, count=4):
+    """A script that loads files, asks for the outlines of a share of them in so many lanes, each file opened and closed
+    around it, and settles at the end."""
+    asked = names[: int(len(names) * share)]
+    script = "".join(f"load {name}\n" for name in names)
+    for at in range(count):
+        script += "lane\n" + "".join(f"open {name}\noutline {name}\nclose {name}\n" for name in asked[at::count])
+    return script + "finally\nsettle\nclass String\nusages Override\nstatus\n"
+
+
+def play_and_check(folder, script, scratch, words=("--workers", "0"), times=3):
+    """The least seconds of `play` and of `check` of its transcript, each with its processor seconds, and the transcript's size."""
+    source, written = scratch / "script.ide", scratch / "transcript"
+    source.write_text(script)
+    play = min(used([PROGRAM, "play", *words], source, folder, written)[:2] for _ in range(times))
+    check = min(used([PROGRAM, "check", str(written), *words], source, folder)[:2] for _ in range(times))
+    return play, check, written.stat().st_size
+
+
+def longest(folder, names, scratch, turns=10):
+    """Of how many of the files, as a share, the outlines fit into a transcript that may be checked, of 16,777,216 bytes."""
+    source, written = scratch / "script.ide", scratch / "transcript"
+    low, share, high = 0, 1, 1
+    for _ in range(turns):
+        source.write_text(lanes(names, share))
+        used([PROGRAM], source, folder, written)
+        if written.stat().st_size > LIMIT:
+            high = share
+        elif share == 1:
+            return 1
+        else:
+            low = share
+        share = (low + high) / 2
+    return low
+
+
+def check(folder):
+    """Times `play` and `check` of scripts of four lanes over a half of the files of a folder, and over all of them."""
+    names = [str(p.relative_to(folder)) for p in sorted(folder.rglob("*.java"))]
+    names = [name for name in names if not re.search(r'[\s":\\]', name)]
+    with tempfile.TemporaryDirectory() as name:
+        scratch = pathlib.Path(name)
+        share = longest(folder, names, scratch)
+        for some in (names[::2], names):
+            played, checked, size = play_and_check(folder, lanes(some, share), scratch)
+            print(
+                f"  {len(some):6} files  transcript {size:10} bytes  play {played[0]:7.3f} s (processors {played[1]:7.3f} s)"
+                f"  check {checked[0]:7.3f} s ({checked[1]:7.3f} s)  check / play {checked[0] / played[0]:5.2f}"
+                f"  {checked[0] / size * 1e6:6.3f} us a byte"
+            )
+
+
 def used_once(paths):
     """The name of a method that stands once in all files."""
     seen = collections.Counter()
@@ -182,6 +236,8 @@ def main():
         sys.exit(__doc__)
     if sys.argv[1] == "--ask":
         return ask(pathlib.Path(sys.argv[2]))
+    if sys.argv[1] == "--check":
+        return check(pathlib.Path(sys.argv[2]))
     if sys.argv[1] == "--load":
         return load(pathlib.Path(sys.argv[2]), sys.argv[3:] or [PROGRAM])
     with tempfile.TemporaryDirectory() as scratch:

@@ -1,5 +1,5 @@
 //! A run in which soft questions are given up: a write waits for a reader that is held, while another lane goes on asking.
-use crate::judging::judge;
+use crate::judging::{is_right, no_files};
 use crate::running::{run, script_of};
 use action_lock::{Gate, Point};
 use playing::play;
@@ -38,7 +38,7 @@ pub fn is_crossing_right<R: Threads + Wait + Sync>(
     let script = crossing_script(alloc)?;
     let gate = Crossing::new();
     let played = play(rt, alloc, &script, &[], 0, &gate)?;
-    let right = judge(alloc, &script, &[], &played)?;
+    let right = is_right(alloc, &script, 0, &mut no_files(alloc), &played)?;
     Ok(right && gate.all_met() && given_up(&played) > 0 && played.history.len() == 2)
 }
 
@@ -51,8 +51,9 @@ pub fn makes_entries<R: Threads + Wait + Sync>(
     entries: u32,
 ) -> Result<bool, AllocError> {
     let script = script_of(alloc, script.as_bytes())?;
-    let played = run(rt, alloc, &script, &[], workers)?;
-    let right = judge(alloc, &script, &[], &played)?;
+    let mut tree = no_files(alloc);
+    let played = run(rt, alloc, &script, workers, &mut tree)?;
+    let right = is_right(alloc, &script, workers, &mut tree, &played)?;
     Ok(right && entries_of_lines(&played.history) == entries)
 }
 

@@ -1,19 +1,19 @@
 //! Scripts with lanes and workers: each run's transcript is one of those that the rules allow.
-use crate::program::written;
+use crate::program::{checked_long, written};
 use crate::told::{Section, entries_of, records_of};
 use std::alloc::{AllocError, Global};
 use std::test::Fail;
 
 /// A script and all transcripts that it may have.
-struct Lawful {
-    script: &'static str,
-    transcripts: &'static [&'static str],
+pub struct Lawful {
+    pub script: &'static str,
+    pub transcripts: &'static [&'static str],
 }
 
 /// How often each script is played.
 const TIMES: usize = 40;
 
-static SCRIPTS: [Lawful; 4] = [
+pub static SCRIPTS: [Lawful; 4] = [
     // The two creates come in either order, and the lane that wrote first asks before or after the other's write.
     Lawful {
         script: r#"lane
@@ -280,6 +280,21 @@ fn demos_agree(rt: HostRuntime) -> Result<(), Fail> {
         let words = ["ide", "demo", "--edits", "200", "--workers", workers];
         let beside = written(&rt, &words, "")?;
         assert_eq!(rt; beside, alone);
+    }
+    Ok(())
+}
+
+/// What a check says of a transcript of so many bytes: of one as long as a file may be, and of one that is longer.
+static LONG: [(usize, &str); 2] = [
+    (16_777_216, "ide: bad transcript\n"),
+    (16_777_217, "ide: tree fault\n"),
+];
+
+#[test]
+fn transcript_too_long(rt: HostRuntime) -> Result<(), Fail> {
+    for (count, line) in &LONG {
+        let told = checked_long(&rt, *count)?;
+        assert!(rt; told.as_str() == *line, "{count}: {told}");
     }
     Ok(())
 }

@@ -1,13 +1,17 @@
 //! Tests with threads: calls on the shared workspace by two passes, scripts whose lanes and workers are held where they
-//! are to meet, and the program; what comes out is compared whole, or judged by making the history again.
+//! are to meet, and the program; what comes out is compared whole, or judged by its transcript.
 #![tactic(auto)]
 
 #[cfg(test)]
-mod commands;
+mod beside;
+#[cfg(test)]
+mod changed;
 #[cfg(test)]
 mod crossing;
 #[cfg(test)]
 mod drawn;
+#[cfg(test)]
+mod faults;
 #[cfg(test)]
 mod judging;
 #[cfg(test)]
@@ -19,13 +23,11 @@ mod passes;
 #[cfg(test)]
 mod program;
 #[cfg(test)]
-mod replaying;
-#[cfg(test)]
 mod running;
 #[cfg(test)]
-mod same;
-#[cfg(test)]
 mod scenes;
+#[cfg(test)]
+mod sessions;
 #[cfg(test)]
 mod sharing;
 #[cfg(test)]
@@ -34,5 +36,3 @@ mod stage;
 mod tests;
 #[cfg(test)]
 mod told;
-#[cfg(test)]
-mod walk;

@@ -2,16 +2,16 @@
 ghost use Rattle.std.specs.Prelude.{◌≤◌};
 
 use crate::drawn::drawn_script;
-use crate::judging::judge;
+use crate::judging::{is_good, is_right, loaded_files, no_files};
 use crate::stage::{Hold, Stage};
-use ide_text::{SharedText, Text};
+use ide_io::MemoryTree;
 use index_workers::Worked;
 use playing::{LaneGate, play};
 use script_lang::{Script, is_within_limit, parse};
 use std::alloc::{AllocError, Global};
 use std::sync::Wait;
 use std::thread::Threads;
-use transcripts::{Loaded, Played, transcript};
+use transcripts::{Loaded, Played, read_loads, transcript};
 
 /// A script, its workers, where threads are held in its run, and the transcripts that may come out.
 #[derive(Clone, Copy)]
@@ -36,10 +36,16 @@ pub fn transcript_of<R: Threads + Wait + Sync>(
     if !stage.all_met() {
         return String::from_str(alloc, "not all met");
     }
-    if !judge(alloc, &script, &[], &played)? {
+    let mut printed = text_of(alloc, &transcript(alloc, &played)?)?;
+    if !is_good(
+        alloc,
+        &script,
+        scene.workers,
+        &mut no_files(alloc),
+        printed.as_bytes(),
+    )? {
         return String::from_str(alloc, "wrong");
     }
-    let mut printed = text_of(alloc, &transcript(alloc, &played)?)?;
     if scene.tells_workers {
         push_workers(alloc, &mut printed, &played.workers)?;
     }
@@ -55,16 +61,29 @@ fn push_workers(alloc: Global, out: &mut String, workers: &[Worked]) -> Result<(
     Ok(())
 }
 
-/// A run of a script with so many workers, 8 at most. It may block.
+/// A run of a script with so many workers, 8 at most, over a tree. It may block.
 pub fn run<R: Threads + Wait + Sync>(
     rt: &R,
     alloc: Global,
     script: &Script,
-    loads: &[Loaded],
     workers: u32,
+    tree: &mut MemoryTree,
 ) -> Result<Played, AllocError> {
+    let loads = loads_of(alloc, script, tree)?;
     let gate = LaneGate::new(rt, script);
-    play(rt, alloc, script, loads, workers.min(8), &gate)
+    play(rt, alloc, script, &loads, workers.min(8), &gate)
+}
+
+/// What is read for the lines of a script's prelude. A load that fails counts as running out of memory.
+fn loads_of(
+    alloc: Global,
+    script: &Script,
+    tree: &mut MemoryTree,
+) -> Result<Vec<Loaded>, AllocError> {
+    match read_loads(alloc, script.prelude(), tree) {
+        Ok(loads) => Ok(loads),
+        Err(_) => Err(AllocError),
+    }
 }
 
 /// Whether a run of a drawn script with so many lanes of so many commands is right. It may block.
@@ -78,9 +97,9 @@ pub fn is_drawn_right<R: Threads + Wait + Sync>(
 ) -> Result<bool, AllocError> {
     let drawn = drawn_script(alloc, seed, lanes, count)?;
     let script = script_of(alloc, drawn.as_bytes())?;
-    let loads = loads(alloc)?;
-    let played = run(rt, alloc, &script, &loads, workers)?;
-    judge(alloc, &script, &loads, &played)
+    let mut tree = loaded_files(alloc)?;
+    let played = run(rt, alloc, &script, workers, &mut tree)?;
+    is_right(alloc, &script, workers, &mut tree, &played)
 }
 
 /// Whether the run of one script is right as a run of another. It may block.
@@ -92,8 +111,9 @@ pub fn fits<R: Threads + Wait + Sync>(
 ) -> Result<bool, AllocError> {
     let played = script_of(alloc, played.as_bytes())?;
     let judged = script_of(alloc, judged.as_bytes())?;
-    let played = run(rt, alloc, &played, &[], 0)?;
-    judge(alloc, &judged, &[], &played)
+    let mut tree = no_files(alloc);
+    let played = run(rt, alloc, &played, 0, &mut tree)?;
+    is_right(alloc, &judged, 0, &mut tree, &played)
 }
 
 /// The script that bytes spell. Bytes that are none count as running out of memory.
@@ -107,22 +127,8 @@ pub fn script_of(alloc: Global, bytes: &[u8]) -> Result<Script, AllocError> {
     }
 }
 
-/// What the first lines of a prelude load: a text, bytes that are none, and a text that is too long.
-pub fn loads(alloc: Global) -> Result<Vec<Loaded>, AllocError> {
-    let Ok(text) = Text::from_utf8(alloc, b"class L extends A { void m() {} }\r\n") else {
-        return Err(AllocError);
-    };
-    let mut loads = Vec::new(alloc);
-    loads.push(Loaded::Text {
-        text: SharedText::new(alloc, text)?,
-    })?;
-    loads.push(Loaded::NotText { at: 3 })?;
-    loads.push(Loaded::TooLong { count: 1_048_577 })?;
-    Ok(loads)
-}
-
 /// Bytes as a text. Bytes that are none count as running out of memory.
-fn text_of(alloc: Global, bytes: &[u8]) -> Result<String, AllocError> {
+pub fn text_of(alloc: Global, bytes: &[u8]) -> Result<String, AllocError> {
     match str::from_utf8(bytes) {
         Ok(text) => String::from_str(alloc, text),
         Err(_) => Err(AllocError),

@@ -311,11 +311,16 @@ pub struct Mistake {
 }
 
 /// Scripts that differ in one command.
-pub static MISTAKES: [Mistake; 12] = [
-    // Another text, of the same length.
+pub static MISTAKES: [Mistake; 13] = [
+    // Another text, longer by a character.
     Mistake {
         played: "create A.java \"a\"\n",
-        judged: "create A.java \"b\"\n",
+        judged: "create A.java \"ab\"\n",
+    },
+    // Another text of the same length, whose words are others.
+    Mistake {
+        played: "create A.java \"a\"\nsettle\nword a\n",
+        judged: "create A.java \"b\"\nsettle\nword a\n",
     },
     // Another path.
     Mistake {
@@ -337,10 +342,10 @@ pub static MISTAKES: [Mistake; 12] = [
         played: "create A.java \"class A {} class B {}\"\nsettle\nclass A\n",
         judged: "create A.java \"class A {} class B {}\"\nsettle\nclass B\n",
     },
-    // Another question with a row of the same place.
+    // Another question with a row of the same place, which also tells its super.
     Mistake {
-        played: "create A.java \"class A {}\"\nsettle\nclass A\n",
-        judged: "create A.java \"class A {}\"\nsettle\noutline A.java\n",
+        played: "create A.java \"class B extends A {}\"\nsettle\nclass B\n",
+        judged: "create A.java \"class B extends A {}\"\nsettle\noutline A.java\n",
     },
     // Another word, which stands elsewhere.
     Mistake {

@@ -1,9 +1,13 @@
 //! What a clause cannot say: that calls succeed, that threads run beside each other, and that their answers fit together.
+use crate::beside::JUDGED;
+use crate::changed::changed;
 use crate::crossing::{is_crossing_right, makes_entries, many_files, writes_and_questions};
-use crate::lanes::is_among;
+use crate::faults::{fault_of, fault_of_session};
+use crate::lanes::{SCRIPTS, is_among};
 use crate::parts::is_played_in_parts;
 use crate::running::{fits, is_drawn_right, transcript_of};
 use crate::scenes::{MISTAKES, SCENES};
+use crate::sessions::SESSIONS;
 use crate::sharing::{SHARINGS, are_hints_followed, share};
 use std::test::Fail;
 
@@ -57,11 +61,29 @@ fn workers_take_files_in(rt: HostRuntime) -> Result<(), Fail> {
     Ok(())
 }
 
-/// Sixteen lanes with forty commands of all kinds and eight workers, and fifty runs of four lanes with two hundred.
+/// Forty commands of all kinds in each lane, and eight workers.
+#[test]
+fn drawn_script_of_sixteen_lanes(rt: HostRuntime) -> Result<(), Fail> {
+    assert!(rt; is_drawn_right(&rt, rt.alloc(), 7, 16, 40, 8)?);
+    Ok(())
+}
+
+/// Four lanes with two hundred commands each, and none to four workers: half of fifty scripts.
 #[test]
 fn drawn_scripts(rt: HostRuntime) -> Result<(), Fail> {
-    assert!(rt; is_drawn_right(&rt, rt.alloc(), 7, 16, 40, 8)?);
-    for seed in 0..50u32 {
+    for seed in 0..25u32 {
+        assert!(rt;
+            is_drawn_right(&rt, rt.alloc(), seed, 4, 200, seed % 5)?,
+            "seed {seed}"
+        );
+    }
+    Ok(())
+}
+
+/// The other half.
+#[test]
+fn other_drawn_scripts(rt: HostRuntime) -> Result<(), Fail> {
+    for seed in 25..50u32 {
         assert!(rt;
             is_drawn_right(&rt, rt.alloc(), seed, 4, 200, seed % 5)?,
             "seed {seed}"
@@ -80,6 +102,44 @@ fn runs_of_other_scripts_are_wrong(rt: HostRuntime) -> Result<(), Fail> {
             "{}",
             mistake.played
         );
+    }
+    Ok(())
+}
+
+/// Of `history 0` one digit may be nine others, or stand behind a zero; its one line may be left out, stand twice or lose its
+/// end; and there may be nothing.
+#[test]
+fn one_line_has_fourteen_changes(rt: HostRuntime) -> Result<(), Fail> {
+    assert_eq!(rt; changed(rt.alloc(), "history 0\n")?.len(), 14);
+    Ok(())
+}
+
+/// Of scripts without lanes and workers.
+#[test]
+fn changed_transcripts_are_bad(rt: HostRuntime) -> Result<(), Fail> {
+    for session in &SESSIONS {
+        let fault = fault_of_session(&rt, rt.alloc(), session)?;
+        assert!(rt; fault.is_empty(), "{fault}");
+    }
+    Ok(())
+}
+
+/// Of scripts with lanes and workers, those apart that the rules allow.
+#[test]
+fn changed_transcripts_of_lanes_are_told(rt: HostRuntime) -> Result<(), Fail> {
+    for judged in &JUDGED {
+        let fault = fault_of(
+            rt.alloc(),
+            judged.script,
+            judged.workers,
+            judged.good,
+            judged.bad,
+        )?;
+        assert!(rt; fault.is_empty(), "{fault}");
+    }
+    for lawful in &SCRIPTS {
+        let fault = fault_of(rt.alloc(), lawful.script, 0, lawful.transcripts, &[])?;
+        assert!(rt; fault.is_empty(), "{fault}");
     }
     Ok(())
 }
