@@ -1,4 +1,4 @@
-//! Tests of the crates of indexes: rows under keys after changes, what names find in layers, the bytes of stubs, and
+//! Tests of the crates of indexes: rows under keys after changes, what names find in layers, the bytes of stubs and stores, and
 //! property keys.
 #![tactic(auto)]
 
@@ -16,3 +16,5 @@ mod places;
 mod property_texts;
 #[cfg(test)]
 mod rows;
+#[cfg(test)]
+mod stores;

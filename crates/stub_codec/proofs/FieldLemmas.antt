@@ -13,10 +13,10 @@ use Rattle.stub_codec.specs.Reading.{◌>>=◌, checked, byte_at, number_at, cha
 abbrev pub IsBytes : List ℕ → Type 0
 IsBytes bytes = (i : ℕ) → get_or bytes i 0 < 256
 
-IsBytes-drop : (n : ℕ) (bytes : List ℕ) → IsBytes bytes → IsBytes (drop n bytes)
+pub IsBytes-drop : (n : ℕ) (bytes : List ℕ) → IsBytes bytes → IsBytes (drop n bytes)
 IsBytes-drop n bytes h i = rw get_or-drop (h (n + i))
 
-IsBytes-take : (n : ℕ) (bytes : List ℕ) → IsBytes bytes → IsBytes (take n bytes)
+pub IsBytes-take : (n : ℕ) (bytes : List ℕ) → IsBytes bytes → IsBytes (take n bytes)
 IsBytes-take n bytes h i =
     elim (cases_lt i n) [
       | inl lt ↦ rw (get_or-take n bytes i 0 lt) (h i)
@@ -136,16 +136,22 @@ name_takes bytes x fits e =
     )
 
 -- a name that isn't empty has bytes
-some_bytes : (n : List ℕ) → n ≢ [] → 0 < length (encode_utf8_all n)
+pub some_bytes : (n : List ℕ) → n ≢ [] → 0 < length (encode_utf8_all n)
 some_bytes [] some = absurd (some refl)
 some_bytes (c ∷ cs) some = let l = length-le-encodes (c ∷ cs) in omega (arith, l)
 
-pub name_again : (n rest : List ℕ) → IsLawfulName n → all_scalars n ≡ true → name_at (name n ++ rest) ≡ Ok (n, rest)
-unfolding name_at characters_at
-name_again n rest lawful scalars =
+-- the characters that so many bytes spell are read again
+pub characters_again : (n rest : List ℕ) → all_scalars n ≡ true → characters_at (length (encode_utf8_all n)) (encode_utf8_all n ++ rest) ≡ Ok (n, rest)
+unfolding characters_at
+characters_again n rest scalars =
     let text = encode_utf8_all n in
-    let utf8 : is_utf8 (encode_utf8_all n) ≡ true = is_utf8-from_IsUtf8 (encode_utf8_all n) (n, (scalars, refl)) in
-    let long : leb (length (encode_utf8_all n)) (length (encode_utf8_all n ++ rest)) ≡ true = le-leb _ _ (omega (arith, length-append (encode_utf8_all n) rest)) in
+    let utf8 : is_utf8 text ≡ true = is_utf8-from_IsUtf8 text (n, (scalars, refl)) in
+    let long : leb (length text) (length (text ++ rest)) ≡ true = le-leb _ _ (omega (arith, length-append text rest)) in
+    rw (long, take_at text rest (length text) refl, drop_at text rest (length text) refl, utf8, chars-encodes n scalars) refl
+
+pub name_again : (n rest : List ℕ) → IsLawfulName n → all_scalars n ≡ true → name_at (name n ++ rest) ≡ Ok (n, rest)
+unfolding name_at
+name_again n rest lawful scalars =
     let some : ltb 0 (length (encode_utf8_all n)) ≡ true = lt-ltb 0 _ (some_bytes n lawful.some) in
     ap name_at (append_assoc (number (length (encode_utf8_all n))) (encode_utf8_all n) rest)
-    ∙ rw (number_again (length (encode_utf8_all n)) (encode_utf8_all n ++ rest) lawful.short, some, long, take_at (encode_utf8_all n) rest (length (encode_utf8_all n)) refl, drop_at (encode_utf8_all n) rest (length (encode_utf8_all n)) refl, utf8, chars-encodes n scalars) refl
+    ∙ rw (number_again (length (encode_utf8_all n)) (encode_utf8_all n ++ rest) lawful.short, some, characters_again n rest scalars) refl

@@ -19,9 +19,10 @@ pub enum StubRefusal {
 
 /// Why a field wasn't read.
 #[derive(Debug, Drop)]
-pub(crate) enum Fault {
+pub enum Fault {
     /// The field is cut by the end or unlawful: so many bytes stand from its first on.
     Unlawful(usize),
+    /// There was no memory.
     Memory,
 }
 

@@ -2,9 +2,10 @@
 #![tactic(auto)]
 
 mod fault;
+pub mod fields;
 mod reading;
 mod writing;
 
-pub use fault::StubRefusal;
+pub use fault::{Fault, StubRefusal};
 pub use reading::decode;
-pub use writing::encode;
+pub use writing::{encode, put_name, put_number};

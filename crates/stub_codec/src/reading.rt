@@ -4,12 +4,12 @@ ghost use Rattle.stub_tree.specs.declared.stub.Stub.{Stub as AStub};
 ghost use Rattle.stub_codec.specs.declared.fault.StubRefusal.TheVariants.{OutOfMemory};
 ghost use Rattle.stub_codec.specs.Answers.{Gives, IsRefusalOf};
 ghost use Rattle.stub_codec.specs.Spelling.{IsStubBytes};
-ghost use Rattle.stub_codec.specs.Reading.{checked, byte_at, number_at, characters_at, name_at, many_at, supers_at, stub_at, all_of, is_kind, is_type_kind, may_be_depth, may_be_offset};
+ghost use Rattle.stub_codec.specs.Reading.{name_at, many_at, supers_at, stub_at, all_of, is_kind, is_type_kind, may_be_depth, may_be_offset};
 
 use crate::fault::{Fault, StubRefusal};
-use ide_text::{MAX_CHARS, Name};
+use crate::fields::{byte_of, check, name_of, number_of};
+use ide_text::MAX_CHARS;
 use std::alloc::Global;
-use std::str;
 use stub_tree::{MAX_DEPTH, Names, Stub, StubList};
 
 /// The version that is read.
@@ -20,6 +20,7 @@ pub fn decode(alloc: Global, bytes: &[u8]) -> Result<StubList, StubRefusal>
     ensures found { IfOk result (λ stubs. IsStubBytes stubs bytes.now) }
     ensures only { (stubs : List AStub) → IsStubBytes stubs bytes.now → IfOk result (λ list. list ≡ stubs) × IfErr result (λ refusal. refusal ≡ OutOfMemory) }
     ensures refused { IfErr result (IsRefusalOf bytes.now) }
+    ensures read { IfOk result (λ stubs. all_of bytes.now ≡ Ok stubs) }
 {
     match all(alloc, bytes) {
         Ok(stubs) => Ok(stubs),
@@ -145,62 +146,4 @@ fn names_of(alloc: Global, count: u32, bytes: &[u8]) -> Result<(Names, &[u8]), F
         rest = after;
     }
     Ok((names, rest))
-}
-
-/// A name: the number of its bytes, at least one, and the bytes.
-#[tactic(auto, unfolding(crate::specs::Reading::name_at))]
-fn name_of(alloc: Global, bytes: &[u8]) -> Result<(Name, &[u8]), Fault>
-    ensures { Gives (λ x. (x.0, x.1.now)) result (name_at bytes.now) }
-{
-    let (len, rest) = number_of(bytes)?;
-    check(0 < len, bytes)?;
-    characters_of(alloc, len, rest)
-}
-
-/// The characters of so many bytes of UTF-8.
-#[tactic(auto, unfolding(crate::specs::Reading::characters_at))]
-fn characters_of(alloc: Global, len: u32, bytes: &[u8]) -> Result<(Name, &[u8]), Fault>
-    ensures { Gives (λ x. (x.0, x.1.now)) result (characters_at len bytes.now) }
-{
-    let len = len as usize;
-    check(len <= bytes.len(), bytes)?;
-    let (text, rest) = bytes.split_at(len);
-    let Ok(text) = str::from_utf8(text) else {
-        return Err(Fault::Unlawful(bytes.len()));
-    };
-    Ok((Name::of(alloc, text)?, rest))
-}
-
-/// A number of four bytes, the greatest first.
-#[tactic(auto, unfolding(crate::specs::Reading::number_at))]
-fn number_of(bytes: &[u8]) -> Result<(u32, &[u8]), Fault>
-    ensures { Gives (λ x. (x.0, x.1.now)) result (number_at bytes.now) }
-{
-    if bytes.len() < 4 {
-        return Err(Fault::Unlawful(bytes.len()));
-    }
-    let (front, rest) = bytes.split_at(4);
-    let number = u32::from_be_bytes([front[0], front[1], front[2], front[3]]);
-    Ok((number, rest))
-}
-
-/// A byte.
-fn byte_of(bytes: &[u8]) -> Result<(u8, &[u8]), Fault>
-    ensures { Gives (λ x. (x.0, x.1.now)) result (byte_at bytes.now) }
-{
-    match bytes {
-        [] => Err(Fault::Unlawful(0)),
-        [byte, rest @ ..] => Ok((*byte, rest)),
-    }
-}
-
-/// Tells that the field at the front of these bytes is unlawful, unless it is lawful.
-fn check(lawful: bool, bytes: &[u8]) -> Result<(), Fault>
-    ensures { Gives (λ x. x) result (checked lawful bytes.now) }
-{
-    if lawful {
-        Ok(())
-    } else {
-        Err(Fault::Unlawful(bytes.len()))
-    }
 }

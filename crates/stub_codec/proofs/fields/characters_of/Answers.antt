@@ -1,7 +1,7 @@
 use Rattle.std.proofs.Common.{length, leb, refl, sym, subst, ◌∙◌}
 use Rattle.std.specs.Str.{IsUtf8}
 use Rattle.stub_codec.proofs.FieldLemmas.{checked_ok, no_text, is_text}
-use Rattle.stub_codec.proofs.reading.characters_of.Goals as goal
+use Rattle.stub_codec.proofs.fields.characters_of.Goals as goal
 
 -- the bytes are no UTF-8
 pub returns-in_default : goal.returns-in_default

@@ -1,0 +1,8 @@
+use Rattle.std.proofs.Common.{◌≡◌, ◌-◌, None}
+use Rattle.stub_codec.specs.Reading.{many_at}
+use Rattle.index_store.specs.Reading.{behind, key_at}
+use Rattle.index_store.proofs.reading.past_so_many_keys.Given as goal
+
+-- what is left behind the rest is what is left behind all
+abbrev pub invariant-loop : goal.invariant-loop
+invariant-loop l = behind (many_at (key_at l.len) (l.count - l.counter) l.before l.rest) ≡ behind (many_at (key_at l.len) l.count None l.bytes)

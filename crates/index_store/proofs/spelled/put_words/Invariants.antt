@@ -1,0 +1,11 @@
+use Rattle.std.proofs.Common.{◌≡◌, true, ◌++◌, length, take}
+use Rattle.std.specs.List.{flat_map}
+use Rattle.stub_codec.specs.Spelling.{number}
+use Rattle.index_store.specs.Lawful.{are_spelled}
+use Rattle.index_store.specs.Spelling.{word}
+use Rattle.index_store.proofs.spelled.put_words.Given as goal
+
+-- the number and those so far stand at the end, and their names can be spelled
+abbrev pub invariant-loop-name : goal.invariant-loop-name
+invariant-loop-name l =
+    (l.out.items ≡ l.fn.out.items ++ (number (length l.fn.words) ++ flat_map word (take l.name-index l.fn.words))) × (are_spelled (take l.name-index l.fn.words) ≡ true)
