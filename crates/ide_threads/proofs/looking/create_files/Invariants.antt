@@ -1,6 +1,0 @@
-use Rattle.shared_ide.specs.Passes.{IsIdePassOf, ide_view}
-use Rattle.ide_threads.specs.Passes.{HasKept}
-use Rattle.ide_threads.proofs.looking.create_files.Given as goal
-
-abbrev pub invariant-loop-i : goal.invariant-loop-i
-invariant-loop-i g l = record { pass : IsIdePassOf l.ide l.pass; kept : HasKept (ide_view l.initial.pass) (ide_view l.pass) }
