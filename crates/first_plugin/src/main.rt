@@ -5,6 +5,7 @@
 mod threads;
 
 use ide_calls::Reply;
+use index_store::Store;
 use query_engine::Answer;
 use shared_ide::SharedIde;
 use std::io;
@@ -14,7 +15,7 @@ use threads::{ask, edit, inspect};
 fn main(rt: HostRuntime) -> io::Result<()> {
     let alloc = rt.alloc();
     // The workspace, and the first pass. By a pass one thread calls the workspace.
-    let (ide, mut first) = SharedIde::new(alloc)?;
+    let (ide, mut first) = SharedIde::new(alloc, Store::empty(alloc))?;
     // A pass for the other thread.
     let Ok(mut second) = ide.split(&mut first) else {
         unreachable!()

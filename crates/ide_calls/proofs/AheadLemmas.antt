@@ -15,6 +15,10 @@ use Rattle.write_history.specs.World.{World, File, file_of, is_unready}
 use Rattle.write_history.specs.Effect.{stamp_of}
 use Rattle.write_history.specs.Fold.{fold, IsLegal}
 use Rattle.ide_world.specs.Task.{Task, task_of, work_of, task_with_id, IsOfWorld}
+use Rattle.ide_world.specs.declared.data.Job.{Job}
+use Rattle.ide_world.specs.declared.data.Made.{Made}
+use Rattle.ide_calls.specs.Choice.{task_of_job}
+use Rattle.ide_calls.specs.Intake.{task_of_made}
 use Rattle.ide_calls.specs.declared.making.Making.{Making}
 use Rattle.ide_calls.specs.Ahead.{tasks_of, IsTask, HasBegun, HasJoined, GoesOnAhead, StaysOfWorld}
 use Rattle.ide_calls.proofs.ReadLemmas.{WorkStays}
@@ -114,3 +118,10 @@ still_ahead law seen read now old new world (Err refused) front same is all goes
 still_ahead law seen read now old new world (Ok value) front same is all goes =
     subst (λ (l : List Entry). All (StaysOfWorld l) new) (sym same)
     (ahead_stays law read world old new is (stays_later seen read old front all) goes)
+
+-- data with all that their job has are of the world where the job is
+pub made_of_job : (world : World) (job : Job) (made : Made) → made.file ≡ job.file → made.kind ≡ job.kind → made.stamp ≡ job.stamp → made.text ≡ job.text
+    → IsOfWorld world (task_of_job job) → IsOfWorld world (task_of_made made)
+made_of_job world job made file kind stamp text is =
+    let same : task_of_made made ≡ task_of_job job = cc in
+    subst (IsOfWorld world) (sym same) is

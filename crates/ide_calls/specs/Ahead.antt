@@ -1,5 +1,5 @@
 -- Index data that a settle has made ahead of their turn.
-use Rattle.std.specs.Prelude.{option_map, option_to_list, ℕ, ◌≡◌, List, [], ◌++◌, Option, Some, map}
+use Rattle.std.specs.Prelude.{option_map, option_to_list, ℕ, ◌≡◌, List, ◌++◌, Option, Some, map}
 use Rattle.std.specs.List.{All, flat_map}
 use Rattle.write_history.specs.declared.entry.Entry.{Entry}
 use Rattle.write_history.specs.World.{World}

@@ -6,6 +6,7 @@ ghost use Rattle.ide_calls.specs.Ahead.{HasBegun, HasTakenFirst, HasJoined};
 
 use crate::making::{Making, batch_from};
 use ide_world::{Made, State};
+use index_store::Store;
 use std::alloc::{AllocError, Global};
 use std::collections::VecDeque;
 use std::marker::Model;
@@ -52,12 +53,13 @@ impl Ahead {
         }
     }
 
-    /// Starts one thread more, for a batch of unready files behind this one and behind those of other threads, where that
-    /// is worth a thread and there is a processor for it.
+    /// Starts one thread more, for a batch of unready files behind this one and behind those of other threads that the store hasn't,
+    /// where that is worth a thread and there is a processor for it.
     pub(crate) fn begin<R: Threads>(
         &mut self,
         rt: &R,
         alloc: Global,
+        store: &Store,
         state: &State,
         file: u32,
     ) -> Result<(), AllocError>
@@ -66,7 +68,7 @@ impl Ahead {
         if self.is_full() {
             return Ok(());
         }
-        let batch = batch_from(alloc, state, self.end.max(file.saturating_add(1)))?;
+        let batch = batch_from(alloc, store, state, self.end.max(file.saturating_add(1)))?;
         if batch.cost < LEAST_COST || !self.may_start(rt) {
             self.threads = Some(0);
             return Ok(());

@@ -4,11 +4,14 @@ ghost use Rattle.std.specs.List.{All};
 ghost use Rattle.write_history.specs.World.{lowest_unready};
 ghost use Rattle.ide_world.specs.Task.{IsOfWorld};
 ghost use Rattle.ide_calls.specs.Ahead.{GoesOnAhead};
+ghost use Rattle.ide_calls.specs.Choice.{task_of_job};
+ghost use Rattle.ide_calls.specs.Intake.{task_of_made};
 ghost use Rattle.ide_calls.specs.Turn.{IsLowest, IsMadeOf};
 
 use crate::ahead::Ahead;
 use crate::entries::entries;
-use ide_world::{Job, Made, Ready, State, job, make, prepare_intake};
+use ide_world::{Job, Made, Ready, State, job, make, make_from, prepare_intake};
+use index_store::Store;
 use std::alloc::{AllocError, Global};
 use std::thread::Threads;
 use write_history::MAX_ENTRIES;
@@ -29,6 +32,7 @@ pub(crate) enum Lowest {
 pub(crate) fn prepare_lowest<R: Threads>(
     rt: &R,
     alloc: Global,
+    store: &Store,
     state: &State,
     ahead: &mut Ahead,
 ) -> Result<Lowest, AllocError>
@@ -43,7 +47,7 @@ pub(crate) fn prepare_lowest<R: Threads>(
     if at == MAX_ENTRIES {
         return Ok(Lowest::Full { at });
     }
-    let made = make_lowest(rt, alloc, state, id, ahead)?;
+    let made = make_lowest(rt, alloc, store, state, id, ahead)?;
     let file = made.file;
     let stamp = made.stamp;
     match prepare_intake(alloc, state, made) {
@@ -52,11 +56,11 @@ pub(crate) fn prepare_lowest<R: Threads>(
     }
 }
 
-/// The index data of the unready file with the lowest id: those that were made ahead, where they are of this file at its
-/// stamp, else made now. Meanwhile a thread more may begin with files behind it.
+/// The index data of the unready file with the lowest id: the store's, where it has them.
 fn make_lowest<R: Threads>(
     rt: &R,
     alloc: Global,
+    store: &Store,
     state: &State,
     id: u32,
     ahead: &mut Ahead,
@@ -70,8 +74,31 @@ fn make_lowest<R: Threads>(
     let Some(job) = job(state, id)? else {
         unreachable!()
     };
+    match store.data_for(job.kind, job.text.as_text())? {
+        Some(parts) => Ok(make_from(job, parts)),
+        None => make_missing(rt, alloc, store, state, job, ahead),
+    }
+}
+
+/// The index data of the unready file with the lowest id, which the store hasn't: those that were made ahead, where they are of
+/// this file at its stamp, else made now. Meanwhile a thread more may begin with files behind it.
+fn make_missing<R: Threads>(
+    rt: &R,
+    alloc: Global,
+    store: &Store,
+    state: &State,
+    job: Job,
+    ahead: &mut Ahead,
+) -> Result<Made, AllocError>
+    requires of_world { IsOfWorld state.now.world (task_of_job job) }
+    requires ahead { All (IsOfWorld state.now.world) ahead.old }
+    ensures file { IfOk result (λ made. made.file ≡ job.file) }
+    ensures stamp { IfOk result (λ made. made.stamp ≡ job.stamp) }
+    ensures of_world { IfOk result (λ made. IsOfWorld state.now.world (task_of_made made)) }
+    ensures ahead { OnOk result (GoesOnAhead state.now.world ahead.old ahead.new) }
+{
     let first = ahead.take(rt);
-    ahead.begin(rt, alloc, state, id)?;
+    ahead.begin(rt, alloc, store, state, job.file)?;
     match first {
         Some(made) if is_of(&made, &job) => Ok(made),
         _ => make(alloc, job),

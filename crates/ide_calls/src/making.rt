@@ -6,6 +6,7 @@ ghost use Rattle.ide_calls.specs.Choice.{task_of_job};
 ghost use Rattle.ide_calls.specs.Intake.{task_of_made};
 
 use ide_world::{Job, Made, State, job, make};
+use index_store::Store;
 use std::alloc::{AllocError, Global};
 use std::collections::VecDeque;
 use std::snapshot::Snapshot;
@@ -71,8 +72,13 @@ pub(crate) struct Batch {
     pub(crate) end: u32,
 }
 
-/// The jobs of the unready files from an id on, until they are enough for a batch. Logarithmic for each.
-pub(crate) fn batch_from(alloc: Global, state: &State, from: u32) -> Result<Batch, AllocError>
+/// The jobs of the unready files from an id on that the store hasn't, until they are enough for a batch. Logarithmic for each.
+pub(crate) fn batch_from(
+    alloc: Global,
+    store: &Store,
+    state: &State,
+    from: u32,
+) -> Result<Batch, AllocError>
     ensures { IfOk result (λ batch. All (IsTask state.now.world) (map task_of_job batch.jobs.items)) }
 {
     let mut jobs = Vec::new(alloc);
@@ -85,10 +91,13 @@ pub(crate) fn batch_from(alloc: Global, state: &State, from: u32) -> Result<Batc
         let Some(job) = job_from(state, end)? else {
             break;
         };
+        end = job.file.saturating_add(1);
+        if store.has(job.kind, job.text.as_text())? {
+            continue;
+        }
         cost = cost
             .saturating_add(FILE_COST)
             .saturating_add(job.text.len());
-        end = job.file.saturating_add(1);
         jobs.push(job)?;
     }
     Ok(Batch { jobs, cost, end })

@@ -15,6 +15,7 @@ use crate::settle_refusal::SettleRefusal;
 use crate::{IdeHome, write_entry};
 use action_lock::{ActionLock, Pass};
 use ide_world::laws::a_task_stays_of_the_world;
+use index_store::Store;
 use std::alloc::{AllocError, Global};
 use std::sync::Wait;
 use std::thread::Threads;
@@ -22,12 +23,13 @@ use write_history::laws::{histories_go_on, unready_files_have_an_order};
 use write_history::{Change, Changes, Entry};
 
 /// Takes every unready file in, in order of ids, one entry each, for a line of a script. It answers with the number of
-/// entries after which no file is unready. On more than one processor, index data of the files to come are made on
-/// threads of their own meanwhile. May block.
+/// entries after which no file is unready. Index data are the store's, where it has them; on more than one processor, those of
+/// other files to come are made on threads of their own meanwhile. May block.
 pub fn settle<R: Threads + Wait>(
     rt: &R,
     alloc: Global,
     lock: &ActionLock<IdeHome>,
+    store: &Store,
     pass: &mut Pass<IdeHome>,
     line: u32,
 ) -> Result<u64, SettleRefusal>
@@ -40,7 +42,7 @@ pub fn settle<R: Threads + Wait>(
     let seat = pass.number();
     let mut ahead = Ahead::new(alloc);
     pass.intent(rt, lock);
-    let answer = settle_now(rt, alloc, lock, pass, seat, line, &mut ahead);
+    let answer = settle_now(rt, alloc, lock, store, pass, seat, line, &mut ahead);
     pass.release(lock);
     ahead.join_all(rt);
     answer
@@ -61,6 +63,7 @@ fn settle_now<R: Threads + Wait>(
     rt: &R,
     alloc: Global,
     lock: &ActionLock<IdeHome>,
+    store: &Store,
     pass: &mut Pass<IdeHome>,
     seat: u32,
     line: u32,
@@ -77,7 +80,7 @@ fn settle_now<R: Threads + Wait>(
     a_settle_goes_by_the_lowest();
     unready_files_have_an_order();
     for _ in rt.forever() {
-        match take_lowest_in(rt, alloc, lock, pass, seat, line, ahead) {
+        match take_lowest_in(rt, alloc, lock, store, pass, seat, line, ahead) {
             Ok(Turn::Taken) => (),
             Ok(Turn::Smart { at }) => return Ok(at),
             Ok(Turn::Full { at }) => return Err(SettleRefusal::HistoryFull { at }),
@@ -92,6 +95,7 @@ fn take_lowest_in<R: Threads + Wait>(
     rt: &R,
     alloc: Global,
     lock: &ActionLock<IdeHome>,
+    store: &Store,
     pass: &mut Pass<IdeHome>,
     seat: u32,
     line: u32,
@@ -106,7 +110,7 @@ fn take_lowest_in<R: Threads + Wait>(
     ensures ahead { OnOk result (All (StaysOfWorld (view_of pass.new).seen) ahead.new) }
     ensures err { OnErr result (HasOnlyLearned (view_of pass.old) (view_of pass.new)) }
 {
-    match find_lowest(rt, alloc, lock, pass, ahead)? {
+    match find_lowest(rt, alloc, lock, store, pass, ahead)? {
         Lowest::Nothing { at } => Ok(Turn::Smart { at }),
         Lowest::Full { at } => Ok(Turn::Full { at }),
         Lowest::Prepared { file, stamp, ready } => {
@@ -127,6 +131,7 @@ fn find_lowest<R: Threads + Wait>(
     rt: &R,
     alloc: Global,
     lock: &ActionLock<IdeHome>,
+    store: &Store,
     pass: &mut Pass<IdeHome>,
     ahead: &mut Ahead,
 ) -> Result<Lowest, AllocError>
@@ -140,7 +145,7 @@ fn find_lowest<R: Threads + Wait>(
     a_task_stays_of_the_world();
     histories_go_on();
     let reading = pass.read(rt, alloc, lock)?;
-    let lowest = prepare_lowest(rt, alloc, reading.share().state(), ahead);
+    let lowest = prepare_lowest(rt, alloc, store, reading.share().state(), ahead);
     reading.leave();
     lowest
 }

@@ -8,18 +8,21 @@ use crate::IdeHome;
 use crate::first_look::{Look, first_look};
 use crate::intake::take_in;
 use crate::step::Step;
+use crate::stored::make_stored;
 use action_lock::{ActionLock, Gate, Pass, Point};
-use ide_world::make;
+use index_store::Store;
 use std::alloc::{AllocError, Global};
 use std::sync::Wait;
 
 /// Takes up the hinted file where it is unready, else the first unready one from a place that goes by the pass's number and the
-/// length of the history, so that passes seldom take up the same one: makes its index data outside the lock, and takes them in where the file is still at the same stamp. The gate is told `Reading` while the first read
-/// is still held, and `Made` before the intent is asked for. May block.
+/// length of the history, so that passes seldom take up the same one. Its index data are the store's, or are made, outside the lock,
+/// and go in where the file is still at the same stamp. The gate is told `Reading` while the first read is still held, and `Made`
+/// before the intent is asked for. May block.
 pub fn index_step<R: Wait, G: Gate>(
     rt: &R,
     alloc: Global,
     lock: &ActionLock<IdeHome>,
+    store: &Store,
     pass: &mut Pass<IdeHome>,
     hint: Option<u32>,
     gate: &G,
@@ -35,7 +38,7 @@ pub fn index_step<R: Wait, G: Gate>(
     let Some(job) = job else {
         return Ok(Step::Idle { at });
     };
-    let made = make(alloc, job)?;
+    let made = make_stored(alloc, store, job)?;
     gate.at(Point::Made {
         seat,
         file: made.file,

@@ -1,12 +1,13 @@
 //! Indexing: the work of an unready file, and the data made from its text.
 ghost use Rattle.std.specs.Prelude.{◌≡◌, IfOk, IfSome, option_map};
+ghost use Rattle.overlay_index.specs.Parts.{parts_of};
 ghost use Rattle.ide_world.specs.Task.{task_with_id, IsOfWorld};
 
 use crate::State;
 use crate::data::{Job, Made};
 use crate::readers::mark;
 use dumb_mode::kind_of;
-use overlay_index::data_of;
+use overlay_index::{FileData, data_of};
 use std::alloc::{AllocError, Global};
 
 /// The work of indexing a file, where it is unready.
@@ -42,11 +43,23 @@ pub fn make(alloc: Global, job: Job) -> Result<Made, AllocError>
     ensures text { IfOk result (λ made. made.text ≡ job.text) }
 {
     let parts = data_of(alloc, job.kind, job.text.as_text())?;
-    Ok(Made {
+    Ok(make_from(job, parts))
+}
+
+/// The index data of a job, where they are there already: those of the job's text, by its kind. It takes no memory, and no time
+/// that grows with the text.
+pub fn make_from(job: Job, parts: FileData) -> Made
+    requires { parts ≡ parts_of job.kind job.text }
+    ensures file { result.file ≡ job.file }
+    ensures kind { result.kind ≡ job.kind }
+    ensures stamp { result.stamp ≡ job.stamp }
+    ensures text { result.text ≡ job.text }
+{
+    Made {
         file: job.file,
         kind: job.kind,
         stamp: job.stamp,
         text: job.text,
         parts,
-    })
+    }
 }

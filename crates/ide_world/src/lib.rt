@@ -26,7 +26,7 @@ pub use data::{Job, Made};
 pub use group::{
     GroupRefusal, Ready, empty, install, prepare, prepare_group, prepare_intake, reserve,
 };
-pub use index::{job, make};
+pub use index::{job, make, make_from};
 pub use overlay_index::{KeyWalk, StubWalk, WordWalk};
 pub use readers::{content, counts, mark, next_id, path, shown};
 pub use state::State;

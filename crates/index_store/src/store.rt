@@ -6,7 +6,7 @@ ghost use Rattle.ide_text.specs.Text.{IsText};
 ghost use Rattle.index_store.specs.declared.refusal.StoreRefusal.TheVariants.{OutOfMemory};
 ghost use Rattle.index_store.specs.Answers.{IsRefusalOf};
 ghost use Rattle.index_store.specs.Data.{Entry as AnEntry};
-ghost use Rattle.index_store.specs.Entries.{rows_for, with_entry};
+ghost use Rattle.index_store.specs.Entries.{has_entry, rows_for, with_entry};
 ghost use Rattle.index_store.specs.Held.{AreDataOf, IsTakenIn, Stored as Seen, held_bytes};
 ghost use Rattle.index_store.specs.Lawful.{IsStoreBytes};
 ghost use Rattle.index_store.specs.Spelling.{rows_of};
@@ -112,11 +112,26 @@ impl Store {
         self.put(name, kind, stored)
     }
 
+    /// Whether a text with this kind is among the entries. The time is that of copying the text where there is an entry, and
+    /// the logarithm of the number of entries.
+    pub fn has(&self, kind: FileKind, text: &Text) -> Result<bool, AllocError>
+        ensures { IfOk result (λ has. has ≡ has_entry (record { text = text.now; kind = kind }) self.now) }
+    {
+        if self.held.is_empty() {
+            return Ok(false);
+        }
+        let name = Name::of_text(self.alloc, text, 0, text.len())?;
+        Ok(self.find(name, kind).is_some())
+    }
+
     /// The rows that a text with this kind has in the indexes, if it is among the entries. The time is that of copying
-    /// them, and the logarithm of the number of entries.
+    /// text and rows where there is an entry, and the logarithm of the number of entries.
     pub fn data_for(&self, kind: FileKind, text: &Text) -> Result<Option<FileData>, AllocError>
         ensures { IfOk result (λ found. found ≡ rows_for (record { text = text.now; kind = kind }) self.now) }
     {
+        if self.held.is_empty() {
+            return Ok(None);
+        }
         let name = Name::of_text(self.alloc, text, 0, text.len())?;
         match self.find(name, kind) {
             Some(stored) => Ok(Some(stored.copy_rows(self.alloc)?)),

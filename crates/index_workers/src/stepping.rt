@@ -10,17 +10,19 @@ ghost use Rattle.index_workers.specs.Passes.{ide_view, IsIdePassOf, IsSameIdePas
 use crate::pass::IdePass;
 use action_lock::{ActionLock, Gate};
 use ide_calls::{IdeHome, Step};
+use index_store::Store;
 use job_queue::JobQueue;
 use std::alloc::{AllocError, Global};
 use std::sync::Wait;
 
 /// Takes a hint, if there is one, and does a step of indexing: of the hinted file if it is unready, else of the first unready one
-/// from a place of its own on.
+/// from a place of its own on. Its index data are the store's, where it has them.
 pub fn index_step<R: Wait, G: Gate>(
     rt: &R,
     alloc: Global,
     lock: &ActionLock<IdeHome>,
     queue: &JobQueue,
+    store: &Store,
     pass: &mut IdePass,
     gate: &G,
 ) -> Result<Step, AllocError>
@@ -34,5 +36,5 @@ pub fn index_step<R: Wait, G: Gate>(
 {
     let hint = queue.take(rt, &mut pass.queue);
     let file = hint.map(|hint| hint.file);
-    ide_calls::index_step(rt, alloc, lock, &mut pass.lock, file, gate)
+    ide_calls::index_step(rt, alloc, lock, store, &mut pass.lock, file, gate)
 }

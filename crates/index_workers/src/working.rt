@@ -12,6 +12,7 @@ use crate::stepping::index_step;
 use crate::worked::{End, Worked};
 use action_lock::{ActionLock, Gate};
 use ide_calls::IdeHome;
+use index_store::Store;
 use job_queue::JobQueue;
 use std::alloc::{AllocError, Global};
 use std::sync::Wait;
@@ -26,6 +27,7 @@ pub fn worker<R: Wait, G: Gate>(
     alloc: Global,
     lock: &ActionLock<IdeHome>,
     queue: &JobQueue,
+    store: &Store,
     pass: &mut IdePass,
     gate: &G,
 ) -> Result<Worked, AllocError>
@@ -41,7 +43,7 @@ pub fn worker<R: Wait, G: Gate>(
     let seat = pass.number();
     let mut entries = 0;
     for turn in 0..TURNS {
-        let step = index_step(rt, alloc, lock, queue, pass, gate)?;
+        let step = index_step(rt, alloc, lock, queue, store, pass, gate)?;
         entries += taken(&step);
         if let Some(end) = end_of(gate, seat, &step) {
             return Ok(Worked {

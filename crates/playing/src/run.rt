@@ -12,6 +12,7 @@ use crate::answers::Answers;
 use crate::do_section;
 use crate::round::play_round;
 use action_lock::Gate;
+use index_store::Store;
 use index_workers::IdePass;
 use script_lang::{Line, Script};
 use shared_ide::SharedIde;
@@ -24,13 +25,14 @@ use transcripts::{Loaded, Played, Records};
 const LEADER: u32 = 0;
 
 /// Plays a script: the prelude, then its lanes and so many workers, each on a thread of its own beside the others, then
-/// the last section. `loads` is what was read for the prelude. May block.
+/// the last section. `loads` is what was read for the prelude. Index data that the store has aren't made anew. May block.
 pub fn play<R: Threads + Wait + Sync, G: Gate + Sync>(
     rt: &R,
     alloc: Global,
     script: &Script,
     loads: &[Loaded],
     workers: u32,
+    store: Store,
     gate: &G,
 ) -> Result<Played, AllocError>
     requires few { workers ≤ 8 }
@@ -38,7 +40,7 @@ pub fn play<R: Threads + Wait + Sync, G: Gate + Sync>(
         (record { history = played.history.entries; records = played.records; last = played.last })) }
     ensures workers { IfOk result (λ played. length played.workers.items ≡ workers) }
 {
-    let (ide, mut pass) = SharedIde::new(alloc)?;
+    let (ide, mut pass) = SharedIde::new(alloc, store)?;
     let mut answers = Answers::new(alloc);
     let mut last = Records::new(alloc);
     let done = play_all(

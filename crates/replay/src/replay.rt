@@ -125,6 +125,13 @@ impl Replay {
         ask_unwatched(alloc, &self.state, query)
     }
 
+    /// The state in which the world is kept, to be read.
+    pub fn state(&self) -> &State
+        ensures { result.now.world ≡ self.now }
+    {
+        &self.state
+    }
+
     /// How many entries were accepted, 1,048,576 at most. Constant time.
     pub fn entries(&self) -> u64
         ensures value { result ≡ self.now.entries }

@@ -36,7 +36,7 @@ impl SharedIde {
         ensures err { IfErr result (HasStopped line (ide_view pass.old) (ide_view pass.new)) }
         ensures hints { pass.new.queue ≡ pass.old.queue }
     {
-        ide_calls::settle(rt, alloc, &self.lock, &mut pass.lock, line)
+        ide_calls::settle(rt, alloc, &self.lock, &self.store, &mut pass.lock, line)
     }
 
     /// Takes a hint, if there is one, and does a step of indexing: of the hinted file if it is unready, else of the first
@@ -56,7 +56,7 @@ impl SharedIde {
             × IfOk result (HasStepped (file_of_hint hint) (ide_view pass.old) (ide_view pass.new)) }
         ensures err { OnErr result ((ide_view pass.new).mine ≡ (ide_view pass.old).mine) }
     {
-        index_workers::index_step(rt, alloc, &self.lock, &self.queue, pass, gate)
+        index_workers::index_step(rt, alloc, &self.lock, &self.queue, &self.store, pass, gate)
     }
 
     /// Makes steps until nothing is to be done and the gate tells it to end, or the history is full, or it has made
@@ -77,6 +77,6 @@ impl SharedIde {
         ensures err { OnErr result (HasWorkedInPart (G.may_say gate.now)
             (ide_view pass.old) (ide_view pass.new) (queue_view pass.old.queue) (queue_view pass.new.queue)) }
     {
-        index_workers::worker(rt, alloc, &self.lock, &self.queue, pass, gate)
+        index_workers::worker(rt, alloc, &self.lock, &self.queue, &self.store, pass, gate)
     }
 }

@@ -4,6 +4,7 @@
 mod changes;
 mod indexing;
 mod questions;
+mod renewing;
 mod shared;
 mod threads;
 

@@ -16,19 +16,22 @@ ghost use Rattle.shared_ide.specs.Passes.{IsIdePassOf};
 
 use action_lock::{ActionLock, SplitRefusal};
 use ide_calls::IdeHome;
+use index_store::Store;
 use index_workers::{IdePass, close, first, is_last, meet, split};
 use job_queue::JobQueue;
 use std::alloc::{AllocError, Global};
 
-/// A workspace that threads share: under a lock, with a queue of hints for workers. It is ended by `close` alone.
+/// A workspace that threads share: under a lock, with a queue of hints for workers, and a store of index data that were made
+/// before. It is ended by `close` alone.
 pub struct SharedIde {
     pub(crate) lock: ActionLock<IdeHome>,
     pub(crate) queue: JobQueue,
+    pub(crate) store: Store,
 }
 
 impl SharedIde {
-    /// The workspace without a file, and its first pass.
-    pub fn new(alloc: Global) -> Result<(SharedIde, IdePass), AllocError>
+    /// The workspace without a file, and its first pass. Index data that the store has aren't made anew; `Store::empty` has none.
+    pub fn new(alloc: Global, store: Store) -> Result<(SharedIde, IdePass), AllocError>
         ensures pass { IfOk result (λ made. IsIdePassOf made.0 made.1) }
         ensures view { IfOk result (λ made. ide_view made.1 ≡ first_view) }
         ensures hints { IfOk result (λ made. queue_view made.1.queue ≡ first_queue_view) }
@@ -36,7 +39,10 @@ impl SharedIde {
         let home = IdeHome::new(alloc)?;
         let (queue, of_queue) = JobQueue::new(alloc)?;
         match ActionLock::new(alloc, home) {
-            Ok((lock, of_lock)) => Ok((SharedIde { lock, queue }, first(of_lock, of_queue))),
+            Ok((lock, of_lock)) => {
+                let ide = SharedIde { lock, queue, store };
+                Ok((ide, first(of_lock, of_queue)))
+            }
             Err(_) => {
                 queue.close(of_queue);
                 Err(AllocError)
@@ -92,7 +98,11 @@ impl SharedIde {
         ensures knows { KnowsItsLists (λ (e : Entry). e.seat) (ide_view pass) }
         ensures hints { (left : List Hint) × IsAccounted (queue_view pass.queue) left }
     {
-        let SharedIde { lock, queue } = self;
+        let SharedIde {
+            lock,
+            queue,
+            store: _,
+        } = self;
         close(lock, queue, pass)
     }
 }

@@ -1,10 +1,6 @@
-use Rattle.std.proofs.Common.{rules, ◌≡◌, ◌∙◌, ap, sym, subst, Result}
-use Rattle.std.specs.Prelude.{OnOk}
-use Rattle.std.specs.List.{All}
+use Rattle.std.proofs.Common.{rules, ◌∙◌, ap}
 use Rattle.action_lock.specs.declared.view.View.{View}
-use Rattle.action_lock.specs.Passes.{view_of}
 use Rattle.write_history.specs.declared.entry.Entry.{Entry}
-use Rattle.ide_calls.specs.Ahead.{StaysOfWorld}
 use Rattle.ide_calls.proofs.AheadLemmas.{still_ahead}
 use Rattle.ide_calls.proofs.settling.find_lowest.Goals as goal
 

@@ -1,4 +1,4 @@
-use Rattle.std.proofs.Common.{rules, map, ◌≡◌, ◌++◌, ◌∷◌, [], subst, ◌∙◌, sym}
+use Rattle.std.proofs.Common.{rules, map, ◌≡◌, ◌++◌, ◌∷◌, [], subst, sym}
 use Rattle.std.specs.List.{All}
 use Rattle.ide_calls.specs.Ahead.{IsTask, tasks_of}
 use Rattle.ide_calls.specs.Intake.{task_of_made}

@@ -1,0 +1,22 @@
+//! New shares for readers.
+ghost use Rattle.std.specs.Prelude.{◌≡◌};
+ghost use Rattle.action_lock.specs.Advances.{Advances};
+ghost use Rattle.action_lock.specs.Passes.{view_of, IsSamePass, IsPassOf};
+
+use crate::IdeHome;
+use action_lock::{ActionLock, Pass};
+use std::sync::Wait;
+
+/// Has the lock make the share of each place of readers anew, by a write that changes nothing. Where an earlier write found no
+/// memory for the share of a place, every read there runs out of memory until another write finds it. May block.
+pub fn renew<R: Wait>(rt: &R, lock: &ActionLock<IdeHome>, pass: &mut Pass<IdeHome>)
+    requires { IsPassOf lock.now pass.old }
+    ensures pass { IsPassOf lock.now pass.new × IsSamePass pass.old pass.new }
+    ensures advances { Advances (view_of pass.old) (view_of pass.new) }
+    ensures mine { (view_of pass.new).mine ≡ (view_of pass.old).mine }
+{
+    pass.intent(rt, lock);
+    pass.write(rt, lock);
+    pass.abandon(lock);
+    pass.release(lock);
+}
