@@ -1,0 +1,5 @@
+mod ChangeLemmas
+mod SettleLemmas
+mod AlongLemmas
+mod KeptLemmas
+mod HadLemmas

@@ -1,0 +1,25 @@
+//! A settle: every unready file is taken in, by the lowest id.
+ghost use Rattle.std.specs.Prelude.{OnOk};
+ghost use Rattle.script_store.specs.Along.{HasSettled};
+
+use ide_calls::laws::a_settle_goes_by_the_lowest;
+use replay::{Replay, Settling};
+use std::alloc::{AllocError, Global};
+use write_history::laws::{histories_go_on, intake_readies_one, unready_files_have_an_order};
+
+/// Takes unready files in, until none is left or the history is full.
+pub(crate) fn settle(alloc: Global, replay: &mut Replay) -> Result<(), AllocError>
+    ensures { OnOk result (HasSettled replay.old replay.new) }
+{
+    histories_go_on();
+    intake_readies_one();
+    unready_files_have_an_order();
+    a_settle_goes_by_the_lowest();
+    loop {
+        match replay.settle_next(alloc)? {
+            Settling::Taken { file: _ } => {}
+            Settling::Full { file: _ } => return Ok(()),
+            Settling::Over => return Ok(()),
+        }
+    }
+}
