@@ -12,12 +12,12 @@ use Rattle.clap.specs.declared.error.kind.ErrorKind.{ErrorKind}
 use Rattle.clap.specs.declared.error.kind.ErrorKind.TheVariants as kind
 use Rattle.clap.proofs.OnLiterals.{clap_on_literals}
 use Rattle.command_line.specs.declared.request.Request.{Request}
-use Rattle.command_line.specs.declared.request.Request.TheVariants.{Play, Demo, Check}
+use Rattle.command_line.specs.declared.request.Request.TheVariants.{Play, Demo, Check, Index}
 use Rattle.command_line.specs.declared.request.WordsRefusal.{WordsRefusal}
 use Rattle.command_line.specs.declared.request.WordsRefusal.TheVariants.{Usage, OutOfMemory}
 use Rattle.command_line.specs.Grammar.{command}
 use Rattle.command_line.specs.Number.{if_between, number_between, number_of}
-use Rattle.command_line.specs.Request.{IsInRange, ReadsAs, check_by, demo_by, named_by, number_in, play_by, request_by, request_of, text_in, max_seed, max_files, max_edits, max_workers}
+use Rattle.command_line.specs.Request.{IsInRange, ReadsAs, check_by, demo_by, named_by, number_in, path_in, play_by, request_by, request_of, text_in, max_seed, max_files, max_edits, max_workers}
 
 -- ---- what is read lies within its bounds
 
@@ -48,7 +48,7 @@ number_in-bounds options name least most n e =
 
 play_by-in_range : (options : List Row) (r : Request) → play_by options ≡ Some r → IsInRange r
 play_by-in_range options r e =
-    let workers = mapped (λ (n : ℕ). Play n) (number_in options (codes "workers") 0 max_workers) r e in
+    let workers = mapped (λ (n : ℕ). Play n (path_in options (codes "store"))) (number_in options (codes "workers") 0 max_workers) r e in
     subst IsInRange workers.2 (number_in-bounds options (codes "workers") 0 max_workers workers.0 workers.1).1
 
 demo_by-in_range : (options : List Row) (r : Request) → demo_by options ≡ Some r → IsInRange r
@@ -70,15 +70,16 @@ check_by-in_range options r e =
     subst IsInRange path.2 (number_in-bounds options (codes "workers") 0 max_workers workers.0 workers.1).1
 
 named_by-in_range : (name : Text) (options : List Row) (r : Request) → named_by name options ≡ Some r → IsInRange r
-named_by-in_range name options r e = by_name (bytes_eq name (codes "play")) (bytes_eq name (codes "demo")) e
+named_by-in_range name options r e = by_name (bytes_eq name (codes "play")) (bytes_eq name (codes "demo")) (bytes_eq name (codes "index")) e
   where
-    by_name : (play demo : Bool) → cond play (play_by options) (cond demo (demo_by options) (check_by options)) ≡ Some r → IsInRange r
-    by_name true demo e = play_by-in_range options r e
-    by_name false true e = demo_by-in_range options r e
-    by_name false false e = check_by-in_range options r e
+    by_name : (play demo index : Bool) → cond play (play_by options) (cond demo (demo_by options) (cond index (Some Index) (check_by options))) ≡ Some r → IsInRange r
+    by_name true demo index e = play_by-in_range options r e
+    by_name false true index e = demo_by-in_range options r e
+    by_name false false true e = subst IsInRange (same_Some Index r e) tt
+    by_name false false false e = check_by-in_range options r e
 
 request_by-in_range : (o : Option (Text × List Row)) (r : Request) → request_by o ≡ Some r → IsInRange r
-request_by-in_range None r e = subst IsInRange (same_Some (Play 0) r e) (omega arith)
+request_by-in_range None r e = subst IsInRange (same_Some (Play 0 None) r e) (omega arith)
 request_by-in_range (Some p) r e = named_by-in_range p.0 p.1 r e
 
 -- ---- what `check` asks for

@@ -8,13 +8,17 @@ use Rattle.clap.specs.declared.builder.command.Command.TheViews.{out-Command as 
 abbrev pub number_option : Text → Text → Rule
 number_option name default = record (new_rule name) { long = Some name; defaults = default ∷ [] }
 
+-- an option `--name TEXT` that need not be given
+abbrev pub text_option : Text → Rule
+text_option name = record (new_rule name) { long = Some name }
+
 -- a path that has to be given, as a word of its own
 abbrev pub path_argument : Rule
 path_argument = record (new_rule (codes "path")) { required = true }
 
--- `play --workers N`
+-- `play --workers N --store PATH`
 abbrev pub play_command : App
-play_command = with_rule (new_app (codes "play")) (number_option (codes "workers") (codes "0"))
+play_command = with_rule (with_rule (new_app (codes "play")) (number_option (codes "workers") (codes "0"))) (text_option (codes "store"))
 
 -- `demo --seed S --files N --edits M --workers N`
 abbrev pub demo_command : App
@@ -29,9 +33,17 @@ demo_command =
 abbrev pub check_command : App
 check_command = with_rule (with_rule (new_app (codes "check")) path_argument) (number_option (codes "workers") (codes "0"))
 
--- the whole command, with these three subcommands
+-- `index`
+abbrev pub index_command : App
+index_command = new_app (codes "index")
+
+-- the command with the two subcommands that play a script
+abbrev pub playing_command : App
+playing_command = with_subcommand (with_subcommand (new_app (codes "ide")) play_command.top) demo_command.top
+
+-- the whole command, with these two and two more
 abbrev pub command : App
-command = with_subcommand (with_subcommand (with_subcommand (new_app (codes "ide")) play_command.top) demo_command.top) check_command.top
+command = with_subcommand (with_subcommand playing_command check_command.top) index_command.top
 
 -- what a parse reads of the command is this, and no argument of it is global
 pub record IsCommandOf (app : App) (c : Command) : Type 0 where

@@ -4,7 +4,7 @@ use Rattle.std.specs.Str.{bytes_eq, chars}
 use Rattle.clap.specs.Walk.{Row, Text, first_of, is_empty}
 use Rattle.clap.specs.Words.{fault_of, subcommand_of}
 use Rattle.command_line.specs.declared.request.Request.{Request}
-use Rattle.command_line.specs.declared.request.Request.TheVariants.{Play, Demo, Check}
+use Rattle.command_line.specs.declared.request.Request.TheVariants.{Play, Demo, Check, Index}
 use Rattle.command_line.specs.declared.request.WordsRefusal.{WordsRefusal}
 use Rattle.command_line.specs.declared.request.WordsRefusal.TheVariants as refusal
 use Rattle.command_line.specs.Grammar.{command}
@@ -34,9 +34,13 @@ text_in options name = first_of name options
 abbrev pub number_in : List Row → Text → ℕ → ℕ → Option ℕ
 number_in options name least most = option_and_then (number_between least most) (text_in options name)
 
+-- the path that an option has, where it is given: the characters of its word
+abbrev pub path_in : List Row → Text → Option Text
+path_in options name = option_map (λ word. chars word) (text_in options name)
+
 -- what `play` with these options asks for
 abbrev pub play_by : List Row → Option Request
-play_by options = option_map (λ workers. Play workers) (number_in options (codes "workers") 0 max_workers)
+play_by options = option_map (λ workers. Play workers (path_in options (codes "store"))) (number_in options (codes "workers") 0 max_workers)
 
 -- what `demo` with these options asks for
 abbrev pub demo_by : List Row → Option Request
@@ -60,11 +64,12 @@ check_by options =
 abbrev pub named_by : Text → List Row → Option Request
 named_by name options =
     if bytes_eq name (codes "play") then play_by options
-    else (if bytes_eq name (codes "demo") then demo_by options else check_by options)
+    else (if bytes_eq name (codes "demo") then demo_by options
+    else (if bytes_eq name (codes "index") then Some Index else check_by options))
 
--- what a subcommand with its options asks for; without one it is `play` with no worker
+-- what a subcommand with its options asks for; without one it is `play` with no worker and no store
 abbrev pub request_by : Option (Text × List Row) → Option Request
-request_by None = Some (Play 0)
+request_by None = Some (Play 0 None)
 request_by (Some (name, options)) = named_by name options
 
 -- what the words ask for, where clap takes them and no help is asked for: then it has no fault to tell of them
@@ -73,9 +78,11 @@ request_of words = if is_empty (fault_of command words) then request_by (subcomm
 
 -- whether a request is kept with a text of its own, for which memory may be short
 abbrev pub HoldsText : Request → Type 0
-HoldsText (Play workers) = ⊥
+HoldsText (Play workers None) = ⊥
+HoldsText (Play workers (Some store)) = Unit {0}
 HoldsText (Demo seed files edits workers) = ⊥
 HoldsText (Check path workers) = Unit {0}
+HoldsText Index = ⊥
 
 -- how the reading of what is asked for ends: with it, or where it is nothing with the refusal of the words; memory may be short for a text alone
 abbrev pub ReadsAs : Option Request → Result Request WordsRefusal → Type 0
@@ -84,6 +91,7 @@ ReadsAs (Some request) result = (result ≡ Ok request) ⊎ ((result ≡ Err ref
 
 -- the numbers of a request lie within their bounds
 abbrev pub IsInRange : Request → Type 0
-IsInRange (Play workers) = workers ≤ max_workers
+IsInRange (Play workers store) = workers ≤ max_workers
 IsInRange (Demo seed files edits workers) = (seed ≤ max_seed) × (1 ≤ files) × (files ≤ max_files) × (edits ≤ max_edits) × (workers ≤ max_workers)
 IsInRange (Check path workers) = workers ≤ max_workers
+IsInRange Index = Unit {0}

@@ -1,7 +1,7 @@
 //! What the words ask for.
-ghost use Rattle.std.specs.Prelude.{◌≡◌, ◌↔◌, option_map, map, string_bytes, IfOk};
+ghost use Rattle.std.specs.Prelude.{◌≡◌, ◌≢◌, ◌↔◌, None, option_map, map, string_bytes, IfOk, OnErr};
 ghost use Rattle.clap.specs.Words.{found_of, rows_of, subcommand_rows_of, kind_of};
-ghost use Rattle.command_line.specs.Request.{text_in, number_in, play_by, demo_by, check_by, named_by, request_by, request_of, IsInRange, ReadsAs};
+ghost use Rattle.command_line.specs.Request.{text_in, path_in, number_in, play_by, demo_by, check_by, named_by, request_by, request_of, IsInRange, ReadsAs};
 
 use crate::grammar::command;
 use crate::number::number_between;
@@ -22,9 +22,11 @@ const MAX_WORKERS: u32 = 8;
 /// What the program is asked to do.
 #[derive(Debug, PartialEq, Eq, Drop)]
 pub enum Request {
-    /// A script is read from standard input and played, with so many workers beside its lanes.
+    /// A script is read from standard input and played, with so many workers beside its lanes, and with the index data of the
+    /// store at a path, where one is given.
     Play {
         workers: u32,
+        store: Option<Name>,
     },
     /// A script is made from a seed and played, with so many workers beside its lanes.
     Demo {
@@ -39,6 +41,8 @@ pub enum Request {
         path: Name,
         workers: u32,
     },
+    /// A script is read from standard input, and the store of index data of its last world written.
+    Index,
 }
 
 /// Why no request is read from the words.
@@ -90,7 +94,10 @@ fn request_by(alloc: Global, matches: &ArgMatches<'_>) -> Result<Request, WordsR
     ensures { ReadsAs (request_by (subcommand_rows_of matches.now)) result }
 {
     match matches.subcommand() {
-        None => Ok(Request::Play { workers: 0 }),
+        None => Ok(Request::Play {
+            workers: 0,
+            store: None,
+        }),
         Some((name, options)) => named_by(alloc, name, options),
     }
 }
@@ -100,20 +107,23 @@ fn named_by(alloc: Global, name: &str, options: &ArgMatches<'_>) -> Result<Reque
     ensures { ReadsAs (named_by name.now (rows_of (found_of options.now))) result }
 {
     if name == "play" {
-        play_by(options).ok_or(WordsRefusal::Usage)
+        play_by(alloc, options)
     } else if name == "demo" {
         demo_by(options).ok_or(WordsRefusal::Usage)
+    } else if name == "index" {
+        Ok(Request::Index)
     } else {
         check_by(alloc, options)
     }
 }
 
 /// What `play` with these options asks for.
-fn play_by(options: &ArgMatches<'_>) -> Option<Request>
-    ensures { result ≡ play_by (rows_of (found_of options.now)) }
+fn play_by(alloc: Global, options: &ArgMatches<'_>) -> Result<Request, WordsRefusal>
+    ensures { ReadsAs (play_by (rows_of (found_of options.now))) result }
 {
-    let workers = number_in(options, "workers", 0, MAX_WORKERS)?;
-    Some(Request::Play { workers })
+    let workers = number_in(options, "workers", 0, MAX_WORKERS).ok_or(WordsRefusal::Usage)?;
+    let store = path_in(alloc, options, "store")?;
+    Ok(Request::Play { workers, store })
 }
 
 /// What `demo` with these options asks for.
@@ -147,6 +157,17 @@ fn number_in(options: &ArgMatches<'_>, name: &str, least: u32, most: u32) -> Opt
     ensures { result ≡ number_in (rows_of (found_of options.now)) name.now least most }
 {
     number_between(least, most, text_in(options, name)?)
+}
+
+/// The path that an option has, where it is given.
+fn path_in(alloc: Global, options: &ArgMatches<'_>, name: &str) -> Result<Option<Name>, AllocError>
+    ensures ok { IfOk result (λ path. path ≡ path_in (rows_of (found_of options.now)) name.now) }
+    ensures err { OnErr result (path_in (rows_of (found_of options.now)) name.now ≢ None) }
+{
+    match text_in(options, name) {
+        Some(path) => Ok(Some(Name::of(alloc, path)?)),
+        None => Ok(None),
+    }
 }
 
 /// The word that an option or an argument has.

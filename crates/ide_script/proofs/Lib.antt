@@ -1,3 +1,4 @@
+pub mod AskLemmas
 pub mod CheckLemmas
 pub mod EntryLemmas
 pub mod RunLemmas

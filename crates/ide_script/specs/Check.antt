@@ -4,18 +4,16 @@ use Rattle.std.specs.Io.KnownBytes.{append_known}
 use Rattle.ide_io.specs.Known.{TakesPrefix}
 use Rattle.ide_io.specs.Fault.{HasFault}
 use Rattle.ide_io.specs.Files.{Files, max_file_len}
-use Rattle.ide_io.specs.Asks.{AsksEach}
 use Rattle.ide_io.specs.declared.source.Source
 use Rattle.ide_io.specs.declared.tree.Tree
 use Rattle.ide_io.specs.declared.sink.Sink
 use Rattle.script_lang.specs.Parts.{Parts}
-use Rattle.transcripts.specs.Loads.{paths_of}
 use Rattle.transcript_check.specs.declared.result.Verdict.{Verdict}
 use Rattle.transcript_check.specs.declared.result.Verdict.TheVariants.{Good, Bad}
 use Rattle.transcript_check.specs.Verdict.{Judges}
 use Rattle.ide_script.specs.declared.status.Status.{Status}
 use Rattle.ide_script.specs.declared.status.Status.TheVariants.{Done, SinkFault, Rejected}
-use Rattle.ide_script.specs.Reading.{EndsUnwritten, GivesScript}
+use Rattle.ide_script.specs.Reading.{EndsUnwritten, TellsOfScript}
 
 -- the line that tells a verdict
 abbrev pub line_of : Verdict → List ℕ
@@ -34,13 +32,10 @@ pub record JudgesFile (files : Option Files) (script : Parts) (workers : ℕ) (p
   pub told : IfSome files (λ at. at path ≡ Some bytes)
   pub judged : Judges files script workers bytes verdict
 
--- the source gave a script, the tree was asked for the transcript's file and then for those of the script's loads, each once, in their order and for
--- no other, and the transcript was judged so
-pub record TellsVerdict {S T : Type 0} (s : Source.Ghosts S) (t : Tree.Ghosts T) (path : List ℕ) (workers : ℕ) (source source' : S) (tree tree' : T) (verdict : Verdict) : Type 0 where
-  pub script : Parts
-  pub read : GivesScript s source source' script
-  pub asked : AsksEach t.asks tree (path ∷ paths_of script.prelude) tree'
-  pub is : JudgesFile (t.files tree) script workers path verdict
+-- the source gave a script, the tree was asked for the transcript's file and then for those of the script's loads, and the transcript was judged so
+abbrev pub TellsVerdict : {S T : Type 0} → Source.Ghosts S → Tree.Ghosts T → List ℕ → ℕ → S → S → T → T → Verdict → Type 0
+TellsVerdict s t path workers source source' tree tree' verdict =
+    TellsOfScript s t (path ∷ []) (λ script verdict. JudgesFile (t.files tree) script workers path verdict) source source' tree tree' verdict
 
 -- the sink took exactly the line of this verdict on the transcript, after what it held
 pub record WritesVerdict {S T K : Type 0} (s : Source.Ghosts S) (t : Tree.Ghosts T) (k : Sink.Ghosts K) (path : List ℕ) (workers : ℕ)

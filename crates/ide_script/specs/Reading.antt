@@ -1,8 +1,8 @@
--- How the reading of a script ends, and a run that ends before it writes.
+-- How the reading of a script ends, what a run tells of it, and a run that ends before it writes.
 use Rattle.std.specs.Prelude.{ℕ, ◌≡◌, ◌+◌, ◌⊎◌, List, ◌++◌}
 use Rattle.ide_io.specs.Known.{ReadsToEnd, TakesCount}
 use Rattle.ide_io.specs.Fault.{HasFault}
-use Rattle.ide_io.specs.Asks.{AsksFront, AsksSome}
+use Rattle.ide_io.specs.Asks.{AsksEach, AsksFront, AsksSome}
 use Rattle.ide_io.specs.declared.source.Source
 use Rattle.ide_io.specs.declared.tree.Tree
 use Rattle.script_lang.specs.Lines.{max_bytes}
@@ -36,6 +36,15 @@ ReadStops s old new Usage = ⊥
 ReadStops s old new TreeFault = ⊥
 ReadStops s old new SinkFault = ⊥
 ReadStops s old new Rejected = ⊥
+
+-- the source gave a script, the tree was asked for these files and then for those of the script's loads, each once, in their order and for no other,
+-- and what is told is so of the script
+pub record TellsOfScript {S T A : Type 0} (s : Source.Ghosts S) (t : Tree.Ghosts T) (first : List (List ℕ)) (IsToldOf : Parts → A → Type 0)
+    (source source' : S) (tree tree' : T) (told : A) : Type 0 where
+  pub script : Parts
+  pub read : GivesScript s source source' script
+  pub asked : AsksEach t.asks tree (first ++ paths_of script.prelude) tree'
+  pub is : IsToldOf script told
 
 -- the source gave a script, and the tree met a fault at one of these files or at that of one of the loads behind them, having been asked for
 -- those before it alone

@@ -1,15 +1,12 @@
 -- How a run of the program ends.
-use Rattle.std.specs.Prelude.{ℕ, ◌≡◌, ◌≢◌, ◌⊎◌, List, [], ◌∷◌, codes, length, Option, Some, None}
+use Rattle.std.specs.Prelude.{ℕ, ◌≡◌, ◌≢◌, ◌⊎◌, List, [], ◌∷◌, codes, length, Option, Some, None, option_to_list}
 use Rattle.std.specs.Io.KnownBytes.{append_known}
-use Rattle.ide_io.specs.Known.{TakesPrefix}
 use Rattle.ide_io.specs.Fault.{HasFault, next_count}
-use Rattle.ide_io.specs.Files.{Files}
-use Rattle.ide_io.specs.Asks.{AsksEach}
 use Rattle.ide_io.specs.declared.source.Source
 use Rattle.ide_io.specs.declared.tree.Tree
 use Rattle.ide_io.specs.declared.sink.Sink
 use Rattle.command_line.specs.declared.request.Request.{Request}
-use Rattle.command_line.specs.declared.request.Request.TheVariants.{Play, Demo, Check}
+use Rattle.command_line.specs.declared.request.Request.TheVariants.{Play, Demo, Check, Index}
 use Rattle.command_line.specs.Request.{request_of}
 use Rattle.demo.specs.Script.{demo_bytes}
 use Rattle.script_lang.specs.Parts.{Parts}
@@ -17,40 +14,19 @@ use Rattle.script_lang.specs.Grammar.{IsScript}
 use Rattle.index_workers.specs.declared.worked.Worked.{Worked}
 use Rattle.transcripts.specs.Serial.{Ended, run_of}
 use Rattle.transcripts.specs.Fits.{RunFits}
-use Rattle.transcripts.specs.Loads.{paths_of}
 use Rattle.transcripts.specs.Transcript.{summary_of}
 use Rattle.transcripts.specs.Play.{IsTranscript}
 use Rattle.ide_script.specs.declared.status.Status.{Status}
 use Rattle.ide_script.specs.declared.status.Status.TheVariants.{Done, Usage, BadScript, SourceFault, TreeFault, SinkFault, OutOfMemory, ScriptTooLong, Rejected}
 use Rattle.ide_script.specs.Status.{number_of, fault_line}
-use Rattle.ide_script.specs.Reading.{EndsUnwritten, GivesScript}
+use Rattle.ide_script.specs.Writing.{ScriptEnds, Writes, WritesPrefix}
+use Rattle.ide_script.specs.Index.{IndexEnds}
 use Rattle.ide_script.specs.Check.{CheckEnds}
 
 -- the words of a command line: the program's name where the system gives none
 abbrev pub given_words : List (List ℕ) → List (List ℕ)
 given_words [] = codes "ide" ∷ []
 given_words (name ∷ words) = name ∷ words
-
--- the source gave a script, the tree was asked for the files of its loads, each once, in their order and for no other, and these bytes are a
--- transcript of the script
-pub record TellsScript {S T : Type 0} (s : Source.Ghosts S) (t : Tree.Ghosts T) (workers : ℕ) (source source' : S) (tree tree' : T) (bytes : List ℕ) : Type 0 where
-  pub script : Parts
-  pub read : GivesScript s source source' script
-  pub asked : AsksEach t.asks tree (paths_of script.prelude) tree'
-  pub is : IsTranscript (t.files tree) script workers bytes
-
--- the sink took exactly a transcript of a source's script, after what it held
-pub record WritesTranscript {S T K : Type 0} (s : Source.Ghosts S) (t : Tree.Ghosts T) (k : Sink.Ghosts K) (workers : ℕ) (source source' : S) (tree tree' : T) (sink sink' : K) : Type 0 where
-  pub bytes : List ℕ
-  pub tells : TellsScript s t workers source source' tree tree' bytes
-  pub taken : k.taken sink' ≡ append_known (k.taken sink) bytes
-
--- the sink took a prefix of a transcript of a source's script, and met a fault
-pub record WritesPrefix {S T K : Type 0} (s : Source.Ghosts S) (t : Tree.Ghosts T) (k : Sink.Ghosts K) (workers : ℕ) (source source' : S) (tree tree' : T) (sink sink' : K) : Type 0 where
-  pub bytes : List ℕ
-  pub tells : TellsScript s t workers source source' tree tree' bytes
-  pub taken : TakesPrefix (k.taken sink) (k.taken sink') bytes
-  pub fault : HasFault (k.faults sink) (k.faults sink')
 
 -- a run of a demo's script with so many workers, which tell this: its summary is that of going through the script in order
 pub record PlaysDemo (seed files edits workers : ℕ) (told : List Worked) (ended : Ended) : Type 0 where
@@ -67,29 +43,16 @@ pub record IsDemoSummary (seed files edits workers : ℕ) (bytes : List ℕ) : T
   pub played : PlaysDemo seed files edits workers told ended
   pub printed : bytes ≡ summary_of ended
 
--- the sink took exactly the summary of a demo, after what it held
-pub record WritesSummary {K : Type 0} (k : Sink.Ghosts K) (seed files edits workers : ℕ) (sink sink' : K) : Type 0 where
-  pub bytes : List ℕ
-  pub is : IsDemoSummary seed files edits workers bytes
-  pub taken : k.taken sink' ≡ append_known (k.taken sink) bytes
-
--- the sink took a prefix of the summary of a demo, and met a fault
-pub record WritesSummaryPrefix {K : Type 0} (k : Sink.Ghosts K) (seed files edits workers : ℕ) (sink sink' : K) : Type 0 where
-  pub bytes : List ℕ
-  pub is : IsDemoSummary seed files edits workers bytes
-  pub taken : TakesPrefix (k.taken sink) (k.taken sink') bytes
-  pub fault : HasFault (k.faults sink) (k.faults sink')
-
--- when each answer to a `play` with so many workers comes, and what was read, asked for and written then
-abbrev pub PlayEnds : {S T K : Type 0} → Source.Ghosts S → Tree.Ghosts T → Sink.Ghosts K → ℕ → S → S → T → T → K → K → Status → Type 0
-PlayEnds s t k workers source source' tree tree' sink sink' Done = WritesTranscript s t k workers source source' tree tree' sink sink'
-PlayEnds s t k workers source source' tree tree' sink sink' SinkFault = WritesPrefix s t k workers source source' tree tree' sink sink'
-PlayEnds s t k workers source source' tree tree' sink sink' status = EndsUnwritten s t [] source source' tree tree' status
+-- when each answer to a `play` with so many workers and the store at this path, where one is named, comes, and what was read, asked for and written
+-- then: the store's file is asked for before those of the loads, and whatever its bytes are, the sink took a transcript
+abbrev pub PlayEnds : {S T K : Type 0} → Source.Ghosts S → Tree.Ghosts T → Sink.Ghosts K → ℕ → Option (List ℕ) → S → S → T → T → K → K → Status → Type 0
+PlayEnds s t k workers store source source' tree tree' sink sink' status =
+    ScriptEnds s t k (option_to_list store) (λ script bytes. IsTranscript (t.files tree) script workers bytes) source source' tree tree' sink sink' status
 
 -- when each answer to a `demo` comes, and what was written then
 abbrev pub DemoEnds : {K : Type 0} → Sink.Ghosts K → ℕ → ℕ → ℕ → ℕ → K → K → Status → Type 0
-DemoEnds k seed files edits workers sink sink' Done = WritesSummary k seed files edits workers sink sink'
-DemoEnds k seed files edits workers sink sink' SinkFault = WritesSummaryPrefix k seed files edits workers sink sink'
+DemoEnds k seed files edits workers sink sink' Done = Writes k (IsDemoSummary seed files edits workers) sink sink'
+DemoEnds k seed files edits workers sink sink' SinkFault = WritesPrefix k (IsDemoSummary seed files edits workers) sink sink'
 DemoEnds k seed files edits workers sink sink' OutOfMemory = Unit {0}
 DemoEnds k seed files edits workers sink sink' (BadScript line) = ⊥
 DemoEnds k seed files edits workers sink sink' Usage = ⊥
@@ -105,32 +68,22 @@ WordsEnd status = (status ≡ Usage) ⊎ (status ≡ OutOfMemory)
 -- when each answer comes, by what the words ask for, and what was read, asked for and written then
 abbrev pub RunEnds : {S T K : Type 0} → Source.Ghosts S → Tree.Ghosts T → Sink.Ghosts K → Option Request → S → S → T → T → K → K → Status → Type 0
 RunEnds s t k None source source' tree tree' sink sink' status = WordsEnd status
-RunEnds s t k (Some (Play workers)) source source' tree tree' sink sink' status = PlayEnds s t k workers source source' tree tree' sink sink' status
+RunEnds s t k (Some (Play workers store)) source source' tree tree' sink sink' status = PlayEnds s t k workers store source source' tree tree' sink sink' status
 RunEnds s t k (Some (Demo seed files edits workers)) source source' tree tree' sink sink' status = DemoEnds k seed files edits workers sink sink' status
 RunEnds s t k (Some (Check path workers)) source source' tree tree' sink sink' status = CheckEnds s t k path workers source source' tree tree' sink sink' status
+RunEnds s t k (Some Index) source source' tree tree' sink sink' status = IndexEnds s t k source source' tree tree' sink sink' status
 
 -- words that ask for no script: faulty ones, and those of a demo
 abbrev pub AsksNothing : Option Request → Type 0
 AsksNothing None = Unit {0}
-AsksNothing (Some (Play workers)) = ⊥
+AsksNothing (Some (Play workers store)) = ⊥
 AsksNothing (Some (Demo seed files edits workers)) = Unit {0}
 AsksNothing (Some (Check path workers)) = ⊥
+AsksNothing (Some Index) = ⊥
 
 -- the end was told once, or not at all
 abbrev pub TellsEndOnce : ℕ → ℕ → Type 0
 TellsEndOnce old new = (new ≡ old) ⊎ (new ≡ next_count old)
-
--- how the writing of some bytes ended
-abbrev pub WriteEnds : {K : Type 0} → Sink.Ghosts K → K → K → List ℕ → Status → Type 0
-WriteEnds k old new bytes Done = k.taken new ≡ append_known (k.taken old) bytes
-WriteEnds k old new bytes SinkFault = HasFault (k.faults old) (k.faults new) × TakesPrefix (k.taken old) (k.taken new) bytes
-WriteEnds k old new bytes OutOfMemory = new ≡ old
-WriteEnds k old new bytes Usage = ⊥
-WriteEnds k old new bytes (BadScript line) = ⊥
-WriteEnds k old new bytes SourceFault = ⊥
-WriteEnds k old new bytes TreeFault = ⊥
-WriteEnds k old new bytes ScriptTooLong = ⊥
-WriteEnds k old new bytes Rejected = ⊥
 
 -- the line of the status was written, unless the stream for errors met a fault
 abbrev pub TellsStatus : {E : Type 0} → Sink.Ghosts E → E → E → Status → Type 0

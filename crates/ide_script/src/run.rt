@@ -6,16 +6,22 @@ ghost use Rattle.script_lang.specs.Grammar.{IsScript};
 ghost use Rattle.script_lang.specs.Lines.{max_bytes};
 ghost use Rattle.command_line.specs.Request.{request_of, IsInRange, max_workers, max_files, max_edits};
 ghost use Rattle.transcripts.specs.Transcript.{transcript_of, summary_of};
-ghost use Rattle.ide_script.specs.Run.{RunEnds, PlayEnds, DemoEnds, TellsEndOnce, WriteEnds, PlaysDemo, AsksNothing};
+ghost use Rattle.ide_script.specs.Run.{RunEnds, PlayEnds, DemoEnds, TellsEndOnce, PlaysDemo, AsksNothing};
+ghost use Rattle.ide_script.specs.Writing.{WriteEnds};
 
 use crate::check::run_check;
+use crate::index::run_index;
+use crate::over_tree::play_stored;
 use crate::reading::read_script;
-use crate::{PlayRefusal, Status, play};
+use crate::writing::write_bytes;
+use crate::{PlayRefusal, Status};
 use command_line::{Request, WordsRefusal, request_of};
 use demo::demo_script;
 use demo_runs::agree::demo_runs_agree;
 use demo_runs::laws::{a_demo_is_lawful, no_demo_is_refused};
-use ide_io::{Sink, Source, Tree, write_all};
+use ide_io::{Sink, Source, Tree};
+use ide_text::Name;
+use index_store::Store;
 use playing::LaneGate;
 use script_lang::{Script, ScriptRefusal, parse};
 use std::alloc::{AllocError, Global};
@@ -23,10 +29,12 @@ use std::sync::Wait;
 use std::thread::Threads;
 use transcripts::{Played, summary, transcript};
 
-/// Runs the program. The words begin with its name. `play` takes its script from the source and what its loads ask for
-/// from the tree, and writes the transcript; `demo` writes the summary of a script of its own; `check` takes the script from
-/// the source, a transcript and what the loads ask for from the tree, and writes whether it is one of the script. Nothing is
-/// written before the run is known to end with `Done`, `Rejected`, `SinkFault` or `OutOfMemory`. May block.
+/// Runs the program. The words begin with its name. `play` takes its script from the source, a store of index data, where
+/// one is named, and what the script's loads ask for from the tree, and writes the transcript; `demo` writes the summary of
+/// a script of its own; `check` takes the script from the source, a transcript and what the loads ask for from the tree, and
+/// writes whether it is one of the script; `index` takes the script and what its loads ask for so, and writes the store of
+/// its last world. Nothing is written before the run is known to end with `Done`, `Rejected`, `SinkFault` or `OutOfMemory`.
+/// May block.
 pub fn run_ide<R: Threads + Wait + Sync, S: Source, T: Tree, K: Sink>(
     rt: &R,
     alloc: Global,
@@ -41,7 +49,7 @@ pub fn run_ide<R: Threads + Wait + Sync, S: Source, T: Tree, K: Sink>(
     ensures ends { RunEnds S.Source T.Tree K.Sink (request_of (map string_bytes words.now))
         script.old script.new tree.old tree.new out.old out.new result }
 
-    // How much is read: at most one byte past the longest script, and nothing after the end; nothing unless the words ask for `play` or `check`.
+    // How much is read: at most one byte past the longest script, and nothing after the end; nothing where the words are faulty or ask for `demo`.
     ensures within { result ≢ Status.ScriptTooLong → TakesAtMost max_bytes (S.left script.old) (S.left script.new) }
     ensures end_once { TellsEndOnce (S.ends script.old) (S.ends script.new) }
     ensures unread { AsksNothing (request_of (map string_bytes words.now)) → (script.new ≡ script.old) × (tree.new ≡ tree.old) }
@@ -81,7 +89,7 @@ fn run_request<R: Threads + Wait + Sync, S: Source, T: Tree, K: Sink>(
     ensures sink_quiet { result ≢ Status.SinkFault → K.faults out.new ≡ K.faults out.old }
 {
     match request {
-        Request::Play { workers } => run_play(rt, alloc, *workers, script, tree, out),
+        Request::Play { workers, store } => run_play(rt, alloc, *workers, store, script, tree, out),
         Request::Demo {
             seed,
             files,
@@ -89,20 +97,23 @@ fn run_request<R: Threads + Wait + Sync, S: Source, T: Tree, K: Sink>(
             workers,
         } => run_demo(rt, alloc, *seed, *files, *edits, *workers, out),
         Request::Check { path, workers } => run_check(alloc, path, *workers, script, tree, out),
+        Request::Index => run_index(alloc, script, tree, out),
     }
 }
 
-/// Plays the source's script with so many workers, and writes its transcript. May block.
+/// Plays the source's script with so many workers and the store at a path, where one is named, and writes its transcript.
+/// May block.
 fn run_play<R: Threads + Wait + Sync, S: Source, T: Tree, K: Sink>(
     rt: &R,
     alloc: Global,
     workers: u32,
+    store: &Option<Name>,
     source: &mut S,
     tree: &mut T,
     out: &mut K,
 ) -> Status
     requires { workers ≤ max_workers }
-    ensures ends { PlayEnds S.Source T.Tree K.Sink workers source.old source.new tree.old tree.new out.old out.new result }
+    ensures ends { PlayEnds S.Source T.Tree K.Sink workers store.now source.old source.new tree.old tree.new out.old out.new result }
     ensures within { result ≢ Status.ScriptTooLong → TakesAtMost max_bytes (S.left source.old) (S.left source.new) }
     ensures end_once { TellsEndOnce (S.ends source.old) (S.ends source.new) }
     ensures silent { result ≢ Status.Done → result ≢ Status.SinkFault → out.new ≡ out.old }
@@ -116,7 +127,7 @@ fn run_play<R: Threads + Wait + Sync, S: Source, T: Tree, K: Sink>(
         Err(status) => return status,
     };
     let gate = LaneGate::new(rt, &script);
-    match play(rt, alloc, &script, workers, tree, &gate) {
+    match play_stored(rt, alloc, &script, workers, store, tree, &gate) {
         Ok(played) => write_transcript(alloc, &played, out),
         Err(PlayRefusal::TreeFault) => Status::TreeFault,
         Err(PlayRefusal::OutOfMemory) => Status::OutOfMemory,
@@ -173,7 +184,8 @@ fn play_demo<R: Threads + Wait + Sync>(
     demo_runs_agree();
     let script = script_of_demo(alloc, seed, files, edits)?;
     let gate = LaneGate::new(rt, &script);
-    playing::play(rt, alloc, &script, &[], workers, &gate)
+    let store = Store::empty(alloc);
+    playing::play(rt, alloc, &script, &[], workers, store, &gate)
 }
 
 /// The script of a demo.
@@ -201,17 +213,5 @@ fn write_summary<K: Sink>(alloc: Global, played: &Played, out: &mut K) -> Status
     match summary(alloc, played) {
         Ok(bytes) => write_bytes(&bytes, out),
         Err(_) => Status::OutOfMemory,
-    }
-}
-
-/// Writes some bytes.
-fn write_bytes<K: Sink>(bytes: &[u8], out: &mut K) -> Status
-    ensures ends { WriteEnds K.Sink out.old out.new bytes.now result }
-    ensures told { result ≢ Status.OutOfMemory }
-    ensures quiet { result ≢ Status.SinkFault → K.faults out.new ≡ K.faults out.old }
-{
-    match write_all(out, bytes) {
-        Ok(()) => Status::Done,
-        Err(_) => Status::SinkFault,
     }
 }

@@ -1,4 +1,4 @@
-use Rattle.ide_script.proofs.CheckLemmas.{asks_one, asks_then, asks_then_some}
+use Rattle.ide_script.proofs.AskLemmas.{asks_one, asks_then, asks_then_some}
 use Rattle.ide_script.proofs.check.judge.Goals as goal
 
 pub returns-in-Err-Failed-clause-asks : goal.returns-in-Err-Failed-clause-asks

@@ -1,8 +1,10 @@
-use Rattle.std.proofs.Common.{rules, subst}
-use Rattle.ide_io.specs.Asks.{AsksSome}
-use Rattle.transcripts.specs.Loads.{paths_of}
+use Rattle.std.proofs.Common.{rules}
+use Rattle.ide_script.proofs.RunLemmas.{plays_so}
 use Rattle.ide_script.proofs.over_tree.play.Goals as goal
 
-pub returns-in-Err-TreeFault-clause-asks_some : goal.returns-in-Err-TreeFault-clause-asks_some
-returns-in-Err-TreeFault-clause-asks_some g c = λ _.
-    subst (λ lines. AsksSome g.T.Tree.asks c.args.tree.now (paths_of lines) c.read_loads.new.tree) c.prelude.ensures.lines (c.read_loads.ensures.asks_some (search rules))
+pub returns-in_err-loads-clause-asks_some : goal.returns-in_err-loads-clause-asks_some
+returns-in_err-loads-clause-asks_some g c = λ failed. c.read_loads_of.ensures.asks_some (search (rules, failed))
+
+pub returns-clause-plays : goal.returns-clause-plays
+returns-clause-plays g c =
+    plays_so c.a_run_alone_is_serial.ensures _ c.deref.result.now _ _ _ _ (search rules) (search rules) (search rules)

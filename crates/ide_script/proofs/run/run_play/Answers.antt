@@ -1,7 +1,7 @@
 use Rattle.ide_script.proofs.RunLemmas.{play_ends}
 use Rattle.ide_script.proofs.run.run_play.Goals as goal
 
-pub returns-in-Ok-play-clause-ends : goal.returns-in-Ok-play-clause-ends
-returns-in-Ok-play-clause-ends g c =
-    play_ends g.S.Source g.T.Tree g.K.Sink _ _ _ _ _ _ _ _ _ _ c.in-Ok.ensures.ok c.in-Ok-play.ensures.asks_each c.in-Ok-play.ensures.plays
+pub returns-in-Ok-play_stored-clause-ends : goal.returns-in-Ok-play_stored-clause-ends
+returns-in-Ok-play_stored-clause-ends g c =
+    play_ends g.S.Source g.T.Tree g.K.Sink _ _ _ _ _ _ _ _ _ _ _ c.in-Ok.ensures.ok c.in-Ok-play_stored.ensures.asks_each c.in-Ok-play_stored.ensures.plays
     c.write_transcript.result c.write_transcript.ensures.ends
