@@ -1,7 +1,7 @@
 -- What a section that goes alone does, line by line, from what the code found.
 use Rattle.std.proofs.Common.{ℕ, ◌≡◌, ◌+◌, ◌-◌, ◌<◌, ◌≤◌, Bool, true, false, List, [], ◌∷◌, ◌++◌, length, refl, sym, ap, ◌∙◌, subst, append_assoc, length-append, arith, get_or, take, drop, suc, zero, add-one, Some, None, Option, Result, Ok, Err, IfOk}
 use Rattle.std.specs.Prelude.{◌&&◌, is_none, nat_le, if◌then◌else◌, bytes_eq, option_map, unwrap_or, slice_get, slice_index_or, MatchOption, IfSome}
-use Rattle.std.specs.Option.{option_and_then}
+use Rattle.std.specs.Option.{option_map_or}
 use Rattle.std.proofs.lemmas.Bool.{and_parts, cond-true, cond-false}
 use Rattle.std.proofs.lemmas.List.{append-nil, take_all, length-drop}
 use Rattle.std.specs.List.{HoldsAt}
@@ -25,7 +25,9 @@ use Rattle.transcripts.specs.declared.record.Answer.TheVariants.{Refused}
 use Rattle.transcripts.specs.Serial.{Step, told, settle_answer, settle_step, step_of, first_load, later_loads}
 use Rattle.transcript_check.specs.Section.{Cursor, is_nil, line_step, told_text, tells, is_settle, made_by_line}
 use Rattle.transcript_check.specs.Here.{IsMadeAs, HasChanged, HasTakenLowest, HasGoneIn, IsTakenLowest, settle_in, told_by, tells_in}
-use Rattle.transcript_check.specs.Checked.{Came, entry_texts, texts_behind, line_so, serial_from}
+use Rattle.transcript_check.specs.declared.stop.LineStop.{LineStop}
+use Rattle.transcript_check.specs.Checked.{Came, entry_texts, texts_behind, line_so}
+use Rattle.transcript_check.specs.Stops.{stops_at, serial_or}
 use Rattle.transcript_check.specs.Alone.{IsGoneTo, HasGone, HasTakenNext, left_where}
 use Rattle.transcript_check.specs.Going.{HasComeAs, HasComeAlone}
 use Rattle.transcript_check.proofs.StepLemmas.{Laws, step_one}
@@ -402,38 +404,44 @@ fewer_unready readies first some world after seat number (entry ∷ later) left 
 
 -- ---- line by line
 
+-- what a section comes to: the texts that are left, or where it stops
+abbrev pub Left : Type 0
+Left = Result (List (List ℕ) × List (List ℕ)) LineStop
+
 -- no line is left
 come_over : (seat : ℕ) (loads : List Loaded) (entries records : List (List ℕ)) (world : World)
-    → HasComeAlone seat [] loads entries records world world (Some (entries, records))
+    → HasComeAlone seat [] loads entries records world world (Ok (entries, records))
 come_over seat loads entries records world = record { is = λ history is. (refl, refl, sym is) }
 
 -- a line is left, and no record
 come_short : (seat : ℕ) (line : Line) (lines : List Line) (loads : List Loaded) (entries : List (List ℕ)) (world after : World)
-    → HasComeAlone seat (line ∷ lines) loads entries [] world after None
-come_short seat line lines loads entries world after = record { is = λ history is. tt }
+    → HasComeAlone seat (line ∷ lines) loads entries [] world after (Err (stops_at seat line entries []))
+come_short seat line lines loads entries world after = record { is = λ history is. refl }
 
 -- the next line doesn't fit
 come_otherwise : (seat : ℕ) (line : Line) (lines : List Line) (loads : List Loaded) (entries : List (List ℕ)) (text : List ℕ) (records : List (List ℕ))
     (world after final : World)
     → HasGone (λ history. step_of (first_load loads) history seat line.number line.command) seat line.number text entries world after None
-    → HasComeAlone seat (line ∷ lines) loads entries (text ∷ records) world final None
+    → HasComeAlone seat (line ∷ lines) loads entries (text ∷ records) world final (Err (stops_at seat line entries (text ∷ records)))
 come_otherwise seat line lines loads entries text records world after final gone = record {
-  is = λ history is. (let on : List (List ℕ) → Option Came = λ left.
-      serial_from seat (history ++ (step_of (first_load loads) history seat line.number line.command).added) lines (later_loads loads) left records in
-      subst (λ (o : Option (List (List ℕ))). HasComeAs final (option_and_then on o) None) (gone.left_is history is) tt);
+  is = λ history is. (let on : List (List ℕ) → Result Came LineStop = λ left.
+      serial_or seat (history ++ (step_of (first_load loads) history seat line.number line.command).added) lines (later_loads loads) left records in
+      let stop : LineStop = stops_at seat line entries (text ∷ records) in
+      subst (λ (o : Option (List (List ℕ))). HasComeAs final (option_map_or on o (Err stop)) (Err stop)) (gone.left_is history is) refl);
 }
 
 -- it does, and the others go on from there
 come_turn : (seat : ℕ) (line : Line) (lines : List Line) (loads : List Loaded) (entries left : List (List ℕ)) (text : List ℕ) (records : List (List ℕ))
     (world after : World)
     → HasGone (λ history. step_of (first_load loads) history seat line.number line.command) seat line.number text entries world after (Some left)
-    → (final : World) (came : Option (List (List ℕ) × List (List ℕ)))
+    → (final : World) (came : Left)
     → HasComeAlone seat lines (later_loads loads) left records after final came
     → HasComeAlone seat (line ∷ lines) loads entries (text ∷ records) world final came
 come_turn seat line lines loads entries left text records world after gone final came rest = record {
   is = λ history is. (let added : List Entry = (step_of (first_load loads) history seat line.number line.command).added in
-      let on : List (List ℕ) → Option Came = λ l. serial_from seat (history ++ added) lines (later_loads loads) l records in
-      subst (λ (o : Option (List (List ℕ))). HasComeAs final (option_and_then on o) came) (gone.left_is history is)
+      let on : List (List ℕ) → Result Came LineStop = λ l. serial_or seat (history ++ added) lines (later_loads loads) l records in
+      let stop : LineStop = stops_at seat line entries (text ∷ records) in
+      subst (λ (o : Option (List (List ℕ))). HasComeAs final (option_map_or on o (Err stop)) came) (gone.left_is history is)
       (rest.is (history ++ added) (sym (gone.leads history is))));
 }
 
@@ -465,7 +473,7 @@ none_from (first ∷ texts) (suc at) is = none_from texts at is
 -- going on from a place of the lines leads where going on from the start does
 abbrev pub ComesFrom : ℕ → List Line → List Loaded → (entries records : List (List ℕ)) → World → ℕ → (left : List (List ℕ)) → World → Type 0
 ComesFrom seat lines loads entries records world at left after =
-    (final : World) (came : Option (List (List ℕ) × List (List ℕ)))
+    (final : World) (came : Left)
     → HasComeAlone seat (drop at lines) (drop at loads) left (drop at records) after final came
     → HasComeAlone seat lines loads entries records world final came
 
@@ -493,41 +501,45 @@ module _ (seat : ℕ) (lines : List Line) (loads : List Loaded) (entries records
       (subst (λ (ls : List Loaded). HasComeAlone seat (drop (suc at) lines) ls later (drop (suc at) records) after final came)
       (sym (loads_later loads at)) rest)))))
 
-  -- it doesn't fit
+  -- it doesn't fit: the section stops there
   pub other_line : (at : ℕ) (line : Line) (load : Option Loaded) (text : List ℕ) (left later : List (List ℕ)) (now after final : World) (went : Bool)
-      → at < length lines → line ≡ get_or lines at line → slice_get loads at ≡ load → slice_get records at ≡ Some text → went ≡ false
+      (stop : LineStop) → at < length lines → line ≡ get_or lines at line → slice_get loads at ≡ load → slice_get records at ≡ Some text → went ≡ false
+      → stop ≡ stops_at seat line left (drop at records)
       → HasGone (λ history. step_of (unwrap_or load loaded.Nothing) history seat line.number line.command) seat line.number text left now after
       (left_where went later)
-      → ComesFrom seat lines loads entries records world at left now → HasComeAlone seat lines loads entries records world final None
-  other_line at line load text left later now after final went within line_is load_is text_is so gone comes = comes final None
-      (subst (λ (ls : List Line). HasComeAlone seat ls (drop at loads) left (drop at records) now final None) (sym (from_line at line within line_is))
-      (subst (λ (ts : List (List ℕ)). HasComeAlone seat (line ∷ drop (suc at) lines) (drop at loads) left ts now final None)
+      → ComesFrom seat lines loads entries records world at left now → HasComeAlone seat lines loads entries records world final (Err stop)
+  other_line at line load text left later now after final went stop within line_is load_is text_is so stop_is gone comes = comes final (Err stop)
+      (subst (λ (ls : List Line). HasComeAlone seat ls (drop at loads) left (drop at records) now final (Err stop)) (sym (from_line at line within line_is))
+      (subst (λ (s : LineStop). HasComeAlone seat (line ∷ drop (suc at) lines) (drop at loads) left (drop at records) now final (Err s)) (sym stop_is)
+      (subst (λ (ts : List (List ℕ)). HasComeAlone seat (line ∷ drop (suc at) lines) (drop at loads) left ts now final (Err (stops_at seat line left ts)))
       (sym (texts_from records at text text_is))
       (come_otherwise seat line (drop (suc at) lines) (drop at loads) left text (drop (suc at) records) now after final
       (subst (λ (l : Loaded). HasGone (λ history. step_of l history seat line.number line.command) seat line.number text left now after None)
       (sym (load_first loads at ∙ ap (λ (o : Option Loaded). unwrap_or o loaded.Nothing) load_is))
       (subst (λ (b : Bool). HasGone (λ history. step_of (unwrap_or load loaded.Nothing) history seat line.number line.command) seat line.number text
-      left now after (left_where b later)) so gone)))))
+      left now after (left_where b later)) so gone))))))
 
   -- no record is left for it
-  pub no_record : (at : ℕ) (line : Line) (left : List (List ℕ)) (now final : World) → at < length lines → line ≡ get_or lines at line
-      → slice_get records at ≡ None
-      → ComesFrom seat lines loads entries records world at left now → HasComeAlone seat lines loads entries records world final None
-  no_record at line left now final within line_is none comes = comes final None
-      (subst (λ (ls : List Line). HasComeAlone seat ls (drop at loads) left (drop at records) now final None)
+  pub no_record : (at : ℕ) (line : Line) (left : List (List ℕ)) (now final : World) (stop : LineStop) → at < length lines
+      → line ≡ get_or lines at line → slice_get records at ≡ None → stop ≡ stops_at seat line left (drop at records)
+      → ComesFrom seat lines loads entries records world at left now → HasComeAlone seat lines loads entries records world final (Err stop)
+  no_record at line left now final stop within line_is none stop_is comes = comes final (Err stop)
+      (subst (λ (ls : List Line). HasComeAlone seat ls (drop at loads) left (drop at records) now final (Err stop))
       (sym (from_line at line within line_is))
-      (subst (λ (ts : List (List ℕ)). HasComeAlone seat (line ∷ drop (suc at) lines) (drop at loads) left ts now final None) (sym (none_from records at none))
-      (come_short seat line (drop (suc at) lines) (drop at loads) left now final)))
+      (subst (λ (s : LineStop). HasComeAlone seat (line ∷ drop (suc at) lines) (drop at loads) left (drop at records) now final (Err s)) (sym stop_is)
+      (subst (λ (ts : List (List ℕ)). HasComeAlone seat (line ∷ drop (suc at) lines) (drop at loads) left ts now final (Err (stops_at seat line left ts)))
+      (sym (none_from records at none))
+      (come_short seat line (drop (suc at) lines) (drop at loads) left now final))))
 
   -- all lines went so
   pub all_lines_gone : (at : ℕ) (left texts rest : List (List ℕ)) (now : World) → at ≡ length lines → texts ≡ left → rest ≡ drop at records
       → ComesFrom seat lines loads entries records world at left now
-      → HasComeAlone seat lines loads entries records world now (Some (texts, rest))
+      → HasComeAlone seat lines loads entries records world now (Ok (texts, rest))
   all_lines_gone at left texts rest now is texts_are rest_is comes =
-      subst (λ (ts : List (List ℕ)). HasComeAlone seat lines loads entries records world now (Some (ts, rest))) (sym texts_are)
-      (subst (λ (ts : List (List ℕ)). HasComeAlone seat lines loads entries records world now (Some (left, ts))) (sym rest_is)
-      (comes now (Some (left, drop at records))
-      (subst (λ (ls : List Line). HasComeAlone seat ls (drop at loads) left (drop at records) now now (Some (left, drop at records)))
+      subst (λ (ts : List (List ℕ)). HasComeAlone seat lines loads entries records world now (Ok (ts, rest))) (sym texts_are)
+      (subst (λ (ts : List (List ℕ)). HasComeAlone seat lines loads entries records world now (Ok (left, ts))) (sym rest_is)
+      (comes now (Ok (left, drop at records))
+      (subst (λ (ls : List Line). HasComeAlone seat ls (drop at loads) left (drop at records) now now (Ok (left, drop at records)))
       (sym (ap (λ (n : ℕ). drop n lines) is ∙ drop-length lines))
       (come_over seat (drop at loads) left (drop at records) now))))
 
@@ -550,3 +562,12 @@ all_ok P Q (Err e) gives holds = tt
 -- the rest of some texts, as the code cuts it off
 pub rest_of : (texts : List (List ℕ)) (at n : ℕ) → at ≡ n → take (length texts - n) (drop n texts) ≡ drop at texts
 rest_of texts at n is = let len = length-drop n texts in take_all (length texts - n) (drop n texts) (omega arith) ∙ ap (λ (k : ℕ). drop k texts) (sym is)
+
+-- where a section stops, as the code counts what is left
+pub stop_here : (seat : ℕ) (line : Line) (left records : List (List ℕ)) (at count : ℕ) (stop : LineStop)
+    → stop ≡ record { seat = seat; line = line.number; entries = count; records = length records - at } → count ≡ length left
+    → stop ≡ stops_at seat line left (drop at records)
+stop_here seat line left records at count stop is counted =
+    is
+    ∙ ap (λ (n : ℕ). record { seat = seat; line = line.number; entries = n; records = length records - at }) counted
+    ∙ ap (λ (n : ℕ). record { seat = seat; line = line.number; entries = length left; records = n }) (sym (length-drop at records))

@@ -1,18 +1,20 @@
 -- What the code found of the parts of a transcript is what the definition finds.
-use Rattle.std.proofs.Common.{ℕ, zero, suc, ◌≡◌, ◌+◌, Bool, false, ◌&&◌, List, [], ◌∷◌, ◌++◌, length, take, drop, min, refl, sym, ap, ◌∙◌, subst, length-append, arith, Option, Some, None}
+use Rattle.std.proofs.Common.{ℕ, zero, suc, ◌≡◌, ◌+◌, false, List, [], ◌∷◌, ◌++◌, length, take, drop, min, refl, sym, ap, ◌∙◌, subst, length-append, arith, Some, Result, Ok, Err}
 use Rattle.std.specs.Prelude.{slice_get}
-use Rattle.std.proofs.lemmas.List.{take_min, drop_min, drop-drop}
+use Rattle.std.proofs.lemmas.List.{take_all, take_min, drop_min, drop-drop}
 use Rattle.std.specs.List.{flat_map}
-use Rattle.std.specs.Prelude.{option_map}
-use Rattle.std.specs.Option.{option_map_or}
 use Rattle.write_history.specs.World.{World, empty_world}
 use Rattle.script_lang.specs.declared.line.Line.{Line}
 use Rattle.script_lang.specs.Parts.{Parts}
 use Rattle.transcripts.specs.declared.loaded.Loaded.{Loaded}
 use Rattle.transcripts.specs.Fits.{run_beside}
-use Rattle.transcript_check.specs.Section.{Cursor, is_nil}
-use Rattle.transcript_check.specs.Phase.{Reached, phase_from, cursors_of, after_lanes}
-use Rattle.transcript_check.specs.Checked.{Came, serial_from, ends_so, goes_on_so, begins_so, sides_of, are_checked}
+use Rattle.transcript_check.specs.declared.stop.LineStop.{LineStop}
+use Rattle.transcript_check.specs.declared.stop.SideStop.{SideStop}
+use Rattle.transcript_check.specs.Section.{Cursor}
+use Rattle.transcript_check.specs.Phase.{Reached, cursors_of, after_lanes}
+use Rattle.transcript_check.specs.Checked.{Came, sides_of}
+use Rattle.transcript_check.specs.Stops.{serial_or, phase_or}
+use Rattle.transcript_check.specs.Misfit.{line_misfit, side_misfit, left_misfit, last_misfit, ends_or, goes_on_or, begins_or, misfit_among}
 use Rattle.transcript_check.specs.Going.{IsReachedAs, HasReached, HasComeAs, HasComeAlone}
 
 -- from the place of an element on, a list begins with it
@@ -25,81 +27,86 @@ list_from (y ∷ ys) (suc i) x found = list_from ys i x found
 abbrev pub Texts : Type 0
 Texts = List (List ℕ) × List (List ℕ)
 
--- whether the last section came to its end, and nothing is left
-ends_as : (world : World) (came : Option Came) (left : Option Texts) → HasComeAs world came left
-    → option_map_or (λ (l : Texts). is_nil l.0 && is_nil l.1) left false ≡ ends_so came
-ends_as world None None is = refl
-ends_as world None (Some left) is = absurd is
-ends_as world (Some came) None is = absurd is
-ends_as world (Some came) (Some left) is = ap (λ es. is_nil es && is_nil left.1) is.0 ∙ ap (λ rs. is_nil came.entries && is_nil rs) is.1
+-- the misfit of the last section, or what is left behind it
+ends_as : (entries records : List (List ℕ)) (world : World) (came : Result Came LineStop) (left : Result Texts LineStop) → HasComeAs world came left
+    → last_misfit entries records left ≡ ends_or entries records came
+ends_as entries records world (Err stop) (Err told) is = ap (λ (s : LineStop). Some (line_misfit entries records 0 s)) is
+ends_as entries records world (Err stop) (Ok left) is = absurd is
+ends_as entries records world (Ok came) (Err told) is = absurd is
+ends_as entries records world (Ok came) (Ok left) is =
+    ap (λ (es : List (List ℕ)). left_misfit entries records es left.1) is.0 ∙ ap (left_misfit entries records came.entries) is.1
 
--- where the prelude doesn't go as its texts say, they are none of a run
-pub prelude_fails : (loads : List Loaded) (script : Parts) (workers : ℕ) (entries records : List (List ℕ)) (world : World)
-    → HasComeAlone 0 script.prelude loads entries records empty_world world None → false ≡ are_checked loads script workers entries records
-prelude_fails loads script workers entries records world alone = by (serial_from 0 [] script.prelude loads entries records) (alone.is [] refl)
+-- where a line of the prelude doesn't go, it is the misfit
+pub prelude_stops : (loads : List Loaded) (script : Parts) (workers : ℕ) (entries records : List (List ℕ)) (world : World) (stop : LineStop)
+    → HasComeAlone 0 script.prelude loads entries records empty_world world (Err stop)
+    → Some (line_misfit entries records 0 stop) ≡ misfit_among loads script workers entries records
+prelude_stops loads script workers entries records world stop alone = by (serial_or 0 [] script.prelude loads entries records) (alone.is [] refl)
   where
-    by : (came : Option Came) → HasComeAs world came None → false ≡ begins_so script workers came
-    by None is = refl
-    by (Some came) is = absurd is
+    by : (came : Result Came LineStop) → HasComeAs world came (Err stop)
+        → Some (line_misfit entries records 0 stop) ≡ begins_or script workers entries records came
+    by (Err other) is = ap (λ (s : LineStop). Some (line_misfit entries records 0 s)) is
+    by (Ok came) is = absurd is
 
 -- The prelude went to a world, with these texts left of entries and of records, and from there lanes and workers to another
 pub record SidesWent (loads : List Loaded) (script : Parts) (workers : ℕ) (entries records made told : List (List ℕ)) (between after : World)
-    (left : Option (List (List ℕ))) : Type 0 where
-  pub prelude : HasComeAlone 0 script.prelude loads entries records empty_world between (Some (made, told))
+    (left : Result (List (List ℕ)) SideStop) : Type 0 where
+  pub prelude : HasComeAlone 0 script.prelude loads entries records empty_world between (Ok (made, told))
   pub sides : HasReached (run_beside (length script.lanes) workers) (length script.lanes) workers (cursors_of 1 script.lanes told) made between after left
 
 module _ (loads : List Loaded) (script : Parts) (workers : ℕ) (entries records made told : List (List ℕ)) (between after : World)
-    (left : Option (List (List ℕ))) (went : SidesWent loads script workers entries records made told between after left) where
+    (left : Result (List (List ℕ)) SideStop) (went : SidesWent loads script workers entries records made told between after left) where
   -- how lanes and workers go on from where the prelude came
-  on_from : (came : Came) → HasComeAs between (Some came) (Some (made, told))
+  on_from : (came : Came) → HasComeAs between (Ok came) (Ok (made, told))
       → IsReachedAs came.history after
-      (phase_from (sides_of script workers came.history) [] (cursors_of 1 script.lanes came.records) came.entries) left
+      (phase_or (sides_of script workers came.history) [] (cursors_of 1 script.lanes came.records) came.entries) left
   on_from came is =
       let sides = sides_of script workers came.history in
-      let same : phase_from sides [] (cursors_of 1 script.lanes told) made ≡ phase_from sides [] (cursors_of 1 script.lanes came.records) came.entries =
-      ap (λ rs. phase_from sides [] (cursors_of 1 script.lanes rs) made) is.1
-      ∙ ap (phase_from sides [] (cursors_of 1 script.lanes came.records)) is.0 in
+      let same : phase_or sides [] (cursors_of 1 script.lanes told) made ≡ phase_or sides [] (cursors_of 1 script.lanes came.records) came.entries =
+      ap (λ rs. phase_or sides [] (cursors_of 1 script.lanes rs) made) is.1
+      ∙ ap (phase_or sides [] (cursors_of 1 script.lanes came.records)) is.0 in
       subst (λ p. IsReachedAs came.history after p left) same (went.sides.is came.history (sym is.2))
 
--- where lanes and workers don't go on as their texts say, these are none of a run
-pub sides_fail : (loads : List Loaded) (script : Parts) (workers : ℕ) (entries records made told : List (List ℕ)) (between after : World)
-    → SidesWent loads script workers entries records made told between after None → false ≡ are_checked loads script workers entries records
-sides_fail loads script workers entries records made told between after went =
-    by (serial_from 0 [] script.prelude loads entries records) (went.prelude.is [] refl)
+-- where lanes and workers stop, that is the misfit
+pub sides_stop : (loads : List Loaded) (script : Parts) (workers : ℕ) (entries records made told : List (List ℕ)) (between after : World) (stop : SideStop)
+    → SidesWent loads script workers entries records made told between after (Err stop)
+    → Some (side_misfit script entries records told stop) ≡ misfit_among loads script workers entries records
+sides_stop loads script workers entries records made told between after stop went =
+    by (serial_or 0 [] script.prelude loads entries records) (went.prelude.is [] refl)
   where
-    goes_on : (came : Came) (reached : Option Reached) → IsReachedAs came.history after reached None
-        → false ≡ goes_on_so script came.history came.records reached
-    goes_on came None is = refl
-    goes_on came (Some reached) is = absurd is
+    goes_on : (came : Came) → told ≡ came.records → (reached : Result Reached SideStop) → IsReachedAs came.history after reached (Err stop)
+        → Some (side_misfit script entries records told stop) ≡ goes_on_or script entries records came.history came.records reached
+    goes_on came same (Err other) is =
+        ap (λ (s : SideStop). Some (side_misfit script entries records told s)) is
+        ∙ ap (λ (rs : List (List ℕ)). Some (side_misfit script entries records rs other)) same
+    goes_on came same (Ok reached) is = absurd is
 
-    by : (came : Option Came) → HasComeAs between came (Some (made, told)) → false ≡ begins_so script workers came
-    by None is = absurd is
-    by (Some came) is = goes_on came _ (on_from loads script workers entries records made told between after None went came is)
+    by : (came : Result Came LineStop) → HasComeAs between came (Ok (made, told))
+        → Some (side_misfit script entries records told stop) ≡ begins_or script workers entries records came
+    by (Err other) is = absurd is
+    by (Ok came) is = goes_on came is.1 _ (on_from loads script workers entries records made told between after (Err stop) went came is)
 
 -- the last section decides behind them
 pub last_decides : (loads : List Loaded) (script : Parts) (workers : ℕ) (entries records made told : List (List ℕ)) (between after : World)
-    (left later : List (List ℕ)) (closed : World) (rest : Option Texts)
-    → SidesWent loads script workers entries records made told between after (Some left) → later ≡ after_lanes script.lanes told
+    (left later : List (List ℕ)) (closed : World) (rest : Result Texts LineStop)
+    → SidesWent loads script workers entries records made told between after (Ok left) → later ≡ after_lanes script.lanes told
     → HasComeAlone 0 script.last [] left later after closed rest
-    → option_map_or (λ (l : Texts). is_nil l.0 && is_nil l.1) rest false ≡ are_checked loads script workers entries records
+    → last_misfit entries records rest ≡ misfit_among loads script workers entries records
 last_decides loads script workers entries records made told between after left later closed rest went later_is last =
-    by (serial_from 0 [] script.prelude loads entries records) (went.prelude.is [] refl)
+    by (serial_or 0 [] script.prelude loads entries records) (went.prelude.is [] refl)
   where
-    all : Option Texts → Bool
-    all texts = option_map_or (λ (l : Texts). is_nil l.0 && is_nil l.1) texts false
-
-    goes_on : (came : Came) → told ≡ came.records → (reached : Option Reached) → IsReachedAs came.history after reached (Some left)
-        → all rest ≡ goes_on_so script came.history came.records reached
-    goes_on came same None is = absurd is
-    goes_on came same (Some reached) is =
+    goes_on : (came : Came) → told ≡ came.records → (reached : Result Reached SideStop) → IsReachedAs came.history after reached (Ok left)
+        → last_misfit entries records rest ≡ goes_on_or script entries records came.history came.records reached
+    goes_on came same (Err stop) is = absurd is
+    goes_on came same (Ok reached) is =
         let history = came.history ++ reached.added in
-        ends_as closed _ rest (last.is history (sym is.1))
-        ∙ ap (λ es. ends_so (serial_from 0 history script.last [] es later)) is.0
-        ∙ ap (λ rs. ends_so (serial_from 0 history script.last [] reached.left rs)) (later_is ∙ ap (after_lanes script.lanes) same)
+        ends_as entries records closed _ rest (last.is history (sym is.1))
+        ∙ ap (λ es. ends_or entries records (serial_or 0 history script.last [] es later)) is.0
+        ∙ ap (λ rs. ends_or entries records (serial_or 0 history script.last [] reached.left rs)) (later_is ∙ ap (after_lanes script.lanes) same)
 
-    by : (came : Option Came) → HasComeAs between came (Some (made, told)) → all rest ≡ begins_so script workers came
-    by None is = absurd is
-    by (Some came) is = goes_on came is.1 _ (on_from loads script workers entries records made told between after (Some left) went came is)
+    by : (came : Result Came LineStop) → HasComeAs between came (Ok (made, told))
+        → last_misfit entries records rest ≡ begins_or script workers entries records came
+    by (Err stop) is = absurd is
+    by (Ok came) is = goes_on came is.1 _ (on_from loads script workers entries records made told between after (Ok left) went came is)
 
 -- the lines of the lanes from a place on are those of the lane that stands there, and of the later ones
 pub lines_from : (lanes : List (List Line)) (i : ℕ) (lane : List Line) → slice_get lanes i ≡ Some lane
@@ -112,14 +119,43 @@ lines_from lanes i lane found =
 pub drop_on : {A : Type 0} (at n k : ℕ) (xs : List A) → k ≡ min n (length (drop at xs)) → drop (at + k) xs ≡ drop n (drop at xs)
 drop_on at n k xs few = ap (λ m. drop (at + m) xs) few ∙ sym (drop-drop (min n (length (drop at xs))) at xs) ∙ drop_min n (drop at xs)
 
--- behind the lane at a place come the later ones, from the texts behind its own on
+-- the first lanes up to a place and the one there
+lanes_up_to : (lanes : List (List Line)) (i : ℕ) (lane : List Line) → slice_get lanes i ≡ Some lane → take (suc i) lanes ≡ take i lanes ++ lane ∷ []
+lanes_up_to [] i lane found = absurd (cc)
+lanes_up_to (first ∷ lanes) zero lane found = let same : first ≡ lane = cc in λ i. same i ∷ []
+lanes_up_to (first ∷ lanes) (suc i) lane found = ap (λ (ls : List (List Line)). first ∷ ls) (lanes_up_to lanes i lane found)
+
+-- behind one lane more
+after_more : (lanes : List (List Line)) (lane : List Line) (texts : List (List ℕ))
+    → after_lanes (lanes ++ lane ∷ []) texts ≡ drop (length lane) (after_lanes lanes texts)
+after_more [] lane texts = refl
+after_more (first ∷ lanes) lane texts = after_more lanes lane (drop (length first) texts)
+
+-- behind the lanes up to a place and the one there come the texts behind its own
 pub after_turn : (lanes : List (List Line)) (i : ℕ) (lane : List Line) (at k : ℕ) (texts : List (List ℕ)) → slice_get lanes i ≡ Some lane
-    → k ≡ min (length lane) (length (drop at texts)) → after_lanes (drop (i + 1) lanes) (drop (at + k) texts) ≡ after_lanes (drop i lanes) (drop at texts)
-after_turn lanes i lane at k texts found few =
+    → k ≡ min (length lane) (length (drop at texts)) → after_lanes (take i lanes) texts ≡ drop at texts
+    → after_lanes (take (i + 1) lanes) texts ≡ drop (at + k) texts
+after_turn lanes i lane at k texts found few so_far =
     let next : i + 1 ≡ suc i = omega arith in
-    ap (λ n. after_lanes (drop n lanes) (drop (at + k) texts)) next
-    ∙ ap (after_lanes (drop (suc i) lanes)) (drop_on at (length lane) k texts few)
-    ∙ sym (ap (λ ls. after_lanes ls (drop at texts)) (list_from lanes i lane found))
+    ap (λ (n : ℕ). after_lanes (take n lanes) texts) next
+    ∙ ap (λ (ls : List (List Line)). after_lanes ls texts) (lanes_up_to lanes i lane found)
+    ∙ after_more (take i lanes) lane texts
+    ∙ ap (drop (length lane)) so_far
+    ∙ sym (drop_on at (length lane) k texts few)
+
+-- behind all lanes
+pub after_all : (lanes : List (List Line)) (count : ℕ) (texts later : List (List ℕ)) → count ≡ length lanes → later ≡ after_lanes (take count lanes) texts
+    → later ≡ after_lanes lanes texts
+after_all lanes count texts later all is = is ∙ ap (λ (ls : List (List Line)). after_lanes ls texts) (take_all count lanes (omega arith))
+
+-- behind the lanes up to a seat
+pub after_seat : (lanes : List (List Line)) (seat count len : ℕ) (texts : List (List ℕ)) → count ≡ min (length lanes) seat
+    → len ≡ length (after_lanes (take count lanes) texts) → len ≡ length (after_lanes (take seat lanes) texts)
+after_seat lanes seat count len texts few is =
+    let turned : count ≡ min seat (length lanes) = omega arith in
+    is
+    ∙ ap (λ (n : ℕ). length (after_lanes (take n lanes) texts)) turned
+    ∙ ap (λ (ls : List (List Line)). length (after_lanes ls texts)) (take_min seat lanes)
 
 -- the cursors of the lanes from a place on are that of the lane there, with its texts, and those of the later ones
 pub cursors_turn : (lanes : List (List Line)) (i : ℕ) (lane : List Line) (at k : ℕ) (texts : List (List ℕ)) → slice_get lanes i ≡ Some lane
@@ -137,7 +173,7 @@ cursors_turn lanes i lane at k texts found few =
 
 -- the same section, from the same world, with the same end
 pub alone_as : (seat : ℕ) (lines lines' : List Line) (loads : List Loaded) (entries records : List (List ℕ)) (world world' after : World)
-    (rest rest' : Option Texts) → lines ≡ lines' → world ≡ world' → rest ≡ rest'
+    (rest rest' : Result Texts LineStop) → lines ≡ lines' → world ≡ world' → rest ≡ rest'
     → HasComeAlone seat lines loads entries records world after rest → HasComeAlone seat lines' loads entries records world' after rest'
 alone_as seat lines lines' loads entries records world world' after rest rest' l w r gone =
     subst (HasComeAlone seat lines' loads entries records world' after) r
@@ -145,14 +181,8 @@ alone_as seat lines lines' loads entries records world world' after rest rest' l
     (subst (λ (ls : List Line). HasComeAlone seat ls loads entries records world after rest) l gone))
 
 -- the same lanes, with the same end
-pub sides_as : (lanes workers : ℕ) (cursors : List Cursor) (entries : List (List ℕ)) (world after : World) (left left' : Option (List (List ℕ)))
+pub sides_as : (lanes workers : ℕ) (cursors : List Cursor) (entries : List (List ℕ)) (world after : World) (left left' : Result (List (List ℕ)) SideStop)
     → left ≡ left' → HasReached (run_beside lanes workers) lanes workers cursors entries world after left
     → HasReached (run_beside lanes workers) lanes workers cursors entries world after left'
 sides_as lanes workers cursors entries world after left left' l went =
     subst (HasReached (run_beside lanes workers) lanes workers cursors entries world after) l went
-
--- whether nothing is left, of what is seen of a value
-pub all_seen : {A : Type 0} (seen : A → Texts) (o : Option A)
-    → option_map_or (λ x. is_nil (seen x).0 && is_nil (seen x).1) o false ≡ option_map_or (λ (l : Texts). is_nil l.0 && is_nil l.1) (option_map seen o) false
-all_seen seen None = refl
-all_seen seen (Some x) = refl

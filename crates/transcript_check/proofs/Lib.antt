@@ -1,4 +1,5 @@
 pub mod BlockLemmas
+pub mod OffsetLemmas
 pub mod PlainLemmas
 pub mod EntryBlocks
 pub mod FoundBlocks
@@ -32,4 +33,6 @@ pub mod SeatLemmas
 pub mod TakenLemmas
 pub mod ReachLemmas
 pub mod AloneLemmas
-pub mod JudgedLemmas
+pub mod MisfitLemmas
+pub mod MeaningLemmas
+pub mod FirstLemmas

@@ -1,10 +1,13 @@
 -- Lanes and workers side by side, from what the code found.
-use Rattle.std.proofs.Common.{ℕ, ◌≡◌, ◌+◌, ◌<◌, ◌≤◌, Bool, true, false, cond, not, ◌&&◌, leb, List, [], ◌∷◌, ◌++◌, map, length, refl, sym, ap, ◌∙◌, subst, append_assoc, Some, None, Option, Result, Ok, Err, IfOk}
+use Rattle.std.proofs.Common.{ℕ, zero, suc, ◌≡◌, ◌+◌, ◌<◌, ◌≤◌, get_or, arith, Bool, true, false, cond, not, ◌&&◌, leb, List, [], ◌∷◌, ◌++◌, map, length, refl, sym, ap, ◌∙◌, subst, append_assoc, Some, None, Option, Result, Ok, Err, IfOk}
 use Rattle.std.specs.Prelude.{if◌then◌else◌, bytes_eq, is_none}
-use Rattle.std.specs.Option.{option_and_then}
+use Rattle.std.specs.List.{find, position}
+use Rattle.std.proofs.lemmas.List.Quantifiers.{position-Some}
+use Rattle.std.specs.Option.{option_and_then, option_map_or}
 use Rattle.std.proofs.lemmas.List.{append-nil}
 use Rattle.std.proofs.lemmas.Bool.{false≢true, cond-true, cond-false, le-leb, lt-leb}
 use Rattle.list_laws.proofs.BoolLemmas.{bool_cases}
+use Rattle.list_laws.proofs.PositionLemmas.{position-None}
 use Rattle.write_history.specs.declared.entry.Entry.{Entry}
 use Rattle.write_history.specs.World.{World, file_of}
 use Rattle.write_history.specs.Effect.{stamp_of}
@@ -14,7 +17,11 @@ use Rattle.ide_calls.specs.Settle.{intake_of, intake_entry}
 use Rattle.transcripts.specs.Fits.{made_by}
 use Rattle.transcript_check.specs.Reading.{seat_in, file_in}
 use Rattle.transcript_check.specs.Section.{Cursor, told_here}
-use Rattle.transcript_check.specs.Phase.{Sides, Went, Reached, is_seat, is_busy, section_went, has_taken, worker_went, seat_went, printed_so, next_went, all_told, reached, phase_from}
+use Rattle.transcript_check.specs.Phase.{Sides, Went, Reached, is_seat, is_busy, section_went, has_taken, worker_went, seat_went, printed_so, next_went, all_told}
+use Rattle.transcript_check.specs.declared.stop.LineStop.{LineStop}
+use Rattle.transcript_check.specs.declared.stop.SideStop.{SideStop}
+use Rattle.transcript_check.specs.declared.stop.SideStop.TheVariants as side
+use Rattle.transcript_check.specs.Stops.{waits, waits_at, left_or, reached_or, phase_or}
 use Rattle.transcript_check.specs.Here.{goes_in, AreToldAll}
 use Rattle.transcript_check.specs.Going.{IsReachedAs, HasReached}
 use Rattle.transcript_check.specs.Taken.{Taking, AreKept}
@@ -121,12 +128,13 @@ worker_gone counts folds lanes seat world after taken taken' cursors text (Ok we
 -- ENTRY BY ENTRY
 
 -- going on where all records that are told here are behind the sections
-abbrev pub told_phase : Sides → List Entry → List Cursor → List (List ℕ) → Option Reached
-told_phase sides added cursors [] = reached added cursors []
+abbrev pub told_phase : Sides → List Entry → List Cursor → List (List ℕ) → Result Reached SideStop
+told_phase sides added cursors [] = reached_or added cursors []
 told_phase sides added cursors (text ∷ texts) =
     if is_seat sides (seat_in text)
-    then option_and_then (λ (w : Went). phase_from sides (added ++ w.entry ∷ []) w.cursors texts) (next_went sides added cursors text)
-    else reached added cursors (text ∷ texts)
+    then option_map_or (λ (w : Went). phase_or sides (added ++ w.entry ∷ []) w.cursors texts) (next_went sides added cursors text)
+    (Err (side.Entry (seat_in text) (length (text ∷ texts))))
+    else reached_or added cursors (text ∷ texts)
 
 -- who runs side by side behind a history
 abbrev pub sides_behind : Bool → ℕ → ℕ → List Entry → Sides
@@ -136,7 +144,7 @@ sides_behind beside lanes workers before = record { beside = beside; lanes = lan
 pub record HasGoneOn (sides : Sides) (start cursors : List Cursor) (entries left : List (List ℕ)) (now : World) (taken : List Taking) : Type 0 where
   pub added : List Entry
   pub leads : now ≡ fold (sides.before ++ added)
-  pub goes : phase_from sides [] start entries ≡ told_phase sides added cursors left
+  pub goes : phase_or sides [] start entries ≡ told_phase sides added cursors left
   pub kept : AreKept sides.lanes taken added
 
 -- the same behind each history that leads to a world
@@ -145,7 +153,7 @@ pub record AreOnTheWay (beside : Bool) (lanes workers : ℕ) (start cursors : Li
   pub is : (before : List Entry) → fold before ≡ world → HasGoneOn (sides_behind beside lanes workers before) start cursors entries left now taken
 
 told_is : (sides : Sides) (added : List Entry) (cursors : List Cursor) (texts : List (List ℕ))
-    → phase_from sides added cursors texts ≡ told_phase sides added (all_told sides added cursors) texts
+    → phase_or sides added cursors texts ≡ told_phase sides added (all_told sides added cursors) texts
 told_is sides added cursors [] = refl
 told_is sides added cursors (text ∷ texts) = refl
 
@@ -153,12 +161,15 @@ told_is sides added cursors (text ∷ texts) = refl
 by_next : (sides : Sides) (start cursors : List Cursor) (entries later : List (List ℕ)) (text : List ℕ) (now : World) (taken : List Taking)
     (way : HasGoneOn sides start cursors entries (text ∷ later) now taken) (next : Option Went) → is_seat sides (seat_in text) ≡ true
     → next_went sides way.added cursors text ≡ next
-    → phase_from sides [] start entries ≡ option_and_then (λ (w : Went). phase_from sides (way.added ++ w.entry ∷ []) w.cursors later) next
+    → phase_or sides [] start entries ≡ option_map_or (λ (w : Went). phase_or sides (way.added ++ w.entry ∷ []) w.cursors later) next
+    (Err (side.Entry (seat_in text) (length (text ∷ later))))
 by_next sides start cursors entries later text now taken way next here is =
-    let on : Went → Option Reached = λ w. phase_from sides (way.added ++ w.entry ∷ []) w.cursors later in
+    let on : Went → Result Reached SideStop = λ w. phase_or sides (way.added ++ w.entry ∷ []) w.cursors later in
+    let stop : Result Reached SideStop = Err (side.Entry (seat_in text) (length (text ∷ later))) in
     way.goes
-    ∙ cond-true (is_seat sides (seat_in text)) (option_and_then on (next_went sides way.added cursors text)) (reached way.added cursors (text ∷ later)) here
-    ∙ ap (option_and_then on) is
+    ∙ cond-true (is_seat sides (seat_in text)) (option_map_or on (next_went sides way.added cursors text) stop)
+    (reached_or way.added cursors (text ∷ later)) here
+    ∙ ap (λ (o : Option Went). option_map_or on o stop) is
 
 -- the next entry went in, and all go behind what is told there
 goes_on : (sides : Sides) (start cursors cursors' told : List Cursor) (entries later : List (List ℕ)) (text : List ℕ) (now after : World)
@@ -185,9 +196,11 @@ stays_here : (sides : Sides) (start cursors cursors' : List Cursor) (entries lat
     (taken taken' : List Taking) (went : Bool) (way : HasGoneOn sides start cursors entries (text ∷ later) now taken) (next : Option Went)
     → is_seat sides (seat_in text) ≡ true → next_went sides way.added cursors text ≡ next
     → IsNextGone next sides.lanes sides.before way.added after taken' cursors' went → went ≡ false
-    → IsReachedAs sides.before after (phase_from sides [] start entries) None
+    → IsReachedAs sides.before after (phase_or sides [] start entries) (Err (side.Entry (seat_in text) (length (text ∷ later))))
 stays_here sides start cursors cursors' entries later text now after taken taken' went way None here is gone stays =
-    subst (λ (r : Option Reached). IsReachedAs sides.before after r None) (sym (by_next sides start cursors entries later text now taken way None here is)) tt
+    let stop : SideStop = side.Entry (seat_in text) (length (text ∷ later)) in
+    subst (λ (r : Result Reached SideStop). IsReachedAs sides.before after r (Err stop))
+    (sym (by_next sides start cursors entries later text now taken way None here is)) refl
 stays_here sides start cursors cursors' entries later text now after taken taken' went way (Some w) here is gone stays =
     absurd (false≢true (sym stays ∙ gone.0))
 
@@ -235,11 +248,87 @@ module _ (beside : Bool) (lanes workers : ℕ) (start : List Cursor) (entries : 
     }
 
     -- the next one doesn't
-    pub none_on : went ≡ false → HasReached beside lanes workers start entries world after None
-    none_on stays = record {
+    pub none_on : (count : ℕ) → count ≡ length left → went ≡ false
+        → HasReached beside lanes workers start entries world after (Err (side.Entry seat count))
+    none_on count counted stays = record {
       is = λ before leads. (
           let sides : Sides = sides_behind beside lanes workers before in
           let h = way_is before leads in
-          stays_here sides start cursors cursors' entries later text now after taken taken' went h (next_went sides h.added cursors text) here.1 refl
-          (next_is before leads) stays);
+          let many : count ≡ length (text ∷ later) = counted ∙ ap length stands in
+          subst (λ (n : ℕ). IsReachedAs before after (phase_or sides [] start entries) (Err (side.Entry n count))) (sym here.0)
+          (subst (λ (n : ℕ). IsReachedAs before after (phase_or sides [] start entries) (Err (side.Entry (seat_in text) n))) (sym many)
+          (stays_here sides start cursors cursors' entries later text now after taken taken' went h (next_went sides h.added cursors text) here.1 refl
+          (next_is before leads) stays)));
     }
+
+  -- what is left where no text is of a seat here: all is over, or a section waits
+  over_as : (before added : List Entry) (now : World) (left : List (List ℕ)) → now ≡ fold (before ++ added) → (o : Option Cursor)
+      → IsReachedAs before now (option_map_or (λ (c : Cursor). Err (side.Line (waits_at c left))) o (Ok (record { added = added; left = left })))
+      (option_map_or (λ (c : Cursor). Err (side.Line (waits_at c left))) o (Ok left))
+  over_as before added now left leads None = (refl, leads)
+  over_as before added now left leads (Some c) = refl
+
+  module _ (now : World) (taken : List Taking) (cursors : List Cursor) (told : Result (List (List ℕ)) SideStop) where
+    over_from : (left : List (List ℕ)) → told ≡ left_or cursors left
+        → ((before added : List Entry) → told_phase (sides_behind beside lanes workers before) added cursors left ≡ reached_or added cursors left)
+        → AreOnTheWay beside lanes workers start cursors entries left world now taken → HasReached beside lanes workers start entries world now told
+    over_from left told_is ends way = record {
+      is = λ before leads. (
+          let h = way.is before leads in
+          subst (λ (r : Result Reached SideStop). IsReachedAs before now r told) (sym (h.goes ∙ ends before h.added))
+          (subst (λ (t : Result (List (List ℕ)) SideStop). IsReachedAs before now (reached_or h.added cursors left) t) (sym told_is)
+          (over_as before h.added now left h.leads (find waits cursors))));
+    }
+
+    -- no text is left
+    pub over_end : told ≡ left_or cursors [] → AreOnTheWay beside lanes workers start cursors entries [] world now taken
+        → HasReached beside lanes workers start entries world now told
+    over_end told_is way = over_from [] told_is (λ before added. refl) way
+
+    -- the next text is of no seat here
+    pub over_before : (text : List ℕ) (later left : List (List ℕ)) → left ≡ text ∷ later → told ≡ left_or cursors left
+        → (leb 1 (seat_in text) && leb (seat_in text) (lanes + workers)) ≡ false
+        → AreOnTheWay beside lanes workers start cursors entries left world now taken → HasReached beside lanes workers start entries world now told
+    over_before text later left stands told_is none way =
+        over_from left told_is
+        (λ before added. (
+        let sides : Sides = sides_behind beside lanes workers before in
+        let next : Result Reached SideStop = option_map_or (λ (w : Went). phase_or sides (added ++ w.entry ∷ []) w.cursors later)
+        (next_went sides added cursors text) (Err (side.Entry (seat_in text) (length (text ∷ later)))) in
+        subst (λ (l : List (List ℕ)). told_phase sides added cursors l ≡ reached_or added cursors l) (sym stands)
+        (cond-false (is_seat sides (seat_in text)) next (reached_or added cursors (text ∷ later)) none)))
+        way
+
+-- THE FIRST SECTION THAT WAITS
+
+-- the first element that passes a test is found
+find_first : {A : Type 0} (test : A → Bool) (xs : List A) (i : ℕ) (d : A) → i < length xs → test (get_or xs i d) ≡ true
+    → ((k : ℕ) → k < i → test (get_or xs k d) ≡ false) → find test xs ≡ Some (get_or xs i d)
+find_first test [] i d within passes before = absurd (omega (arith, within))
+find_first test (x ∷ xs) zero d within passes before = cond-true (test x) (Some x) (find test xs) passes
+find_first test (x ∷ xs) (suc i) d within passes before =
+    cond-false (test x) (Some x) (find test xs) (before 0 (omega arith))
+    ∙ find_first test xs i d (omega (arith, within)) passes (λ k less. before (suc k) (omega (arith, less)))
+
+-- none is where none passes
+find_none : {A : Type 0} (test : A → Bool) (xs : List A) → ((k : ℕ) (d : A) → k < length xs → test (get_or xs k d) ≡ false) → find test xs ≡ None
+find_none test [] fails = refl
+find_none test (x ∷ xs) fails =
+    cond-false (test x) (Some x) (find test xs) (fails 0 x (omega arith))
+    ∙ find_none test xs (λ k d less. fails (suc k) d (omega (arith, less)))
+
+-- no section waits
+pub none_waits : (cursors : List Cursor) (left texts : List (List ℕ)) → position waits cursors ≡ None → texts ≡ left → Ok texts ≡ left_or cursors left
+none_waits cursors left texts none same =
+    ap Ok same
+    ∙ sym (ap (λ (o : Option Cursor). option_map_or (λ (c : Cursor). Err (side.Line (waits_at c left))) o (Ok left))
+    (find_none waits cursors (λ k d less. position-None waits cursors none k d less)))
+
+-- the one at the place that was found does
+pub one_waits : (cursors : List Cursor) (left : List (List ℕ)) (place : ℕ) (cursor : Cursor) (stop : LineStop) → position waits cursors ≡ Some place
+    → cursor ≡ get_or cursors place cursor → stop ≡ waits_at cursor left → Err (side.Line stop) ≡ left_or cursors left
+one_waits cursors left place cursor stop found is stop_is =
+    let first = position-Some waits cursors place cursor found in
+    ap (λ (s : LineStop). Err (side.Line s)) (stop_is ∙ ap (λ (c : Cursor). waits_at c left) is)
+    ∙ sym (ap (λ (o : Option Cursor). option_map_or (λ (c : Cursor). Err (side.Line (waits_at c left))) o (Ok left))
+    (find_first waits cursors place cursor first.0 first.1 first.2))

@@ -5,6 +5,9 @@ pub mod Checked
 pub mod Blocks
 pub mod Texts
 pub mod Verdict
+pub mod Stops
+pub mod Misfit
+pub mod Meaning
 pub mod Here
 pub mod Numbers
 pub mod Going

@@ -1,6 +1,5 @@
 -- How lanes and workers go on side by side in a world, said of every history that leads there.
-use Rattle.std.specs.Prelude.{ℕ, ◌≡◌, ◌+◌, ◌||◌, ◌&&◌, not, Bool, true, false, List, [], ◌∷◌, ◌++◌, length, Option, Some, None, if◌then◌else◌, bytes_eq}
-use Rattle.std.specs.List.{list_all}
+use Rattle.std.specs.Prelude.{ℕ, ◌≡◌, ◌+◌, ◌||◌, ◌&&◌, not, Bool, true, false, List, [], ◌∷◌, ◌++◌, length, Option, Some, None, bytes_eq}
 use Rattle.write_history.specs.declared.entry.Entry.{Entry}
 use Rattle.write_history.specs.World.{World, file_of}
 use Rattle.write_history.specs.Effect.{stamp_of}
@@ -8,7 +7,7 @@ use Rattle.write_history.specs.Fold.{fold, after_list}
 use Rattle.write_history.specs.Print.{entry_line}
 use Rattle.ide_calls.specs.Settle.{intake_of}
 use Rattle.transcript_check.specs.Reading.{seat_in}
-use Rattle.transcript_check.specs.Section.{Cursor, is_over}
+use Rattle.transcript_check.specs.Section.{Cursor}
 use Rattle.transcript_check.specs.Phase.{Sides, Went, is_busy, section_went, next_went}
 use Rattle.transcript_check.specs.Here.{goes_in}
 use Rattle.transcript_check.specs.Taken.{Taking, is_taking, is_among, AreKept}
@@ -54,7 +53,3 @@ pub record HasSeatGone (lanes : ℕ) (world after : World) (taken taken' : List 
     (went : Bool) : Type 0 where
   pub is : (sides : Sides) (added : List Entry) → sides.lanes ≡ lanes → seat_in text ≡ seat → fold (sides.before ++ added) ≡ world
       → AreKept lanes taken added → IsNextGone (next_went sides added cursors text) lanes sides.before added after taken' cursors' went
-
--- the texts that are left, where each section is over
-abbrev pub left_where_over : List Cursor → List (List ℕ) → Option (List (List ℕ))
-left_where_over cursors left = if list_all is_over cursors then Some left else None

@@ -1,5 +1,6 @@
 //! A section that goes alone, line by line.
 ghost use Rattle.std.specs.Prelude.{◌≡◌, IfOk, false, option_map, unwrap_or, bytes_eq};
+ghost use Rattle.std.specs.Result.{result_map_both};
 ghost use Rattle.write_history.specs.declared.change.Change.TheVariants.{Create};
 ghost use Rattle.script_lang.specs.declared.command.Command.TheVariants as command;
 ghost use Rattle.script_lang.specs.Held.{AreOfPrelude, IsOfLine};
@@ -12,6 +13,7 @@ ghost use Rattle.transcript_check.specs.Going.{HasComeAlone};
 use crate::answering::settle_goes_on;
 use crate::block::Block;
 use crate::cursor::{change_so, take_lowest_so};
+use crate::stop::LineStop;
 use crate::told::is_answered_so;
 use ide_calls::laws::a_settle_goes_by_the_lowest;
 use ide_text::{Name, SharedText};
@@ -38,8 +40,8 @@ impl<'a> Model for Texts<'a> {
 }
 
 /// Goes through the lines of a section in order, of each of which this was read: what a line adds is printed by the next
-/// texts of entries, and its record by the next text of records. Gives the texts that are left, or none where one doesn't
-/// fit. It costs what the lines do.
+/// texts of entries, and its record by the next text of records. Gives the texts that are left, or the first line that
+/// doesn't go so. It costs what the lines do.
 pub(crate) fn come_alone<'a>(
     alloc: Global,
     replay: &mut Replay,
@@ -48,21 +50,27 @@ pub(crate) fn come_alone<'a>(
     loads: &[Loaded],
     entries: &'a [Block<'a>],
     records: &'a [Block<'a>],
-) -> Result<Option<(&'a [Block<'a>], &'a [Block<'a>])>, AllocError>
+) -> Result<Result<(&'a [Block<'a>], &'a [Block<'a>]), LineStop>, AllocError>
     requires { AreOfPrelude lines.now }
     ensures { IfOk result (λ left. HasComeAlone seat lines.now loads.now entries.now records.now replay.old replay.new
-        (option_map (λ l. (l.0.now, l.1.now)) left)) }
+        (result_map_both (λ l. (l.0.now, l.1.now)) (λ stop. stop) left)) }
 {
     let mut made = Texts { left: entries };
     for (at, line) in lines.iter().enumerate() {
+        let stop = LineStop {
+            seat,
+            line: line.number,
+            entries: made.left.len(),
+            records: records.len() - at,
+        };
         let Some(text) = records.get(at) else {
-            return Ok(None);
+            return Ok(Err(stop));
         };
         if !line_so(alloc, replay, seat, line, loads.get(at), text, &mut made)? {
-            return Ok(None);
+            return Ok(Err(stop));
         }
     }
-    Ok(Some((made.left, &records[lines.len()..])))
+    Ok(Ok((made.left, &records[lines.len()..])))
 }
 
 /// Goes behind a line, of which this was read.

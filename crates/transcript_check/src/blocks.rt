@@ -1,5 +1,5 @@
 //! Cutting a transcript into blocks, and the laws of it: functions that do nothing, whose contracts are the laws.
-ghost use Rattle.std.specs.Prelude.{◌≡◌, ◌^◌, ◌<◌, ℕ, List, [], ◌∷◌, IfOk, All};
+ghost use Rattle.std.specs.Prelude.{◌≡◌, ◌^◌, ◌<◌, ℕ, List, [], ◌∷◌, IfOk, All, length, take};
 ghost use Rattle.std.specs.List.{concat};
 ghost use Rattle.write_history.specs.declared.change.Change.TheVariants.{Intake};
 ghost use Rattle.write_history.specs.declared.entry.Entry.{Entry};
@@ -34,6 +34,19 @@ pub(crate) fn cut(alloc: Global, bytes: &[u8]) -> Result<Vec<Block<'_>>, AllocEr
         left = later;
     }
     Ok(parts)
+}
+
+/// How many bytes stand before the block with this number, counted from 0: where it begins, or all bytes where there are no
+/// so many. It goes over the bytes up to there, and takes a step for each number.
+pub fn offset_of(bytes: &[u8], block: usize) -> usize
+    ensures { result ≡ length (concat (take block (blocks_of bytes.now))) }
+{
+    let mut left = bytes;
+    for _number in 0..block {
+        let (_, later) = left.split_at(first_len(left));
+        left = later;
+    }
+    bytes.len() - left.len()
 }
 
 /// How many bytes the first block has.

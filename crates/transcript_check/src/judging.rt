@@ -1,31 +1,31 @@
 //! Judging bytes by going through them once.
-ghost use Rattle.std.specs.Prelude.{◌≡◌, ◌≢◌, ◌≤◌, ◌-◌, ◌↔◌, ◌&&◌, IfOk, OnOk, Err, false, length, min, option_map};
+ghost use Rattle.std.specs.Prelude.{◌≡◌, ◌≢◌, ◌≤◌, ◌-◌, ◌↔◌, IfOk, OnOk, Err, None, length, is_none};
 ghost use Rattle.std.specs.List.{flat_map};
-ghost use Rattle.std.specs.Option.{option_map_or};
+ghost use Rattle.std.specs.Result.{result_map_both};
 ghost use Rattle.ide_io.specs.Asks.{AsksEach, AsksFront, AsksSome};
 ghost use Rattle.ide_io.specs.Fault.{HasFault};
 ghost use Rattle.write_history.specs.World.{empty_world};
 ghost use Rattle.transcripts.specs.Fits.{run_beside};
 ghost use Rattle.transcripts.specs.Loads.{paths_of};
-ghost use Rattle.transcript_check.specs.Checked.{are_checked};
 ghost use Rattle.transcript_check.specs.Going.{HasReached};
-ghost use Rattle.transcript_check.specs.Phase.{after_lanes, cursors_of};
-ghost use Rattle.transcript_check.specs.Section.{is_nil};
+ghost use Rattle.transcript_check.specs.Phase.{cursors_of};
 ghost use Rattle.transcript_check.specs.Texts.{history_line};
 ghost use Rattle.transcripts.specs.Play.{IsTranscriptOf};
-ghost use Rattle.transcript_check.specs.declared.result.Verdict.TheVariants.{Good};
-ghost use Rattle.transcript_check.specs.Verdict.{Judges, are_blocks_of, entries_among, told_verdict, verdict_of};
+ghost use Rattle.transcript_check.specs.Verdict.{Judges, entries_among, told_verdict};
+ghost use Rattle.transcript_check.specs.Misfit.{FindsMisfit, last_misfit, misfit_among, misfit_in, misfit_of};
 
 use crate::alone::come_alone;
 use crate::block::Block;
 use crate::blocks::cut;
-use crate::cursor::Cursor;
+use crate::lanes::{after_lanes, cursors_of};
 use crate::laws::a_verdict_is_good_for_transcripts_alone;
+use crate::placing::{left_misfit, line_misfit, side_misfit};
 use crate::sides::reach;
-use crate::{Verdict, VerdictRefusal};
+use crate::stop::{LineStop, SideStop};
+use crate::{Misfit, Verdict, VerdictRefusal};
 use ide_io::Tree;
 use replay::Replay;
-use script_lang::{Line, Script};
+use script_lang::Script;
 use std::alloc::{AllocError, Global};
 use transcripts::{LoadRefusal, Loaded, read_loads};
 
@@ -48,75 +48,102 @@ pub fn verdict<T: Tree>(
     ensures files { T.files tree.new ≡ T.files tree.old }
     ensures quiet { result ≢ Err VerdictRefusal.TreeFault → T.faults tree.new ≡ T.faults tree.old }
 {
+    let found = first_misfit(alloc, script, workers, tree, bytes)?;
+    Ok(verdict_of(found))
+}
+
+/// The verdict on bytes whose first misfit is this.
+fn verdict_of(found: Option<Misfit>) -> Verdict
+    ensures { result ≡ told_verdict (is_none found) }
+{
+    match found {
+        None => Verdict::Good,
+        Some(_) => Verdict::Bad,
+    }
+}
+
+/// The first block that doesn't fit, and why, as going through the bytes for the verdict on them meets it, where the loads
+/// read what the tree gives: none exactly where they are a transcript of the script with so many workers. For people; the
+/// tree is asked, and it costs, as for the verdict.
+pub fn first_misfit<T: Tree>(
+    alloc: Global,
+    script: &Script,
+    workers: u32,
+    tree: &mut T,
+    bytes: &[u8],
+) -> Result<Option<Misfit>, VerdictRefusal>
+    requires few { workers ≤ 8 }
+    ensures misfit { IfOk result (FindsMisfit (T.files tree.old) script.now workers bytes.now) }
+    ensures asks { AsksFront T.asks tree.old (paths_of script.now.prelude) tree.new }
+    ensures asks_each { OnOk result (AsksEach T.asks tree.old (paths_of script.now.prelude) tree.new) }
+    ensures asks_some { result ≡ Err VerdictRefusal.TreeFault → AsksSome T.asks tree.old (paths_of script.now.prelude) tree.new }
+    ensures fault { result ≡ Err VerdictRefusal.TreeFault → HasFault (T.faults tree.old) (T.faults tree.new) }
+    ensures files { T.files tree.new ≡ T.files tree.old }
+    ensures quiet { result ≢ Err VerdictRefusal.TreeFault → T.faults tree.new ≡ T.faults tree.old }
+{
     let loads = match read_loads(alloc, script.prelude(), tree) {
         Ok(loads) => loads,
         Err(LoadRefusal::TreeFault) => return Err(VerdictRefusal::TreeFault),
         Err(LoadRefusal::OutOfMemory) => return Err(VerdictRefusal::OutOfMemory),
     };
     match judged(alloc, script, workers, &loads, bytes) {
-        Ok(verdict) => Ok(verdict),
+        Ok(found) => Ok(found),
         Err(_) => Err(VerdictRefusal::OutOfMemory),
     }
 }
 
-/// Whether the bytes are a transcript, where this was read for the loads.
+/// The first misfit, where this was read for the loads.
 fn judged(
     alloc: Global,
     script: &Script,
     workers: u32,
     loads: &[Loaded],
     bytes: &[u8],
-) -> Result<Verdict, AllocError>
+) -> Result<Option<Misfit>, AllocError>
     requires { workers ≤ 8 }
-    ensures { IfOk result (λ verdict. (verdict ≡ Good) ↔ IsTranscriptOf loads.now script.now workers bytes.now) }
+    ensures is { IfOk result (λ found. found ≡ misfit_of loads.now script.now workers bytes.now) }
+    ensures none { IfOk result (λ found. (found ≡ None) ↔ IsTranscriptOf loads.now script.now workers bytes.now) }
 {
     a_verdict_is_good_for_transcripts_alone();
     script.is_of_script();
-    Ok(verdict_of(is_good(alloc, script, workers, loads, bytes)?))
+    misfit_of(alloc, script, workers, loads, bytes)
 }
 
-/// The verdict on bytes that are found good or not.
-fn verdict_of(good: bool) -> Verdict
-    ensures { result ≡ told_verdict good }
-{
-    if good { Verdict::Good } else { Verdict::Bad }
-}
-
-/// Whether the bytes are found good, where this was read for the loads.
-fn is_good(
+/// The first misfit of bytes, where this was read for the loads.
+fn misfit_of(
     alloc: Global,
     script: &Script,
     workers: u32,
     loads: &[Loaded],
     bytes: &[u8],
-) -> Result<bool, AllocError>
+) -> Result<Option<Misfit>, AllocError>
     requires { workers ≤ 8 }
-    ensures { IfOk result (λ good. good ≡ verdict_of loads.now script.now workers bytes.now) }
+    ensures { IfOk result (λ found. found ≡ misfit_of loads.now script.now workers bytes.now) }
 {
     let blocks = cut(alloc, bytes)?;
-    are_blocks_of(alloc, script, workers, loads, &blocks)
+    misfit_in(alloc, script, workers, loads, &blocks)
 }
 
-/// Whether blocks are those of a transcript: the first tells how many of the others are entries.
-fn are_blocks_of(
+/// The first misfit among blocks: the first one tells how many of the others are entries.
+fn misfit_in(
     alloc: Global,
     script: &Script,
     workers: u32,
     loads: &[Loaded],
     blocks: &[Block<'_>],
-) -> Result<bool, AllocError>
+) -> Result<Option<Misfit>, AllocError>
     requires { workers ≤ 8 }
-    ensures { IfOk result (λ are. are ≡ are_blocks_of loads.now script.now workers blocks.now) }
+    ensures { IfOk result (λ found. found ≡ misfit_in loads.now script.now workers blocks.now) }
 {
     let Some((first, others)) = blocks.split_first() else {
-        return Ok(false);
+        return Ok(Some(Misfit::NoBlock));
     };
     let count = entries_among(script, others);
     if !first.is(&history_line(alloc, count)?) {
-        return Ok(false);
+        return Ok(Some(Misfit::History { entries: count }));
     }
     let (entries, records) = others.split_at(count);
-    are_checked(alloc, script, workers, loads, entries, records)
+    misfit_among(alloc, script, workers, loads, entries, records)
 }
 
 /// The line that tells how many entries a history has.
@@ -146,23 +173,23 @@ fn without_lanes(script: &Script, count: usize) -> usize
     left
 }
 
-/// Whether these are the texts of the entries and of the records of a run.
-fn are_checked(
+/// The first misfit among the texts of entries and records.
+fn misfit_among(
     alloc: Global,
     script: &Script,
     workers: u32,
     loads: &[Loaded],
     entries: &[Block<'_>],
     records: &[Block<'_>],
-) -> Result<bool, AllocError>
+) -> Result<Option<Misfit>, AllocError>
     requires { workers ≤ 8 }
-    ensures { IfOk result (λ checked. checked ≡ are_checked loads.now script.now workers entries.now records.now) }
+    ensures { IfOk result (λ found. found ≡ misfit_among loads.now script.now workers entries.now records.now) }
 {
     let mut replay = Replay::empty(alloc);
     goes_through(alloc, &mut replay, script, workers, loads, entries, records)
 }
 
-/// Whether a workspace without a file, and without an entry, goes through the texts of a run.
+/// Goes through the texts of a run with a workspace without a file, and without an entry, up to the first misfit.
 fn goes_through(
     alloc: Global,
     replay: &mut Replay,
@@ -171,26 +198,28 @@ fn goes_through(
     loads: &[Loaded],
     entries: &[Block<'_>],
     records: &[Block<'_>],
-) -> Result<bool, AllocError>
+) -> Result<Option<Misfit>, AllocError>
     requires few { workers ≤ 8 }
     requires empty { replay.old ≡ empty_world }
-    ensures { IfOk result (λ checked. checked ≡ are_checked loads.now script.now workers entries.now records.now) }
+    ensures { IfOk result (λ found. found ≡ misfit_among loads.now script.now workers entries.now records.now) }
 {
     let opened = come_alone(alloc, replay, 0, script.prelude(), loads, entries, records)?;
-    let Some((made, told)) = opened else {
-        return Ok(false);
+    let (made, told) = match opened {
+        Ok(left) => left,
+        Err(stop) => return Ok(Some(line_misfit(entries, records, 0, &stop))),
     };
     let reached = go_beside(alloc, replay, script, workers, made, told)?;
-    let Some(left) = reached else {
-        return Ok(false);
+    let left = match reached {
+        Ok(left) => left,
+        Err(stop) => return Ok(Some(side_misfit(script, entries, records, told, &stop))),
     };
-    let later = after_lanes(script, told);
+    let later = after_lanes(script, script.lanes(), told);
     let closed = come_alone(alloc, replay, 0, script.last(), &[], left, later)?;
-    Ok(is_all(closed))
+    Ok(last_misfit(entries, records, closed))
 }
 
 /// Goes on with the lanes of a script, whose records these texts begin with, and with so many workers, side by side. Gives
-/// the texts of entries that are left, or none where one doesn't fit.
+/// the texts of entries that are left, or where they stop.
 fn go_beside<'a>(
     alloc: Global,
     replay: &mut Replay,
@@ -198,10 +227,10 @@ fn go_beside<'a>(
     workers: u32,
     entries: &'a [Block<'a>],
     records: &[Block<'_>],
-) -> Result<Option<&'a [Block<'a>]>, AllocError>
+) -> Result<Result<&'a [Block<'a>], SideStop>, AllocError>
     requires { workers ≤ 8 }
     ensures { IfOk result (λ left. HasReached (run_beside (length script.now.lanes) workers) (length script.now.lanes) workers
-        (cursors_of 1 script.now.lanes records.now) entries.now replay.old replay.new (option_map (λ l. l.now) left)) }
+        (cursors_of 1 script.now.lanes records.now) entries.now replay.old replay.new (result_map_both (λ l. l.now) (λ stop. stop) left)) }
 {
     let mut cursors = cursors_of(alloc, script, records)?;
     let lanes = script.lanes() as u32;
@@ -209,58 +238,16 @@ fn go_beside<'a>(
     reach(alloc, replay, beside, lanes, workers, &mut cursors, entries)
 }
 
-/// Whether a section came to its end, and nothing is left behind it.
-fn is_all(left: Option<(&[Block<'_>], &[Block<'_>])>) -> bool
-    ensures { result ≡ option_map_or (λ l. is_nil l.0.now && is_nil l.1.now) left.entry false }
+/// The misfit of the last section, or what is left behind it.
+fn last_misfit(
+    entries: &[Block<'_>],
+    records: &[Block<'_>],
+    closed: Result<(&[Block<'_>], &[Block<'_>]), LineStop>,
+) -> Option<Misfit>
+    ensures { result ≡ last_misfit entries.now records.now (result_map_both (λ l. (l.0.now, l.1.now)) (λ stop. stop) closed.entry) }
 {
-    match left {
-        Some((entries, records)) => entries.is_empty() && records.is_empty(),
-        None => false,
+    match closed {
+        Ok((made, told)) => left_misfit(entries, records, made, told),
+        Err(stop) => Some(line_misfit(entries, records, 0, &stop)),
     }
-}
-
-/// The lanes of a script with their lines and the texts of their records.
-fn cursors_of<'a>(
-    alloc: Global,
-    script: &'a Script,
-    records: &'a [Block<'a>],
-) -> Result<Vec<Cursor<'a>>, AllocError>
-    ensures { IfOk result (λ cursors. cursors.items ≡ cursors_of 1 script.now.lanes records.now) }
-{
-    let mut cursors = Vec::new(alloc);
-    let mut at = 0;
-    for place in 0..script.lanes() {
-        let lines = script.lane(place);
-        let (_, left) = records.split_at(at);
-        let count = told_of(lines, left);
-        let (texts, _) = left.split_at(count);
-        cursors.push(Cursor {
-            seat: place as u32 + 1,
-            lines,
-            texts,
-            settling: false,
-        })?;
-        at += count;
-    }
-    Ok(cursors)
-}
-
-/// The texts of records behind those of the lanes.
-fn after_lanes<'a>(script: &Script, records: &'a [Block<'a>]) -> &'a [Block<'a>]
-    ensures { result.now ≡ after_lanes script.now.lanes records.now }
-{
-    let mut at = 0;
-    for place in 0..script.lanes() {
-        let (_, left) = records.split_at(at);
-        at += told_of(script.lane(place), left);
-    }
-    let (_, left) = records.split_at(at);
-    left
-}
-
-/// How many of some texts are those of the records of a lane: one for each line, where there are so many.
-fn told_of(lines: &[Line], texts: &[Block<'_>]) -> usize
-    ensures { result ≡ min (length lines.now) (length texts.now) }
-{
-    lines.len().min(texts.len())
 }

@@ -1,10 +1,20 @@
 //! What is checked is what a run printed: functions that do nothing, whose contracts are the laws.
-ghost use Rattle.std.specs.Prelude.{ℕ, ◌≡◌, ◌+◌, ◌<◌, ◌^◌, true, List, length};
+ghost use Rattle.std.specs.Prelude.{ℕ, ◌≡◌, ◌+◌, ◌<◌, ◌^◌, true, List, [], length, is_none, Some, Err};
+ghost use Rattle.write_history.specs.declared.entry.Entry.{Entry};
+ghost use Rattle.script_lang.specs.declared.line.Line.{Line};
 ghost use Rattle.script_lang.specs.Held.{AreOfScript};
 ghost use Rattle.script_lang.specs.Parts.{Parts};
 ghost use Rattle.transcripts.specs.declared.loaded.Loaded.{Loaded};
 ghost use Rattle.transcripts.specs.Play.{IsTranscriptOf};
 ghost use Rattle.transcript_check.specs.Checked.{are_checked, AreTextsOfRun};
+ghost use Rattle.transcript_check.specs.declared.misfit.Misfit.TheVariants as line_of;
+ghost use Rattle.transcript_check.specs.declared.stop.LineStop.{LineStop};
+ghost use Rattle.transcript_check.specs.declared.stop.SideStop.{SideStop};
+ghost use Rattle.transcript_check.specs.Section.{Cursor};
+ghost use Rattle.transcript_check.specs.Phase.{Sides};
+ghost use Rattle.transcript_check.specs.Stops.{serial_or, phase_or};
+ghost use Rattle.transcript_check.specs.Misfit.{misfit_among, misfit_of};
+ghost use Rattle.transcript_check.specs.Meaning.{DiffersFromRun, StopsAtLine, StopsBeside};
 ghost use Rattle.transcript_check.specs.Verdict.{verdict_of};
 
 use crate::blocks::{blocks_join, transcripts_are_cut};
@@ -39,3 +49,28 @@ pub fn a_verdict_is_good_for_transcripts_alone()
     blocks_join();
     transcripts_are_cut();
 }
+
+/// Bytes have a first misfit exactly where the verdict on them is bad.
+pub fn bad_bytes_have_a_misfit()
+    ensures { (loads : List Loaded) (script : Parts) (workers : ℕ) (bytes : List ℕ)
+        → is_none (misfit_of loads script workers bytes) ≡ verdict_of loads script workers bytes }
+{}
+
+/// Where a section that goes alone stops, the texts begin with what one thread makes of the lines before that, and don't go
+/// on with what it makes of this one. Where lanes and workers stop, the entries before that go in one after another, and
+/// this one doesn't; or all of theirs do, and a lane isn't over.
+pub fn what_comes_before_a_stop_fits()
+    ensures line { (seat : ℕ) (history : List Entry) (lines : List Line) (loads : List Loaded) (entries : List (List ℕ)) (records : List (List ℕ))
+        (stop : LineStop) → serial_or seat history lines loads entries records ≡ Err stop
+        → StopsAtLine seat history lines loads entries records stop }
+    ensures beside { (sides : Sides) (cursors : List Cursor) (entries : List (List ℕ)) (stop : SideStop) → phase_or sides [] cursors entries ≡ Err stop
+        → StopsBeside sides [] cursors entries stop }
+{}
+
+/// Of a script without lanes, and without workers, a line that is the misfit is the first at which the texts differ from
+/// those of its one run.
+pub fn a_line_is_the_first_to_differ()
+    ensures { (loads : List Loaded) (script : Parts) (entries : List (List ℕ)) (records : List (List ℕ)) (seat : ℕ) (number : ℕ) (entry : ℕ)
+        (block : ℕ) → script.lanes ≡ [] → misfit_among loads script 0 entries records ≡ Some (line_of.Line seat number entry block)
+        → DiffersFromRun loads script entries records seat number entry block }
+{}

@@ -1,9 +1,10 @@
 //! Sections side by side.
 ghost use Rattle.std.specs.Prelude.{◌≡◌, OnOk};
-ghost use Rattle.std.specs.List.{list_all};
+ghost use Rattle.std.specs.List.{position};
 ghost use Rattle.transcript_check.specs.Section.{is_over};
 ghost use Rattle.transcript_check.specs.Phase.{is_busy};
 ghost use Rattle.transcript_check.specs.Here.{AreToldAll};
+ghost use Rattle.transcript_check.specs.Stops.{waits};
 
 use crate::cursor::Cursor;
 use replay::Replay;
@@ -31,11 +32,18 @@ pub(crate) fn is_busy(cursors: &[Cursor<'_>]) -> bool
     cursors.iter().any(|cursor| cursor.settling)
 }
 
-/// Whether each section has come to its end, with no text left.
-pub(crate) fn are_over(cursors: &[Cursor<'_>]) -> bool
-    ensures { result ≡ list_all is_over cursors.now }
+/// The place of the first section that hasn't come to its end.
+pub(crate) fn waiting(cursors: &[Cursor<'_>]) -> Option<usize>
+    ensures { result ≡ position waits cursors.now }
 {
-    cursors.iter().all(is_over)
+    cursors.iter().position(waits)
+}
+
+/// Whether a section hasn't come to its end.
+fn waits(cursor: &Cursor<'_>) -> bool
+    ensures { result ≡ waits cursor.now }
+{
+    !is_over(cursor)
 }
 
 /// Whether a section has come to its end, with no text left.

@@ -1,22 +1,26 @@
 //! Lanes and workers side by side, entry by entry.
-ghost use Rattle.std.specs.Prelude.{◌≡◌, ◌+◌, ◌≤◌, ◌<◌, ◌==◌, ◌||◌, IfOk, option_map, length, take, drop};
+ghost use Rattle.std.specs.Prelude.{◌≡◌, ◌+◌, ◌≤◌, ◌<◌, ◌==◌, ◌||◌, IfOk, length, take, drop};
+ghost use Rattle.std.specs.Result.{result_map_both};
 ghost use Rattle.std.specs.List.{position};
 ghost use Rattle.transcript_check.specs.Phase.{is_busy};
 ghost use Rattle.transcript_check.specs.Going.{HasReached};
-ghost use Rattle.transcript_check.specs.Sides.{HasSectionGone, HasSeatGone, left_where_over};
+ghost use Rattle.transcript_check.specs.Sides.{HasSectionGone, HasSeatGone};
+ghost use Rattle.transcript_check.specs.Stops.{first_number, left_or, waits_at};
 
 use crate::block::Block;
 use crate::cursor::Cursor;
 use crate::numbers::seat_here;
-use crate::round::{are_over, is_busy, tell_all};
+use crate::round::{is_busy, tell_all, waiting};
+use crate::stop::{LineStop, SideStop};
 use crate::taken::Taken;
 use crate::workers::worker_goes;
 use replay::Replay;
+use script_lang::Line;
 use std::alloc::{AllocError, Global};
 use write_history::laws::histories_go_on;
 
 /// Goes on with lanes and workers side by side, entry by entry, up to the first text that is of no seat here. Gives the
-/// texts that are left, or none where an entry doesn't go in so or a lane isn't over. For each entry it goes once over the
+/// texts that are left, or the first entry that doesn't go in so, or else the first lane that isn't over. For each entry it goes once over the
 /// lanes, and looks among the intakes that workers made, besides what the entry itself costs.
 pub(crate) fn reach<'a>(
     alloc: Global,
@@ -26,9 +30,10 @@ pub(crate) fn reach<'a>(
     workers: u32,
     cursors: &mut [Cursor<'_>],
     entries: &'a [Block<'a>],
-) -> Result<Option<&'a [Block<'a>]>, AllocError>
+) -> Result<Result<&'a [Block<'a>], SideStop>, AllocError>
     requires few { lanes + workers ≤ 65536 }
-    ensures { IfOk result (λ left. HasReached beside lanes workers cursors.old entries.now replay.old replay.new (option_map (λ l. l.now) left)) }
+    ensures { IfOk result (λ left. HasReached beside lanes workers cursors.old entries.now replay.old replay.new
+        (result_map_both (λ l. l.now) (λ stop. stop) left)) }
 {
     let mut taken = Taken::new(alloc);
     tell_all(alloc, replay, beside, cursors)?;
@@ -37,18 +42,49 @@ pub(crate) fn reach<'a>(
             return Ok(where_over(cursors, &entries[place..]));
         };
         if !seat_goes(alloc, replay, &mut taken, lanes, seat, cursors, text)? {
-            return Ok(None);
+            let left = entries.len() - place;
+            return Ok(Err(SideStop::Entry { seat, left }));
         }
         tell_all(alloc, replay, beside, cursors)?;
     }
     Ok(where_over(cursors, &[]))
 }
 
-/// The texts that are left, where each lane is over.
-fn where_over<'a>(cursors: &[Cursor<'_>], left: &'a [Block<'a>]) -> Option<&'a [Block<'a>]>
-    ensures { option_map (λ l. l.now) result ≡ left_where_over cursors.now left.now }
+/// The texts that are left where each lane is over, else the first that isn't.
+fn where_over<'a>(
+    cursors: &[Cursor<'_>],
+    left: &'a [Block<'a>],
+) -> Result<&'a [Block<'a>], SideStop>
+    ensures { result_map_both (λ l. l.now) (λ stop. stop) result ≡ left_or cursors.now left.now }
 {
-    if are_over(cursors) { Some(left) } else { None }
+    match waiting(cursors) {
+        None => Ok(left),
+        Some(place) => Err(SideStop::Line {
+            stop: waits_at(&cursors[place], left),
+        }),
+    }
+}
+
+/// Where a lane waits that isn't over.
+fn waits_at(cursor: &Cursor<'_>, left: &[Block<'_>]) -> LineStop
+    ensures { result ≡ waits_at cursor.now left.now }
+{
+    LineStop {
+        seat: cursor.seat,
+        line: first_number(cursor.lines),
+        entries: left.len(),
+        records: cursor.texts.len(),
+    }
+}
+
+/// The number of the first of some lines, 0 where there is none.
+fn first_number(lines: &[Line]) -> u32
+    ensures { result ≡ first_number lines.now }
+{
+    match lines.first() {
+        Some(line) => line.number,
+        None => 0,
+    }
 }
 
 /// The next entry, of the lane or worker with this seat, goes in where it has this text.

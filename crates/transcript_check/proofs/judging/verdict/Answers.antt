@@ -1,8 +1,13 @@
-use Rattle.std.proofs.Common.{rules, subst}
-use Rattle.ide_io.specs.Asks.{AsksSome}
-use Rattle.transcripts.specs.Loads.{paths_of}
+use Rattle.std.proofs.Common.{rules, sym, subst}
+use Rattle.transcript_check.specs.declared.result.Verdict.{Verdict}
+use Rattle.transcript_check.specs.Verdict.{Judges}
+use Rattle.transcript_check.proofs.MisfitLemmas.{judges}
 use Rattle.transcript_check.proofs.judging.verdict.Goals as goal
 
-pub returns-in-Err-TreeFault-clause-asks_some : goal.returns-in-Err-TreeFault-clause-asks_some
-returns-in-Err-TreeFault-clause-asks_some g c = λ _.
-    subst (λ lines. AsksSome g.T.Tree.asks c.args.tree.now (paths_of lines) c.read_loads.new.tree) c.prelude.ensures.lines (c.read_loads.ensures.asks_some (search rules))
+pub returns-clause-verdict : goal.returns-clause-verdict
+returns-clause-verdict g c =
+    subst (λ (v : Verdict). Judges (g.T.Tree.files c.args.tree.now) c.args.script.now c.args.workers c.args.bytes.now v) (sym c.verdict_of.ensures)
+    (judges (g.T.Tree.files c.args.tree.now) c.args.script.now c.args.workers c.args.bytes.now c.in_ok-found.found c.in_ok-found.ensures.misfit)
+
+pub returns-in_err-found-clause-asks_some : goal.returns-in_err-found-clause-asks_some
+returns-in_err-found-clause-asks_some g c = λ fault. c.first_misfit.ensures.asks_some (search rules)

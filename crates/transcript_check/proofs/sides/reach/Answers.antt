@@ -1,5 +1,6 @@
-use Rattle.std.proofs.Common.{rules, ℕ, suc, ◌≡◌, ◌+◌, ◌<◌, ◌∷◌, true, false, List, length, get_or, drop, sym, ◌∙◌, subst, arith}
+use Rattle.std.proofs.Common.{rules, ℕ, suc, ◌≡◌, ◌+◌, ◌-◌, ◌<◌, ◌∷◌, true, false, List, length, get_or, drop, sym, ◌∙◌, subst, arith}
 use Rattle.std.proofs.Math.Seq.{drop-cons}
+use Rattle.std.proofs.lemmas.List.{length-drop}
 use Rattle.transcript_check.specs.Taken.{Taking}
 use Rattle.transcript_check.proofs.ReachLemmas.{AreOnTheWay, begun, one_on, none_on}
 use Rattle.transcript_check.proofs.sides.reach.Goals as goal
@@ -26,7 +27,8 @@ returns-then-not-branch c =
     let stays : c.in_ok-seat_goes.field-0 ≡ false = search rules in
     none_on c.args.beside c.args.lanes c.args.workers c.args.cursors.now texts c.args.replay.now c.loop-place.replay c.seat_goes.new.replay c.loop-place.taken
     c.seat_goes.new.taken c.in-Some.seat c.loop-place.cursors c.seat_goes.new.cursors text (drop (place + 1) texts) (drop place texts) c.in_ok-seat_goes.field-0
-    (from_place texts place text within c.index-entries-place.is) c.in-Some.ensures c.loop-place.invariant c.in_ok-seat_goes.ensures stays
+    (from_place texts place text within c.index-entries-place.is) c.in-Some.ensures c.loop-place.invariant c.in_ok-seat_goes.ensures
+    (length texts - place) (sym (length-drop place texts)) stays
 
 pub loop-place-preserved : goal.loop-place-preserved
 loop-place-preserved c =

@@ -2,7 +2,7 @@ use Rattle.std.proofs.Common.{◌≡◌, suc, false, take, [], ◌∷◌, ◌+�
 use Rattle.transcript_check.specs.Section.{Cursor}
 use Rattle.transcript_check.specs.Phase.{cursors_of}
 use Rattle.transcript_check.proofs.JudgeLemmas.{cursors_turn}
-use Rattle.transcript_check.proofs.judging.cursors_of.Goals as goal
+use Rattle.transcript_check.proofs.lanes.cursors_of.Goals as goal
 
 pub loop-place-preserved : goal.loop-place-preserved
 loop-place-preserved c =

@@ -1,6 +1,6 @@
 use Rattle.std.proofs.Common.{◌≡◌, ◌≤◌, ◌++◌, suc, length, drop}
 use Rattle.transcript_check.specs.Phase.{cursors_of}
-use Rattle.transcript_check.proofs.judging.cursors_of.Given as goal
+use Rattle.transcript_check.proofs.lanes.cursors_of.Given as goal
 
 -- the lanes so far and those to come are all
 abbrev pub invariant-loop-place : goal.invariant-loop-place

@@ -1,6 +1,6 @@
 use Rattle.std.proofs.Common.{◌∙◌, arith, ℕ, min, length, ap, List}
 use Rattle.transcript_check.proofs.JudgeLemmas.{after_turn}
-use Rattle.transcript_check.proofs.judging.after_lanes.Goals as goal
+use Rattle.transcript_check.proofs.lanes.after_lanes.Goals as goal
 
 pub loop-place-preserved : goal.loop-place-preserved
 loop-place-preserved c = record {
@@ -8,5 +8,5 @@ loop-place-preserved c = record {
   behind =
       after_turn c.args.script.now.lanes c.loop-place.place c.lane.result.now c.loop-place.at c.told_of-at.result c.args.records.now
       c.lane.ensures.lines (c.told_of-at.ensures ∙ ap (λ (ts : List (List ℕ)). min (length c.lane.result.now) (length ts)) c.split_at.ensures.back)
-      ∙ c.loop-place.invariant.behind;
+      c.loop-place.invariant.behind;
 }
