@@ -1,6 +1,12 @@
 //! An index over letters, its changes, and the rows that stand under a letter.
+//!
+//! `put FILE L=N ..` gives a file rows; `put-after-removal L=N ..` gives file 3 rows, for which room was made before file 7 was taken
+//! out; `make-and-release FILE L=N ..` makes room for rows, and gives it up; `shows L` tells the files and numbers under a letter.
+//! `copy` makes a copy, and a line behind that word is done to it.
 ghost use Rattle.std.specs.Prelude.{◌≡◌, IfOk};
 
+use crate::marks::{number_of, word_of};
+use crate::tell::{Tell, tell_all};
 use file_index::{Indexer, Inverted, KeyRows};
 use std::alloc::{AllocError, Global};
 use std::collections::BTreeMap;
@@ -41,55 +47,80 @@ impl Indexer for Letters {
     }
 }
 
-/// A call on an index, or what stands under a letter of it.
-#[derive(Clone, Copy)]
-pub enum Step {
-    /// A file has these rows.
-    Put(u32, &'static [(char, u8)]),
-    /// File 3 has these rows, for which room was made before file 7 was taken out.
-    PutAfterRemoval(&'static [(char, u8)]),
-    /// Room is made for rows of a file, and given up.
-    MakeAndRelease(u32, &'static [(char, u8)]),
-    /// Just these files and numbers stand under a letter, in this order.
-    Shows(char, &'static [(u32, u8)]),
+/// An index, and the copy that was made of it last.
+#[derive(Drop)]
+struct Copied {
+    index: Inverted<Letters>,
+    copy: Inverted<Letters>,
 }
 
-/// Goes through steps, and tells how many were as they say, up to the first that isn't.
-pub fn run(
+/// Does the lines from an index without files on.
+pub fn play(alloc: Global, lines: &str, out: &mut String) -> Result<(), AllocError> {
+    let mut copied = Copied {
+        index: Inverted::new(alloc, Letters),
+        copy: Inverted::new(alloc, Letters),
+    };
+    tell_all(alloc, &mut copied, lines, out)
+}
+
+impl Tell for Copied {
+    fn tell(&mut self, alloc: Global, line: &str, out: &mut String) -> Result<(), AllocError> {
+        match word_of(line) {
+            ("copy", "") => copy(&self.index, &mut self.copy),
+            ("copy", line) => perform(alloc, &mut self.copy, line, out),
+            _ => perform(alloc, &mut self.index, line, out),
+        }
+    }
+}
+
+/// Puts a copy of an index in the place of another one.
+fn copy(index: &Inverted<Letters>, copy: &mut Inverted<Letters>) -> Result<(), AllocError> {
+    *copy = index.copy()?;
+    Ok(())
+}
+
+/// Does one line.
+fn perform(
     alloc: Global,
     index: &mut Inverted<Letters>,
-    steps: &[Step],
-) -> Result<usize, AllocError> {
-    let mut right = 0usize;
-    for step in steps {
-        if !perform(alloc, index, *step)? {
-            return Ok(right);
-        }
-        right = right.saturating_add(1);
+    line: &str,
+    out: &mut String,
+) -> Result<(), AllocError> {
+    match word_of(line) {
+        ("shows", letter) => show(alloc, index, letter_of(letter), out),
+        ("put-after-removal", pairs) => put_after_a_removal(index, rows_of(alloc, pairs)?),
+        (word, rest) => change(alloc, index, word, rest),
     }
-    Ok(right)
 }
 
-/// Does one step, and tells whether it is as it says.
-fn perform(alloc: Global, index: &mut Inverted<Letters>, step: Step) -> Result<bool, AllocError> {
-    match step {
-        Step::Put(file, pairs) => put(index, file, rows_of(alloc, pairs)?)?,
-        Step::PutAfterRemoval(pairs) => put_after_a_removal(index, rows_of(alloc, pairs)?)?,
-        Step::MakeAndRelease(file, pairs) => {
-            make_and_release(index, file, &rows_of(alloc, pairs)?)?
-        }
-        Step::Shows(letter, wanted) => return Ok(shows(index, letter, wanted)),
+/// Gives a file rows, or makes room for them and gives it up.
+fn change(
+    alloc: Global,
+    index: &mut Inverted<Letters>,
+    word: &str,
+    rest: &str,
+) -> Result<(), AllocError> {
+    let (file, pairs) = word_of(rest);
+    let rows = rows_of(alloc, pairs)?;
+    match word {
+        "put" => put(index, number_of(file), rows),
+        _ => make_and_release(index, number_of(file), &rows),
     }
-    Ok(true)
 }
 
 /// Rows of letters and numbers.
-fn rows_of(alloc: Global, pairs: &[(char, u8)]) -> Result<KeyRows<char, u8>, AllocError> {
+fn rows_of(alloc: Global, pairs: &str) -> Result<KeyRows<char, u8>, AllocError> {
     let mut map = BTreeMap::new(alloc);
-    for (letter, number) in pairs {
-        map.insert(*letter, *number)?;
+    for pair in pairs.split(" ") {
+        let (letter, number) = pair.split_once("=").unwrap_or((pair, "0"));
+        map.insert(letter_of(letter), number.parse::<u8>().unwrap_or(0))?;
     }
     KeyRows::from_map(alloc, map)
+}
+
+/// The first letter of a word.
+fn letter_of(word: &str) -> char {
+    word.chars().next().unwrap_or(' ')
 }
 
 /// Gives a file rows.
@@ -125,14 +156,15 @@ fn make_and_release(
     Ok(())
 }
 
-/// Whether just these files and numbers stand under a letter, in this order.
-fn shows(index: &Inverted<Letters>, letter: char, wanted: &[(u32, u8)]) -> bool {
-    let mut left = wanted;
+/// Tells the files and numbers under a letter, in order.
+fn show(
+    alloc: Global,
+    index: &Inverted<Letters>,
+    letter: char,
+    out: &mut String,
+) -> Result<(), AllocError> {
     for (file, number) in index.rows(&letter) {
-        match left {
-            [first, rest @ ..] if first.0 == file && first.1 == *number => left = rest,
-            _ => return false,
-        }
+        out.push_str(format!(in alloc; " {file}={number}")?.as_str())?;
     }
-    left.is_empty()
+    Ok(())
 }

@@ -20,6 +20,8 @@ pub struct Case {
     pub in_pieces: bool,
     /// Whether only the first and the last line are shown.
     pub shows_ends: bool,
+    /// Whether what is written is shown in hex digits.
+    pub shows_hex: bool,
 }
 
 impl Case {
@@ -35,6 +37,7 @@ impl Case {
             room: 10_000,
             in_pieces: false,
             shows_ends: false,
+            shows_hex: false,
         })
     }
 
@@ -48,6 +51,7 @@ impl Case {
                 self.script.pop();
             }
             "=ends" => self.shows_ends = true,
+            "=hex" => self.shows_hex = true,
             "=pieces" => self.in_pieces = true,
             "=read" => self.read = number_of(value),
             "=load" => self.load = number_of(value),

@@ -3,8 +3,8 @@
 //!
 //! A line `== TITLE` begins a case. `=words A|B` is its command line (`ide` alone where there is none); `=read N`,
 //! `=load N` and `=write N` name calls on the source, the tree and the sink that fail, `=pieces` lets the source give 4
-//! bytes at a time and the sink take 5, `=room N` is how much the sink takes in all, and `=ends` shows no more than the
-//! first and the last line that are written. Every other line is a line of the script, and `=times N TEXT` adds a text to
+//! bytes at a time and the sink take 5, `=room N` is how much the sink takes in all, `=ends` shows no more than the
+//! first and the last line that are written, and `=hex` shows all that is written in hex digits. Every other line is a line of the script, and `=times N TEXT` adds a text to
 //! the script N times, with the number for each `@`. In scripts `^` is a carriage return and `|` a line feed; `=cut` takes
 //! the last byte away.
 #![tactic(auto)]

@@ -5,18 +5,32 @@ use std::io;
 
 /// Prints how a case ended: its title, the number and how many bytes were written, the line of standard error, and what
 /// was written.
-pub fn print<R: Print>(rt: &R, case: &Case, ended: &Ended) -> io::Result<()> {
+pub fn print<R: AllocGlobal + Print>(rt: &R, case: &Case, ended: &Ended) -> io::Result<()> {
     let title = case.title.as_str();
     let status = ended.status;
-    let written = text_of(ended.written.bytes());
+    let written = ended.written.bytes();
     let count = written.len();
     println!(rt; "{title}")?;
     println!(rt; "status {status}, {count} bytes")?;
     print_lines(rt, text_of(ended.error.bytes()))?;
-    if case.shows_ends {
-        return print_ends(rt, written);
+    print_written(rt, case, written)
+}
+
+/// Prints what was written, as the case asks.
+fn print_written<R: AllocGlobal + Print>(rt: &R, case: &Case, written: &[u8]) -> io::Result<()> {
+    if case.shows_hex {
+        return print_hex(rt, written);
     }
-    print_lines(rt, written)
+    if case.shows_ends {
+        return print_ends(rt, text_of(written));
+    }
+    print_lines(rt, text_of(written))
+}
+
+/// Prints bytes in hex digits, all on one line.
+fn print_hex<R: AllocGlobal + Print>(rt: &R, written: &[u8]) -> io::Result<()> {
+    let digits = hex::encode(rt.alloc(), written)?;
+    println!(rt; "{digits}")
 }
 
 /// Prints each line.

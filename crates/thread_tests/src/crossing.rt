@@ -2,6 +2,7 @@
 use crate::judging::{is_right, no_files};
 use crate::running::{run, script_of};
 use action_lock::{Gate, Point};
+use index_store::Store;
 use playing::play;
 use script_lang::Script;
 use std::alloc::{AllocError, Global};
@@ -36,14 +37,23 @@ pub fn is_crossing_right<R: Threads + Wait + Sync>(
     alloc: Global,
 ) -> Result<bool, AllocError> {
     let script = crossing_script(alloc)?;
-    let gate = Crossing::new();
-    let played = play(rt, alloc, &script, &[], 0, &gate)?;
-    let right = is_right(alloc, &script, 0, &mut no_files(alloc), &played)?;
-    Ok(right && gate.all_met() && given_up(&played) > 0 && played.history.len() == 2)
+    is_crossing_of(rt, alloc, &script, &Crossing::new())
+}
+
+/// The same of the script, at a gate.
+fn is_crossing_of<R: Threads + Wait + Sync>(
+    rt: &R,
+    alloc: Global,
+    script: &Script,
+    gate: &Crossing,
+) -> Result<bool, AllocError> {
+    let played = play(rt, alloc, script, &[], 0, Store::empty(alloc), gate)?;
+    let is_as_held = gate.all_met() && given_up(&played) > 0 && played.history.len() == 2;
+    Ok(is_as_held && is_right(alloc, script, 0, &mut no_files(alloc), &played)?)
 }
 
 /// Whether a run of a script with so many workers is right, and its lines make so many entries. It may block.
-pub fn makes_entries<R: Threads + Wait + Sync>(
+fn makes_entries<R: Threads + Wait + Sync>(
     rt: &R,
     alloc: Global,
     script: &str,
@@ -51,10 +61,40 @@ pub fn makes_entries<R: Threads + Wait + Sync>(
     entries: u32,
 ) -> Result<bool, AllocError> {
     let script = script_of(alloc, script.as_bytes())?;
-    let mut tree = no_files(alloc);
-    let played = run(rt, alloc, &script, workers, &mut tree)?;
-    let right = is_right(alloc, &script, workers, &mut tree, &played)?;
-    Ok(right && entries_of_lines(&played.history) == entries)
+    makes_entries_of(rt, alloc, &script, workers, entries)
+}
+
+/// The same of the script.
+fn makes_entries_of<R: Threads + Wait + Sync>(
+    rt: &R,
+    alloc: Global,
+    script: &Script,
+    workers: u32,
+    entries: u32,
+) -> Result<bool, AllocError> {
+    let played = run(rt, alloc, script, workers, &mut no_files(alloc))?;
+    Ok(
+        entries_of_lines(&played.history) == entries
+            && is_right(alloc, script, workers, &mut no_files(alloc), &played)?,
+    )
+}
+
+/// Whether a run of a hundred writes beside a hundred soft questions and two workers is right. It may block.
+pub fn are_writes_right<R: Threads + Wait + Sync>(
+    rt: &R,
+    alloc: Global,
+) -> Result<bool, AllocError> {
+    let script = writes_and_questions(alloc)?;
+    makes_entries(rt, alloc, &script, 2, 101)
+}
+
+/// Whether a run with two lanes of three hundred files each and two workers is right. It may block.
+pub fn are_files_taken_in<R: Threads + Wait + Sync>(
+    rt: &R,
+    alloc: Global,
+) -> Result<bool, AllocError> {
+    let script = many_files(alloc)?;
+    makes_entries(rt, alloc, &script, 2, 600)
 }
 
 /// A lane that reads, one that writes, and one with many soft questions.
@@ -70,7 +110,7 @@ fn crossing_script(alloc: Global) -> Result<Script, AllocError> {
 }
 
 /// A lane with a hundred writes, and one with a hundred soft questions.
-pub fn writes_and_questions(alloc: Global) -> Result<String, AllocError> {
+fn writes_and_questions(alloc: Global) -> Result<String, AllocError> {
     let mut script = String::from_str(alloc, "create A.java \"class A {}\"\nlane\n")?;
     for _ in 0..100 {
         script.push_str("write A.java \"class B {}\"\n")?;
@@ -83,7 +123,7 @@ pub fn writes_and_questions(alloc: Global) -> Result<String, AllocError> {
 }
 
 /// Two lanes with three hundred files each, all of which the workers or the last section take in.
-pub fn many_files(alloc: Global) -> Result<String, AllocError> {
+fn many_files(alloc: Global) -> Result<String, AllocError> {
     let mut script = String::new(alloc);
     for lane in 1..3 {
         script.push_str("lane\n")?;

@@ -2,7 +2,9 @@
 use crate::program::{checked_long, written};
 use crate::told::{Section, entries_of, records_of};
 use std::alloc::{AllocError, Global};
+use std::sync::Wait;
 use std::test::Fail;
+use std::thread::Threads;
 
 /// A script and all transcripts that it may have.
 pub struct Lawful {
@@ -164,13 +166,23 @@ write A.java "class B {}"
 
 #[test]
 fn one_of_the_lawful_transcripts(rt: HostRuntime) -> Result<(), Fail> {
+    assert_eq!(rt; unlawful_transcript(&rt)?, None);
+    Ok(())
+}
+
+/// The first transcript that isn't lawful, or nothing. It may block.
+fn unlawful_transcript<R: Threads + Wait + Sync + AllocGlobal>(
+    rt: &R,
+) -> Result<Option<String>, AllocError> {
     for lawful in &SCRIPTS {
         for _time in 0..TIMES {
-            let written = written(&rt, &["ide"], lawful.script)?;
-            assert!(rt; is_among(&written, lawful.transcripts), "{written}");
+            let written = written(rt, &["ide"], lawful.script)?;
+            if !is_among(&written, lawful.transcripts) {
+                return Ok(Some(written));
+            }
         }
     }
-    Ok(())
+    Ok(None)
 }
 
 /// Whether a text is one of these.
@@ -231,11 +243,21 @@ static SECTIONS: [Section; 3] = [
 /// With any number of workers, each lane reads back what it wrote, and each accepted write is the entry that it names.
 #[test]
 fn lanes_read_back(rt: HostRuntime) -> Result<(), Fail> {
-    for workers in ["0", "1", "2", "8"] {
-        let written = written(&rt, &["ide", "play", "--workers", workers], APART)?;
-        assert!(rt; is_read_back(rt.alloc(), &written)?, "{written}");
-    }
+    assert_eq!(rt; wrongly_read_back(&rt)?, None);
     Ok(())
+}
+
+/// The first transcript in which a lane doesn't read back what it wrote, or nothing. It may block.
+fn wrongly_read_back<R: Threads + Wait + Sync + AllocGlobal>(
+    rt: &R,
+) -> Result<Option<String>, AllocError> {
+    for workers in ["0", "1", "2", "8"] {
+        let written = written(rt, &["ide", "play", "--workers", workers], APART)?;
+        if !is_read_back(rt.alloc(), &written)? {
+            return Ok(Some(written));
+        }
+    }
+    Ok(None)
 }
 
 /// Whether a transcript has these records, in order.
@@ -248,14 +270,32 @@ fn is_read_back(alloc: Global, written: &str) -> Result<bool, AllocError> {
 static LOADS: &str =
     "load A.java\nload B.java\ncreate C.java \"class C {}\"\nlane\nstatus\nfinally\nsettle\nclass A\nclass C\nstatus\n";
 
-/// A load's file is indexed by the workers or the settle. The last section finds it, whoever did.
+/// The words of plays with workers, with a store of the first file and without one.
+static WAYS: [&[&str]; 2] = [
+    &["ide", "play", "--workers", "3"],
+    &["ide", "play", "--workers", "3", "--store", "A.store"],
+];
+
+/// A load's file is indexed by the workers or the settle, from a store or anew. The last section finds it, whoever did.
 #[test]
 fn workers_index_what_was_loaded(rt: HostRuntime) -> Result<(), Fail> {
-    for _time in 0..TIMES {
-        let written = written(&rt, &["ide", "play", "--workers", "3"], LOADS)?;
-        assert!(rt; is_indexed(rt.alloc(), &written)?, "{written}");
-    }
+    assert_eq!(rt; wrongly_indexed(&rt)?, None);
     Ok(())
+}
+
+/// The first transcript that hasn't what was loaded, or nothing. It may block.
+fn wrongly_indexed<R: Threads + Wait + Sync + AllocGlobal>(
+    rt: &R,
+) -> Result<Option<String>, AllocError> {
+    for words in &WAYS {
+        for _time in 0..TIMES {
+            let written = written(rt, words, LOADS)?;
+            if !is_indexed(rt.alloc(), &written)? {
+                return Ok(Some(written));
+            }
+        }
+    }
+    Ok(None)
 }
 
 /// Whether a transcript of these loads has the file that is no text, and finds both others at its end.
@@ -275,13 +315,31 @@ fn is_indexed(alloc: Global, written: &str) -> Result<bool, AllocError> {
 /// A demo has one summary, with any number of workers.
 #[test]
 fn demos_agree(rt: HostRuntime) -> Result<(), Fail> {
-    let alone = written(&rt, &["ide", "demo", "--edits", "200"], "")?;
+    assert_eq!(rt; other_demo(&rt)?, None);
+    Ok(())
+}
+
+/// The first summary of a demo with workers that isn't the one without, or nothing. It may block.
+fn other_demo<R: Threads + Wait + Sync + AllocGlobal>(
+    rt: &R,
+) -> Result<Option<String>, AllocError> {
+    let alone = written(rt, &["ide", "demo", "--edits", "200"], "")?;
+    other_demo_than(rt, &alone)
+}
+
+/// The same, where this is the one without.
+fn other_demo_than<R: Threads + Wait + Sync + AllocGlobal>(
+    rt: &R,
+    alone: &str,
+) -> Result<Option<String>, AllocError> {
     for workers in ["0", "1", "2", "5", "8"] {
         let words = ["ide", "demo", "--edits", "200", "--workers", workers];
-        let beside = written(&rt, &words, "")?;
-        assert_eq!(rt; beside, alone);
+        let beside = written(rt, &words, "")?;
+        if beside.as_str() != alone {
+            return Ok(Some(beside));
+        }
     }
-    Ok(())
+    Ok(None)
 }
 
 /// What a check says of a transcript of so many bytes: of one as long as a file may be, and of one that is longer.
@@ -292,9 +350,18 @@ static LONG: [(usize, &str); 2] = [
 
 #[test]
 fn transcript_too_long(rt: HostRuntime) -> Result<(), Fail> {
-    for (count, line) in &LONG {
-        let told = checked_long(&rt, *count)?;
-        assert!(rt; told.as_str() == *line, "{count}: {told}");
-    }
+    assert_eq!(rt; told_rightly(&rt)?, LONG.len());
     Ok(())
+}
+
+/// Of how many of these transcripts what is said is what is wanted, up to the first of which it isn't. It may block.
+fn told_rightly<R: Threads + Wait + Sync + AllocGlobal>(rt: &R) -> Result<usize, AllocError> {
+    let mut right = 0usize;
+    for (count, line) in &LONG {
+        if checked_long(rt, *count)?.as_str() != *line {
+            return Ok(right);
+        }
+        right = right.saturating_add(1);
+    }
+    Ok(right)
 }

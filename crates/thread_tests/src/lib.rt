@@ -17,6 +17,8 @@ mod judging;
 #[cfg(test)]
 mod lanes;
 #[cfg(test)]
+mod misfits;
+#[cfg(test)]
 mod parts;
 #[cfg(test)]
 mod passes;

@@ -1,7 +1,8 @@
 //! A script that is parsed, played and printed call by call.
-use crate::program::two_files;
+use crate::program::three_files;
 use crate::running::script_of;
 use ide_script::{PlayRefusal, play};
+use index_store::Store;
 use index_workers::{End, Worked};
 use playing::LaneGate;
 use script_lang::Script;
@@ -33,9 +34,10 @@ fn played_by_two<R: Threads + Wait + Sync>(
     alloc: Global,
     script: &Script,
 ) -> Result<Played, PlayRefusal> {
-    let mut tree = two_files(alloc)?;
+    let mut tree = three_files(alloc)?;
     let gate = LaneGate::new(rt, script);
-    play(rt, alloc, script, 2, &mut tree, &gate)
+    let store = Store::empty(alloc);
+    play(rt, alloc, script, 2, store, &mut tree, &gate)
 }
 
 /// Whether a run has these entries, records and workers, its transcript is this one, and its summary is empty.

@@ -27,6 +27,8 @@ pub enum Action {
     /// The first file is deleted.
     Delete,
     Settle,
+    /// What readers share is made anew.
+    Renew,
     /// So many steps of a worker, at least one.
     Steps(u32),
     /// The gate is told that a lane begins line 3.
@@ -74,6 +76,7 @@ fn act<R: Threads + Wait>(
         Action::Rewrite(count) => change_many(rt, alloc, ide, pass, action, count),
         Action::Delete => change_many(rt, alloc, ide, pass, action, 1),
         Action::Settle => settle(rt, alloc, ide, pass),
+        Action::Renew => renew(rt, alloc, ide, pass),
         Action::Steps(count) => steps(rt, alloc, ide, pass, count, stage),
         Action::Start => tell(alloc, stage, Point::Start { seat: 1, line: 3 }),
         Action::End => tell(alloc, stage, Point::Ended { seat: 1 }),
@@ -167,6 +170,20 @@ fn settle<R: Threads + Wait>(
         Err(SettleRefusal::HistoryFull { at }) => format!(in alloc; "at {at} full"),
         Err(SettleRefusal::OutOfMemory) => Err(AllocError),
     }
+}
+
+/// What readers share.
+fn renew<R: Wait>(
+    rt: &R,
+    alloc: Global,
+    ide: &SharedIde,
+    pass: &mut IdePass,
+) -> Result<String, AllocError>
+    requires { IsIdePassOf ide.now pass.old }
+    ensures { IsIdePassOf ide.now pass.new × HasKept (ide_view pass.old) (ide_view pass.new) }
+{
+    ide.renew(rt, pass);
+    String::from_str(alloc, "renewed")
 }
 
 /// So many steps, at least one. What the last was answered.

@@ -1,20 +1,20 @@
-//! The program, run on words and a script over a tree of two files.
+//! The program, run on words and a script over a tree of three files.
+use crate::running::text_of;
 use ide_io::{BytesSink, BytesSource, MemoryTree};
 use ide_script::run_main;
 use ide_text::Name;
 use std::alloc::{AllocError, Global};
 use std::collections::BTreeMap;
 use std::sync::Wait;
-use std::test::Fail;
 use std::thread::Threads;
 
-/// What the program writes over two files where it ends with 0, and else what it writes to standard error. It may block.
+/// What the program writes over three files where it ends with 0, and else what it writes to standard error. It may block.
 pub fn written<R: Threads + Wait + Sync + AllocGlobal>(
     rt: &R,
     words: &[&str],
     script: &str,
-) -> Result<String, Fail> {
-    let mut tree = two_files(rt.alloc())?;
+) -> Result<String, AllocError> {
+    let mut tree = three_files(rt.alloc())?;
     written_over(rt, words, script, &mut tree)
 }
 
@@ -22,7 +22,7 @@ pub fn written<R: Threads + Wait + Sync + AllocGlobal>(
 pub fn checked_long<R: Threads + Wait + Sync + AllocGlobal>(
     rt: &R,
     count: usize,
-) -> Result<String, Fail> {
+) -> Result<String, AllocError> {
     let mut tree = long_file(rt.alloc(), count)?;
     written_over(rt, &["ide", "check", "long.out"], "settle\n", &mut tree)
 }
@@ -33,24 +33,36 @@ fn written_over<R: Threads + Wait + Sync + AllocGlobal>(
     words: &[&str],
     script: &str,
     tree: &mut MemoryTree,
-) -> Result<String, Fail> {
-    let alloc = rt.alloc();
-    let mut source = BytesSource::new(script.as_bytes());
-    let mut sink = BytesSink::with_room(alloc, 4_000)?;
-    let mut error = BytesSink::with_room(alloc, 100)?;
-    let words = owned(alloc, words)?;
-    let number = run_main(rt, alloc, words, &mut source, tree, &mut sink, &mut error);
-    let bytes = if number == 0 {
-        sink.bytes()
-    } else {
-        error.bytes()
-    };
-    Ok(String::from_str(alloc, str::from_utf8(bytes)?)?)
+) -> Result<String, AllocError> {
+    let mut sink = BytesSink::with_room(rt.alloc(), 4_000)?;
+    let mut error = BytesSink::with_room(rt.alloc(), 100)?;
+    let number = run_over(rt, words, script, tree, &mut sink, &mut error)?;
+    let told = if number == 0 { &sink } else { &error };
+    text_of(rt.alloc(), told.bytes())
 }
 
-/// A file that is a text, with CR LF at its end, and one whose bytes are none.
-pub fn two_files(alloc: Global) -> Result<MemoryTree, AllocError> {
+/// Runs the program over a tree. The number with which it ends. It may block.
+fn run_over<R: Threads + Wait + Sync + AllocGlobal>(
+    rt: &R,
+    words: &[&str],
+    script: &str,
+    tree: &mut MemoryTree,
+    sink: &mut BytesSink,
+    error: &mut BytesSink,
+) -> Result<u8, AllocError> {
+    let words = owned(rt.alloc(), words)?;
+    let mut source = BytesSource::new(script.as_bytes());
+    Ok(run_main(rt, rt.alloc(), words, &mut source, tree, sink, error))
+}
+
+/// The store of the one Java text `class A {}` and a line feed.
+static STORE: &[u8] =
+    b"\x01\x01\x01\x01\x01\x01\0\0\0\x01\x01\0\0\0\x0bclass A {}\n\0\0\0\x14\x01\0\0\0\x01\x01\0\0\0\0\x06\0\0\0\x01A\0\0\0\0\0\0\0\x01\0\0\0\x01A\x01";
+
+/// A file that is a text, with CR LF at its end, one whose bytes are none, and the store of the first.
+pub fn three_files(alloc: Global) -> Result<MemoryTree, AllocError> {
     let mut files = BTreeMap::new(alloc);
+    files.insert(Name::of(alloc, "A.store")?, Vec::from_slice(alloc, STORE)?)?;
     files.insert(
         Name::of(alloc, "A.java")?,
         Vec::from_slice(alloc, b"class A {}\r\n")?,

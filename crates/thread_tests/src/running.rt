@@ -2,9 +2,12 @@
 ghost use Rattle.std.specs.Prelude.{◌≤◌};
 
 use crate::drawn::drawn_script;
-use crate::judging::{is_good, is_right, loaded_files, no_files};
+use crate::judging::{is_right, loaded_files, no_files};
+use crate::lanes::is_among;
+use crate::scenes::{MISTAKES, Mistake, SCENES};
 use crate::stage::{Hold, Stage};
 use ide_io::MemoryTree;
+use index_store::Store;
 use index_workers::Worked;
 use playing::{LaneGate, play};
 use script_lang::{Script, is_within_limit, parse};
@@ -25,31 +28,75 @@ pub struct Scene {
 }
 
 /// The transcript of a scene's run, or what is wrong with it. It may block.
-pub fn transcript_of<R: Threads + Wait + Sync>(
+fn transcript_of<R: Threads + Wait + Sync>(
     rt: &R,
     alloc: Global,
     scene: &Scene,
 ) -> Result<String, AllocError> {
     let script = script_of(alloc, scene.script.as_bytes())?;
+    transcript_of_script(rt, alloc, scene, &script)
+}
+
+/// The same of the scene's script.
+fn transcript_of_script<R: Threads + Wait + Sync>(
+    rt: &R,
+    alloc: Global,
+    scene: &Scene,
+    script: &Script,
+) -> Result<String, AllocError> {
     let stage = Stage::new(alloc, script.lanes(), scene.holds)?;
-    let played = play(rt, alloc, &script, &[], scene.workers.min(8), &stage)?;
-    if !stage.all_met() {
-        return String::from_str(alloc, "not all met");
+    transcript_on_stage(rt, alloc, scene, script, &stage)
+}
+
+/// The same where threads are held by a stage.
+fn transcript_on_stage<R: Threads + Wait + Sync>(
+    rt: &R,
+    alloc: Global,
+    scene: &Scene,
+    script: &Script,
+    stage: &Stage,
+) -> Result<String, AllocError> {
+    let workers = scene.workers.min(8);
+    let store = Store::empty(alloc);
+    let played = play(rt, alloc, script, &[], workers, store, stage)?;
+    if stage.all_met() {
+        told_of(alloc, scene, script, &played)
+    } else {
+        String::from_str(alloc, "not all met")
     }
-    let mut printed = text_of(alloc, &transcript(alloc, &played)?)?;
-    if !is_good(
-        alloc,
-        &script,
-        scene.workers,
-        &mut no_files(alloc),
-        printed.as_bytes(),
-    )? {
+}
+
+/// The transcript of a run of a scene's script with what its workers tell, or that it is wrong.
+fn told_of(
+    alloc: Global,
+    scene: &Scene,
+    script: &Script,
+    played: &Played,
+) -> Result<String, AllocError> {
+    let mut tree = no_files(alloc);
+    if !is_right(alloc, script, scene.workers, &mut tree, played)? {
         return String::from_str(alloc, "wrong");
     }
+    let mut printed = text_of(alloc, &transcript(alloc, played)?)?;
     if scene.tells_workers {
         push_workers(alloc, &mut printed, &played.workers)?;
     }
     Ok(printed)
+}
+
+/// The first transcript of a scene's run that isn't among those that may come out, or what is wrong with it; nothing where all
+/// are. It may block.
+pub fn fault_of_scenes<R: Threads + Wait + Sync>(
+    rt: &R,
+    alloc: Global,
+) -> Result<Option<String>, AllocError> {
+    for scene in &SCENES {
+        let printed = transcript_of(rt, alloc, scene)?;
+        if !is_among(&printed, scene.printed) {
+            return Ok(Some(printed));
+        }
+    }
+    Ok(None)
 }
 
 /// Adds a line for each worker.
@@ -71,7 +118,20 @@ pub fn run<R: Threads + Wait + Sync>(
 ) -> Result<Played, AllocError> {
     let loads = loads_of(alloc, script, tree)?;
     let gate = LaneGate::new(rt, script);
-    play(rt, alloc, script, &loads, workers.min(8), &gate)
+    let store = Store::empty(alloc);
+    play(rt, alloc, script, &loads, workers.min(8), store, &gate)
+}
+
+/// Whether a run of a script with so many workers is right over a tree. It may block.
+pub fn is_run_right<R: Threads + Wait + Sync>(
+    rt: &R,
+    alloc: Global,
+    script: &Script,
+    workers: u32,
+    tree: &mut MemoryTree,
+) -> Result<bool, AllocError> {
+    let played = run(rt, alloc, script, workers, tree)?;
+    is_right(alloc, script, workers, tree, &played)
 }
 
 /// What is read for the lines of a script's prelude. A load that fails counts as running out of memory.
@@ -95,25 +155,95 @@ pub fn is_drawn_right<R: Threads + Wait + Sync>(
     count: u32,
     workers: u32,
 ) -> Result<bool, AllocError> {
-    let drawn = drawn_script(alloc, seed, lanes, count)?;
-    let script = script_of(alloc, drawn.as_bytes())?;
+    let script = drawn(alloc, seed, lanes, count)?;
+    is_run_of_drawn_right(rt, alloc, &script, workers)
+}
+
+/// The same of the script.
+fn is_run_of_drawn_right<R: Threads + Wait + Sync>(
+    rt: &R,
+    alloc: Global,
+    script: &Script,
+    workers: u32,
+) -> Result<bool, AllocError> {
     let mut tree = loaded_files(alloc)?;
-    let played = run(rt, alloc, &script, workers, &mut tree)?;
-    is_right(alloc, &script, workers, &mut tree, &played)
+    is_run_right(rt, alloc, script, workers, &mut tree)
+}
+
+/// A drawn script.
+fn drawn(alloc: Global, seed: u32, lanes: u32, count: u32) -> Result<Script, AllocError> {
+    let text = drawn_script(alloc, seed, lanes, count)?;
+    script_of(alloc, text.as_bytes())
+}
+
+/// The first of some seeds with which a run of four lanes with two hundred commands each isn't right, with none to four workers;
+/// nothing where all are. It may block.
+pub fn wrong_seed<R: Threads + Wait + Sync>(
+    rt: &R,
+    alloc: Global,
+    from: u32,
+    to: u32,
+) -> Result<Option<u32>, AllocError> {
+    for seed in from..to {
+        if !is_drawn_right(rt, alloc, seed, 4, 200, seed % 5)? {
+            return Ok(Some(seed));
+        }
+    }
+    Ok(None)
+}
+
+/// The first script that isn't told from another: of which a run isn't right as its own and wrong as the other's; nothing where all
+/// are told. It may block.
+pub fn fault_of_mistakes<R: Threads + Wait + Sync>(
+    rt: &R,
+    alloc: Global,
+) -> Result<Option<&'static str>, AllocError> {
+    for mistake in &MISTAKES {
+        if !is_told(rt, alloc, mistake)? {
+            return Ok(Some(mistake.played));
+        }
+    }
+    Ok(None)
+}
+
+/// Whether each script's run is right, and that of the first isn't one of the second. It may block.
+fn is_told<R: Threads + Wait + Sync>(
+    rt: &R,
+    alloc: Global,
+    mistake: &Mistake,
+) -> Result<bool, AllocError> {
+    Ok(
+        fits(rt, alloc, mistake.played, mistake.played)?
+            && fits(rt, alloc, mistake.judged, mistake.judged)?
+            && !fits(rt, alloc, mistake.played, mistake.judged)?,
+    )
 }
 
 /// Whether the run of one script is right as a run of another. It may block.
-pub fn fits<R: Threads + Wait + Sync>(
+fn fits<R: Threads + Wait + Sync>(
     rt: &R,
     alloc: Global,
     played: &str,
     judged: &str,
 ) -> Result<bool, AllocError> {
-    let played = script_of(alloc, played.as_bytes())?;
-    let judged = script_of(alloc, judged.as_bytes())?;
-    let mut tree = no_files(alloc);
-    let played = run(rt, alloc, &played, 0, &mut tree)?;
-    is_right(alloc, &judged, 0, &mut tree, &played)
+    let played = played_alone(rt, alloc, played)?;
+    is_run_of(alloc, judged, &played)
+}
+
+/// A run of a script without workers. It may block.
+fn played_alone<R: Threads + Wait + Sync>(
+    rt: &R,
+    alloc: Global,
+    script: &str,
+) -> Result<Played, AllocError> {
+    let script = script_of(alloc, script.as_bytes())?;
+    run(rt, alloc, &script, 0, &mut no_files(alloc))
+}
+
+/// Whether a run is right as one of a script without workers.
+fn is_run_of(alloc: Global, script: &str, played: &Played) -> Result<bool, AllocError> {
+    let script = script_of(alloc, script.as_bytes())?;
+    is_right(alloc, &script, 0, &mut no_files(alloc), played)
 }
 
 /// The script that bytes spell. Bytes that are none count as running out of memory.

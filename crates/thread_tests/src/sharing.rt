@@ -7,6 +7,7 @@ use crate::lanes::is_among;
 use crate::passes::{Action, do_all};
 use crate::scenes::UNDER_JOB;
 use crate::stage::{Hold, Spot, Stage};
+use index_store::Store;
 use index_workers::IdePass;
 use shared_ide::SharedIde;
 use std::alloc::{AllocError, Global};
@@ -43,27 +44,47 @@ impl Part {
 
 /// What a run leaves.
 #[derive(Drop)]
-pub struct Shared {
-    pub history: History,
+struct Shared {
+    history: History,
     /// The answers, those of the first pass before those of the second where both are at work; or that not all met.
-    pub said: String,
+    said: String,
     /// How many hints the first pass put.
-    pub hints: u32,
+    hints: u32,
 }
 
 /// Plays a scene. It may block.
-pub fn share<R: Threads + Wait + Sync>(
+fn share<R: Threads + Wait + Sync>(
     rt: &R,
     alloc: Global,
     scene: &Sharing,
 ) -> Result<Shared, AllocError> {
     let stage = Stage::new(alloc, 1, scene.holds)?;
-    let (ide, mut first) = SharedIde::new(alloc)?;
-    let said = play(rt, alloc, &ide, &mut first, scene, &stage);
+    share_on(rt, alloc, scene, &stage)
+}
+
+/// The same where threads are held by a stage.
+fn share_on<R: Threads + Wait + Sync>(
+    rt: &R,
+    alloc: Global,
+    scene: &Sharing,
+    stage: &Stage,
+) -> Result<Shared, AllocError> {
+    let (ide, mut first) = SharedIde::new(alloc, Store::empty(alloc))?;
+    let said = play(rt, alloc, &ide, &mut first, scene, stage);
     let hints = first.queue.offered();
     let history = ide.close(first).into_history();
+    what_is_left(history, said, hints, stage.all_met())
+}
+
+/// What a run leaves, of which this is what the passes were answered.
+fn what_is_left(
+    history: History,
+    said: Result<String, AllocError>,
+    hints: u32,
+    all_met: bool,
+) -> Result<Shared, AllocError> {
     let mut said = said?;
-    if !stage.all_met() {
+    if !all_met {
         said.push_str("not all met")?;
     }
     Ok(Shared {
@@ -71,6 +92,20 @@ pub fn share<R: Threads + Wait + Sync>(
         said,
         hints,
     })
+}
+
+/// The first answers of a scene that aren't among those that may come, or nothing. It may block.
+pub fn fault_of_sharings<R: Threads + Wait + Sync>(
+    rt: &R,
+    alloc: Global,
+) -> Result<Option<String>, AllocError> {
+    for scene in &SHARINGS {
+        let said = share(rt, alloc, scene)?.said;
+        if !is_among(&said, scene.said) {
+            return Ok(Some(said));
+        }
+    }
+    Ok(None)
 }
 
 /// What the passes are answered.
@@ -192,15 +227,17 @@ fn do_lane<R: Threads + Wait>(
     part.said = do_all(rt, alloc, ide, lane, part.actions, stage);
 }
 
-pub static SHARINGS: [Sharing; 5] = [
+static SHARINGS: [Sharing; 5] = [
     // The file is written while its index data are made.
     Sharing {
         before: &[Action::Create(1)],
         one: &[Action::Steps(1), Action::Steps(1)],
         two: &[Action::Start, Action::Write(1), Action::End],
-        after: &[Action::Settle],
+        after: &[Action::Renew, Action::Settle],
         holds: &UNDER_JOB,
-        said: &["at 1 accepted; stale 1 1 2; at 3 taken; told; at 2 accepted; told; at 3 smart; "],
+        said: &[
+            "at 1 accepted; stale 1 1 2; at 3 taken; told; at 2 accepted; told; renewed; at 3 smart; ",
+        ],
     },
     // The file is deleted while its index data are made.
     Sharing {
@@ -315,11 +352,16 @@ pub fn are_hints_followed<R: Threads + Wait + Sync>(
     alloc: Global,
 ) -> Result<bool, AllocError> {
     let shared = share(rt, alloc, &HINTS)?;
-    let files = intakes(alloc, &shared.history)?;
-    let expected = in_order_of_hints(alloc)?;
     Ok(
         shared.hints == 2048
             && is_among(&shared.said, HINTS.said)
-            && files.as_slice() == expected.as_slice(),
+            && is_in_order_of_hints(alloc, &shared.history)?,
     )
+}
+
+/// Whether a history's intakes are of the files that the steps of `HINTS` take in.
+fn is_in_order_of_hints(alloc: Global, history: &History) -> Result<bool, AllocError> {
+    let files = intakes(alloc, history)?;
+    let expected = in_order_of_hints(alloc)?;
+    Ok(files.as_slice() == expected.as_slice())
 }

@@ -11,6 +11,12 @@ enum Wanted {
     Play {
         workers: u32,
     },
+    /// `play` with a store.
+    PlayStored {
+        store: &'static str,
+        workers: u32,
+    },
+    Index,
     Demo {
         seed: u32,
         files: u32,
@@ -30,7 +36,7 @@ struct Case {
     gives: Wanted,
 }
 
-static CASES: [Case; 56] = [
+static CASES: [Case; 75] = [
     // The subcommands, and their defaults.
     Case {
         words: &[],
@@ -55,6 +61,45 @@ static CASES: [Case; 56] = [
     Case {
         words: &["play", "--workers=8"],
         gives: Wanted::Play { workers: 8 },
+    },
+    Case {
+        words: &["play", "--store", "s"],
+        gives: Wanted::PlayStored {
+            store: "s",
+            workers: 0,
+        },
+    },
+    Case {
+        words: &["play", "--store=out/a b.store", "--workers", "8"],
+        gives: Wanted::PlayStored {
+            store: "out/a b.store",
+            workers: 8,
+        },
+    },
+    Case {
+        words: &["play", "--workers=1", "--store", "index"],
+        gives: Wanted::PlayStored {
+            store: "index",
+            workers: 1,
+        },
+    },
+    Case {
+        words: &["play", "--store=--workers"],
+        gives: Wanted::PlayStored {
+            store: "--workers",
+            workers: 0,
+        },
+    },
+    Case {
+        words: &["play", "--store", "é\u{1F600}"],
+        gives: Wanted::PlayStored {
+            store: "é\u{1F600}",
+            workers: 0,
+        },
+    },
+    Case {
+        words: &["index"],
+        gives: Wanted::Index,
     },
     Case {
         words: &["demo"],
@@ -287,6 +332,59 @@ static CASES: [Case; 56] = [
         words: &[""],
         gives: Wanted::Usage,
     },
+    // A store's path that is missing, given twice or where none may stand, and `index`, which has nothing behind it.
+    Case {
+        words: &["play", "--store"],
+        gives: Wanted::Usage,
+    },
+    Case {
+        words: &["play", "--store", "-s"],
+        gives: Wanted::Usage,
+    },
+    Case {
+        words: &["play", "--store", "a", "--store", "b"],
+        gives: Wanted::Usage,
+    },
+    Case {
+        words: &["play", "--store", "s", "--workers", "9"],
+        gives: Wanted::Usage,
+    },
+    Case {
+        words: &["play", "s"],
+        gives: Wanted::Usage,
+    },
+    Case {
+        words: &["--store", "s"],
+        gives: Wanted::Usage,
+    },
+    Case {
+        words: &["demo", "--store", "s"],
+        gives: Wanted::Usage,
+    },
+    Case {
+        words: &["check", "t", "--store", "s"],
+        gives: Wanted::Usage,
+    },
+    Case {
+        words: &["index", "s"],
+        gives: Wanted::Usage,
+    },
+    Case {
+        words: &["index", "--workers", "0"],
+        gives: Wanted::Usage,
+    },
+    Case {
+        words: &["index", "--store", "s"],
+        gives: Wanted::Usage,
+    },
+    Case {
+        words: &["Index"],
+        gives: Wanted::Usage,
+    },
+    Case {
+        words: &["index", "--help"],
+        gives: Wanted::Usage,
+    },
     // Words that ask for help, and those that end the options.
     Case {
         words: &["--help"],
@@ -316,7 +414,15 @@ fn wanted_request(
     wanted: Wanted,
 ) -> Result<Result<Request, WordsRefusal>, AllocError> {
     Ok(match wanted {
-        Wanted::Play { workers } => Ok(Request::Play { workers }),
+        Wanted::Play { workers } => Ok(Request::Play {
+            workers,
+            store: None,
+        }),
+        Wanted::PlayStored { store, workers } => Ok(Request::Play {
+            workers,
+            store: Some(Name::of(alloc, store)?),
+        }),
+        Wanted::Index => Ok(Request::Index),
         Wanted::Demo {
             seed,
             files,
