@@ -6,6 +6,9 @@
                                       OLD NEW .. may follow here too
     bench/real.py --check FOLDER      four lanes that ask about these files, a half and all of them: `play`, and `check` of the
                                       transcript, which is as long as one may be, or as the folder allows
+    bench/real.py --store FOLDER      stores of these files, of some 8,000,000 bytes and of 16,000,000: `index`, which writes one,
+                                      and `play --store`, which reads it, beside `play` without it
+    bench/real.py --keys FOLDER       the files of properties of a folder, a half and all of them, with 100 questions for keys
     bench/real.py --ask FOLDER        usages and inheritors of some names over all files of a folder, beside grep
     bench/real.py FOLDER OLD NEW ..   several built programs in one run, with their ratios to the first
 
@@ -194,6 +197,55 @@ def check(folder):
             )
 
 
+def store_of(folder, names, scratch):
+    """Writes the store of files of a folder, and gives its size and the seconds of `index`."""
+    source, written = scratch / "loads.ide", scratch / "store"
+    source.write_text("".join(f"load {name}\n" for name in names) + "settle\nstatus\n")
+    seconds = min(used([PROGRAM, "index"], source, folder, written)[:2] for _ in range(3))
+    return written.stat().st_size, seconds
+
+
+def store(folder):
+    """Times stores of some 8 and some 16 million bytes of the files of a folder: written, read and not used at all."""
+    names = [str(p.relative_to(folder)) for p in sorted(folder.rglob("*.java"))]
+    names = [name for name in names if not re.search(r'[\s":\\]', name)]
+    with tempfile.TemporaryDirectory() as name:
+        scratch = pathlib.Path(name)
+        for wanted in (8_000_000, 16_000_000):
+            low, high = 0, len(names)
+            while high - low > 1:
+                middle = (low + high) // 2
+                size, _ = store_of(folder, names[:middle], scratch)
+                low, high = (middle, high) if size <= wanted else (low, middle)
+            size, written = store_of(folder, names[:low], scratch)
+            stored = min(used([PROGRAM, "play", "--store", str(scratch / "store")], scratch / "loads.ide", folder)[:2] for _ in range(3))
+            plain = min(used([PROGRAM, "play"], scratch / "loads.ide", folder)[:2] for _ in range(3))
+            print(
+                f"  {low:6} files  store {size:10} bytes  index {written[0]:7.3f} s (processors {written[1]:7.3f} s)"
+                f"  play --store {stored[0]:7.3f} s ({stored[1]:7.3f} s)  play {plain[0]:7.3f} s ({plain[1]:7.3f} s)"
+            )
+
+
+def keys_in(path):
+    """The keys of a file of properties, roughly: names with letters and dots before an equals sign."""
+    return re.findall(rb"(?m)^([A-Za-z][A-Za-z0-9.]*)[ \t]*=", path.read_bytes())
+
+
+def keys(folder):
+    """Times loads of the files of properties of a folder, a half and all of them, with 100 questions for their keys."""
+    paths = [p for p in sorted(folder.rglob("*.properties")) if not re.search(r'[\s":\\]', str(p.relative_to(folder)))]
+    for some in (paths[::2], paths):
+        size = sum(path.stat().st_size for path in some) / 1e6
+        asked = sorted({key.decode() for path in some for key in keys_in(path)})
+        asked = asked[:: max(1, len(asked) // 100)][:100]
+        print(f"{len(some)} files: {size:.2f} MB, {len(asked)} questions")
+        with tempfile.NamedTemporaryFile("w", suffix=".ide") as script:
+            script.write("".join(f"load {path.relative_to(folder)}\n" for path in some) + "settle\n")
+            script.write("".join(f'key "{key}"\n' for key in asked))
+            script.flush()
+            rows(script.name, [PROGRAM], size, folder)
+
+
 def used_once(paths):
     """The name of a method that stands once in all files."""
     seen = collections.Counter()
@@ -236,8 +288,9 @@ def main():
         sys.exit(__doc__)
     if sys.argv[1] == "--ask":
         return ask(pathlib.Path(sys.argv[2]))
-    if sys.argv[1] == "--check":
-        return check(pathlib.Path(sys.argv[2]))
+    for word, measure in (("--check", check), ("--store", store), ("--keys", keys)):
+        if sys.argv[1] == word:
+            return measure(pathlib.Path(sys.argv[2]))
     if sys.argv[1] == "--load":
         return load(pathlib.Path(sys.argv[2]), sys.argv[3:] or [PROGRAM])
     with tempfile.TemporaryDirectory() as scratch:
