@@ -7,7 +7,8 @@ docs/formats.py --try PROGRAM   runs each with a built program, and compares
 
 An example is a row of fenced blocks with nothing between them; the line above it is its title. `words`: the command line;
 `fails`: the call that fails; `tree NAME`: a file of the current folder; `script`: the script; `bad`: scripts of one line each,
-all of them bad; `answer`: what is written; `status N`: the exit status, with its line on standard error. In a script
+all of them bad; `answer`: what is written; `status N`: the exit status, with its line on standard error. Bytes that are no text
+stand as `answer hex`, or as a `tree` whose first line begins with `bytes`: hex digits, with a remark behind `#`. In a script
 `{N times TEXT}` stands for TEXT N times, with the number for each `@` and a line feed for each `|`; where it is all of a line,
 for N such lines. An answer with the line `...` shows the first and the last line, and `answer N bytes` how long it is.
 """
@@ -40,6 +41,7 @@ class Example:
     fails: tuple[str, int] | None = None
     trees: list[tuple[str, list[str]]] = field(default_factory=list)
     answer: list[str] = field(default_factory=list)
+    hexed: bytes | None = None
     length: int | None = None
     status: int = 0
     error: list[str] = field(default_factory=list)
@@ -49,6 +51,8 @@ class Example:
 
     def written(self):
         """How many bytes are written."""
+        if self.hexed is not None:
+            return len(self.hexed)
         if self.is_cut():
             return self.length
         return len("".join(line + "\n" for line in self.answer).encode())
@@ -56,6 +60,11 @@ class Example:
     def is_case(self):
         """Whether the program of cases can bring it about."""
         return self.fails is None or self.fails[0] != "memory"
+
+
+def hex_bytes(lines):
+    """The bytes that hex digits spell, line by line; a remark stands behind `#`."""
+    return bytes.fromhex("".join(line.split("#")[0] for line in lines))
 
 
 def blocks_of(text):
@@ -93,6 +102,8 @@ def examples():
                 example.trees.append((rest, lines))
             elif kind == "script":
                 example.script = lines
+            elif kind == "answer" and rest == "hex":
+                example.hexed = hex_bytes(lines)
             elif kind == "answer":
                 example.answer = lines
                 example.length = int(rest.split(" ")[0].replace(",", "")) if rest else None
@@ -112,6 +123,8 @@ def setting_lines(example):
         lines.append("=words " + "|".join(example.words))
     if example.fails:
         lines.append(f"={example.fails[0]} {example.fails[1]}")
+    if example.hexed is not None:
+        lines.append("=hex")
     if example.is_cut():
         lines += ["=room 64000000", "=ends"]
     return lines
@@ -135,7 +148,7 @@ def case_lines(example):
 
 def wanted_lines(example):
     """What the program of cases prints of the example."""
-    shown = [line for line in example.answer if line != "..."]
+    shown = [line for line in example.answer if line != "..."] if example.hexed is None else [example.hexed.hex()]
     head = [MARK + example.title, f"status {example.status}, {example.written()} bytes"]
     return head + example.error + shown
 
@@ -176,7 +189,7 @@ def files(found):
 def tree_bytes(lines):
     """The bytes of a file of the current folder."""
     if lines and lines[0].startswith("bytes "):
-        return bytes.fromhex(lines[0][6:])
+        return hex_bytes([lines[0][6:]] + lines[1:])
     return script_bytes(Example("", script=lines))
 
 
@@ -251,19 +264,19 @@ def run(program, example):
     done = subprocess.run(
         [program] + example.words[1:], stdout=sink, stderr=subprocess.PIPE, preexec_fn=narrow, cwd=CASES / "data", **given
     )
-    return done.returncode, done.stderr.decode().split("\n")[:-1], (done.stdout or b"").decode()
+    return done.returncode, done.stderr.decode().split("\n")[:-1], done.stdout or b""
 
 
 def is_as_written(program, example):
     """Runs an example and compares; what differs is printed."""
     status, error, out = run(program, example)
-    lines = out.split("\n")[:-1]
+    lines = [out.hex()] if example.hexed is not None else out.decode().split("\n")[:-1]
     if example.is_cut():
         lines = [lines[0], "...", lines[-1]]
-    got = (status, error, lines, len(out.encode()))
-    if got == (example.status, example.error, example.answer, example.written()):
+    wanted = example.answer if example.hexed is None else [example.hexed.hex()]
+    if (status, error, lines, len(out)) == (example.status, example.error, wanted, example.written()):
         return True
-    print(f"{example.title}: status {status}, {got[3]} bytes", *error, *lines[:40], sep="\n")
+    print(f"{example.title}: status {status}, {len(out)} bytes", *error, *lines[:40], sep="\n")
     return False
 
 

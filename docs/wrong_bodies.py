@@ -105,7 +105,7 @@ def try_one(it):
     finally:
         for file, text in before.items():
             file.write_text(text)
-    errors = [line for line in ran.stdout.splitlines() if ": error" in line or ": not proved" in line]
+    errors = [line for line in ran.stdout.splitlines() if any(word in line for word in (": error", ": not proved", "did not prove"))]
     refused = ran.returncode == 1 and "logic=not-proved" in ran.stdout
     print(f"{it.crate}/{it.name}: {'refused' if refused else 'NOT REFUSED' if not ran.returncode else 'not read'}")
     print("\n".join(f"    {line[:300]}" for line in errors[-6:]))
