@@ -29,7 +29,7 @@ pub use Rattle.write_history.specs.Effect.{Put, put_of, refusal_of, rewritten, t
 pub use Rattle.write_history.specs.Fold.{after_put, effect_of, list_refusal, ListRefusal, refusal_or, counted, after_list, fold, fold_from, IsLegal}
 pub use Rattle.write_history.specs.Fold.{IsLegalFrom}
 pub use Rattle.write_history.specs.Stamps.{files_made}
-pub use Rattle.ide_calls.specs.Settle.{Settled, settled, settled_from, settled_unless, entry_of, intake_of, intake_entry}
+pub use Rattle.transcripts.specs.Settle.{Settled, settled, settled_from, settled_unless, entry_of, intake_of, intake_entry}
 pub use Rattle.queries.specs.declared.query.Query.{Query}
 pub use Rattle.query_engine.specs.Fits.{is_class, has_super, is_method}
 pub use Rattle.query_engine.specs.Inheritors.{Listing, inheritors_of}
@@ -38,8 +38,8 @@ pub use Rattle.query_engine.specs.Reply.{rows_in, word_in, word_row, uses_in, ke
 pub use Rattle.query_engine.specs.Reply.{unless_unready, reply}
 pub use Rattle.script_lang.specs.declared.line.Line.{Line}
 pub use Rattle.script_lang.specs.Parts.{Parts}
-pub use Rattle.index_workers.specs.declared.worked.Worked.{Worked}
-pub use Rattle.index_workers.specs.Work.{IsIntakeBy}
+pub use Rattle.transcripts.specs.Worked.{Worked}
+pub use Rattle.transcripts.specs.Work.{IsIntakeBy}
 pub use Rattle.transcripts.specs.declared.loaded.Loaded.{Loaded}
 pub use Rattle.transcripts.specs.declared.loaded.Loaded.TheVariants.{Nothing}
 pub use Rattle.transcripts.specs.declared.record.Answer.{Answer}

@@ -1,7 +1,7 @@
 //! Laws of runs that callers rest on: functions that do nothing, whose contracts are the laws.
 ghost use Rattle.std.specs.Prelude.{ℕ, ◌≡◌, ◌<◌, ◌≤◌, List, [], length};
 ghost use Rattle.script_lang.specs.Parts.{Parts};
-ghost use Rattle.index_workers.specs.declared.worked.Worked.{Worked};
+ghost use Rattle.transcripts.specs.Worked.{Worked};
 ghost use Rattle.transcripts.specs.Serial.{Ended, run_of};
 ghost use Rattle.transcripts.specs.Fits.{RunFits};
 ghost use Rattle.transcripts.specs.Transcript.{summary_of};

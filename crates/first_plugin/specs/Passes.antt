@@ -1,6 +1,6 @@
 -- What the program says of passes.
 use Rattle.std.specs.Prelude.{◌≡◌}
-use Rattle.index_workers.specs.declared.pass.IdePass.{IdePass}
+use Rattle.shared_ide.specs.IdePass.{IdePass}
 use Rattle.shared_ide.specs.declared.shared.SharedIde.{SharedIde}
 use Rattle.shared_ide.specs.Passes.{IsIdePassOf, ide_view}
 

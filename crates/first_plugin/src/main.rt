@@ -4,10 +4,8 @@
 
 mod threads;
 
-use ide_calls::Reply;
-use index_store::Store;
 use query_engine::Answer;
-use shared_ide::SharedIde;
+use shared_ide::{Reply, SharedIde, Store};
 use std::io;
 use std::thread::join_mut;
 use threads::{ask, edit, inspect};

@@ -1,15 +1,13 @@
 //! What the threads do, each with a pass of its own.
 ghost use Rattle.std.specs.Prelude.{◌≡◌, true, IfOk};
-ghost use Rattle.ide_world.specs.Ready.{is_edit};
+ghost use Rattle.shared_ide.specs.Ready.{is_edit};
 ghost use Rattle.shared_ide.specs.Passes.{IsIdePassOf};
 ghost use Rattle.first_plugin.specs.Passes.{StaysIn};
 
 use action_lock::{Gate, Point};
-use ide_calls::{Replied, SoftAskRefusal};
 use ide_text::{Name, SharedText, Text};
-use index_workers::IdePass;
 use queries::Query;
-use shared_ide::SharedIde;
+use shared_ide::{IdePass, Replied, SharedIde, SoftAskRefusal};
 use std::alloc::{AllocError, Global};
 use std::sync::Wait;
 use write_history::Change;

@@ -42,6 +42,7 @@ pub use change_refusal::ChangeRefusal;
 pub use changing::{change, change_group};
 pub use group_refusal::GroupChangeRefusal;
 pub use home::IdeHome;
+pub use index_store::Store;
 pub use renewing::renew;
 pub use replied::Replied;
 pub use reply::Reply;

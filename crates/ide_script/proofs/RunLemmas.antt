@@ -8,7 +8,7 @@ use Rattle.ide_io.specs.declared.source.Source
 use Rattle.ide_io.specs.declared.tree.Tree
 use Rattle.ide_io.specs.declared.sink.Sink
 use Rattle.script_lang.specs.Parts.{Parts}
-use Rattle.index_workers.specs.declared.worked.Worked.{Worked}
+use Rattle.transcripts.specs.Worked.{Worked}
 use Rattle.transcripts.specs.declared.loaded.Loaded.{Loaded}
 use Rattle.transcripts.specs.Serial.{Ended, run_of}
 use Rattle.transcripts.specs.Fits.{RunFits}

@@ -11,7 +11,7 @@ use Rattle.command_line.specs.Request.{request_of}
 use Rattle.demo.specs.Script.{demo_bytes}
 use Rattle.script_lang.specs.Parts.{Parts}
 use Rattle.script_lang.specs.Grammar.{IsScript}
-use Rattle.index_workers.specs.declared.worked.Worked.{Worked}
+use Rattle.transcripts.specs.Worked.{Worked}
 use Rattle.transcripts.specs.Serial.{Ended, run_of}
 use Rattle.transcripts.specs.Fits.{RunFits}
 use Rattle.transcripts.specs.Transcript.{summary_of}

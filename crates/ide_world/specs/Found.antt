@@ -3,10 +3,9 @@ use Rattle.std.specs.Prelude.{ℕ, ◌+◌, Bool, if◌then◌else◌, List, [],
 use Rattle.std.specs.Option.{option_map_or}
 use Rattle.dumb_mode.specs.declared.kind.FileKind.{FileKind}
 use Rattle.dumb_mode.specs.Filter.{has_kind}
-use Rattle.stub_tree.specs.declared.stub.Stub.{Stub}
-use Rattle.java_tokens.specs.Words.{words_of, mask_in}
-use Rattle.decl_parser.specs.Listing.{listing_of}
-use Rattle.overlay_index.specs.Parts.{Parts}
+use Rattle.overlay_index.specs.Words.{words_of, mask_in}
+use Rattle.overlay_index.specs.Listing.{listing_of}
+use Rattle.overlay_index.specs.Parts.{Parts, Stub}
 use Rattle.overlay_index.specs.Layers.{base_of}
 use Rattle.write_history.specs.World.{World, File, shown_text, is_unready}
 use Rattle.ide_world.specs.Held.{Held}

@@ -10,7 +10,7 @@ mod worked;
 mod working;
 
 pub use hinting::hint;
-pub use ide_calls::make_stored;
+pub use ide_calls::{Sighted, Store, laws, make_stored};
 pub use pass::IdePass;
 pub use passes::{close, first, is_last, meet, split};
 pub use stepping::index_step;

@@ -9,8 +9,7 @@ ghost use Rattle.index_workers.specs.Passes.{ide_view, IsIdePassOf, IsSameIdePas
 
 use crate::pass::IdePass;
 use action_lock::{ActionLock, Gate};
-use ide_calls::{IdeHome, Step};
-use index_store::Store;
+use ide_calls::{IdeHome, Step, Store};
 use job_queue::JobQueue;
 use std::alloc::{AllocError, Global};
 use std::sync::Wait;

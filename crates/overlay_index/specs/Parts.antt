@@ -3,7 +3,7 @@ use Rattle.std.specs.Prelude.{ℕ, List, []}
 use Rattle.dumb_mode.specs.declared.kind.FileKind.{FileKind}
 use Rattle.dumb_mode.specs.declared.kind.FileKind.TheVariants.{Java, Properties}
 use Rattle.java_tokens.specs.Words.{words_of}
-use Rattle.stub_tree.specs.declared.stub.Stub.{Stub}
+pub use Rattle.stub_tree.specs.declared.stub.Stub.{Stub}
 use Rattle.decl_parser.specs.Listing.{listing_of}
 use Rattle.stub_index.specs.Named.{type_names, super_names, method_names, rows_by_name}
 use Rattle.property_index.specs.Keys.{key_rows}

@@ -19,9 +19,9 @@ use Rattle.ide_calls.specs.declared.reply.Reply.{Reply}
 use Rattle.ide_calls.specs.declared.reply.Reply.TheVariants as reply
 use Rattle.ide_calls.specs.Settling.{HasSettled}
 use Rattle.queries.specs.declared.query.Query.{Query}
-use Rattle.query_engine.specs.declared.answer.Answer.{Answer as Finding}
-use Rattle.query_engine.specs.declared.answer.AskRefusal.{AskRefusal}
-use Rattle.query_engine.specs.Reply.{reply as reply_of}
+use Rattle.transcripts.specs.Answer.{Answer as Finding}
+use Rattle.transcripts.specs.AskRefusal.{AskRefusal}
+use Rattle.transcripts.specs.Reply.{reply as reply_of}
 use Rattle.script_lang.specs.declared.command.Command.{Command}
 use Rattle.script_lang.specs.declared.command.Command.TheVariants.{Soft}
 use Rattle.script_lang.specs.declared.line.Line.{Line}

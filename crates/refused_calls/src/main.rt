@@ -7,8 +7,7 @@ mod alone;
 mod shared;
 mod steps;
 
-use index_store::Store;
-use shared_ide::SharedIde;
+use shared_ide::{SharedIde, Store};
 use std::io;
 
 fn main(rt: HostRuntime) -> io::Result<()> {

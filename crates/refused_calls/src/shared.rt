@@ -5,9 +5,9 @@ ghost use Rattle.refused_calls.specs.Passes.{StaysIn};
 
 use crate::steps::{STEPS, Told, change_of, group_of, question, told};
 use action_lock::{Gate, Point};
-use ide_calls::{ChangeRefusal, GroupChangeRefusal, Reply, SettleRefusal, SoftAskRefusal};
-use index_workers::IdePass;
-use shared_ide::SharedIde;
+use shared_ide::{
+    ChangeRefusal, GroupChangeRefusal, IdePass, Reply, SettleRefusal, SharedIde, SoftAskRefusal,
+};
 use std::alloc::{AllocError, Global};
 use std::io;
 use std::sync::Wait;

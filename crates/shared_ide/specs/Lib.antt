@@ -10,4 +10,6 @@ pub use Rattle.ide_calls.specs.Replied
 pub use Rattle.ide_calls.specs.SoftRefusal
 pub use Rattle.ide_calls.specs.Settling
 pub use Rattle.ide_calls.specs.Step
+pub use Rattle.ide_calls.specs.Ready
+pub use Rattle.index_workers.specs.declared.pass.IdePass
 pub use Rattle.index_workers.specs.Work

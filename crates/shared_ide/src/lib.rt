@@ -8,5 +8,9 @@ mod renewing;
 mod shared;
 mod threads;
 
+pub use ide_calls::{
+    ChangeRefusal, GroupChangeRefusal, Replied, Reply, SettleRefusal, SoftAskRefusal, Step, Store,
+};
+pub use index_workers::{End, IdePass, Worked};
 pub use shared::SharedIde;
 pub use threads::may_go_to_threads;

@@ -15,8 +15,7 @@ ghost use Rattle.index_workers.specs.Passes.{ide_view, IsSameIdePass};
 ghost use Rattle.shared_ide.specs.Passes.{IsIdePassOf};
 
 use action_lock::{ActionLock, SplitRefusal};
-use ide_calls::IdeHome;
-use index_store::Store;
+use ide_calls::{IdeHome, Store};
 use index_workers::{IdePass, close, first, is_last, meet, split};
 use job_queue::JobQueue;
 use std::alloc::{AllocError, Global};

@@ -1,7 +1,7 @@
 -- What the tests say of passes.
 use Rattle.std.specs.Prelude.{ℕ, ◌≡◌, ◌<◌, [], Some}
 use Rattle.action_lock.specs.declared.view.View.{View}
-use Rattle.index_workers.specs.declared.pass.IdePass.{IdePass}
+use Rattle.shared_ide.specs.IdePass.{IdePass}
 use Rattle.shared_ide.specs.declared.shared.SharedIde.{SharedIde}
 use Rattle.shared_ide.specs.Passes.{IsIdePassOf, ide_view}
 

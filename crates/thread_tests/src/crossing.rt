@@ -2,9 +2,9 @@
 use crate::judging::{is_right, no_files};
 use crate::running::{run, script_of};
 use action_lock::{Gate, Point};
-use index_store::Store;
 use playing::play;
 use script_lang::Script;
+use shared_ide::Store;
 use std::alloc::{AllocError, Global};
 use std::sync::Wait;
 use std::sync::atomic::{AtomicU64, Ordering};

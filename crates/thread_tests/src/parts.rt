@@ -2,10 +2,9 @@
 use crate::program::three_files;
 use crate::running::script_of;
 use ide_script::{PlayRefusal, play};
-use index_store::Store;
-use index_workers::{End, Worked};
 use playing::LaneGate;
 use script_lang::Script;
+use shared_ide::{End, Store, Worked};
 use std::alloc::{AllocError, Global};
 use std::sync::Wait;
 use std::thread::Threads;

@@ -1,15 +1,13 @@
 //! Calls on the shared workspace by one pass, one after another, and what they are answered.
 ghost use Rattle.std.specs.Prelude.{◌≡◌, true, IfOk};
-ghost use Rattle.ide_world.specs.Ready.{is_edit};
+ghost use Rattle.shared_ide.specs.Ready.{is_edit};
 ghost use Rattle.shared_ide.specs.Passes.{IsIdePassOf, ide_view};
 ghost use Rattle.thread_tests.specs.Passes.{HasKept};
 
 use crate::stage::Stage;
 use action_lock::{Gate, Point};
-use ide_calls::{ChangeRefusal, SettleRefusal, Step};
 use ide_text::{Name, SharedText, Text};
-use index_workers::IdePass;
-use shared_ide::SharedIde;
+use shared_ide::{ChangeRefusal, IdePass, SettleRefusal, SharedIde, Step};
 use std::alloc::{AllocError, Global};
 use std::sync::Wait;
 use std::thread::Threads;

@@ -16,8 +16,8 @@ use Rattle.script_lang.specs.declared.command.Command.TheVariants as command
 use Rattle.script_lang.specs.declared.line.Line.{Line}
 use Rattle.script_lang.specs.Parts.{Parts}
 use Rattle.script_lang.specs.Held.{IsOfLine, AreOfSection, AreOfScript}
-use Rattle.index_workers.specs.declared.worked.Worked.{Worked}
-use Rattle.index_workers.specs.Work.{IsIntakeBy}
+use Rattle.transcripts.specs.Worked.{Worked}
+use Rattle.transcripts.specs.Work.{IsIntakeBy}
 use Rattle.transcripts.specs.declared.loaded.Loaded.{Loaded}
 use Rattle.transcripts.specs.declared.loaded.Loaded.TheVariants as loaded
 use Rattle.transcripts.specs.declared.record.Answer.TheVariants.{Refused}

@@ -4,7 +4,7 @@ use Rattle.std.specs.List.{list_all}
 use Rattle.std.proofs.lemmas.List.Sums.{list_all-from_AllPass}
 use Rattle.write_history.specs.declared.change.Change.{Change}
 use Rattle.write_history.specs.declared.change.Change.TheVariants as change
-use Rattle.ide_world.specs.Ready.{is_edit}
+use Rattle.replay.specs.Ready.{is_edit}
 use Rattle.script_lang.specs.Held.{IsNoIntake}
 
 edit_of : (c : Change) → IsNoIntake c → is_edit c ≡ true

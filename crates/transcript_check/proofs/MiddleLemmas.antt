@@ -6,9 +6,9 @@ use Rattle.std.proofs.lemmas.Bool.{both_ways, and_parts, and_from, and_right, le
 use Rattle.list_laws.proofs.FrontLemmas.{All-cons}
 use Rattle.write_history.specs.declared.entry.Entry.{Entry}
 use Rattle.script_lang.specs.declared.line.Line.{Line}
-use Rattle.index_workers.specs.declared.worked.End.TheVariants.{Turns}
-use Rattle.index_workers.specs.declared.worked.Worked.{Worked}
-use Rattle.index_workers.specs.Work.{max_turns, IsIntakeBy, AreApart}
+use Rattle.transcripts.specs.End.TheVariants.{Turns}
+use Rattle.transcripts.specs.Worked.{Worked}
+use Rattle.transcripts.specs.Work.{max_turns, IsIntakeBy, AreApart}
 use Rattle.transcripts.specs.declared.record.Record.{Record}
 use Rattle.transcripts.specs.Fits.{Mark, mark_at, made_by, LanesFit, WorkersFit, IsSeatOf}
 use Rattle.transcripts.specs.Transcript.{record_text}

@@ -25,7 +25,7 @@ use Rattle.query_engine.specs.declared.answer.AskRefusal.TheVariants as refused
 use Rattle.query_engine.specs.Reply.{reply}
 use Rattle.query_engine.specs.Listed.{path_at}
 use Rattle.queries.specs.declared.query.Query.{Query}
-use Rattle.index_workers.specs.declared.worked.Worked.{Worked}
+use Rattle.transcripts.specs.Worked.{Worked}
 use Rattle.transcripts.specs.declared.loaded.Loaded.{Loaded}
 use Rattle.transcripts.specs.declared.loaded.Loaded.TheVariants as loaded
 use Rattle.transcripts.specs.declared.record.Answer.{Answer}

@@ -11,7 +11,7 @@ use Rattle.list_laws.proofs.FrontLemmas.{All-cons, filter_more, filter_same}
 use Rattle.write_history.specs.declared.change.Change.{Change}
 use Rattle.write_history.specs.declared.change.Change.TheVariants.{Intake}
 use Rattle.write_history.specs.declared.entry.Entry.{Entry}
-use Rattle.index_workers.specs.Work.{IsIntakeBy, AreApart}
+use Rattle.transcripts.specs.Work.{IsIntakeBy, AreApart}
 use Rattle.transcripts.specs.Fits.{made_by}
 use Rattle.transcript_check.specs.Phase.{is_intake_at, has_taken}
 use Rattle.transcript_check.proofs.StepLemmas.{made_by-own}

@@ -6,7 +6,7 @@ use Rattle.script_lang.specs.declared.line.Line.{Line}
 use Rattle.script_lang.specs.Parts.{Parts}
 use Rattle.transcripts.specs.declared.loaded.Loaded.{Loaded}
 use Rattle.transcripts.specs.declared.record.Record.{Record}
-use Rattle.index_workers.specs.declared.worked.Worked.{Worked}
+use Rattle.transcripts.specs.Worked.{Worked}
 use Rattle.transcripts.specs.Serial.{Step, Ended, step_of, first_load, later_loads}
 use Rattle.transcripts.specs.Fits.{run_beside, RunFits}
 use Rattle.transcripts.specs.Transcript.{record_text}

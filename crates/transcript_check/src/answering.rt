@@ -3,7 +3,7 @@ ghost use Rattle.std.specs.Prelude.{◌≡◌, true, IfOk, IsSome, None, Some, i
 ghost use Rattle.std.specs.List.{list_all};
 ghost use Rattle.write_history.specs.World.{file_of, lowest_unready};
 ghost use Rattle.write_history.specs.Fold.{list_refusal};
-ghost use Rattle.ide_world.specs.Ready.{is_edit};
+ghost use Rattle.replay.specs.Ready.{is_edit};
 ghost use Rattle.query_engine.specs.Listed.{path_at};
 ghost use Rattle.query_engine.specs.Reply.{reply};
 ghost use Rattle.script_lang.specs.Held.{IsOfLine};

@@ -5,7 +5,7 @@ ghost use Rattle.write_history.specs.declared.change.Change.TheVariants.{Intake}
 ghost use Rattle.write_history.specs.declared.entry.Entry.{Entry};
 ghost use Rattle.write_history.specs.Print.{entry_line};
 ghost use Rattle.script_lang.specs.Parts.{Parts};
-ghost use Rattle.index_workers.specs.declared.worked.Worked.{Worked};
+ghost use Rattle.transcripts.specs.Worked.{Worked};
 ghost use Rattle.transcripts.specs.declared.loaded.Loaded.{Loaded};
 ghost use Rattle.transcripts.specs.Serial.{Ended};
 ghost use Rattle.transcripts.specs.Fits.{RunFits};

@@ -1,7 +1,7 @@
 //! A section on its way through a history.
 ghost use Rattle.std.specs.Prelude.{◌≡◌, ◌<◌, length, true, IfOk, OnOk};
 ghost use Rattle.std.specs.List.{list_all};
-ghost use Rattle.ide_world.specs.Ready.{is_edit};
+ghost use Rattle.replay.specs.Ready.{is_edit};
 ghost use Rattle.script_lang.specs.Held.{IsOfLine};
 ghost use Rattle.transcript_check.specs.Section.{is_settle};
 ghost use Rattle.transcript_check.specs.Here.{HasToldOne, IsToldAll, HasMadeNext, HasChanged, HasTakenLowest, HasEnteredSo};

@@ -8,7 +8,7 @@ use Rattle.write_history.specs.declared.refusal.Refusal.TheVariants.{HistoryFull
 use Rattle.write_history.specs.World.{lowest_unready, unready_ids}
 use Rattle.write_history.specs.Effect.{max_entries}
 use Rattle.write_history.specs.Fold.{fold, list_refusal, ListRefusal}
-use Rattle.ide_calls.specs.Settle.{Settled, all_settled, refused_for, with_entry, intake_of, intake_entry, settled}
+use Rattle.index_workers.specs.Settle.{Settled, all_settled, refused_for, with_entry, intake_of, intake_entry, settled}
 
 -- what a settle that began behind `history` and did so leaves
 pub record Leaves (history : List Entry) (done : Settled) : Type 0 where

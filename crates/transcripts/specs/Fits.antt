@@ -11,7 +11,7 @@ use Rattle.script_lang.specs.declared.command.Command.TheVariants.{Soft}
 use Rattle.script_lang.specs.declared.line.Line.{Line}
 use Rattle.script_lang.specs.Parts.{Parts}
 use Rattle.queries.specs.declared.query.Query.{Query}
-use Rattle.ide_calls.specs.Sighting.{Sighting}
+use Rattle.index_workers.specs.Sighting.{Sighting}
 use Rattle.index_workers.specs.declared.worked.End.{End}
 use Rattle.index_workers.specs.declared.worked.End.TheVariants.{Idle, Refused, Turns}
 use Rattle.index_workers.specs.declared.worked.Worked.{Worked}

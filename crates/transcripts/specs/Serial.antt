@@ -8,7 +8,7 @@ use Rattle.write_history.specs.declared.refusal.Refusal.TheVariants as why
 use Rattle.write_history.specs.Path.{is_path}
 use Rattle.write_history.specs.World.{World}
 use Rattle.write_history.specs.Fold.{fold, list_refusal, ListRefusal}
-use Rattle.ide_calls.specs.Settle.{entry_of, settled}
+use Rattle.index_workers.specs.Settle.{entry_of, settled}
 use Rattle.script_lang.specs.declared.command.Command.{Command}
 use Rattle.script_lang.specs.declared.command.Command.TheVariants as command
 use Rattle.script_lang.specs.declared.line.Line.{Line}

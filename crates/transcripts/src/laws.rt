@@ -8,13 +8,13 @@ ghost use Rattle.write_history.specs.Effect.{max_entries};
 ghost use Rattle.write_history.specs.Fold.{fold};
 ghost use Rattle.script_lang.specs.declared.line.Line.{Line};
 ghost use Rattle.script_lang.specs.Parts.{Parts};
-ghost use Rattle.ide_calls.specs.Settle.{settled};
+ghost use Rattle.index_workers.specs.Settle.{settled};
 ghost use Rattle.transcripts.specs.declared.loaded.Loaded.{Loaded};
 ghost use Rattle.transcripts.specs.declared.record.Record.{Record};
 ghost use Rattle.transcripts.specs.Serial.{Ended, done_from, run_of};
 ghost use Rattle.transcripts.specs.Fits.{Mark, SectionFits, RunFits};
 
-use ide_calls::laws::{a_settle_goes_by_the_lowest, intakes_are_refused_where_full};
+use index_workers::laws::{a_settle_goes_by_the_lowest, intakes_are_refused_where_full};
 
 /// Where all that a history has behind a place was made by one section that began there, its records are those of going
 /// through its lines on one thread.

@@ -1,9 +1,8 @@
 //! The records of a run: what each command was answered.
 ghost use Rattle.std.specs.Prelude.{◌≡◌, [], ◌∷◌, ◌++◌, OnOk, OnErr, length};
 
-use ide_calls::Sighted;
 use ide_text::Name;
-use index_workers::Worked;
+use index_workers::{Sighted, Worked};
 use std::alloc::{AllocError, Global};
 use std::marker::Model;
 use write_history::{History, Refusal};

@@ -1,6 +1,6 @@
 use Rattle.std.proofs.Common.{◌≡◌, true, refl, ap, sym, subst, ◌∙◌}
 use Rattle.std.specs.List.{list_all}
-use Rattle.ide_world.specs.Ready.{is_edit}
+use Rattle.shared_ide.specs.Ready.{is_edit}
 use Rattle.script_lang.specs.declared.command.Command.TheVariants as command
 use Rattle.playing.proofs.AnsweredLemmas.{line_done, line_softly}
 use Rattle.playing.proofs.EditLemmas.{edits_of}

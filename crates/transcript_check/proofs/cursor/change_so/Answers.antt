@@ -1,7 +1,7 @@
 use Rattle.std.proofs.Common.{◌≡◌, true, List, sym, subst}
 use Rattle.std.specs.List.{list_all}
 use Rattle.write_history.specs.declared.change.Change.{Change}
-use Rattle.ide_world.specs.Ready.{is_edit}
+use Rattle.replay.specs.Ready.{is_edit}
 use Rattle.transcript_check.proofs.EditLemmas.{edits_of}
 use Rattle.transcript_check.proofs.cursor.change_so.Goals as goal
 
