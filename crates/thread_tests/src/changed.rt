@@ -15,7 +15,7 @@ pub fn changed(alloc: Global, text: &str) -> Result<Vec<Vec<u8>>, AllocError> {
 }
 
 /// The lines of a text, without their ends.
-fn lines_of(alloc: Global, text: &str) -> Result<Vec<&str>, AllocError> {
+pub fn lines_of(alloc: Global, text: &str) -> Result<Vec<&str>, AllocError> {
     let mut lines = Vec::new(alloc);
     for line in text.lines() {
         lines.push(line)?;
@@ -59,7 +59,12 @@ fn push_digits(
 }
 
 /// Three pieces, one behind the other.
-fn joined(alloc: Global, front: &[u8], middle: &[u8], back: &[u8]) -> Result<Vec<u8>, AllocError> {
+pub fn joined(
+    alloc: Global,
+    front: &[u8],
+    middle: &[u8],
+    back: &[u8],
+) -> Result<Vec<u8>, AllocError> {
     let mut out = Vec::from_slice(alloc, front)?;
     out.extend_from_slice(middle)?;
     out.extend_from_slice(back)?;
@@ -75,8 +80,8 @@ fn push_lines(alloc: Global, lines: &[&str], forms: &mut Vec<Vec<u8>>) -> Result
     Ok(())
 }
 
-/// Adds the forms with the first line of the back changed.
-fn push_line_forms(
+/// Adds the forms with the first line of the back left out, twice, or in the place of the next one where that is another.
+pub fn push_line_forms(
     alloc: Global,
     front: &[&str],
     back: &[&str],
@@ -110,7 +115,7 @@ fn of_lines(
 }
 
 /// Adds lines with their ends.
-fn add_lines(out: &mut Vec<u8>, lines: &[&str]) -> Result<(), AllocError> {
+pub fn add_lines(out: &mut Vec<u8>, lines: &[&str]) -> Result<(), AllocError> {
     for line in lines {
         out.extend_from_slice(line.as_bytes())?;
         out.push(b'\n')?;

@@ -1,4 +1,6 @@
 //! Judging a run by its transcript, over files in memory.
+use crate::damaged::damaged;
+use crate::running::text_of;
 use ide_io::MemoryTree;
 use ide_text::Name;
 use script_lang::Script;
@@ -7,7 +9,7 @@ use std::collections::BTreeMap;
 use transcript_check::{Verdict, verdict};
 use transcripts::{Played, transcript};
 
-/// Whether the transcript of a run is one of the script with so many workers, 8 at most, over a tree.
+/// Whether the transcript of a run is one of the script with so many workers, 8 at most, over a tree, and damaged it is none.
 pub fn is_right(
     alloc: Global,
     script: &Script,
@@ -15,8 +17,27 @@ pub fn is_right(
     tree: &mut MemoryTree,
     played: &Played,
 ) -> Result<bool, AllocError> {
-    let printed = transcript(alloc, played)?;
-    is_good(alloc, script, workers, tree, &printed)
+    let printed = text_of(alloc, &transcript(alloc, played)?)?;
+    Ok(
+        is_good(alloc, script, workers, tree, printed.as_bytes())?
+            && are_bad(alloc, script, workers, tree, &damaged(alloc, &printed)?)?,
+    )
+}
+
+/// Whether none of these is a transcript of the script.
+fn are_bad(
+    alloc: Global,
+    script: &Script,
+    workers: u32,
+    tree: &mut MemoryTree,
+    forms: &[Vec<u8>],
+) -> Result<bool, AllocError> {
+    for form in forms {
+        if is_good(alloc, script, workers, tree, form)? {
+            return Ok(false);
+        }
+    }
+    Ok(true)
 }
 
 /// Whether bytes are a transcript of the script with so many workers, 8 at most, over a tree. A load that fails counts as

@@ -9,6 +9,8 @@ mod changed;
 #[cfg(test)]
 mod crossing;
 #[cfg(test)]
+mod damaged;
+#[cfg(test)]
 mod drawn;
 #[cfg(test)]
 mod faults;

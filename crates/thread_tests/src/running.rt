@@ -175,16 +175,17 @@ fn drawn(alloc: Global, seed: u32, lanes: u32, count: u32) -> Result<Script, All
     script_of(alloc, text.as_bytes())
 }
 
-/// The first of some seeds with which a run of four lanes with two hundred commands each isn't right, with none to four workers;
+/// The first of some seeds with which a run of four lanes with so many commands each isn't right, with none to four workers;
 /// nothing where all are. It may block.
 pub fn wrong_seed<R: Threads + Wait + Sync>(
     rt: &R,
     alloc: Global,
     from: u32,
     to: u32,
+    count: u32,
 ) -> Result<Option<u32>, AllocError> {
     for seed in from..to {
-        if !is_drawn_right(rt, alloc, seed, 4, 200, seed % 5)? {
+        if !is_drawn_right(rt, alloc, seed, 4, count, seed % 5)? {
             return Ok(Some(seed));
         }
     }

@@ -60,14 +60,21 @@ fn drawn_script_of_sixteen_lanes(rt: HostRuntime) -> Result<(), Fail> {
 /// Four lanes with two hundred commands each, and none to four workers: half of fifty scripts.
 #[test]
 fn drawn_scripts(rt: HostRuntime) -> Result<(), Fail> {
-    assert_eq!(rt; wrong_seed(&rt, rt.alloc(), 0, 25)?, None);
+    assert_eq!(rt; wrong_seed(&rt, rt.alloc(), 0, 25, 200)?, None);
     Ok(())
 }
 
 /// The other half.
 #[test]
 fn other_drawn_scripts(rt: HostRuntime) -> Result<(), Fail> {
-    assert_eq!(rt; wrong_seed(&rt, rt.alloc(), 25, 50)?, None);
+    assert_eq!(rt; wrong_seed(&rt, rt.alloc(), 25, 50, 200)?, None);
+    Ok(())
+}
+
+/// Four lanes with four commands each, whose transcripts are damaged in each line.
+#[test]
+fn short_drawn_scripts(rt: HostRuntime) -> Result<(), Fail> {
+    assert_eq!(rt; wrong_seed(&rt, rt.alloc(), 50, 70, 4)?, None);
     Ok(())
 }
 

@@ -51,7 +51,7 @@ pub fn entries_of(written: &str) -> &str {
 }
 
 /// The number of a record's line, the prefix and the answer.
-fn parts_of(line: &str) -> Option<(&str, &str, &str)> {
+pub fn parts_of(line: &str) -> Option<(&str, &str, &str)> {
     let (number, rest) = line.split_once(" at ")?;
     let (at, answer) = rest.split_once(" ")?;
     Some((number, at, answer))
