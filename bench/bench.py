@@ -8,7 +8,8 @@
     bench/bench.py limits     a history, files and documents at their limits, at a half and at all of them
     bench/bench.py demo       `ide demo` with 5,000 and 10,000 files
     bench/bench.py one        one file of 1,000,000 characters, of ordinary code and of hostile texts
-    bench/bench.py wide       one file, half and whole: a type of 100,000 supers, and 1,000,000 marks without a word
+    bench/bench.py wide       one file, half and whole: a type of 200,000 supers, and 1,000,000 marks without a word
+    bench/bench.py group      one group of 48 opens and 16 inserts of 1,000,000 characters each, half and whole
     bench/bench.py names      usages of a name used 100,000 times, and inheritors: 30,000 types in a chain, 30,000 of
                               one name, a cycle of 1,000, a name with 20,000 in as many files; each at half and whole
     bench/bench.py creates one --beside OLD
@@ -17,7 +18,9 @@
 Run `./ide < examples/first.ide` once before, so that the program is built. Times on shared machines say
 little by themselves: read the ratios between the rows of one run.
 """
+import itertools
 import multiprocessing
+import string
 import sys
 import tempfile
 
@@ -141,13 +144,27 @@ def one(size=1_000_000):
         rows(name, script)
 
 
-def wide(supers=100_000, marks=1_000_000):
+def short_names(n):
+    """So many names of four letters, each another."""
+    return map("".join, itertools.islice(itertools.product(string.ascii_letters, repeat=4), n))
+
+
+def wide(supers=200_000, marks=1_000_000):
     print("one file, half and whole: the supers of one type, and marks without a word")
     for n in (supers // 2, supers):
-        script = f'create A.java "class A implements {", ".join(f"I{i}" for i in range(n))} {{}}"\nsettle\nsupers I7\n'
+        script = f'create A.java "class A implements {",".join(short_names(n))}{{}}"\nsettle\nsupers aaah\n'
         rows(f"{n} supers", script)
     for n in (marks // 2, marks):
         rows(f"{n} marks", f'create A.java "{";" * n}"\nsettle\nword a\n')
+
+
+def group(opens=48, inserts=16, size=1_000_000):
+    print(f"one group of opens, and of inserts of {size} characters each: half and whole")
+    for part in (2, 1):
+        names = [f"f{i}.java" for i in range(opens // part)]
+        lines = [f'create {name} ""' for name in names] + ["group", *(f"open {name}" for name in names)]
+        lines += [f'insert {name} 0 "{text(i, size)}"' for i, name in enumerate(names[: inserts // part])]
+        rows(f"{len(names)} and {inserts // part}", "\n".join([*lines, "end", "status", ""]))
 
 
 def types(heads):
@@ -201,7 +218,7 @@ def names():
 
 
 def main():
-    measures = {"creates": creates, "edits": edits, "one": one, "wide": wide, "names": names, "limits": limits, "demo": demo}
+    measures = {"creates": creates, "edits": edits, "one": one, "wide": wide, "group": group, "names": names, "limits": limits, "demo": demo}
     words = sys.argv[1:]
     if "--beside" in words:
         words, BESIDE[:] = words[: words.index("--beside")], words[words.index("--beside") + 1 :]
