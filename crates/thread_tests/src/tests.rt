@@ -1,6 +1,7 @@
 //! What a clause cannot say: that calls succeed, that threads run beside each other, and that their answers fit together.
 use crate::changed::changed;
 use crate::crossing::{are_files_taken_in, are_writes_right, is_crossing_right};
+use crate::damaged::damaged;
 use crate::faults::{fault_of_lanes, fault_of_sessions};
 use crate::misfits::fault_of_misfits;
 use crate::parts::is_played_in_parts;
@@ -89,6 +90,15 @@ fn runs_of_other_scripts_are_wrong(rt: HostRuntime) -> Result<(), Fail> {
 #[test]
 fn one_line_has_fourteen_changes(rt: HostRuntime) -> Result<(), Fail> {
     assert_eq!(rt; changed(rt.alloc(), "history 0\n")?.len(), 14);
+    Ok(())
+}
+
+/// Of these three lines eight forms have a line left out, twice or swapped, eight a zero before a number, and eleven a number
+/// that is greater or less: not the seat of the worker, nor the prefix of a record that no entry made. One lacks its last byte.
+#[test]
+fn three_lines_have_so_many_damaged_forms(rt: HostRuntime) -> Result<(), Fail> {
+    let text = "history 1\n1 2 0 intake 1 1\n3 at 1 smart\n";
+    assert_eq!(rt; damaged(rt.alloc(), text)?.len(), 28);
     Ok(())
 }
 
