@@ -4,10 +4,10 @@ use crate::told::parts_of;
 use std::alloc::{AllocError, Global};
 
 /// A transcript of so many lines is damaged in each of them, and a longer one in a few.
-const SHORT: usize = 100;
+const SHORT: usize = 400;
 
 /// In a longer one, one of so many lines.
-const ONE_OF: usize = 397;
+const ONE_OF: usize = 53;
 
 /// Each form of a transcript with a line damaged: the line is left out, stands twice, or changes places with the next one
 /// where that is another; a number of it is greater or less by one, or has a zero before it. And it without its last byte.
