@@ -31,11 +31,20 @@ const WRITER: u32 = 2;
 /// The seat of the lane that asks softly.
 const ASKER: u32 = 3;
 
-/// Whether soft questions are given up in a run where they cross a write, and the run is right. It may block.
-pub fn is_crossing_right<R: Threads + Wait + Sync>(
+/// Whether these three kinds of runs are right. It may block.
+pub fn are_crossings_right<R: Threads + Wait + Sync>(
     rt: &R,
     alloc: Global,
 ) -> Result<bool, AllocError> {
+    Ok(
+        is_crossing_right(rt, alloc)?
+            && are_writes_right(rt, alloc)?
+            && are_files_taken_in(rt, alloc)?,
+    )
+}
+
+/// Whether soft questions are given up in a run where they cross a write, and the run is right. It may block.
+fn is_crossing_right<R: Threads + Wait + Sync>(rt: &R, alloc: Global) -> Result<bool, AllocError> {
     let script = crossing_script(alloc)?;
     is_crossing_of(rt, alloc, &script, &Crossing::new())
 }
@@ -80,19 +89,13 @@ fn makes_entries_of<R: Threads + Wait + Sync>(
 }
 
 /// Whether a run of a hundred writes beside a hundred soft questions and two workers is right. It may block.
-pub fn are_writes_right<R: Threads + Wait + Sync>(
-    rt: &R,
-    alloc: Global,
-) -> Result<bool, AllocError> {
+fn are_writes_right<R: Threads + Wait + Sync>(rt: &R, alloc: Global) -> Result<bool, AllocError> {
     let script = writes_and_questions(alloc)?;
     makes_entries(rt, alloc, &script, 2, 101)
 }
 
 /// Whether a run with two lanes of three hundred files each and two workers is right. It may block.
-pub fn are_files_taken_in<R: Threads + Wait + Sync>(
-    rt: &R,
-    alloc: Global,
-) -> Result<bool, AllocError> {
+fn are_files_taken_in<R: Threads + Wait + Sync>(rt: &R, alloc: Global) -> Result<bool, AllocError> {
     let script = many_files(alloc)?;
     makes_entries(rt, alloc, &script, 2, 600)
 }

@@ -1,5 +1,5 @@
 //! Transcripts of which one line is damaged, but for those that the rules allow as well.
-use crate::changed::{add_lines, joined, lines_of, push_line_forms};
+use crate::changed::{add_lines, changed, joined, lines_of, push_line_forms};
 use crate::told::parts_of;
 use std::alloc::{AllocError, Global};
 
@@ -20,6 +20,15 @@ pub fn damaged(alloc: Global, text: &str) -> Result<Vec<Vec<u8>>, AllocError> {
         forms.push(Vec::from_slice(alloc, front)?)?;
     }
     Ok(forms)
+}
+
+/// Whether short texts have as many forms as they should: `history 0` fourteen with one change, a digit being nine others or
+/// behind a zero, its one line left out, twice or without its end, and nothing at all; and three lines twenty-eight that are
+/// damaged, eight with a line left out, twice or swapped, eight with a zero before a number, eleven with a number greater or
+/// less, the seat of the worker and the prefix of the settle apart, and one without the last byte.
+pub fn are_counted(alloc: Global) -> Result<bool, AllocError> {
+    let lines = "history 1\n1 2 0 intake 1 1\n3 at 1 smart\n";
+    Ok(changed(alloc, "history 0\n")?.len() == 14 && damaged(alloc, lines)?.len() == 28)
 }
 
 /// Adds the forms of a transcript's lines. In a long one, the number of lines says which are damaged.

@@ -1,27 +1,137 @@
 //! Scripts that are drawn: lanes with commands of all kinds, which get into one another's way.
 use std::alloc::{AllocError, Global};
 
-static PATHS: [&str; 7] = [
-    "A.java",
-    "B.java",
-    "C.java",
-    "L.java",
-    "P.properties",
-    "notes.txt",
-    "../x",
+/// Changes, groups of two, settles and questions over a few paths, texts and names, each kind as often as it is to be drawn.
+static COMMANDS: [&str; 128] = [
+    r#"create B.java "class B extends A { int a; } // A""#,
+    "save L.java",
+    r#"write ../x "class A { void m() {} }""#,
+    r#"insert P.properties 6 "enum A { B, C } /* B */""#,
+    "erase C.java 5 4",
+    "close A.java",
+    r#"write notes.txt """#,
+    "move B.java P.properties",
+    "delete notes.txt",
+    "open C.java",
+    r#"write L.java "x""#,
+    r#"create A.java "interface C { int m(); }""#,
+    "commit ../x",
+    "open notes.txt",
+    "commit L.java",
+    "move B.java P.properties",
+    r#"write A.java "A = m\nm : A\nA""#,
+    r#"create ../x "interface C { int m(); }""#,
+    r#"insert C.java 2 "class A { void m() {} }""#,
+    "erase L.java 4 6",
+    "save C.java",
+    "delete ../x",
+    r#"create B.java "x""#,
+    "open A.java",
+    r#"write notes.txt "enum A { B, C } /* B */""#,
+    "open P.properties",
+    r#"write notes.txt "class B extends A { int a; } // A""#,
+    "close ../x",
+    r#"write P.properties """#,
+    r#"create L.java "A = m\nm : A\nA""#,
+    "delete A.java",
+    "save C.java",
+    "open B.java",
+    r#"create P.properties """#,
+    "open L.java",
+    "erase B.java 0 13",
+    r#"insert notes.txt 6 "interface C { int m(); }""#,
+    "move A.java ../x",
+    "commit C.java",
+    r#"write notes.txt "enum A { B, C } /* B */""#,
+    r#"write P.properties "class B extends A { int a; } // A""#,
+    "close C.java",
+    "commit L.java",
+    "open A.java",
+    "delete ../x",
+    "move B.java A.java",
+    "save notes.txt",
+    r#"create C.java "class A { void m() {} }""#,
+    r#"write L.java "x""#,
+    "close ../x",
+    r#"insert P.properties 3 "A = m\nm : A\nA""#,
+    r#"write B.java "class B extends A { int a; } // A""#,
+    r#"create P.properties "A = m\nm : A\nA""#,
+    r#"write L.java "class A { void m() {} }""#,
+    "open notes.txt",
+    "erase ../x 5 7",
+    "close B.java",
+    r#"insert A.java 4 "enum A { B, C } /* B */""#,
+    "delete C.java",
+    "erase L.java 0 4",
+    "commit ../x",
+    "move B.java A.java",
+    "save P.properties",
+    r#"write notes.txt "interface C { int m(); }""#,
+    "group\ncreate C.java \"\"\nwrite C.java \"x\"\nend",
+    "group\nopen L.java\nopen B.java\nend",
+    "group\ncreate A.java \"A = m\\nm : A\\nA\"\nwrite ../x \"\"\nend",
+    "group\nwrite notes.txt \"enum A { B, C } /* B */\"\ncreate P.properties \"class A { void m() {} }\"\nend",
+    "group\nclose ../x\nopen A.java\nend",
+    "group\ncreate C.java \"class B extends A { int a; } // A\"\nerase B.java 1 3\nend",
+    "group\nwrite notes.txt \"x\"\nmove L.java P.properties\nend",
+    "group\nwrite C.java \"interface C { int m(); }\"\ndelete A.java\nend",
+    "settle",
+    "settle",
+    "settle",
+    "settle",
+    "status",
+    "usages B",
+    "inheritors C",
+    "word x",
+    r#"key "m""#,
+    "outline notes.txt",
+    "method A",
+    "class B",
+    "supers m",
+    "outline B.java",
+    "word A",
+    "method x",
+    r#"key "C""#,
+    "inheritors x",
+    "usages B",
+    "status",
+    "supers m",
+    "class C",
+    "class A",
+    "inheritors B",
+    r#"key "C""#,
+    "outline ../x",
+    "supers m",
+    "method A",
+    "soft 1 word x",
+    "soft 2 usages C",
+    "soft 3 status",
+    "soft 1 class m",
+    "soft 2 status",
+    "soft 3 usages A",
+    "soft 1 method B",
+    r#"soft 2 key "x""#,
+    "soft 3 outline P.properties",
+    "soft 1 supers C",
+    "soft 2 inheritors x",
+    "soft 3 word B",
+    "soft 1 supers m",
+    r#"soft 2 key "A""#,
+    "soft 3 class C",
+    "soft 1 word B",
+    "soft 2 status",
+    "soft 3 outline L.java",
+    "soft 1 usages m",
+    "soft 2 method A",
+    "soft 3 inheritors x",
+    "soft 1 outline ../x",
+    "soft 2 usages A",
+    "soft 3 status",
+    "soft 1 word m",
+    "soft 2 class B",
+    "soft 3 inheritors x",
+    "soft 1 supers C",
 ];
-
-static TEXTS: [&str; 7] = [
-    "\"class A { void m() {} }\"",
-    "\"class B extends A { int a; } // A\"",
-    "\"interface C { int m(); }\"",
-    "\"enum A { B, C } /* B */\"",
-    "\"A = m\\nm : A\\nA\"",
-    "\"x\"",
-    "\"\"",
-];
-
-static NAMES: [&str; 5] = ["A", "B", "C", "m", "x"];
 
 /// The next number that is drawn.
 fn next(draw: u32) -> u32 {
@@ -44,113 +154,12 @@ pub fn drawn_script(
         script.push_str("lane\n")?;
         for _ in 0..count {
             draw = next(draw);
-            push_command(alloc, &mut script, draw)?;
+            script.push_str(COMMANDS[(draw >> 16) as usize % 128])?;
+            script.push_str("\n")?;
         }
     }
     script.push_str(
         "finally\nsettle\nstatus\nclass A\nword m\nsupers A\nusages A\ninheritors A\nkey \"A\"\ndelete A.java\nstatus\n",
     )?;
     Ok(script)
-}
-
-/// Adds a command.
-fn push_command(alloc: Global, script: &mut String, draw: u32) -> Result<(), AllocError> {
-    match (draw >> 8) % 16 {
-        0..8 => push_change(alloc, script, draw),
-        8 => push_group(alloc, script, draw),
-        9 => script.push_str("settle\n"),
-        10..13 => push_question(alloc, script, draw),
-        _ => {
-            let attempts = (draw >> 28) % 3 + 1;
-            script.push_str(&format!(in alloc; "soft {attempts} ")?)?;
-            push_question(alloc, script, draw)
-        }
-    }
-}
-
-/// Adds a group of two changes.
-fn push_group(alloc: Global, script: &mut String, draw: u32) -> Result<(), AllocError> {
-    script.push_str("group\n")?;
-    push_change(alloc, script, draw >> 3)?;
-    push_change(alloc, script, draw >> 5)?;
-    script.push_str("end\n")
-}
-
-/// Adds a change.
-fn push_change(alloc: Global, script: &mut String, draw: u32) -> Result<(), AllocError> {
-    let path = PATHS[(draw >> 16) as usize % 7];
-    match (draw >> 12) % 14 {
-        0..2 => push_text_change(alloc, script, "create", draw),
-        2..5 => push_text_change(alloc, script, "write", draw),
-        5 => push_path_change(alloc, script, "delete", path),
-        6..8 => push_path_change(alloc, script, "open", path),
-        8 => push_insert(alloc, script, draw),
-        9 => push_erase(alloc, script, draw),
-        10 => push_path_change(alloc, script, "commit", path),
-        11 => push_path_change(alloc, script, "save", path),
-        12 => push_path_change(alloc, script, "close", path),
-        _ => push_move(alloc, script, draw),
-    }
-}
-
-/// Adds a change of a file's text.
-fn push_text_change(
-    alloc: Global,
-    script: &mut String,
-    verb: &str,
-    draw: u32,
-) -> Result<(), AllocError> {
-    let path = PATHS[(draw >> 16) as usize % 7];
-    let text = TEXTS[(draw >> 20) as usize % 7];
-    script.push_str(&format!(in alloc; "{verb} {path} {text}\n")?)
-}
-
-/// Adds a change that needs a path alone.
-fn push_path_change(
-    alloc: Global,
-    script: &mut String,
-    verb: &str,
-    path: &str,
-) -> Result<(), AllocError> {
-    script.push_str(&format!(in alloc; "{verb} {path}\n")?)
-}
-
-/// Adds an insert.
-fn push_insert(alloc: Global, script: &mut String, draw: u32) -> Result<(), AllocError> {
-    let path = PATHS[(draw >> 16) as usize % 7];
-    let at = (draw >> 24) % 12;
-    let text = TEXTS[(draw >> 20) as usize % 7];
-    script.push_str(&format!(in alloc; "insert {path} {at} {text}\n")?)
-}
-
-/// Adds an erase.
-fn push_erase(alloc: Global, script: &mut String, draw: u32) -> Result<(), AllocError> {
-    let path = PATHS[(draw >> 16) as usize % 7];
-    let from = (draw >> 24) % 8;
-    let to = (draw >> 26) % 16;
-    script.push_str(&format!(in alloc; "erase {path} {from} {to}\n")?)
-}
-
-/// Adds a move.
-fn push_move(alloc: Global, script: &mut String, draw: u32) -> Result<(), AllocError> {
-    let path = PATHS[(draw >> 16) as usize % 7];
-    let to = PATHS[(draw >> 20) as usize % 7];
-    script.push_str(&format!(in alloc; "move {path} {to}\n")?)
-}
-
-/// Adds a question.
-fn push_question(alloc: Global, script: &mut String, draw: u32) -> Result<(), AllocError> {
-    let name = NAMES[(draw >> 16) as usize % 5];
-    let path = PATHS[(draw >> 20) as usize % 7];
-    match (draw >> 12) % 9 {
-        0 => script.push_str(&format!(in alloc; "class {name}\n")?),
-        1 => script.push_str(&format!(in alloc; "supers {name}\n")?),
-        2 => script.push_str(&format!(in alloc; "method {name}\n")?),
-        3 => script.push_str(&format!(in alloc; "word {name}\n")?),
-        4 => script.push_str(&format!(in alloc; "usages {name}\n")?),
-        5 => script.push_str(&format!(in alloc; "inheritors {name}\n")?),
-        6 => script.push_str(&format!(in alloc; "key \"{name}\"\n")?),
-        7 => script.push_str(&format!(in alloc; "outline {path}\n")?),
-        _ => script.push_str("status\n"),
-    }
 }

@@ -145,17 +145,29 @@ fn loads_of(
     }
 }
 
-/// Whether a run of a drawn script with so many lanes of so many commands is right. It may block.
-pub fn is_drawn_right<R: Threads + Wait + Sync>(
+/// Drawn scripts: one of each seed, with so many lanes of so many commands, played with fewer workers than this.
+pub struct Drawn {
+    pub seeds: [u32; 2],
+    pub lanes: u32,
+    pub count: u32,
+    pub workers: u32,
+}
+
+/// Whether a run of the drawn script of a seed is right. It may block.
+fn is_drawn_right<R: Threads + Wait + Sync>(
     rt: &R,
     alloc: Global,
+    drawn: &Drawn,
     seed: u32,
-    lanes: u32,
-    count: u32,
-    workers: u32,
 ) -> Result<bool, AllocError> {
-    let script = drawn(alloc, seed, lanes, count)?;
-    is_run_of_drawn_right(rt, alloc, &script, workers)
+    let text = drawn_script(alloc, seed, drawn.lanes, drawn.count)?;
+    let script = script_of(alloc, text.as_bytes())?;
+    is_run_of_drawn_right(
+        rt,
+        alloc,
+        &script,
+        seed.checked_rem(drawn.workers).unwrap_or(0),
+    )
 }
 
 /// The same of the script.
@@ -169,23 +181,28 @@ fn is_run_of_drawn_right<R: Threads + Wait + Sync>(
     is_run_right(rt, alloc, script, workers, &mut tree)
 }
 
-/// A drawn script.
-fn drawn(alloc: Global, seed: u32, lanes: u32, count: u32) -> Result<Script, AllocError> {
-    let text = drawn_script(alloc, seed, lanes, count)?;
-    script_of(alloc, text.as_bytes())
-}
-
-/// The first of some seeds with which a run of four lanes with so many commands each isn't right, with none to four workers;
-/// nothing where all are. It may block.
+/// The first seed of some drawn scripts of which a run isn't right; nothing where all are. It may block.
 pub fn wrong_seed<R: Threads + Wait + Sync>(
     rt: &R,
     alloc: Global,
-    from: u32,
-    to: u32,
-    count: u32,
+    scripts: &[Drawn],
 ) -> Result<Option<u32>, AllocError> {
-    for seed in from..to {
-        if !is_drawn_right(rt, alloc, seed, 4, count, seed % 5)? {
+    for drawn in scripts {
+        if let Some(seed) = wrong_seed_of(rt, alloc, drawn)? {
+            return Ok(Some(seed));
+        }
+    }
+    Ok(None)
+}
+
+/// The same of scripts of one kind.
+fn wrong_seed_of<R: Threads + Wait + Sync>(
+    rt: &R,
+    alloc: Global,
+    drawn: &Drawn,
+) -> Result<Option<u32>, AllocError> {
+    for seed in drawn.seeds[0]..drawn.seeds[1] {
+        if !is_drawn_right(rt, alloc, drawn, seed)? {
             return Ok(Some(seed));
         }
     }

@@ -1,11 +1,10 @@
 //! What a clause cannot say: that calls succeed, that threads run beside each other, and that their answers fit together.
-use crate::changed::changed;
-use crate::crossing::{are_files_taken_in, are_writes_right, is_crossing_right};
-use crate::damaged::damaged;
+use crate::crossing::are_crossings_right;
+use crate::damaged::are_counted;
 use crate::faults::{fault_of_lanes, fault_of_sessions};
 use crate::misfits::fault_of_misfits;
 use crate::parts::is_played_in_parts;
-use crate::running::{fault_of_mistakes, fault_of_scenes, is_drawn_right, wrong_seed};
+use crate::running::{Drawn, fault_of_mistakes, fault_of_scenes, wrong_seed};
 use crate::sharing::{are_hints_followed, fault_of_sharings};
 use std::test::Fail;
 
@@ -33,49 +32,53 @@ fn parsed_played_and_printed(rt: HostRuntime) -> Result<(), Fail> {
     Ok(())
 }
 
+/// A soft question that is given up; writes beside soft questions; workers that take files in.
 #[test]
-fn soft_question_given_up(rt: HostRuntime) -> Result<(), Fail> {
-    assert!(rt; is_crossing_right(&rt, rt.alloc())?);
-    Ok(())
-}
-
-#[test]
-fn writes_beside_soft_questions(rt: HostRuntime) -> Result<(), Fail> {
-    assert!(rt; are_writes_right(&rt, rt.alloc())?);
-    Ok(())
-}
-
-#[test]
-fn workers_take_files_in(rt: HostRuntime) -> Result<(), Fail> {
-    assert!(rt; are_files_taken_in(&rt, rt.alloc())?);
-    Ok(())
-}
-
-/// Forty commands of all kinds in each lane, and eight workers.
-#[test]
-fn drawn_script_of_sixteen_lanes(rt: HostRuntime) -> Result<(), Fail> {
-    assert!(rt; is_drawn_right(&rt, rt.alloc(), 7, 16, 40, 8)?);
+fn lanes_in_each_others_way(rt: HostRuntime) -> Result<(), Fail> {
+    assert!(rt; are_crossings_right(&rt, rt.alloc())?);
     Ok(())
 }
 
 /// Four lanes with two hundred commands each, and none to four workers: half of fifty scripts.
+static HALF: [Drawn; 1] = [Drawn {
+    seeds: [0, 25],
+    lanes: 4,
+    count: 200,
+    workers: 5,
+}];
+
+/// The other half; four lanes with four commands each, whose transcripts are damaged in each line; and sixteen lanes with
+/// forty, and eight workers.
+static OTHERS: [Drawn; 3] = [
+    Drawn {
+        seeds: [25, 50],
+        lanes: 4,
+        count: 200,
+        workers: 5,
+    },
+    Drawn {
+        seeds: [50, 70],
+        lanes: 4,
+        count: 4,
+        workers: 5,
+    },
+    Drawn {
+        seeds: [8, 9],
+        lanes: 16,
+        count: 40,
+        workers: 9,
+    },
+];
+
 #[test]
 fn drawn_scripts(rt: HostRuntime) -> Result<(), Fail> {
-    assert_eq!(rt; wrong_seed(&rt, rt.alloc(), 0, 25, 200)?, None);
+    assert_eq!(rt; wrong_seed(&rt, rt.alloc(), &HALF)?, None);
     Ok(())
 }
 
-/// The other half.
 #[test]
 fn other_drawn_scripts(rt: HostRuntime) -> Result<(), Fail> {
-    assert_eq!(rt; wrong_seed(&rt, rt.alloc(), 25, 50, 200)?, None);
-    Ok(())
-}
-
-/// Four lanes with four commands each, whose transcripts are damaged in each line.
-#[test]
-fn short_drawn_scripts(rt: HostRuntime) -> Result<(), Fail> {
-    assert_eq!(rt; wrong_seed(&rt, rt.alloc(), 50, 70, 4)?, None);
+    assert_eq!(rt; wrong_seed(&rt, rt.alloc(), &OTHERS)?, None);
     Ok(())
 }
 
@@ -85,20 +88,10 @@ fn runs_of_other_scripts_are_wrong(rt: HostRuntime) -> Result<(), Fail> {
     Ok(())
 }
 
-/// Of `history 0` one digit may be nine others, or stand behind a zero; its one line may be left out, stand twice or lose its
-/// end; and there may be nothing.
+/// The forms that are judged are there.
 #[test]
-fn one_line_has_fourteen_changes(rt: HostRuntime) -> Result<(), Fail> {
-    assert_eq!(rt; changed(rt.alloc(), "history 0\n")?.len(), 14);
-    Ok(())
-}
-
-/// Of these three lines eight forms have a line left out, twice or swapped, eight a zero before a number, and eleven a number
-/// that is greater or less: not the seat of the worker, nor the prefix of a record that no entry made. One lacks its last byte.
-#[test]
-fn three_lines_have_so_many_damaged_forms(rt: HostRuntime) -> Result<(), Fail> {
-    let text = "history 1\n1 2 0 intake 1 1\n3 at 1 smart\n";
-    assert_eq!(rt; damaged(rt.alloc(), text)?.len(), 28);
+fn changes_and_damages_are_counted(rt: HostRuntime) -> Result<(), Fail> {
+    assert!(rt; are_counted(rt.alloc())?);
     Ok(())
 }
 
