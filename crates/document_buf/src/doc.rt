@@ -167,7 +167,7 @@ impl Doc {
     }
 
     /// Makes room for a number of characters more.
-    pub(crate) fn reserve(&mut self, count: u32) -> Result<(), AllocError>
+    pub fn reserve(&mut self, count: u32) -> Result<(), AllocError>
         ensures document { self.new.document ≡ self.old.document }
         ensures ok { OnOk result (count ≤ self.new.spare) }
         ensures keeps { self.old.spare ≤ self.new.spare }

@@ -1,6 +1,6 @@
 -- A list of changes, made one after another on a draft.
 use Rattle.std.proofs.Common.{ℕ, suc, ◌≡◌, ◌+◌, ◌<◌, ◌≤◌, Bool, true, false, List, [], ◌∷◌, ◌++◌, length, get_or, drop, add-one, append_assoc, append-nil, refl, ap, sym, ◌∙◌, subst, arith, Some, None}
-use Rattle.std.specs.Prelude.{◌&&◌, Result, Ok, Err, OnOk, Option, option_map}
+use Rattle.std.specs.Prelude.{◌&&◌, Result, Ok, Err, IfOk, OnOk, Option, option_map}
 use Rattle.std.proofs.lemmas.Bool.{leb-false}
 use Rattle.write_history.specs.declared.change.Change.{Change}
 use Rattle.write_history.specs.declared.refusal.Refusal.{Refusal}
@@ -11,12 +11,14 @@ use Rattle.write_history.specs.Fold.{effect_of, effects_of, ListRefusal, one_lat
 use Rattle.write_history.proofs.PutLemmas.{NoneStands, accepted_reasons}
 use Rattle.ide_world.specs.declared.step.Step.{Step}
 use Rattle.ide_world.specs.Step.{after_steps}
-use Rattle.ide_world.specs.Lawful.{AreLawful, AreWide, inserted_by_all}
+use Rattle.ide_world.specs.Lawful.{AreLawful, AreWide}
+use Rattle.ide_world.specs.Alike.{AreAlike}
 use Rattle.ide_world.specs.Ready.{changed_ids, ids_of, Makes, IsReadyFor, IsRefusalOf, IsListRefusalOf, is_want_of_memory, is_edit}
-use Rattle.ide_world.specs.Drafted.{Drafted, IsDraft, IsExtended, world_now, inserted_by_change, inserted_by_changes}
+use Rattle.ide_world.specs.Drafted.{Drafted, IsDraft, IsExtended, world_now}
 use Rattle.ide_world.specs.Builds.{Builds}
-use Rattle.ide_world.proofs.WalkLemmas.{entries_after_steps, after_steps-push, inserted-push, pushed}
-use Rattle.std.proofs.lemmas.List.{length-append, map-append}
+use Rattle.ide_world.proofs.WalkLemmas.{entries_after_steps, after_steps-push, pushed}
+use Rattle.ide_world.proofs.AlikeLemmas.{lawful_alike, length_alike, after_alike, ids_alike}
+use Rattle.std.proofs.lemmas.List.{length-append, map-append, drop_all}
 use Rattle.std.proofs.Math.Seq.{drop-cons}
 use Rattle.std.specs.List.{list_all}
 
@@ -31,8 +33,6 @@ pub record IsSoFar (w : World) (changes : List Change) (i : ℕ) (rest : List Ch
   pub effect : effects_of (world_now d) rest ≡ effects_of w changes
   pub ids : ids_of d.steps ++ changed_ids (world_now d) rest ≡ changed_ids w changes
   pub count : length d.steps ≡ i
-  pub width : d.wide ≡ inserted_by_changes changes
-  pub inserted : inserted_by_all d.steps + inserted_by_changes rest ≡ inserted_by_changes changes
   pub entries : 1 ≤ i → w.entries < max_entries
 
 later_by-zero : (o : Option ListRefusal) → o ≡ option_map (later_by 0) o
@@ -43,8 +43,8 @@ later_by-suc : (n : ℕ) (o : Option ListRefusal) → option_map (later_by n) (o
 later_by-suc n None = refl
 later_by-suc n (Some r) = let e : r.place + 1 + n ≡ r.place + (n + 1) = omega arith in let f : ℕ → Option ListRefusal = λ k. Some (record { place = k; why = r.why }) in ap f e
 
-pub starts : (w : World) (changes : List Change) (d : Drafted) → d.base ≡ w → d.steps ≡ [] → d.wide ≡ inserted_by_changes changes → IsSoFar w changes 0 changes d
-starts w changes d base steps wide =
+pub starts : (w : World) (changes : List Change) (d : Drafted) → d.base ≡ w → d.steps ≡ [] → IsSoFar w changes 0 changes d
+starts w changes d base steps =
     let world : world_now d ≡ w = ap (λ ss. after_steps d.base ss) steps ∙ base in
     record {
       base = base;
@@ -52,8 +52,6 @@ starts w changes d base steps wide =
       effect = ap (λ x. effects_of x changes) world;
       ids = ap (λ ss. ids_of ss ++ changed_ids (world_now d) changes) steps ∙ ap (λ x. changed_ids x changes) world;
       count = ap length steps;
-      width = wide;
-      inserted = ap (λ ss. inserted_by_all ss + inserted_by_changes changes) steps ∙ omega arith;
       entries = λ l. absurd (omega arith);
     }
 
@@ -80,8 +78,6 @@ turns w changes i change rest d new h accepted e = record {
       ∙ append_assoc (ids_of d.steps) ((put_of (world_now d) change).id ∷ []) (changed_ids (effect_of (world_now d) change) rest)
       ∙ h.ids;
   count = let a = e.count in let b = h.count in omega arith;
-  width = e.room ∙ h.width;
-  inserted = let a = e.inserted in let b = h.inserted in omega arith;
   entries = λ l.
       let small = has_entries (world_now d) change accepted in
       let same : (world_now d).entries ≡ w.entries = entries_after_steps d.base d.steps ∙ ap (λ (x : World). x.entries) h.base in
@@ -113,38 +109,54 @@ refused_at w changes i place change rest d why h r at_place = λ n.
     let p : 1 + i ≡ place = omega arith in
     h.refusal ∙ ap (λ o. option_map (later_by i) (refusal_or o (list_refusal (effect_of (world_now d) change) rest))) e ∙ ap f p
 
-pub finished : (w : World) (changes : List Change) (i : ℕ) (d : Drafted) → IsSoFar w changes i [] d → IsDraft d → 1 ≤ i → IsReadyFor w d.steps × Makes w d.steps changes
-finished w changes i d h draft some =
-    let each : AreLawful d.base d.steps = record {
-      each = draft.lawful;
-      few = draft.few;
-      wide = let P : ℕ → Type 0 = λ n. AreWide n d.steps in subst P (let a = h.width in let b = h.inserted in omega arith) draft.wide;
+pub finished : (w : World) (changes : List Change) (i : ℕ) (d : Drafted) (steps : List Step) → IsSoFar w changes i [] d → IsDraft d → 1 ≤ i
+    → AreAlike d.steps steps → AreWide steps → IsReadyFor w steps × Makes w steps changes
+finished w changes i d steps h draft some alike wide =
+    let each : AreLawful d.base steps = record {
+      each = lawful_alike d.base d.steps steps alike draft.lawful;
+      few = let e = length_alike d.steps steps alike in let few = draft.few in omega arith;
+      wide = wide;
     } in (
-      record { lawful = let P : World → Type 0 = λ x. AreLawful x d.steps in subst P h.base each; entries = h.entries some },
-      record { accepted = h.refusal; effect = sym (ap (λ x. after_steps x d.steps) h.base) ∙ h.effect; ids = sym (append-nil (ids_of d.steps)) ∙ h.ids },
+      record { lawful = let P : World → Type 0 = λ x. AreLawful x steps in subst P h.base each; entries = h.entries some },
+      record {
+        accepted = h.refusal;
+        effect = sym (ap (λ x. after_steps x steps) h.base) ∙ after_alike d.base d.steps steps alike ∙ h.effect;
+        ids = ids_alike d.steps steps alike ∙ sym (append-nil (ids_of d.steps)) ∙ h.ids;
+      },
     )
 
 -- a single change
-pub single : (w : World) (change : Change) (d new : Drafted) → d.base ≡ w → d.steps ≡ [] → d.wide ≡ inserted_by_change change
-    → refusal_of (world_now d) change ≡ None → IsExtended d new change → IsReadyFor w new.steps × Makes w new.steps (change ∷ [])
-single w change d new base steps wide accepted e =
-    let start = starts w (change ∷ []) d base steps (wide ∙ omega arith) in
-    finished w (change ∷ []) 1 new (turns w (change ∷ []) 0 change [] d new start accepted e) e.draft (omega arith)
+pub single : (w : World) (change : Change) (d new : Drafted) (ready : List Step) → d.base ≡ w → d.steps ≡ []
+    → refusal_of (world_now d) change ≡ None → IsExtended d new change → AreAlike new.steps ready → AreWide ready → IsReadyFor w ready × Makes w ready (change ∷ [])
+single w change d new ready base steps accepted e alike wide =
+    let start = starts w (change ∷ []) d base steps in
+    finished w (change ∷ []) 1 new ready (turns w (change ∷ []) 0 change [] d new start accepted e) e.draft (omega arith) alike wide
+
+-- all changes of a list
+pub whole_list : (w : World) (changes : List Change) (i : ℕ) (d : Drafted) (ready : List Step) → 1 ≤ length changes → length changes ≤ i → IsSoFar w changes i (drop i changes) d → IsDraft d
+    → AreAlike d.steps ready → AreWide ready → IsReadyFor w ready × Makes w ready changes
+whole_list w changes i d ready some past h draft alike wide =
+    let P : List Change → Type 0 = λ rest. IsSoFar w changes i rest d in
+    finished w changes i d ready (subst P (drop_all i changes past) h) draft (omega arith) alike wide
+
+-- what holds of steps that are alike and wide
+pub if_made : {E : Type 0} {P : List Step → Type 0} (r : Result (List Step) E) (steps : List Step) → ((ready : List Step) → AreAlike steps ready → AreWide ready → P ready)
+    → IfOk r (AreAlike steps) → IfOk r AreWide → IfOk r P
+if_made (Ok ready) steps f alike wide = f ready alike wide
+if_made (Err e) steps f alike wide = tt
 
 -- the draft after the step of a change
-pub extended : (d new : Drafted) (change : Change) (step : Step) → IsDraft d → length d.steps < 64 → Builds (world_now d) d.wide change step
-    → new ≡ record { base = d.base; steps = d.steps ++ step ∷ []; wide = d.wide } → IsExtended d new change
+pub extended : (d new : Drafted) (change : Change) (step : Step) → IsDraft d → length d.steps < 64 → Builds (world_now d) change step
+    → new ≡ record { base = d.base; steps = d.steps ++ step ∷ [] } → IsExtended d new change
 extended d new change step draft few builds same =
-    let after : Drafted = record { base = d.base; steps = d.steps ++ step ∷ []; wide = d.wide } in
+    let after : Drafted = record { base = d.base; steps = d.steps ++ step ∷ [] } in
     let P : Drafted → Type 0 = λ x. IsExtended d x change in
     subst P (sym same) (record {
-      draft = pushed d step draft builds.lawful few builds.room;
+      draft = pushed d step draft builds.lawful few;
       base = refl;
-      room = refl;
       effect = after_steps-push d.base d.steps step ∙ builds.effect;
       ids = map-append (λ (s : Step). s.id) d.steps (step ∷ []) ∙ ap (λ id. ids_of d.steps ++ id ∷ []) builds.same_id;
       count = length-append d.steps (step ∷ []);
-      inserted = inserted-push d.steps step ∙ ap (λ n. inserted_by_all d.steps + n) builds.inserted;
     })
 
 -- where a draft has no step, its world is that of its state

@@ -31,7 +31,7 @@ use Rattle.ide_world.specs.Sound.{IsSoundLive, IsSoundFile, AreSoundFiles, Holds
 use Rattle.ide_world.specs.Lawful.{IsLawfulStep}
 use Rattle.ide_world.specs.declared.look.Look.{Look}
 use Rattle.ide_world.specs.Walk.{look_of}
-use Rattle.ide_world.specs.Builds.{Builds, IsLiveAt, edit_step, overlay_edit, renewed_index, moved_index, close_index, intake_index}
+use Rattle.ide_world.specs.Builds.{Builds, IsLiveAt, edit_step, overlay_edit, commit_index, renewed_index, moved_index, close_index, intake_index}
 use Rattle.ide_world.proofs.PathLemmas.{id_at-of}
 use Rattle.ide_world.proofs.BuildLemmas.{IsFileAt, is_file_at, file_of_row, edit_effect, edit_lawful, kept_path, sound_at}
 
@@ -114,19 +114,17 @@ create_effect w path text none =
     let to : Option File → Put = λ o. record { id = next_id w; file = stepped (create_step path text (next_id w) w.next_stamp) o; drawn = 1 } in
     ap (λ o. after_put w (to o)) none
 
-pub create_builds : (w : World) (wide : ℕ) (path text : List ℕ) (id stamp : ℕ) → refusal_of w (Create path text) ≡ None → id ≡ next_id w → stamp ≡ w.next_stamp
-    → Builds w wide (Create path text) (create_step path text id stamp)
-create_builds w wide path text id stamp accepted e f =
-    let P : ℕ → Type 0 = λ i. Builds w wide (Create path text) (create_step path text i stamp) in
-    let Q : ℕ → Type 0 = λ s. Builds w wide (Create path text) (create_step path text (next_id w) s) in
+pub create_builds : (w : World) (path text : List ℕ) (id stamp : ℕ) → refusal_of w (Create path text) ≡ None → id ≡ next_id w → stamp ≡ w.next_stamp
+    → Builds w (Create path text) (create_step path text id stamp)
+create_builds w path text id stamp accepted e f =
+    let P : ℕ → Type 0 = λ i. Builds w (Create path text) (create_step path text i stamp) in
+    let Q : ℕ → Type 0 = λ s. Builds w (Create path text) (create_step path text (next_id w) s) in
     let none = next_is_free w (file_of w (next_id w)) refl in
     let r = accepted_reasons w (Create path text) accepted in
     subst P (sym e) (subst Q (sym f) (record {
       effect = create_effect w path text none;
       same_id = refl;
       lawful = create_lawful w path text none (leb-false max_files (length w.files) r.1.1.0) r.1.0;
-      room = tt;
-      inserted = refl;
     }))
 
 -- ---- delete
@@ -134,14 +132,12 @@ create_builds w wide path text id stamp accepted e f =
 abbrev delete_step : ℕ → Step
 delete_step id = record { id = id; row = row_edit.Remove; doc = doc_edit.Close; index = index_edit.Drop; draws = false }
 
-pub delete_builds : (w : World) (wide : ℕ) (path : List ℕ) (id : ℕ) (row : FileRow) (doc : Option Document) → AreSoundFiles w → IsFileAt w path id row doc
-    → Builds w wide (Delete path) (delete_step id)
-delete_builds w wide path id row doc sound h = record {
+pub delete_builds : (w : World) (path : List ℕ) (id : ℕ) (row : FileRow) (doc : Option Document) → AreSoundFiles w → IsFileAt w path id row doc
+    → Builds w (Delete path) (delete_step id)
+delete_builds w path id row doc sound h = record {
   effect = edit_effect w path row doc (delete_step id) 0 (λ f. None) h refl refl;
   same_id = named w path id row doc h;
   lawful = edit_lawful w path row doc (delete_step id) h tt tt (λ e. refl) tt (λ held k. (refl, refl));
-  room = tt;
-  inserted = refl;
 }
 
 -- ---- insert and erase
@@ -149,12 +145,12 @@ delete_builds w wide path id row doc sound h = record {
 abbrev insert_step : ℕ → ℕ → List ℕ → Step
 insert_step id at text = edit_step id (doc_edit.Insert at text)
 
-pub insert_builds : (w : World) (wide : ℕ) (path : List ℕ) (id at : ℕ) (text : List ℕ) (row : FileRow) (doc : Option Document) → AreSoundFiles w → IsFileAt w path id row doc
-    → refusal_of w (Insert path at text) ≡ None → Builds w wide (Insert path at text) (insert_step id at text)
-insert_builds w wide path id at text row None sound h accepted =
+pub insert_builds : (w : World) (path : List ℕ) (id at : ℕ) (text : List ℕ) (row : FileRow) (doc : Option Document) → AreSoundFiles w → IsFileAt w path id row doc
+    → refusal_of w (Insert path at text) ≡ None → Builds w (Insert path at text) (insert_step id at text)
+insert_builds w path id at text row None sound h accepted =
     let r = accepted_reasons w (Insert path at text) accepted in
     absurd (false_true (sym r.1.0 ∙ ap is_none (document_is w path id row None h)))
-insert_builds w wide path id at text row (Some d) sound h accepted =
+insert_builds w path id at text row (Some d) sound h accepted =
     let r = accepted_reasons w (Insert path at text) accepted in
     let e = document_is w path id row (Some d) h in
     let s = sound_at w path id row (Some d) sound h in
@@ -169,8 +165,6 @@ insert_builds w wide path id at text row (Some d) sound h accepted =
           (λ n. absurd (some_none row n))
           (record { stamp = let l = s.stamp in omega arith; indexed = IfSome_then row.indexed s.indexed (λ x l. omega arith); saved = λ n. absurd (false_true n) })
           (λ held k. index_kept (kind_of row.path) (file_with (Some d) row) (file_with (Some (inserted at text d)) row) held (λ kind. refl) (λ i. (i, refl)) k);
-      room = tt;
-      inserted = refl;
     }
 
 abbrev erase_step : ℕ → ℕ → ℕ → Step
@@ -184,12 +178,12 @@ or_right : (a b : Bool) → (a || b) ≡ false → b ≡ false
 or_right false b e = e
 or_right true b e = absurd (cc)
 
-pub erase_builds : (w : World) (wide : ℕ) (path : List ℕ) (id from to : ℕ) (row : FileRow) (doc : Option Document) → AreSoundFiles w → IsFileAt w path id row doc
-    → refusal_of w (Erase path from to) ≡ None → Builds w wide (Erase path from to) (erase_step id from to)
-erase_builds w wide path id from to row None sound h accepted =
+pub erase_builds : (w : World) (path : List ℕ) (id from to : ℕ) (row : FileRow) (doc : Option Document) → AreSoundFiles w → IsFileAt w path id row doc
+    → refusal_of w (Erase path from to) ≡ None → Builds w (Erase path from to) (erase_step id from to)
+erase_builds w path id from to row None sound h accepted =
     let r = accepted_reasons w (Erase path from to) accepted in
     absurd (false_true (sym r.1.0 ∙ ap is_none (document_is w path id row None h)))
-erase_builds w wide path id from to row (Some d) sound h accepted =
+erase_builds w path id from to row (Some d) sound h accepted =
     let r = accepted_reasons w (Erase path from to) accepted in
     let e = document_is w path id row (Some d) h in
     let s = sound_at w path id row (Some d) sound h in
@@ -205,8 +199,6 @@ erase_builds w wide path id from to row (Some d) sound h accepted =
           (λ n. absurd (some_none row n))
           (record { stamp = let l = s.stamp in omega arith; indexed = IfSome_then row.indexed s.indexed (λ x l. omega arith); saved = λ n. absurd (false_true n) })
           (λ held k. index_kept (kind_of row.path) (file_with (Some d) row) (file_with (Some (erased from to d)) row) held (λ kind. refl) (λ i. (i, refl)) k);
-      room = tt;
-      inserted = refl;
     }
 
 -- ---- open
@@ -216,13 +208,13 @@ index_opened : (k : Option FileKind) (row : FileRow) (held : Indexed) → HoldsL
 index_opened None row held h = h
 index_opened (Some kind) row held h = (refl, h.1)
 
-pub open_builds : (w : World) (wide : ℕ) (path : List ℕ) (id : ℕ) (row : FileRow) (doc : Option Document) (new : HeldDoc) (index : IndexEdit) → AreSoundFiles w → IsFileAt w path id row doc
-    → refusal_of w (OpenDoc path) ≡ None → new.document ≡ opened row.content → wide ≤ new.spare → index ≡ overlay_edit (kind_of row.path) row.content
-    → Builds w wide (OpenDoc path) (record { id = id; row = row_edit.Keep; doc = doc_edit.Open new; index = index; draws = false })
-open_builds w wide path id row (Some d) new index sound h accepted e room i =
+pub open_builds : (w : World) (path : List ℕ) (id : ℕ) (row : FileRow) (doc : Option Document) (new : HeldDoc) (index : IndexEdit) → AreSoundFiles w → IsFileAt w path id row doc
+    → refusal_of w (OpenDoc path) ≡ None → new.document ≡ opened row.content → index ≡ overlay_edit (kind_of row.path) row.content
+    → Builds w (OpenDoc path) (record { id = id; row = row_edit.Keep; doc = doc_edit.Open new; index = index; draws = false })
+open_builds w path id row (Some d) new index sound h accepted e i =
     let r = accepted_reasons w (OpenDoc path) accepted in
     absurd (false_true (sym r.1.0 ∙ ap is_some (document_is w path id row (Some d) h)))
-open_builds w wide path id row None new index sound h accepted e room i =
+open_builds w path id row None new index sound h accepted e i =
     let s = sound_at w path id row None sound h in
     let step : Step = record { id = id; row = row_edit.Keep; doc = doc_edit.Open new; index = index; draws = false } in
     let to : Document → Option File = λ d. Some (file_with (Some d) row) in
@@ -235,8 +227,6 @@ open_builds w wide path id row None new index sound h accepted e room i =
       lawful = edit_lawful w path row None step h tt refl (λ n. absurd (some_none row n))
           (subst P (sym e) (record { stamp = let l = s.stamp in omega arith; indexed = IfSome_then row.indexed s.indexed (λ x l. omega arith); saved = λ t. refl }))
           (subst Q (sym e) (subst R (sym i) (λ held k. index_opened (kind_of row.path) row held k)));
-      room = room;
-      inserted = refl;
     }
 
 -- ---- commit
@@ -246,24 +236,38 @@ index_committed : (k : Option FileKind) (row : FileRow) (d : Document) (held : I
 index_committed None row d held h = h
 index_committed (Some kind) row d held h = (refl, h.1)
 
-pub commit_builds : (w : World) (wide : ℕ) (path : List ℕ) (id : ℕ) (row : FileRow) (doc : Option Document) (text : List ℕ) (index : IndexEdit) → AreSoundFiles w → IsFileAt w path id row doc
-    → Some text ≡ option_map (λ d. d.text) doc → index ≡ overlay_edit (kind_of row.path) text
-    → Builds w wide (Commit path) (record { id = id; row = row_edit.Keep; doc = doc_edit.Commit text; index = index; draws = false })
-commit_builds w wide path id row None text index sound h t i = absurd (some_none text t)
-commit_builds w wide path id row (Some d) text index sound h t i =
+-- a text that isn't uncommitted is the committed one
+unchanged : (d : Document) → is_uncommitted (Some d) ≡ false → d.committed ≡ d.text
+unchanged d e = sym ((bytes_decides d.text d.committed).0 (not_false (bytes_eq d.text d.committed) e))
+
+-- so what is kept of an open document is its text
+pub kept_text : (doc : Option Document) → is_uncommitted doc ≡ false → option_map (λ d. d.committed) doc ≡ option_map (λ d. d.text) doc
+kept_text None e = refl
+kept_text (Some d) e = ap Some (unchanged d e)
+
+index_commit : (is_new : Bool) (k : Option FileKind) (row : FileRow) (d : Document) (held : Indexed) → is_new ≡ is_uncommitted (Some d) → HoldsLive k (file_with (Some d) row) held
+    → HoldsLive k (file_with (Some (committed d)) row) (edited_index (commit_index is_new k d.text) held)
+index_commit true k row d held e h = index_committed k row d held h
+index_commit false k row d held e h =
+    let P : List ℕ → Type 0 = λ t. HoldsLive k (file_with (Some (record { text = d.text; committed = t; saved = d.saved })) row) held in
+    subst P (unchanged d (sym e)) h
+
+pub commit_builds : (w : World) (path : List ℕ) (id : ℕ) (row : FileRow) (doc : Option Document) (text : List ℕ) (index : IndexEdit) (is_new : Bool) → AreSoundFiles w → IsFileAt w path id row doc
+    → Some text ≡ option_map (λ d. d.text) doc → is_new ≡ is_uncommitted doc → index ≡ commit_index is_new (kind_of row.path) text
+    → Builds w (Commit path) (record { id = id; row = row_edit.Keep; doc = doc_edit.Commit text; index = index; draws = false })
+commit_builds w path id row None text index is_new sound h t n i = absurd (some_none text t)
+commit_builds w path id row (Some d) text index is_new sound h t n i =
     let s = sound_at w path id row (Some d) sound h in
     let same : text ≡ d.text = cc in
     let step : Step = record { id = id; row = row_edit.Keep; doc = doc_edit.Commit text; index = index; draws = false } in
-    let is : index ≡ overlay_edit (kind_of row.path) d.text = i ∙ ap (overlay_edit (kind_of row.path)) same in
+    let is : index ≡ commit_index is_new (kind_of row.path) d.text = i ∙ ap (commit_index is_new (kind_of row.path)) same in
     let R : IndexEdit → Type 0 = λ x. (held : Indexed) → HoldsIndex (Some (file_with (Some d) row)) held → HoldsIndex (Some (file_with (Some (committed d)) row)) (edited_index x held) in
     record {
       effect = edit_effect w path row (Some d) step 0 (λ f. Some (edited committed f)) h refl refl;
       same_id = named w path id row (Some d) h;
       lawful = edit_lawful w path row (Some d) step h tt same (λ n. absurd (some_none row n))
           (record { stamp = let l = s.stamp in omega arith; indexed = IfSome_then row.indexed s.indexed (λ x l. omega arith); saved = s.saved })
-          (subst R (sym is) (λ held k. index_committed (kind_of row.path) row d held k));
-      room = tt;
-      inserted = refl;
+          (subst R (sym is) (λ held k. index_commit is_new (kind_of row.path) row d held n k));
     }
 
 -- ---- save
@@ -271,22 +275,20 @@ commit_builds w wide path id row (Some d) text index sound h t i =
 abbrev save_step : ℕ → FileRow → List ℕ → ℕ → Step
 save_step id row text stamp = record { id = id; row = row_edit.Put (record { path = row.path; content = text; stamp = stamp; indexed = row.indexed }); doc = doc_edit.MarkSaved; index = index_edit.Keep; draws = true }
 
-pub save_builds : (w : World) (wide : ℕ) (path : List ℕ) (id : ℕ) (row : FileRow) (doc : Option Document) (text : List ℕ) (stamp : ℕ) → AreSoundFiles w → IsFileAt w path id row doc
-    → Some text ≡ option_map (λ d. d.text) doc → stamp ≡ w.next_stamp → Builds w wide (Save path) (save_step id row text stamp)
-save_builds w wide path id row None text stamp sound h t n = absurd (some_none text t)
-save_builds w wide path id row (Some d) text stamp sound h t n =
+pub save_builds : (w : World) (path : List ℕ) (id : ℕ) (row : FileRow) (doc : Option Document) (text : List ℕ) (stamp : ℕ) → AreSoundFiles w → IsFileAt w path id row doc
+    → Some text ≡ option_map (λ d. d.text) doc → stamp ≡ w.next_stamp → Builds w (Save path) (save_step id row text stamp)
+save_builds w path id row None text stamp sound h t n = absurd (some_none text t)
+save_builds w path id row (Some d) text stamp sound h t n =
     let s = sound_at w path id row (Some d) sound h in
     let same : text ≡ d.text = cc in
-    let P : ℕ → Type 0 = λ k. Builds w wide (Save path) (save_step id row text k) in
-    let Q : List ℕ → Type 0 = λ l. Builds w wide (Save path) (save_step id row l w.next_stamp) in
+    let P : ℕ → Type 0 = λ k. Builds w (Save path) (save_step id row text k) in
+    let Q : List ℕ → Type 0 = λ l. Builds w (Save path) (save_step id row l w.next_stamp) in
     subst P (sym n) (subst Q (sym same) (record {
       effect = edit_effect w path row (Some d) (save_step id row d.text w.next_stamp) 1 (λ f. Some (saved w.next_stamp f)) h refl refl;
       same_id = named w path id row (Some d) h;
       lawful = edit_lawful w path row (Some d) (save_step id row d.text w.next_stamp) h (kept_path w path id row (Some d) sound h) tt (λ e. absurd (some_none {A = FileRow} (record { path = row.path; content = d.text; stamp = w.next_stamp; indexed = row.indexed }) e))
           (record { stamp = omega arith; indexed = IfSome_then row.indexed s.indexed (λ x l. omega arith); saved = λ e. refl })
           (λ held k. index_kept (kind_of row.path) (file_with (Some d) row) (saved w.next_stamp (file_with (Some d) row)) held (λ kind. refl) (λ i. absurd (not_yet w.next_stamp row.indexed s.indexed i)) k);
-      room = tt;
-      inserted = refl;
     }))
 
 -- ---- close
@@ -299,12 +301,12 @@ index_closed (Some kind) row d held e h = (refl, λ i. ap (λ o. unwrap_or o hel
 abbrev close_step : ℕ → FileRow → IndexEdit → Step
 close_step id row index = record { id = id; row = row_edit.Put (record { path = row.path; content = row.content; stamp = row.stamp; indexed = Some row.stamp }); doc = doc_edit.Close; index = index; draws = false }
 
-pub close_builds : (w : World) (wide : ℕ) (path : List ℕ) (id : ℕ) (row : FileRow) (doc : Option Document) (index : IndexEdit) → AreSoundFiles w → IsFileAt w path id row doc
-    → refusal_of w (CloseDoc path) ≡ None → index ≡ close_index (kind_of row.path) → Builds w wide (CloseDoc path) (close_step id row index)
-close_builds w wide path id row None index sound h accepted i =
+pub close_builds : (w : World) (path : List ℕ) (id : ℕ) (row : FileRow) (doc : Option Document) (index : IndexEdit) → AreSoundFiles w → IsFileAt w path id row doc
+    → refusal_of w (CloseDoc path) ≡ None → index ≡ close_index (kind_of row.path) → Builds w (CloseDoc path) (close_step id row index)
+close_builds w path id row None index sound h accepted i =
     let r = accepted_reasons w (CloseDoc path) accepted in
     absurd (false_true (sym r.1.0 ∙ ap is_none (document_is w path id row None h)))
-close_builds w wide path id row (Some d) index sound h accepted i =
+close_builds w path id row (Some d) index sound h accepted i =
     let r = accepted_reasons w (CloseDoc path) accepted in
     let e = document_is w path id row (Some d) h in
     let s = sound_at w path id row (Some d) sound h in
@@ -318,8 +320,6 @@ close_builds w wide path id row (Some d) index sound h accepted i =
       lawful = edit_lawful w path row (Some d) (close_step id row index) h (kept_path w path id row (Some d) sound h) tt (λ n. refl)
           (record { stamp = let l = s.stamp in omega arith; indexed = let l = s.stamp in omega arith; saved = tt })
           (subst R (sym i) (λ held k. index_closed (kind_of row.path) row d held same k));
-      room = tt;
-      inserted = refl;
     }
 
 -- ---- write
@@ -327,30 +327,28 @@ close_builds w wide path id row (Some d) index sound h accepted i =
 abbrev write_step : ℕ → FileRow → List ℕ → ℕ → DocEdit → Step
 write_step id row text stamp doc = record { id = id; row = row_edit.Put (record { path = row.path; content = text; stamp = stamp; indexed = row.indexed }); doc = doc; index = index_edit.Keep; draws = true }
 
-pub write_closed_builds : (w : World) (wide : ℕ) (path : List ℕ) (id : ℕ) (row : FileRow) (doc : Option Document) (text : List ℕ) (stamp : ℕ) → AreSoundFiles w → IsFileAt w path id row doc
-    → doc ≡ None → stamp ≡ w.next_stamp → Builds w wide (Write path text) (write_step id row text stamp doc_edit.Keep)
-write_closed_builds w wide path id row (Some d) text stamp sound h t n = absurd (some_none d t)
-write_closed_builds w wide path id row None text stamp sound h t n =
+pub write_closed_builds : (w : World) (path : List ℕ) (id : ℕ) (row : FileRow) (doc : Option Document) (text : List ℕ) (stamp : ℕ) → AreSoundFiles w → IsFileAt w path id row doc
+    → doc ≡ None → stamp ≡ w.next_stamp → Builds w (Write path text) (write_step id row text stamp doc_edit.Keep)
+write_closed_builds w path id row (Some d) text stamp sound h t n = absurd (some_none d t)
+write_closed_builds w path id row None text stamp sound h t n =
     let s = sound_at w path id row None sound h in
     let step : Step = write_step id row text w.next_stamp doc_edit.Keep in
-    let P : ℕ → Type 0 = λ k. Builds w wide (Write path text) (write_step id row text k doc_edit.Keep) in
+    let P : ℕ → Type 0 = λ k. Builds w (Write path text) (write_step id row text k doc_edit.Keep) in
     subst P (sym n) (record {
       effect = edit_effect w path row None step 1 (λ f. Some (rewritten text w.next_stamp f)) h refl refl;
       same_id = named w path id row None h;
       lawful = edit_lawful w path row None step h (kept_path w path id row None sound h) tt (λ e. refl)
           (record { stamp = omega arith; indexed = IfSome_then row.indexed s.indexed (λ x l. omega arith); saved = tt })
           (λ held k. index_kept (kind_of row.path) (file_with None row) (rewritten text w.next_stamp (file_with None row)) held (λ kind. refl) (λ i. absurd (not_yet w.next_stamp row.indexed s.indexed i)) k);
-      room = tt;
-      inserted = refl;
     })
 
-pub write_open_builds : (w : World) (wide : ℕ) (path : List ℕ) (id : ℕ) (row : FileRow) (doc : Option Document) (text : List ℕ) (stamp : ℕ) (new : HeldDoc) → AreSoundFiles w → IsFileAt w path id row doc
-    → is_some doc ≡ true → stamp ≡ w.next_stamp → new.document ≡ opened text → wide ≤ new.spare → Builds w wide (Write path text) (write_step id row text stamp (doc_edit.Replace new))
-write_open_builds w wide path id row None text stamp new sound h t n e room = absurd (false_true t)
-write_open_builds w wide path id row (Some d) text stamp new sound h t n e room =
+pub write_open_builds : (w : World) (path : List ℕ) (id : ℕ) (row : FileRow) (doc : Option Document) (text : List ℕ) (stamp : ℕ) (new : HeldDoc) → AreSoundFiles w → IsFileAt w path id row doc
+    → is_some doc ≡ true → stamp ≡ w.next_stamp → new.document ≡ opened text → Builds w (Write path text) (write_step id row text stamp (doc_edit.Replace new))
+write_open_builds w path id row None text stamp new sound h t n e = absurd (false_true t)
+write_open_builds w path id row (Some d) text stamp new sound h t n e =
     let s = sound_at w path id row (Some d) sound h in
     let step : Step = write_step id row text w.next_stamp (doc_edit.Replace new) in
-    let P : ℕ → Type 0 = λ k. Builds w wide (Write path text) (write_step id row text k (doc_edit.Replace new)) in
+    let P : ℕ → Type 0 = λ k. Builds w (Write path text) (write_step id row text k (doc_edit.Replace new)) in
     let same : new.document.text ≡ text = ap (λ (x : Document). x.text) e in
     let to : List ℕ → Option File = λ l. Some (record { path = row.path; content = text; stamp = w.next_stamp; indexed = row.indexed; document = Some (replaced l d) }) in
     let S : List ℕ → Type 0 = λ l. IsSoundFile (w.next_stamp + 1) (to l) in
@@ -360,8 +358,6 @@ write_open_builds w wide path id row (Some d) text stamp new sound h t n e room 
       lawful = edit_lawful w path row (Some d) step h (kept_path w path id row (Some d) sound h) (refl, e ∙ ap opened (sym same)) (λ x. absurd (some_none {A = FileRow} (record { path = row.path; content = text; stamp = w.next_stamp; indexed = row.indexed }) x))
           (subst S (sym same) (record { stamp = omega arith; indexed = IfSome_then row.indexed s.indexed (λ x l. omega arith); saved = λ x. refl }))
           (λ held k. index_kept (kind_of row.path) (file_with (Some d) row) (record { path = row.path; content = text; stamp = w.next_stamp; indexed = row.indexed; document = Some (replaced new.document.text d) }) held (λ kind. refl) (λ i. absurd (not_yet w.next_stamp row.indexed s.indexed i)) k);
-      room = room;
-      inserted = refl;
     })
 
 -- ---- intake
@@ -380,10 +376,10 @@ same_stamp w id stamp f live accepted =
     let t : (stamp == f.stamp) ≡ true = not_false (stamp == f.stamp) (sym (ap (λ o. not (stamp == stamp_of o)) live) ∙ r.1.0) in
     eqb-true stamp f.stamp t
 
-pub intake_builds : (w : World) (wide : ℕ) (id stamp : ℕ) (row : FileRow) (doc : Option Document) (text : List ℕ) (index : IndexEdit) → AreSoundFiles w → file_of w id ≡ Some (file_with doc row)
+pub intake_builds : (w : World) (id stamp : ℕ) (row : FileRow) (doc : Option Document) (text : List ℕ) (index : IndexEdit) → AreSoundFiles w → file_of w id ≡ Some (file_with doc row)
     → refusal_of w (Intake id stamp) ≡ None → IfSome (file_of w id) (λ f. f.stamp ≡ stamp → f.content ≡ text) → index ≡ intake_index (kind_of row.path) text
-    → Builds w wide (Intake id stamp) (intake_step id row stamp index)
-intake_builds w wide id stamp row doc text index sound live accepted of_world i =
+    → Builds w (Intake id stamp) (intake_step id row stamp index)
+intake_builds w id stamp row doc text index sound live accepted of_world i =
     let f : File = file_with doc row in
     let e : stamp ≡ row.stamp = same_stamp w id stamp f live accepted in
     let O : Option File → Type 0 = λ o. IfSome o (λ f. f.stamp ≡ stamp → f.content ≡ text) in
@@ -391,7 +387,7 @@ intake_builds w wide id stamp row doc text index sound live accepted of_world i 
     let at_path = id_at-of w row.path id sound (record { file = f; live = live; same = refl }) in
     let h : IsFileAt w row.path id row doc = record { at_path = at_path; live = live } in
     let s = sound_at w row.path id row doc sound h in
-    let P : ℕ → Type 0 = λ k. Builds w wide (Intake id k) (intake_step id row k index) in
+    let P : ℕ → Type 0 = λ k. Builds w (Intake id k) (intake_step id row k index) in
     let to : Option File → Put = λ o. record { id = id; file = stepped (intake_step id row row.stamp index) o; drawn = 0 } in
     let back : Option File → Put = λ o. record { id = id; file = option_map (taken_in row.stamp) o; drawn = 0 } in
     let R : IndexEdit → Type 0 = λ x. (held : Indexed) → HoldsIndex (Some f) held → HoldsIndex (Some (taken_in row.stamp f)) (edited_index x held) in
@@ -401,8 +397,6 @@ intake_builds w wide id stamp row doc text index sound live accepted of_world i 
       lawful = edit_lawful w row.path row doc (intake_step id row row.stamp index) h (kept_path w row.path id row doc sound h) tt (λ x. absurd (some_none {A = FileRow} (record { path = row.path; content = row.content; stamp = row.stamp; indexed = Some row.stamp }) x))
           (record { stamp = let l = s.stamp in omega arith; indexed = let l = s.stamp in omega arith; saved = s.saved })
           (subst R (sym i) (λ held k. index_taken (kind_of row.path) f held text content k));
-      room = tt;
-      inserted = refl;
     })
 
 -- ---- move
@@ -430,16 +424,16 @@ index_moved (Some Properties) (Some Properties) f g held e n h = index_stays Pro
 abbrev move_step : ℕ → FileRow → List ℕ → ℕ → IndexEdit → Step
 move_step id row to stamp index = record { id = id; row = row_edit.Put (record { path = to; content = row.content; stamp = stamp; indexed = row.indexed }); doc = doc_edit.Keep; index = index; draws = true }
 
-pub move_builds : (w : World) (wide : ℕ) (path to : List ℕ) (id : ℕ) (row : FileRow) (doc : Option Document) (stamp : ℕ) (index : IndexEdit) → AreSoundFiles w → IsFileAt w path id row doc
+pub move_builds : (w : World) (path to : List ℕ) (id : ℕ) (row : FileRow) (doc : Option Document) (stamp : ℕ) (index : IndexEdit) → AreSoundFiles w → IsFileAt w path id row doc
     → refusal_of w (Move path to) ≡ None → stamp ≡ w.next_stamp → index ≡ moved_index (kind_of row.path) (kind_of to) (option_map (λ d. d.committed) doc)
-    → Builds w wide (Move path to) (move_step id row to stamp index)
-move_builds w wide path to id row doc stamp index sound h accepted n i =
+    → Builds w (Move path to) (move_step id row to stamp index)
+move_builds w path to id row doc stamp index sound h accepted n i =
     let r = accepted_reasons w (Move path to) accepted in
     let s = sound_at w path id row doc sound h in
     let step : Step = move_step id row to w.next_stamp index in
     let f : File = file_with doc row in
     let g : File = moved to w.next_stamp f in
-    let P : ℕ → Type 0 = λ k. Builds w wide (Move path to) (move_step id row to k index) in
+    let P : ℕ → Type 0 = λ k. Builds w (Move path to) (move_step id row to k index) in
     let R : IndexEdit → Type 0 = λ x. (held : Indexed) → HoldsIndex (Some f) held → HoldsIndex (Some g) (edited_index x held) in
     subst P (sym n) (record {
       effect = edit_effect w path row doc step 1 (λ f. Some (moved to w.next_stamp f)) h refl refl;
@@ -447,38 +441,34 @@ move_builds w wide path to id row doc stamp index sound h accepted n i =
       lawful = edit_lawful w path row doc step h (λ other file live same. absurd (none_at_free w to other file r.1.1.0 live same)) tt (λ x. absurd (some_none {A = FileRow} (record { path = to; content = row.content; stamp = w.next_stamp; indexed = row.indexed }) x))
           (record { stamp = omega arith; indexed = IfSome_then row.indexed s.indexed (λ x l. omega arith); saved = s.saved })
           (subst R (sym i) (λ held k. index_moved (kind_of row.path) (kind_of to) f g held refl (not_yet w.next_stamp row.indexed s.indexed) k));
-      room = tt;
-      inserted = refl;
     })
 
 -- ---- the same, as the code has the parts
 
-pub create_from : (w : World) (wide : ℕ) (path text : List ℕ) (id made stamp : ℕ) (path' content' : List ℕ) → refusal_of w (Create path text) ≡ None
+pub create_from : (w : World) (path text : List ℕ) (id made stamp : ℕ) (path' content' : List ℕ) → refusal_of w (Create path text) ≡ None
     → made ≡ length w.files → id ≡ made + 1 → stamp ≡ w.next_stamp → path' ≡ path → content' ≡ text
-    → Builds w wide (Create path text) (create_step path' content' id stamp)
-create_from w wide path text id made stamp path' content' accepted m i s p t =
-    let P : List ℕ → Type 0 = λ x. Builds w wide (Create path text) (create_step x content' id stamp) in
-    let Q : List ℕ → Type 0 = λ x. Builds w wide (Create path text) (create_step path x id stamp) in
-    subst P (sym p) (subst Q (sym t) (create_builds w wide path text id stamp accepted (omega arith) s))
+    → Builds w (Create path text) (create_step path' content' id stamp)
+create_from w path text id made stamp path' content' accepted m i s p t =
+    let P : List ℕ → Type 0 = λ x. Builds w (Create path text) (create_step x content' id stamp) in
+    let Q : List ℕ → Type 0 = λ x. Builds w (Create path text) (create_step path x id stamp) in
+    subst P (sym p) (subst Q (sym t) (create_builds w path text id stamp accepted (omega arith) s))
 
-pub save_from : (w : World) (wide : ℕ) (path : List ℕ) (id : ℕ) (row : FileRow) (path' content' text : List ℕ) (found : Option (List ℕ)) (stamp : ℕ) → AreSoundFiles w → IsLiveAt w path id row
-    → path' ≡ row.path → content' ≡ text → found ≡ option_map (λ d. d.text) (document_part (file_of w id)) → found ≡ Some text → stamp ≡ w.next_stamp
-    → Builds w wide (Save path) (record { id = id; row = row_edit.Put (record { path = path'; content = content'; stamp = stamp; indexed = row.indexed }); doc = doc_edit.MarkSaved; index = index_edit.Keep; draws = true })
-save_from w wide path id row path' content' text found stamp sound live p t f g s =
-    let step : List ℕ → List ℕ → Step = λ x y. record { id = id; row = row_edit.Put (record { path = x; content = y; stamp = stamp; indexed = row.indexed }); doc = doc_edit.MarkSaved; index = index_edit.Keep; draws = true } in
-    let P : List ℕ → Type 0 = λ x. Builds w wide (Save path) (step x content') in
-    let Q : List ℕ → Type 0 = λ x. Builds w wide (Save path) (step row.path x) in
-    subst P (sym p) (subst Q (sym t) (save_builds w wide path id row (document_part (file_of w id)) text stamp sound (is_file_at w path id row live) (sym g ∙ f) s))
+pub save_from : (w : World) (path : List ℕ) (id : ℕ) (row : FileRow) (path' text : List ℕ) (found : Option (List ℕ)) (stamp : ℕ) → AreSoundFiles w → IsLiveAt w path id row
+    → path' ≡ row.path → found ≡ option_map (λ d. d.text) (document_part (file_of w id)) → found ≡ Some text → stamp ≡ w.next_stamp
+    → Builds w (Save path) (record { id = id; row = row_edit.Put (record { path = path'; content = text; stamp = stamp; indexed = row.indexed }); doc = doc_edit.MarkSaved; index = index_edit.Keep; draws = true })
+save_from w path id row path' text found stamp sound live p f g s =
+    let P : List ℕ → Type 0 = λ x. Builds w (Save path) (record { id = id; row = row_edit.Put (record { path = x; content = text; stamp = stamp; indexed = row.indexed }); doc = doc_edit.MarkSaved; index = index_edit.Keep; draws = true }) in
+    subst P (sym p) (save_builds w path id row (document_part (file_of w id)) text stamp sound (is_file_at w path id row live) (sym g ∙ f) s)
 
-pub move_from : (w : World) (wide : ℕ) (path to : List ℕ) (id : ℕ) (row : FileRow) (path' content' : List ℕ) (stamp : ℕ) (index : IndexEdit) (found : Option (List ℕ)) → AreSoundFiles w → IsLiveAt w path id row
+pub move_from : (w : World) (path to : List ℕ) (id : ℕ) (row : FileRow) (path' content' : List ℕ) (stamp : ℕ) (index : IndexEdit) (found : Option (List ℕ)) → AreSoundFiles w → IsLiveAt w path id row
     → refusal_of w (Move path to) ≡ None → path' ≡ to → content' ≡ row.content → stamp ≡ w.next_stamp
     → found ≡ option_map (λ d. d.committed) (document_part (file_of w id)) → index ≡ moved_index (kind_of row.path) (kind_of to) found
-    → Builds w wide (Move path to) (record { id = id; row = row_edit.Put (record { path = path'; content = content'; stamp = stamp; indexed = row.indexed }); doc = doc_edit.Keep; index = index; draws = true })
-move_from w wide path to id row path' content' stamp index found sound live accepted p t s f i =
+    → Builds w (Move path to) (record { id = id; row = row_edit.Put (record { path = path'; content = content'; stamp = stamp; indexed = row.indexed }); doc = doc_edit.Keep; index = index; draws = true })
+move_from w path to id row path' content' stamp index found sound live accepted p t s f i =
     let step : List ℕ → List ℕ → Step = λ x y. record { id = id; row = row_edit.Put (record { path = x; content = y; stamp = stamp; indexed = row.indexed }); doc = doc_edit.Keep; index = index; draws = true } in
-    let P : List ℕ → Type 0 = λ x. Builds w wide (Move path to) (step x content') in
-    let Q : List ℕ → Type 0 = λ x. Builds w wide (Move path to) (step to x) in
-    subst P (sym p) (subst Q (sym t) (move_builds w wide path to id row (document_part (file_of w id)) stamp index sound (is_file_at w path id row live) accepted s (i ∙ ap (moved_index (kind_of row.path) (kind_of to)) f)))
+    let P : List ℕ → Type 0 = λ x. Builds w (Move path to) (step x content') in
+    let Q : List ℕ → Type 0 = λ x. Builds w (Move path to) (step to x) in
+    subst P (sym p) (subst Q (sym t) (move_builds w path to id row (document_part (file_of w id)) stamp index sound (is_file_at w path id row live) accepted s (i ∙ ap (moved_index (kind_of row.path) (kind_of to)) f)))
 
 some_look : (doc : Option Document) (look : Option Look) (l : Look) → look ≡ option_map look_of doc → look ≡ Some l → is_some doc ≡ true
 some_look None look l e f = absurd (some_none l (sym f ∙ e))
@@ -491,44 +481,43 @@ none_look (Some d) look e f = absurd (some_none (look_of d) (sym e ∙ f))
 abbrev write_as : ℕ → FileRow → List ℕ → List ℕ → ℕ → DocEdit → Step
 write_as id row path content stamp doc = record { id = id; row = row_edit.Put (record { path = path; content = content; stamp = stamp; indexed = row.indexed }); doc = doc; index = index_edit.Keep; draws = true }
 
-write_as_built : (w : World) (wide : ℕ) (path : List ℕ) (id : ℕ) (row : FileRow) (path' content' text : List ℕ) (stamp : ℕ) (doc edit : DocEdit) → path' ≡ row.path → content' ≡ text → doc ≡ edit
-    → Builds w wide (Write path text) (write_as id row row.path text stamp edit) → Builds w wide (Write path text) (write_as id row path' content' stamp doc)
-write_as_built w wide path id row path' content' text stamp doc edit p t e built =
-    let P : List ℕ → Type 0 = λ x. Builds w wide (Write path text) (write_as id row x content' stamp doc) in
-    let Q : List ℕ → Type 0 = λ x. Builds w wide (Write path text) (write_as id row row.path x stamp doc) in
-    let R : DocEdit → Type 0 = λ x. Builds w wide (Write path text) (write_as id row row.path text stamp x) in
+write_as_built : (w : World) (path : List ℕ) (id : ℕ) (row : FileRow) (path' content' text : List ℕ) (stamp : ℕ) (doc edit : DocEdit) → path' ≡ row.path → content' ≡ text → doc ≡ edit
+    → Builds w (Write path text) (write_as id row row.path text stamp edit) → Builds w (Write path text) (write_as id row path' content' stamp doc)
+write_as_built w path id row path' content' text stamp doc edit p t e built =
+    let P : List ℕ → Type 0 = λ x. Builds w (Write path text) (write_as id row x content' stamp doc) in
+    let Q : List ℕ → Type 0 = λ x. Builds w (Write path text) (write_as id row row.path x stamp doc) in
+    let R : DocEdit → Type 0 = λ x. Builds w (Write path text) (write_as id row row.path text stamp x) in
     subst P (sym p) (subst Q (sym t) (subst R (sym e) built))
 
-pub write_open_from : (w : World) (wide : ℕ) (path : List ℕ) (id : ℕ) (row : FileRow) (path' content' text : List ℕ) (stamp : ℕ) (doc : DocEdit) (new : HeldDoc) (look : Option Look) (l : Look) (width : ℕ) → AreSoundFiles w → IsLiveAt w path id row
+pub write_open_from : (w : World) (path : List ℕ) (id : ℕ) (row : FileRow) (path' content' text : List ℕ) (stamp : ℕ) (doc : DocEdit) (new : HeldDoc) (look : Option Look) (l : Look) → AreSoundFiles w → IsLiveAt w path id row
     → path' ≡ row.path → content' ≡ text → stamp ≡ w.next_stamp → look ≡ option_map look_of (document_part (file_of w id)) → look ≡ Some l
-    → new.document ≡ opened text → width ≤ new.spare → width ≡ wide → doc ≡ doc_edit.Replace new → Builds w wide (Write path text) (write_as id row path' content' stamp doc)
-write_open_from w wide path id row path' content' text stamp doc new look l width sound live p t s e f document room width_is d =
-    let P : ℕ → Type 0 = λ n. n ≤ new.spare in
-    write_as_built w wide path id row path' content' text stamp doc (doc_edit.Replace new) p t d
-    (write_open_builds w wide path id row (document_part (file_of w id)) text stamp new sound (is_file_at w path id row live) (some_look (document_part (file_of w id)) look l e f) s document (subst P width_is room))
+    → new.document ≡ opened text → doc ≡ doc_edit.Replace new → Builds w (Write path text) (write_as id row path' content' stamp doc)
+write_open_from w path id row path' content' text stamp doc new look l sound live p t s e f document d =
+    write_as_built w path id row path' content' text stamp doc (doc_edit.Replace new) p t d
+    (write_open_builds w path id row (document_part (file_of w id)) text stamp new sound (is_file_at w path id row live) (some_look (document_part (file_of w id)) look l e f) s document)
 
-pub write_closed_from : (w : World) (wide : ℕ) (path : List ℕ) (id : ℕ) (row : FileRow) (path' content' text : List ℕ) (stamp : ℕ) (doc : DocEdit) (look : Option Look) → AreSoundFiles w → IsLiveAt w path id row
+pub write_closed_from : (w : World) (path : List ℕ) (id : ℕ) (row : FileRow) (path' content' text : List ℕ) (stamp : ℕ) (doc : DocEdit) (look : Option Look) → AreSoundFiles w → IsLiveAt w path id row
     → path' ≡ row.path → content' ≡ text → stamp ≡ w.next_stamp → look ≡ option_map look_of (document_part (file_of w id)) → look ≡ None
-    → doc ≡ doc_edit.Keep → Builds w wide (Write path text) (write_as id row path' content' stamp doc)
-write_closed_from w wide path id row path' content' text stamp doc look sound live p t s e f d =
-    write_as_built w wide path id row path' content' text stamp doc doc_edit.Keep p t d
-    (write_closed_builds w wide path id row (document_part (file_of w id)) text stamp sound (is_file_at w path id row live) (none_look (document_part (file_of w id)) look e f) s)
+    → doc ≡ doc_edit.Keep → Builds w (Write path text) (write_as id row path' content' stamp doc)
+write_closed_from w path id row path' content' text stamp doc look sound live p t s e f d =
+    write_as_built w path id row path' content' text stamp doc doc_edit.Keep p t d
+    (write_closed_builds w path id row (document_part (file_of w id)) text stamp sound (is_file_at w path id row live) (none_look (document_part (file_of w id)) look e f) s)
 
-pub intake_from : (w : World) (wide id stamp : ℕ) (row row' : FileRow) (kind : FileKind) (text : List ℕ) (parts : Parts) (index : IndexEdit) → AreSoundFiles w → row_part (file_of w id) ≡ Some row → row' ≡ row
+pub intake_from : (w : World) (id stamp : ℕ) (row row' : FileRow) (kind : FileKind) (text : List ℕ) (parts : Parts) (index : IndexEdit) → AreSoundFiles w → row_part (file_of w id) ≡ Some row → row' ≡ row
     → refusal_of w (Intake id stamp) ≡ None → IfSome (file_of w id) (λ f. f.stamp ≡ stamp → f.content ≡ text) → parts ≡ parts_of kind text
     → ((t : List ℕ) → parts ≡ parts_of kind t → index ≡ intake_index (kind_of row'.path) t)
-    → Builds w wide (Intake id stamp) (intake_step id row' stamp index)
-intake_from w wide id stamp row row' kind text parts index sound live same accepted of_world made i =
-    let P : FileRow → Type 0 = λ r. Builds w wide (Intake id stamp) (intake_step id r stamp index) in
+    → Builds w (Intake id stamp) (intake_step id row' stamp index)
+intake_from w id stamp row row' kind text parts index sound live same accepted of_world made i =
+    let P : FileRow → Type 0 = λ r. Builds w (Intake id stamp) (intake_step id r stamp index) in
     let is : index ≡ intake_index (kind_of row.path) text = i text made ∙ ap (λ (r : FileRow). intake_index (kind_of r.path) text) same in
-    subst P (sym same) (intake_builds w wide id stamp row (document_part (file_of w id)) text index sound (file_of_row (file_of w id) row live) accepted of_world is)
+    subst P (sym same) (intake_builds w id stamp row (document_part (file_of w id)) text index sound (file_of_row (file_of w id) row live) accepted of_world is)
 
-pub close_from : (w : World) (wide : ℕ) (path : List ℕ) (id : ℕ) (row row' : FileRow) (index : IndexEdit) → AreSoundFiles w → IsLiveAt w path id row → row' ≡ row
-    → refusal_of w (CloseDoc path) ≡ None → index ≡ close_index (kind_of row'.path) → Builds w wide (CloseDoc path) (close_step id row' index)
-close_from w wide path id row row' index sound live same accepted i =
-    let P : FileRow → Type 0 = λ r. Builds w wide (CloseDoc path) (close_step id r index) in
+pub close_from : (w : World) (path : List ℕ) (id : ℕ) (row row' : FileRow) (index : IndexEdit) → AreSoundFiles w → IsLiveAt w path id row → row' ≡ row
+    → refusal_of w (CloseDoc path) ≡ None → index ≡ close_index (kind_of row'.path) → Builds w (CloseDoc path) (close_step id row' index)
+close_from w path id row row' index sound live same accepted i =
+    let P : FileRow → Type 0 = λ r. Builds w (CloseDoc path) (close_step id r index) in
     let is : index ≡ close_index (kind_of row.path) = i ∙ ap (λ (r : FileRow). close_index (kind_of r.path)) same in
-    subst P (sym same) (close_builds w wide path id row (document_part (file_of w id)) index sound (is_file_at w path id row live) accepted is)
+    subst P (sym same) (close_builds w path id row (document_part (file_of w id)) index sound (is_file_at w path id row live) accepted is)
 
 -- the kind of the file that takes data in, where it has one
 pub intake_kind : (w : World) (id stamp : ℕ) (row row' : FileRow) (kind : FileKind) → row_part (file_of w id) ≡ Some row → row' ≡ row → refusal_of w (Intake id stamp) ≡ None

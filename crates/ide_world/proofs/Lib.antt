@@ -10,6 +10,7 @@ pub mod PathLemmas
 pub mod WalkLemmas
 pub mod BuildLemmas
 pub mod KindLemmas
+pub mod AlikeLemmas
 pub mod GroupLemmas
 pub mod TaskLemmas
 pub mod FirstLemmas

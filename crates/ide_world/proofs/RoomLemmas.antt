@@ -17,7 +17,7 @@ use Rattle.ide_world.specs.declared.step.Step.{Step}
 use Rattle.ide_world.specs.RowEdits.{put_row}
 use Rattle.ide_world.specs.DocEdits.{edited_document, IsWide, inserted_by}
 use Rattle.ide_world.specs.Step.{after_step, after_steps}
-use Rattle.ide_world.specs.Lawful.{IsLawfulStep, AreLawfulFrom, AreLawful, inserted_by_all}
+use Rattle.ide_world.specs.Lawful.{IsLawfulStep, AreLawfulFrom, AreLawful}
 use Rattle.list_laws.specs.Rows.{one_if}
 use Rattle.ide_world.specs.Room.{Room, HasStepRoom, HasEachRoom, HasRoomIn, KeepsRoom, KeepsCounts, inserted_into, all_inserted_into, rows_of, brought}
 use Rattle.ide_world.specs.Held.{Held, HasRoom}
@@ -30,7 +30,7 @@ pub chars_left : (old new : docs.Held) (step : Step)
     → ((other : ℕ) → eqb step.id other ≡ false → docs.room_of old other ≤ docs.room_of new other)
     → ((n : ℕ) → IsWide n step.doc → (IsSome (docs.document_of old step.id) → inserted_by step.doc + n ≤ docs.room_of old step.id)
     → IsSome (edited_document step.doc (docs.document_of old step.id)) → n ≤ docs.room_of new step.id)
-    → (id n : ℕ) → IsWide n step.doc → (IsSome (docs.document_of old id) → inserted_into id step + n ≤ docs.room_of old id)
+    → (id n : ℕ) → (step.id ≡ id → IsWide n step.doc) → (IsSome (docs.document_of old id) → inserted_into id step + n ≤ docs.room_of old id)
     → IsSome (docs.document_of new id) → n ≤ docs.room_of new id
 chars_left old new step becomes others here id n wide room open' = ⊎_elim
     (λ (same : step.id ≡ id).
@@ -38,7 +38,7 @@ chars_left old new step becomes others here id n wide room open' = ⊎_elim
     let into : inserted_into id step ≡ inserted_by step.doc = cond-true (eqb step.id id) (inserted_by step.doc) 0 is in
     let open_here : IsSome (edited_document step.doc (docs.document_of old step.id)) =
     ap is_some (sym (becomes id ∙ cond-true (eqb step.id id) (edited_document step.doc (docs.document_of old step.id)) (docs.document_of old id) is)) ∙ open' in
-    let left : n ≤ docs.room_of new step.id = here n wide (λ some.
+    let left : n ≤ docs.room_of new step.id = here n (wide same) (λ some.
     let had : inserted_into id step + n ≤ docs.room_of old id = room (ap (λ i. is_some (docs.document_of old i)) (sym same) ∙ some) in
     omega (arith, had, into, ap (docs.room_of old) same)) open_here in
     omega (arith, left, ap (docs.room_of new) same))
@@ -49,23 +49,6 @@ chars_left old new step becomes others here id n wide room open' = ⊎_elim
     (ap is_some (sym (becomes id ∙ cond-false (eqb step.id id) (edited_document step.doc (docs.document_of old step.id)) (docs.document_of old id) is)) ∙ open') in
     omega (arith, had, into, others id is))
     (cases_eq step.id id)
-
-wide_less : (n m : ℕ) (edit : DocEdit) → n ≤ m → IsWide m edit → IsWide n edit
-wide_less n m Keep less wide = tt
-wide_less n m (Open doc) less wide = omega (arith, less, wide)
-wide_less n m (Insert at text) less wide = tt
-wide_less n m (Erase from to) less wide = tt
-wide_less n m (Commit text) less wide = tt
-wide_less n m MarkSaved less wide = tt
-wide_less n m (Replace doc) less wide = omega (arith, less, wide)
-wide_less n m Close less wide = tt
-
-into_le : (id : ℕ) (step : Step) → inserted_into id step ≤ inserted_by step.doc
-into_le id step = bool_cases (eqb step.id id) (λ b. cond b (inserted_by step.doc) 0 ≤ inserted_by step.doc) (λ e. omega arith) (λ ne. omega arith)
-
-all_into_le : (id : ℕ) (steps : List Step) → all_inserted_into id steps ≤ inserted_by_all steps
-all_into_le id [] = omega arith
-all_into_le id (step ∷ steps) = omega (arith, into_le id step, all_into_le id steps)
 
 step_room_kept : (old new : Room) (step : Step) → KeepsRoom old new → HasStepRoom old step → HasStepRoom new step
 step_room_kept old new step keeps room = record {
@@ -92,21 +75,18 @@ each_room_kept old new (step ∷ steps) keeps room = (step_room_kept old new ste
 pub ready_after : (old new : Held) (step : Step) (steps : List Step) → IsReady old (step ∷ steps)
     → new.world ≡ after_step old.world step → KeepsRoom old.room new.room
     → ((count : ℕ) → files.HasRowRoom old.room.files (one_if (is_some (put_row step.row)) + count) → files.HasRowRoom new.room.files count)
-    → ((id n : ℕ) → IsWide n step.doc → (IsSome (docs.document_of old.room.docs id) → inserted_into id step + n ≤ docs.room_of old.room.docs id)
+    → ((id n : ℕ) → (step.id ≡ id → IsWide n step.doc) → (IsSome (docs.document_of old.room.docs id) → inserted_into id step + n ≤ docs.room_of old.room.docs id)
     → IsSome (docs.document_of new.room.docs id) → n ≤ docs.room_of new.room.docs id)
     → IsReady new steps
 ready_after old new step steps ready world keeps rows chars = record {
-  spare = ready.spare;
   lawful = subst (λ w. AreLawfulFrom w steps) (sym world) ready.lawful.1;
   room = record {
     rows = rows (rows_of steps) ready.room.rows;
     each = each_room_kept old.room new.room steps keeps ready.room.each.1;
-    chars = λ id open'. chars id (all_inserted_into id steps)
-        (wide_less (all_inserted_into id steps) ready.spare step.doc (omega (arith, all_into_le id steps, ready.few)) ready.wide.0)
+    chars = λ id open'. chars id (all_inserted_into id steps) (λ same. subst (λ i. IsWide (all_inserted_into i steps) step.doc) same ready.wide.0)
         (ready.room.chars id) open';
   };
   wide = ready.wide.1;
-  few = omega (arith, ready.few);
   stamps = omega (arith, ready.stamps, ap (λ (w : World). w.next_stamp) world, ap (λ (w : World). w.entries) world, one_if_le step.draws);
 }
 
@@ -141,11 +121,9 @@ all_lawful_counted world (step ∷ steps) lawful = (lawful_counted world step la
 pub ready_counted : (old new : Held) (steps : List Step) → AreLawful old.world steps → HasRoom old steps → old.world.next_stamp ≤ 64 * old.world.entries + 1
     → new.world ≡ counted old.world → new.room ≡ old.room → IsReady new steps
 ready_counted old new steps lawful room stamps world same = record {
-  spare = inserted_by_all steps;
   lawful = subst (λ w. AreLawfulFrom w steps) (sym world) (all_lawful_counted old.world steps lawful.each);
   room = subst (λ r. HasRoomIn r steps) (sym same) room.all;
   wide = lawful.wide;
-  few = omega arith;
   stamps = omega (arith, stamps, lawful.few, ap (λ (w : World). w.next_stamp) world, ap (λ (w : World). w.entries) world);
 }
 

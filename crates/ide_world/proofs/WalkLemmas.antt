@@ -13,10 +13,10 @@ use Rattle.ide_world.specs.declared.step.Step.{Step}
 use Rattle.ide_world.specs.declared.step.DocEdit.{DocEdit}
 use Rattle.ide_world.specs.declared.step.DocEdit.TheVariants.{Keep, Open, Insert, Erase, Commit, MarkSaved, Replace, Close}
 use Rattle.ide_world.specs.RowEdits.{edited_row}
-use Rattle.ide_world.specs.DocEdits.{edited_document, IsDocEditFit, IsWide, inserted_by}
+use Rattle.ide_world.specs.DocEdits.{edited_document, IsDocEditFit}
 use Rattle.ide_world.specs.Step.{row_part, document_part, stepped, after_step, after_steps}
 use Rattle.ide_world.specs.Sound.{AreSoundFiles}
-use Rattle.ide_world.specs.Lawful.{IsLawfulStep, AreLawfulFrom, AreWide, inserted_by_all}
+use Rattle.ide_world.specs.Lawful.{IsLawfulStep, AreLawfulFrom}
 use Rattle.ide_world.specs.declared.look.Look.{Look}
 use Rattle.ide_world.specs.Drafted.{Drafted, IsDraft, world_now, drafted, IsKept}
 use Rattle.ide_world.specs.declared.draft.Draft.TheInside.{Inside}
@@ -125,21 +125,12 @@ lawful_push : (w : World) (ss : List Step) (s : Step) → AreLawfulFrom w ss →
 lawful_push w [] s l h = (h, tt)
 lawful_push w (t ∷ ss) s l h = (l.0, lawful_push (after_step w t) ss s l.1 h)
 
-wide_push : (n : ℕ) (ss : List Step) (s : Step) → AreWide n ss → IsWide n s.doc → AreWide n (ss ++ s ∷ [])
-wide_push n [] s l h = (h, tt)
-wide_push n (t ∷ ss) s l h = (l.0, wide_push n ss s l.1 h)
-
-pub inserted-push : (ss : List Step) (s : Step) → inserted_by_all (ss ++ s ∷ []) ≡ inserted_by_all ss + inserted_by s.doc
-inserted-push [] s = omega arith
-inserted-push (t ∷ ss) s = let r = inserted-push ss s in omega arith
-
-pub pushed : (d : Drafted) (s : Step) → IsDraft d → IsLawfulStep (world_now d) s → length d.steps < 64 → IsWide d.wide s.doc
-    → IsDraft (record { base = d.base; steps = d.steps ++ s ∷ []; wide = d.wide })
-pushed d s h l few wide = record {
+pub pushed : (d : Drafted) (s : Step) → IsDraft d → IsLawfulStep (world_now d) s → length d.steps < 64
+    → IsDraft (record { base = d.base; steps = d.steps ++ s ∷ [] })
+pushed d s h l few = record {
   base = h.base;
   lawful = lawful_push d.base d.steps s h.lawful l;
   few = let e = length-append d.steps (s ∷ []) in omega arith;
-  wide = wide_push d.wide d.steps s h.wide wide;
   files = let P : World → Type 0 = AreSoundFiles in subst P (sym (after_steps-push d.base d.steps s)) (sound_after_step (world_now d) s h.files l);
 }
 
@@ -252,21 +243,20 @@ pub untouched_by : (r : Bool) (id : ℕ) (ss kept : List Step) → r ≡ list_an
 untouched_by r id ss kept e s f = sym (ap (λ l. list_any (edits_texts id) l) s) ∙ sym e ∙ f
 
 -- the fields after a step
-pub kept_after : (inside new : Inside) (now : Drafted) (s : Step) → drafted inside ≡ now → IsKept inside → IsLawfulStep (world_now now) s → length now.steps < 64 → IsWide now.wide s.doc
-    → new.state ≡ inside.state → new.steps ≡ inside.steps ++ s ∷ [] → new.wide ≡ inside.wide
+pub kept_after : (inside new : Inside) (now : Drafted) (s : Step) → drafted inside ≡ now → IsKept inside → IsLawfulStep (world_now now) s → length now.steps < 64
+    → new.state ≡ inside.state → new.steps ≡ inside.steps ++ s ∷ []
     → new.made ≡ length (after_step (world_now now) s).files → new.made ≤ 65536 → new.opened ≡ count_of is_open (after_step (world_now now) s)
     → new.next_stamp ≡ inside.next_stamp + (if s.draws then 1 else 0) → IsKept new
-kept_after inside new now s same kept lawful few wide state steps width made small opened stamp =
+kept_after inside new now s same kept lawful few state steps made small opened stamp =
     let P : Drafted → Type 0 = λ d. IsLawfulStep (world_now d) s in
     let d = drafted inside in
-    let after : Drafted = record { base = d.base; steps = d.steps ++ s ∷ []; wide = d.wide } in
-    let whole : drafted new ≡ after = ap (λ x. record { base = x.now.world; steps = new.steps; wide = new.wide }) state ∙ ap (λ ss. record { base = d.base; steps = ss; wide = new.wide }) steps ∙ ap (λ n. record { base = d.base; steps = d.steps ++ s ∷ []; wide = n }) width in
+    let after : Drafted = record { base = d.base; steps = d.steps ++ s ∷ [] } in
+    let whole : drafted new ≡ after = ap (λ x. record { base = x.now.world; steps = new.steps }) state ∙ ap (λ ss. record { base = d.base; steps = ss }) steps in
     let world : world_now (drafted new) ≡ after_step (world_now now) s = ap world_now whole ∙ after_steps-push d.base d.steps s ∙ ap (λ x. after_step (world_now x) s) same in
     let few' : length d.steps < 64 = let e = ap (λ (x : Drafted). length x.steps) same in omega arith in
-    let wide' : IsWide d.wide s.doc = let Q : Drafted → Type 0 = λ x. IsWide x.wide s.doc in subst Q (sym same) wide in
     let lengths : length new.steps ≡ length inside.steps + 1 = ap length steps ∙ length-append inside.steps (s ∷ []) in
     record {
-      draft = let Q : Drafted → Type 0 = IsDraft in subst Q (sym whole) (pushed d s kept.draft (subst P (sym same) lawful) few' wide');
+      draft = let Q : Drafted → Type 0 = IsDraft in subst Q (sym whole) (pushed d s kept.draft (subst P (sym same) lawful) few');
       made = made ∙ sym (ap (λ w. length w.files) world);
       opened = opened ∙ sym (ap (λ w. count_of is_open w) world);
       stamp = stamp ∙ ap (λ n. n + (if s.draws then 1 else 0)) (kept.stamp ∙ ap (λ x. (world_now x).next_stamp) same) ∙ sym (ap (λ w. w.next_stamp) world);

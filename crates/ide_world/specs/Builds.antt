@@ -1,5 +1,5 @@
 -- What it means that a step makes a change.
-use Rattle.std.specs.Prelude.{ℕ, ◌≡◌, false, if◌then◌else◌, List, Option, Some, None}
+use Rattle.std.specs.Prelude.{ℕ, ◌≡◌, Bool, false, if◌then◌else◌, List, Option, Some, None}
 use Rattle.dumb_mode.specs.declared.kind.FileKind.{FileKind}
 use Rattle.dumb_mode.specs.Filter.{is_same_kind}
 use Rattle.vfs_core.specs.declared.row.FileRow.{FileRow}
@@ -13,23 +13,19 @@ use Rattle.ide_world.specs.declared.step.DocEdit.{DocEdit}
 use Rattle.ide_world.specs.declared.step.IndexEdit.{IndexEdit}
 use Rattle.ide_world.specs.declared.step.IndexEdit.TheVariants.{Keep, SetBase, SetOverlay, ToBase, Drop}
 use Rattle.overlay_index.specs.Parts.{parts_of}
-use Rattle.ide_world.specs.DocEdits.{IsWide, inserted_by}
 use Rattle.ide_world.specs.Step.{after_step, row_part}
 use Rattle.ide_world.specs.Lawful.{IsLawfulStep}
-use Rattle.ide_world.specs.Drafted.{inserted_by_change}
 
 -- the live file at a path has this id and this row
 pub record IsLiveAt (world : World) (path : List ℕ) (id : ℕ) (row : FileRow) : Type 0 where
   pub at_path : id_at world path ≡ Some id
   pub live : row_part (file_of world id) ≡ Some row
 
--- the step does what the change does, to the same file, and may be carried out; a document that it brings is wide enough
-pub record Builds (world : World) (wide : ℕ) (change : Change) (step : Step) : Type 0 where
+-- the step does what the change does, to the same file, and may be carried out
+pub record Builds (world : World) (change : Change) (step : Step) : Type 0 where
   pub effect : after_step world step ≡ effect_of world change
   pub same_id : step.id ≡ (put_of world change).id
   pub lawful : IsLawfulStep world step
-  pub room : IsWide wide step.doc
-  pub inserted : inserted_by step.doc ≡ inserted_by_change change
 
 -- the step that edits the document of a file and no more
 abbrev pub edit_step : ℕ → DocEdit → Step
@@ -39,6 +35,10 @@ edit_step id edit = record { id = id; row = row_edit.Keep; doc = edit; index = K
 abbrev pub overlay_edit : Option FileKind → List ℕ → IndexEdit
 overlay_edit None text = Keep
 overlay_edit (Some kind) text = SetOverlay (parts_of kind text)
+
+-- what a commit makes of index data: where the text is the committed one, they stay
+abbrev pub commit_index : Bool → Option FileKind → List ℕ → IndexEdit
+commit_index is_new kind text = if is_new then overlay_edit kind text else Keep
 
 -- the index data of a file whose kind is another one now: those of its committed text, where it has a kind and is open
 abbrev pub renewed_index : Option FileKind → Option (List ℕ) → IndexEdit

@@ -4,10 +4,11 @@ use Rattle.write_history.specs.World.{World, File, file_of, next_id}
 use Rattle.write_history.specs.Effect.{max_files}
 use Rattle.ide_world.specs.declared.step.Step.{Step}
 use Rattle.ide_world.specs.RowEdits.{edited_row, put_row}
-use Rattle.ide_world.specs.DocEdits.{edited_document, IsDocEditFit, IsWide, inserted_by}
+use Rattle.ide_world.specs.DocEdits.{edited_document, IsDocEditFit, IsWide}
 use Rattle.ide_world.specs.IndexEdits.{Indexed, edited_index}
 use Rattle.ide_world.specs.Step.{row_part, document_part, stepped, after_step, drawn_by}
 use Rattle.ide_world.specs.Sound.{IsSoundFile, HoldsIndex}
+use Rattle.ide_world.specs.Room.{all_inserted_into}
 
 -- the most steps of a list
 abbrev pub max_steps : ℕ
@@ -33,18 +34,13 @@ abbrev pub AreLawfulFrom : World → List Step → Type 0
 AreLawfulFrom world [] = Unit {0}
 AreLawfulFrom world (step ∷ steps) = IsLawfulStep world step × AreLawfulFrom (after_step world step) steps
 
--- how many characters the steps insert
-abbrev pub inserted_by_all : List Step → ℕ
-inserted_by_all [] = 0
-inserted_by_all (step ∷ steps) = inserted_by step.doc + inserted_by_all steps
-
--- the documents that the steps bring have room for so many characters more
-abbrev pub AreWide : ℕ → List Step → Type 0
-AreWide n [] = Unit {0}
-AreWide n (step ∷ steps) = IsWide n step.doc × AreWide n steps
+-- each document that a step brings has room for what the later ones insert into it
+abbrev pub AreWide : List Step → Type 0
+AreWide [] = Unit {0}
+AreWide (step ∷ steps) = IsWide (all_inserted_into step.id steps) step.doc × AreWide steps
 
 -- a list of steps that may be carried out
 pub record AreLawful (world : World) (steps : List Step) : Type 0 where
   pub each : AreLawfulFrom world steps
   pub few : length steps ≤ max_steps
-  pub wide : AreWide (inserted_by_all steps) steps
+  pub wide : AreWide steps

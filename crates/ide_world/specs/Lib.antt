@@ -22,6 +22,8 @@ pub mod Step
 pub mod Sound
 -- When steps may be carried out
 pub mod Lawful
+-- Steps that differ in nothing but the room beside their texts
+pub mod Alike
 -- The ids of the unready files
 pub mod Marks
 -- What steps need room for

@@ -1,19 +1,16 @@
 -- When steps can be carried out one after another.
 use Rattle.std.specs.Prelude.{ℕ, ◌≤◌, ◌+◌, ◌*◌, List, length, map}
 use Rattle.ide_world.specs.declared.step.Step.{Step}
-use Rattle.ide_world.specs.Lawful.{AreLawfulFrom, AreWide, inserted_by_all}
+use Rattle.ide_world.specs.Lawful.{AreLawfulFrom, AreWide}
 use Rattle.ide_world.specs.Room.{HasRoomIn}
 use Rattle.ide_world.specs.Held.{Held}
 use Rattle.ide_world.specs.declared.apply.Gone.{Gone}
 
 -- the steps are lawful, there is room for all that they bring, and each may draw a stamp
 pub record IsReady (held : Held) (steps : List Step) : Type 0 where
-  -- the documents that the steps bring have room for so many characters more
-  pub spare : ℕ
   pub lawful : AreLawfulFrom held.world steps
   pub room : HasRoomIn held.room steps
-  pub wide : AreWide spare steps
-  pub few : inserted_by_all steps ≤ spare
+  pub wide : AreWide steps
   pub stamps : held.world.next_stamp + length steps ≤ 64 * held.world.entries + 1
 
 -- the ids of the files of which something went

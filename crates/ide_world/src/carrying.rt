@@ -88,7 +88,7 @@ impl State {
         ensures world { self.new.world ≡ after_step self.old.world step }
         ensures keeps { KeepsRoom self.old.room self.new.room }
         ensures rows { (count : ℕ) → HasRowRoom self.old.room.files (one_if (is_some (put_row step.row)) + count) → HasRowRoom self.new.room.files count }
-        ensures chars { (id n : ℕ) → IsWide n step.doc
+        ensures chars { (id n : ℕ) → (step.id ≡ id → IsWide n step.doc)
             → (IsSome (document_of self.old.room.docs id) → inserted_into id step + n ≤ room_of self.old.room.docs id)
             → IsSome (document_of self.new.room.docs id) → n ≤ room_of self.new.room.docs id }
     {

@@ -4,7 +4,7 @@ ghost use Rattle.write_history.specs.declared.change.Change.TheVariants.{OpenDoc
 ghost use Rattle.write_history.specs.Effect.{refusal_of};
 ghost use Rattle.dumb_mode.specs.Filter.{kind_of};
 ghost use Rattle.ide_world.specs.Drafted.{world_now};
-ghost use Rattle.ide_world.specs.Builds.{Builds, overlay_edit, close_index, edit_step};
+ghost use Rattle.ide_world.specs.Builds.{Builds, overlay_edit, commit_index, close_index, edit_step};
 
 use crate::draft::Draft;
 use crate::{DocEdit, IndexEdit, RowEdit, Step};
@@ -17,7 +17,7 @@ use vfs_core::FileRow;
 
 pub(crate) fn opened(alloc: Global, draft: &Draft<'_>, path: &Name) -> Result<Step, AllocError>
     requires { refusal_of (world_now draft.now) (OpenDoc path.now) ≡ None }
-    ensures { IfOk result (Builds (world_now draft.now) draft.now.wide (OpenDoc path.now)) }
+    ensures { IfOk result (Builds (world_now draft.now) (OpenDoc path.now)) }
 {
     let Some(found) = draft.find(path) else {
         unreachable!()
@@ -26,7 +26,7 @@ pub(crate) fn opened(alloc: Global, draft: &Draft<'_>, path: &Name) -> Result<St
         id: found.id,
         row: RowEdit::Keep,
         doc: DocEdit::Open {
-            doc: Doc::open(alloc, &found.row.content, draft.wide())?,
+            doc: Doc::open(alloc, &found.row.content, 0)?,
         },
         index: overlay(alloc, &found.row.path, &found.row.content)?,
         draws: false,
@@ -40,7 +40,7 @@ pub(crate) fn inserted(
     text: &SharedText,
 ) -> Result<Step, AllocError>
     requires { refusal_of (world_now draft.now) (Insert path.now at text.now) ≡ None }
-    ensures { IfOk result (Builds (world_now draft.now) draft.now.wide (Insert path.now at text.now)) }
+    ensures { IfOk result (Builds (world_now draft.now) (Insert path.now at text.now)) }
 {
     let Some(found) = draft.find(path) else {
         unreachable!()
@@ -56,7 +56,7 @@ pub(crate) fn inserted(
 
 pub(crate) fn erased(draft: &Draft<'_>, path: &Name, from: u32, to: u32) -> Step
     requires { refusal_of (world_now draft.now) (Erase path.now from to) ≡ None }
-    ensures { Builds (world_now draft.now) draft.now.wide (Erase path.now from to) result }
+    ensures { Builds (world_now draft.now) (Erase path.now from to) result }
 {
     let Some(found) = draft.find(path) else {
         unreachable!()
@@ -79,16 +79,16 @@ fn edit_of(id: u32, doc: DocEdit) -> Step
 
 pub(crate) fn committed(alloc: Global, draft: &Draft<'_>, path: &Name) -> Result<Step, AllocError>
     requires { refusal_of (world_now draft.now) (Commit path.now) ≡ None }
-    ensures { IfOk result (Builds (world_now draft.now) draft.now.wide (Commit path.now)) }
+    ensures { IfOk result (Builds (world_now draft.now) (Commit path.now)) }
 {
     let Some(found) = draft.find(path) else {
         unreachable!()
     };
-    let Some(text) = draft.text(found.id)? else {
+    let is_new = draft.is_uncommitted(found.id)?;
+    let Some(text) = draft.shared_text(alloc, found.id, is_new)? else {
         unreachable!()
     };
-    let text = SharedText::new(alloc, text)?;
-    let index = overlay(alloc, &found.row.path, &text)?;
+    let index = committed_index(alloc, &found.row.path, &text, is_new)?;
     Ok(Step {
         id: found.id,
         row: RowEdit::Keep,
@@ -100,12 +100,13 @@ pub(crate) fn committed(alloc: Global, draft: &Draft<'_>, path: &Name) -> Result
 
 pub(crate) fn saved(alloc: Global, draft: &Draft<'_>, path: &Name) -> Result<Step, AllocError>
     requires { refusal_of (world_now draft.now) (Save path.now) ≡ None }
-    ensures { IfOk result (Builds (world_now draft.now) draft.now.wide (Save path.now)) }
+    ensures { IfOk result (Builds (world_now draft.now) (Save path.now)) }
 {
     let Some(found) = draft.find(path) else {
         unreachable!()
     };
-    let Some(text) = draft.text(found.id)? else {
+    let is_new = draft.is_uncommitted(found.id)?;
+    let Some(content) = draft.shared_text(alloc, found.id, is_new)? else {
         unreachable!()
     };
     Ok(Step {
@@ -113,7 +114,7 @@ pub(crate) fn saved(alloc: Global, draft: &Draft<'_>, path: &Name) -> Result<Ste
         row: RowEdit::Put {
             row: FileRow {
                 path: found.row.path.copy()?,
-                content: SharedText::new(alloc, text)?,
+                content,
                 stamp: draft.next_stamp(),
                 indexed: found.row.indexed,
             },
@@ -126,7 +127,7 @@ pub(crate) fn saved(alloc: Global, draft: &Draft<'_>, path: &Name) -> Result<Ste
 
 pub(crate) fn closed(draft: &Draft<'_>, path: &Name) -> Result<Step, AllocError>
     requires { refusal_of (world_now draft.now) (CloseDoc path.now) ≡ None }
-    ensures { IfOk result (Builds (world_now draft.now) draft.now.wide (CloseDoc path.now)) }
+    ensures { IfOk result (Builds (world_now draft.now) (CloseDoc path.now)) }
 {
     let Some(found) = draft.find(path) else {
         unreachable!()
@@ -151,6 +152,22 @@ fn closed_index(path: &Name) -> IndexEdit
     match kind_of(path) {
         Some(_) => IndexEdit::ToBase,
         None => IndexEdit::Keep,
+    }
+}
+
+/// What a commit makes of the index data: where the text was committed before, they stay.
+fn committed_index(
+    alloc: Global,
+    path: &Name,
+    text: &SharedText,
+    is_new: bool,
+) -> Result<IndexEdit, AllocError>
+    ensures { IfOk result (λ edit. edit ≡ commit_index is_new (kind_of path.now) text.now) }
+{
+    if is_new {
+        overlay(alloc, path, text)
+    } else {
+        Ok(IndexEdit::Keep)
     }
 }
 

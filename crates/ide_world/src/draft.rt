@@ -5,8 +5,8 @@ ghost use Rattle.list_laws.specs.Rows.{one_if};
 ghost use Rattle.write_history.specs.World.{file_of, id_at, document_at, count_of, is_open};
 ghost use Rattle.write_history.specs.Effect.{is_uncommitted, document_len, is_unsaved};
 ghost use Rattle.ide_world.specs.Step.{row_part, document_part, after_step};
-ghost use Rattle.ide_world.specs.Lawful.{AreLawful, IsLawfulStep, inserted_by_all};
-ghost use Rattle.ide_world.specs.DocEdits.{IsWide};
+ghost use Rattle.ide_world.specs.Lawful.{IsLawfulStep, AreWide};
+ghost use Rattle.ide_world.specs.Alike.{AreAlike};
 ghost use Rattle.ide_world.specs.Walk.{look_of, is_open_after};
 
 use crate::look::Look;
@@ -27,8 +27,6 @@ pub(crate) struct Draft<'a> {
     /// How many documents are open.
     pub(crate) opened: u32,
     pub(crate) next_stamp: u64,
-    /// How many characters the whole list inserts.
-    pub(crate) wide: u32,
 }
 
 impl<'a> Model for Draft<'a> {
@@ -55,11 +53,10 @@ impl<'a> Draft<'a> {
     ghost use Rattle.ide_world.specs.Walk.{look_of};
     ghost use Rattle.ide_world.specs.Builds.{IsLiveAt};
 
-    /// The draft of a list whose changes insert so many characters, with no step so far.
-    pub(crate) fn new(alloc: Global, state: &'a State, wide: u32) -> Draft<'a>
+    /// The draft of a state, with no step so far.
+    pub(crate) fn new(alloc: Global, state: &'a State) -> Draft<'a>
         ensures base { result.base ≡ state.now.world }
         ensures steps { result.steps ≡ [] }
-        ensures wide { result.wide ≡ wide }
     {
         Draft {
             state,
@@ -67,7 +64,6 @@ impl<'a> Draft<'a> {
             made: state.made(),
             opened: state.open_count(),
             next_stamp: state.next_stamp(),
-            wide,
         }
     }
 
@@ -99,13 +95,6 @@ impl<'a> Draft<'a> {
     {
         let _ = &self.steps;
         self.state.entries()
-    }
-
-    /// How many characters the whole list inserts.
-    pub(crate) fn wide(&self) -> u32
-        ensures { result ≡ self.now.wide }
-    {
-        self.wide
     }
 
     /// The id of the live file at a path.
@@ -192,6 +181,28 @@ impl<'a> Draft<'a> {
         Ok(!text.is_same(committed.as_text()))
     }
 
+    /// The text of an open document, to be kept: the committed one where it is that, else made anew.
+    pub(crate) fn shared_text(
+        &self,
+        alloc: Global,
+        id: u32,
+        is_new: bool,
+    ) -> Result<Option<SharedText>, AllocError>
+        requires { is_new ≡ is_uncommitted (document_part (file_of (world_now self.now) id)) }
+        ensures { IfOk result (λ text. text ≡ option_map (λ d. d.text) (document_part (file_of (world_now self.now) id))) }
+    {
+        if is_new {
+            return match self.text(id)? {
+                Some(text) => Ok(Some(SharedText::new(alloc, text)?)),
+                None => Ok(None),
+            };
+        }
+        match self.committed(id) {
+            Some(text) => Ok(Some(text.share()?)),
+            None => Ok(None),
+        }
+    }
+
     /// How many documents are open after a step.
     fn opened_after(&self, step: &Step) -> u32
         requires { IsLawfulStep (world_now self.now) step.now }
@@ -219,7 +230,6 @@ impl<'a> Draft<'a> {
     pub(crate) fn push(&mut self, step: Step) -> Result<(), AllocError>
         requires lawful { IsLawfulStep (world_now self.old) step }
         requires few { length self.old.steps < 64 }
-        requires wide { IsWide self.old.wide step.doc }
         ensures ok { OnOk result (self.new ≡ record self.old { steps = self.old.steps ++ step ∷ [] }) }
         ensures draft { IsDraft self.old }
     {
@@ -233,12 +243,15 @@ impl<'a> Draft<'a> {
         Ok(())
     }
 
-    /// The steps.
-    pub(crate) fn into_steps(self) -> Steps
-        ensures steps { result ≡ self.entry.steps }
+    /// The steps, each document that one brings with room for what the later ones insert into it.
+    pub(crate) fn into_steps(self) -> Result<Steps, AllocError>
+        ensures alike { IfOk result (AreAlike self.entry.steps) }
+        ensures wide { IfOk result AreWide }
         ensures draft { IsDraft self.entry }
     {
-        self.steps
+        let Draft { mut steps, .. } = self;
+        steps.widen()?;
+        Ok(steps)
     }
 }
 

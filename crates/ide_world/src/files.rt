@@ -21,7 +21,7 @@ use vfs_core::FileRow;
 
 pub(crate) fn created(draft: &Draft<'_>, path: &Name, text: &SharedText) -> Result<Step, AllocError>
     requires { refusal_of (world_now draft.now) (Create path.now text.now) ≡ None }
-    ensures { IfOk result (Builds (world_now draft.now) draft.now.wide (Create path.now text.now)) }
+    ensures { IfOk result (Builds (world_now draft.now) (Create path.now text.now)) }
 {
     Ok(Step {
         id: draft.made() as u32 + 1,
@@ -46,14 +46,14 @@ pub(crate) fn written(
     text: &SharedText,
 ) -> Result<Step, AllocError>
     requires { refusal_of (world_now draft.now) (Write path.now text.now) ≡ None }
-    ensures { IfOk result (Builds (world_now draft.now) draft.now.wide (Write path.now text.now)) }
+    ensures { IfOk result (Builds (world_now draft.now) (Write path.now text.now)) }
 {
     let Some(found) = draft.find(path) else {
         unreachable!()
     };
     let doc = match draft.look(found.id) {
         Some(_) => DocEdit::Replace {
-            doc: Doc::open(alloc, text, draft.wide())?,
+            doc: Doc::open(alloc, text, 0)?,
         },
         None => DocEdit::Keep,
     };
@@ -75,7 +75,7 @@ pub(crate) fn written(
 
 pub(crate) fn deleted(draft: &Draft<'_>, path: &Name) -> Step
     requires { refusal_of (world_now draft.now) (Delete path.now) ≡ None }
-    ensures { Builds (world_now draft.now) draft.now.wide (Delete path.now) result }
+    ensures { Builds (world_now draft.now) (Delete path.now) result }
 {
     let Some(found) = draft.find(path) else {
         unreachable!()
@@ -96,7 +96,7 @@ pub(crate) fn moved(
     to: &Name,
 ) -> Result<Step, AllocError>
     requires { refusal_of (world_now draft.now) (Move path.now to.now) ≡ None }
-    ensures { IfOk result (Builds (world_now draft.now) draft.now.wide (Move path.now to.now)) }
+    ensures { IfOk result (Builds (world_now draft.now) (Move path.now to.now)) }
 {
     let Some(found) = draft.find(path) else {
         unreachable!()
@@ -142,7 +142,7 @@ fn moved_index(
 pub(crate) fn taken_in(draft: &Draft<'_>, made: Made) -> Result<Step, AllocError>
     requires accepted { refusal_of (world_now draft.now) (Intake made.file made.stamp) ≡ None }
     requires of_world { IsOfWorld (world_now draft.now) (record { file = made.file; kind = made.kind; stamp = made.stamp; content = made.text }) }
-    ensures { IfOk result (Builds (world_now draft.now) draft.now.wide (Intake made.file made.stamp)) }
+    ensures { IfOk result (Builds (world_now draft.now) (Intake made.file made.stamp)) }
 {
     let Some(row) = draft.row(made.file) else {
         unreachable!()

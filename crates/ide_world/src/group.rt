@@ -11,7 +11,10 @@ ghost use Rattle.write_history.specs.Fold.{list_refusal, after_list};
 ghost use Rattle.ide_world.specs.Held.{HasRoom};
 ghost use Rattle.ide_world.specs.Ready.{Makes, hinted, IsReadyFor, is_edit, IsRefusalOf, IsListRefusalOf};
 ghost use Rattle.ide_world.specs.Task.{IsOfWorld};
-ghost use Rattle.ide_world.specs.Drafted.{world_now, inserted_by_change, inserted_by_changes, IsExtended};
+ghost use Rattle.ide_world.specs.Drafted.{world_now, IsDraft, IsExtended};
+ghost use Rattle.ide_world.specs.Alike.{AreAlike};
+ghost use Rattle.ide_world.specs.Lawful.{AreWide};
+ghost use Rattle.write_history.specs.declared.refusal.Refusal.TheVariants.{OutOfMemory};
 ghost use Rattle.ide_world.specs.Builds.{Builds};
 
 use crate::data::Made;
@@ -61,11 +64,9 @@ pub fn prepare(alloc: Global, state: &State, change: &Change) -> Result<Ready, R
     ensures first { IfSome (refusal_of state.now.world change.now) (λ why. result ≡ Err why) }
     ensures refused { IfErr result (IsRefusalOf (refusal_of state.now.world change.now)) }
 {
-    let mut draft = Draft::new(alloc, state, inserted_by(change));
+    let mut draft = Draft::new(alloc, state);
     extend(alloc, &mut draft, change)?;
-    Ok(Ready {
-        steps: draft.into_steps(),
-    })
+    made_ready(draft)
 }
 
 /// Makes a list of changes ready, each judged where the earlier ones lead, or gives the first refused one.
@@ -82,7 +83,7 @@ pub fn prepare_group(
         → refusal_of state.now.world change ≡ Some why → result ≡ Err (record { place = 1; why = why }) }
     ensures refused { IfErr result (IsListRefusalOf (list_refusal state.now.world changes.now)) }
 {
-    let mut draft = Draft::new(alloc, state, inserted_by_all(changes));
+    let mut draft = Draft::new(alloc, state);
     for (index, change) in changes.iter().enumerate() {
         if let Err(why) = extend(alloc, &mut draft, change) {
             return Err(GroupRefusal {
@@ -91,9 +92,13 @@ pub fn prepare_group(
             });
         }
     }
-    Ok(Ready {
-        steps: draft.into_steps(),
-    })
+    match made_ready(draft) {
+        Ok(ready) => Ok(ready),
+        Err(why) => Err(GroupRefusal {
+            place: changes.len() as u32,
+            why,
+        }),
+    }
 }
 
 /// Makes the intake of index data ready, or gives the first reason to refuse it, before memory is asked for.
@@ -104,14 +109,12 @@ pub fn prepare_intake(alloc: Global, state: &State, made: Made) -> Result<Ready,
     ensures first { IfSome (refusal_of state.now.world (Intake made.file made.stamp)) (λ why. result ≡ Err why) }
     ensures refused { IfErr result (IsRefusalOf (refusal_of state.now.world (Intake made.file made.stamp))) }
 {
-    let mut draft = Draft::new(alloc, state, 0);
+    let mut draft = Draft::new(alloc, state);
     if let Some(refusal) = intake_refusal(&draft, made.file, made.stamp) {
         return Err(refusal);
     }
     match taken_in(&mut draft, made) {
-        Ok(()) => Ok(Ready {
-            steps: draft.into_steps(),
-        }),
+        Ok(()) => made_ready(draft),
         Err(_) => Err(Refusal::OutOfMemory),
     }
 }
@@ -181,7 +184,7 @@ fn taken_in(draft: &mut Draft<'_>, made: Made) -> Result<(), AllocError>
 fn step_of(alloc: Global, draft: &Draft<'_>, change: &Change) -> Result<Step, AllocError>
     requires edit { is_edit change.now ≡ true }
     requires accepted { refusal_of (world_now draft.now) change.now ≡ None }
-    ensures { IfOk result (Builds (world_now draft.now) draft.now.wide change.now) }
+    ensures { IfOk result (Builds (world_now draft.now) change.now) }
 {
     match change {
         Change::Create { path, text } => files::created(draft, path, text),
@@ -198,25 +201,15 @@ fn step_of(alloc: Global, draft: &Draft<'_>, change: &Change) -> Result<Step, Al
     }
 }
 
-/// How many characters changes insert.
-fn inserted_by_all(changes: &[Change]) -> u32
-    requires { length changes.now < 65 }
-    ensures { result ≡ inserted_by_changes changes.now }
+/// The steps of a draft, with room for what they insert.
+fn made_ready(draft: Draft<'_>) -> Result<Ready, Refusal>
+    ensures alike { IfOk result (AreAlike draft.entry.steps) }
+    ensures wide { IfOk result AreWide }
+    ensures refused { IfErr result (λ why. why ≡ OutOfMemory) }
+    ensures draft { IsDraft draft.entry }
 {
-    let mut count = 0;
-    for change in changes {
-        count += inserted_by(change);
-    }
-    count
-}
-
-/// How many characters a change inserts.
-fn inserted_by(change: &Change) -> u32
-    ensures value { result ≡ inserted_by_change change.now }
-    ensures few { result < 1048577 }
-{
-    match change {
-        Change::Insert { text, .. } => text.as_text().len(),
-        _ => 0,
+    match draft.into_steps() {
+        Ok(steps) => Ok(Ready { steps }),
+        Err(_) => Err(Refusal::OutOfMemory),
     }
 }

@@ -8,6 +8,7 @@ ghost use Rattle.ide_world.specs.DocEdits.{inserted_by};
 ghost use Rattle.ide_world.specs.Room.{opens, brought, all_inserted_into, HasStepRoom, HasRoomIn, KeepsRoom, KeepsCounts};
 ghost use Rattle.ide_world.specs.Held.{HasRoom};
 
+use crate::steps::inserted_into;
 use crate::{DocEdit, IndexEdit, RowEdit, State, Step, Steps};
 use document_buf::Docs;
 use overlay_index::Layers;
@@ -26,21 +27,6 @@ fn reserve_path(files: &mut Files, edit: &RowEdit) -> Result<(), AllocError>
         RowEdit::Keep => Ok(()),
         RowEdit::Remove => Ok(()),
     }
-}
-
-/// How many characters steps insert into the document of a file.
-fn inserted_into(steps: &[Step], id: u32) -> Result<u32, AllocError>
-    ensures { IfOk result (λ count. count ≡ all_inserted_into id steps.now) }
-{
-    let mut count: u32 = 0;
-    for step in steps {
-        if step.id == id
-            && let DocEdit::Insert { text, .. } = &step.doc
-        {
-            count = count.checked_add(text.len()).ok_or(AllocError)?;
-        }
-    }
-    Ok(count)
 }
 
 /// Makes a place for a document that is opened, and room for what steps insert into one that is open.

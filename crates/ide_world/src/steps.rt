@@ -1,7 +1,11 @@
 //! A list of steps.
-ghost use Rattle.std.specs.Prelude.{◌≡◌, ◌≤◌, [], ◌∷◌, ◌++◌, OnOk, OnErr, length};
+ghost use Rattle.std.specs.Prelude.{◌≡◌, ◌≤◌, [], ◌∷◌, ◌++◌, IfOk, OnOk, OnErr, length};
+ghost use Rattle.ide_world.specs.Room.{all_inserted_into};
+ghost use Rattle.ide_world.specs.DocEdits.{IsWide};
+ghost use Rattle.ide_world.specs.Lawful.{AreWide};
+ghost use Rattle.ide_world.specs.Alike.{bare_step, AreAlike};
 
-use crate::Step;
+use crate::{DocEdit, Step};
 use crate::apply::Gone;
 use std::alloc::{AllocError, Global};
 use std::marker::Model;
@@ -62,4 +66,46 @@ impl Steps {
     {
         self.steps.len()
     }
+
+    /// Makes the documents that the steps bring wide enough for what the later steps insert into them.
+    pub(crate) fn widen(&mut self) -> Result<(), AllocError>
+        ensures alike { OnOk result (AreAlike self.old self.new) }
+        ensures wide { OnOk result (AreWide self.new) }
+    {
+        let mut at = self.steps.len();
+        while at > 0 {
+            let id = self.steps[at - 1].id;
+            let count = inserted_into(&self.steps[at..], id)?;
+            at -= 1;
+            widen_document(&mut self.steps[at], count)?;
+        }
+        Ok(())
+    }
+}
+
+/// Makes room for so many characters more in the document that a step brings, if it brings one.
+fn widen_document(step: &mut Step, count: u32) -> Result<(), AllocError>
+    ensures alike { bare_step step.new ≡ bare_step step.old }
+    ensures wide { OnOk result (IsWide count step.new.doc) }
+{
+    match &mut step.doc {
+        DocEdit::Open { doc } => doc.reserve(count),
+        DocEdit::Replace { doc } => doc.reserve(count),
+        _ => Ok(()),
+    }
+}
+
+/// How many characters steps insert into the document of a file.
+pub(crate) fn inserted_into(steps: &[Step], id: u32) -> Result<u32, AllocError>
+    ensures { IfOk result (λ count. count ≡ all_inserted_into id steps.now) }
+{
+    let mut count: u32 = 0;
+    for step in steps {
+        if step.id == id
+            && let DocEdit::Insert { text, .. } = &step.doc
+        {
+            count = count.checked_add(text.len()).ok_or(AllocError)?;
+        }
+    }
+    Ok(count)
 }

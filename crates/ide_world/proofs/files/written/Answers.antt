@@ -4,6 +4,6 @@ use Rattle.ide_world.proofs.files.written.Goals.{in-Some-look+in_ok-open-in-Some
 
 pub returns : goal.returns
 returns c = elim c.match-look.branch [
-  | in-Some-look+in_ok-open-in-Some-look w ↦ write_open_from _ _ _ _ c.in-Some.found.row.now _ _ _ _ _ _ _ _ w.wide.result c.in-Some.ensures.draft.files c.in-Some.ensures.found c.in_ok-copy.ensures c.in_ok-share.ensures c.next_stamp.ensures c.look.ensures.value w.in-Some-look.is w.in_ok-open-in-Some-look.ensures.document w.in_ok-open-in-Some-look.ensures.room w.wide.ensures w.doc-is
-  | in-None w ↦ write_closed_from _ _ _ _ c.in-Some.found.row.now _ _ _ _ _ _ c.in-Some.ensures.draft.files c.in-Some.ensures.found c.in_ok-copy.ensures c.in_ok-share.ensures c.next_stamp.ensures c.look.ensures.value w.in-None.is w.doc-is
+  | in-Some-look+in_ok-open-in-Some-look w ↦ write_open_from _ _ _ c.in-Some.found.row.now _ _ _ _ _ _ _ _ c.in-Some.ensures.draft.files c.in-Some.ensures.found c.in_ok-copy.ensures c.in_ok-share.ensures c.next_stamp.ensures c.look.ensures.value w.in-Some-look.is w.in_ok-open-in-Some-look.ensures.document w.doc-is
+  | in-None w ↦ write_closed_from _ _ _ c.in-Some.found.row.now _ _ _ _ _ _ c.in-Some.ensures.draft.files c.in-Some.ensures.found c.in_ok-copy.ensures c.in_ok-share.ensures c.next_stamp.ensures c.look.ensures.value w.in-None.is w.doc-is
 ]

@@ -1,5 +1,5 @@
-use Rattle.std.proofs.Common.{ap, Err}
-use Rattle.ide_world.proofs.GroupLemmas.{turn_at}
+use Rattle.std.proofs.Common.{ap, arith, Err}
+use Rattle.ide_world.proofs.GroupLemmas.{turn_at, whole_list}
 use Rattle.ide_world.proofs.FirstLemmas.{first_told}
 use Rattle.ide_world.proofs.group.prepare_group.Goals as goal
 
@@ -12,3 +12,11 @@ loop-index-preserved c =
 pub returns-in-Err-clause-first : goal.returns-in-Err-clause-first
 returns-in-Err-clause-first c = λ change rest why split refused.
     ap Err (first_told _ _ c.loop-index.index _ c.index-changes-index.result _ c.in-Err.why c.extend.result change rest why c.loop-index.invariant.so_far c.index-changes-index.is c.extend.ensures.first c.in-Err.is split refused)
+
+pub returns-in-Ok-clause-ready : goal.returns-in-Ok-clause-ready
+returns-in-Ok-clause-ready c =
+    (whole_list _ _ _ _ c.in-Ok.ready c.requires.few.some (omega (arith, c.loop-index-test.false)) c.loop-index.invariant.so_far c.made_ready.ensures.draft c.in-Ok.ensures.alike c.in-Ok.ensures.wide).0
+
+pub returns-in-Ok-clause-makes : goal.returns-in-Ok-clause-makes
+returns-in-Ok-clause-makes c =
+    (whole_list _ _ _ _ c.in-Ok.ready c.requires.few.some (omega (arith, c.loop-index-test.false)) c.loop-index.invariant.so_far c.made_ready.ensures.draft c.in-Ok.ensures.alike c.in-Ok.ensures.wide).1

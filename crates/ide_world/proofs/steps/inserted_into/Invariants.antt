@@ -1,6 +1,6 @@
 use Rattle.std.proofs.Common.{◌≡◌, ◌+◌, drop}
 use Rattle.ide_world.specs.Room.{all_inserted_into}
-use Rattle.ide_world.proofs.room.inserted_into.Given as goal
+use Rattle.ide_world.proofs.steps.inserted_into.Given as goal
 
 -- so many characters, and those that the rest inserts
 abbrev pub invariant-loop-step : goal.invariant-loop-step
