@@ -1,5 +1,5 @@
 //! A document: the text that is edited, the text as last committed, and whether the file has its text.
-ghost use Rattle.std.specs.Prelude.{◌≡◌, ◌≤◌, ◌+◌, IfOk, OnOk, OnErr, bytes_eq, length};
+ghost use Rattle.std.specs.Prelude.{◌≡◌, ◌≤◌, ◌+◌, ◌-◌, IfOk, OnOk, OnErr, bytes_eq, length};
 ghost use Rattle.ide_text.specs.Text.{max_chars, IsText};
 ghost use Rattle.document_buf.specs.Document.{opened, inserted, erased, committed as committed_now, marked_saved, replaced};
 
@@ -127,7 +127,7 @@ impl Doc {
         requires ordered { from ≤ to }
         requires inside { to ≤ length self.old.document.text }
         ensures document { self.new.document ≡ erased from to self.old.document }
-        ensures spare { self.old.spare ≤ self.new.spare }
+        ensures spare { self.new.spare ≡ self.old.spare + (to - from) }
     {
         let state = &mut *self.state;
         state.buffer.move_to(from as usize);

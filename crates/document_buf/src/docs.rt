@@ -1,5 +1,5 @@
 //! The documents of open files, by the ids of the files.
-ghost use Rattle.std.specs.Prelude.{◌≡◌, ℕ, ◌≤◌, ◌<◌, ◌+◌, Some, None, IsSome, IfSome, IfOk, OnOk, option_map, option_copied, length};
+ghost use Rattle.std.specs.Prelude.{◌≡◌, ℕ, ◌≤◌, ◌<◌, ◌+◌, ◌-◌, Some, None, IsSome, IfSome, IfOk, OnOk, option_map, option_copied, length};
 ghost use Rattle.ide_text.specs.Text.{max_chars};
 ghost use Rattle.document_buf.specs.Document.{inserted, erased, committed, marked_saved, replaced};
 ghost use Rattle.document_buf.specs.Held.{doc_at, document_of, room_of, open_of, HasPlace, KeepsRoom, KeepsRoomBut, Becomes, SameDocuments};
@@ -126,6 +126,7 @@ impl Docs {
         requires ordered { from ≤ to }
         requires inside { IfSome (document_of self.old id) (λ document. to ≤ length document.text) }
         ensures documents { Becomes self.old self.new id (option_map (erased from to) (document_of self.old id)) }
+        ensures room { room_of self.new id ≡ room_of self.old id + (to - from) }
         ensures keeps { KeepsRoom self.old self.new }
         ensures count { open_of self.new ≡ open_of self.old }
     {

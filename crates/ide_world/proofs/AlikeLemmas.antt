@@ -11,7 +11,7 @@ use Rattle.ide_world.specs.declared.step.DocEdit.TheVariants.{Keep, Open, Insert
 use Rattle.ide_world.specs.declared.step.Step.{Step}
 use Rattle.ide_world.specs.RowEdits.{edited_row}
 use Rattle.ide_world.specs.DocEdits.{edited_document, IsDocEditFit, IsWide}
-use Rattle.ide_world.specs.Room.{all_inserted_into}
+use Rattle.ide_world.specs.Room.{room_needed}
 use Rattle.ide_world.specs.IndexEdits.{Indexed, edited_index}
 use Rattle.ide_world.specs.Step.{joined, row_part, document_part, drawn_by, after_step, after_steps}
 use Rattle.ide_world.specs.Sound.{IsSoundFile, HoldsIndex}
@@ -154,7 +154,7 @@ from_place (step ∷ steps) zero new within = refl
 from_place (step ∷ steps) (suc i) new within = from_place steps i new (omega arith)
 
 pub widened_at : (old steps seen : List Step) (at count : ℕ) (new was first : Step) → 0 < at → AreWidened old at steps
-    → was ≡ get_or steps (at - 1) was → first ≡ get_or steps (at - 1) first → seen ≡ steps → count ≡ all_inserted_into first.id (take (length seen - at) (drop at seen))
+    → was ≡ get_or steps (at - 1) was → first ≡ get_or steps (at - 1) first → seen ≡ steps → count ≡ room_needed first.id (take (length seen - at) (drop at seen))
     → bare_step new ≡ bare_step was → IsWide count new.doc → AreWidened old (at - 1) (set steps (at - 1) new)
 widened_at old steps seen at count new was first some h is first_is same_steps counted same wide =
     let i = at - 1 in
@@ -162,7 +162,7 @@ widened_at old steps seen at count new was first some h is first_is same_steps c
     let within : i < length steps = let w = h.within in omega arith in
     let later : take (length seen - at) (drop at seen) ≡ drop (suc i) steps = take_rest seen at ∙ ap (drop at) same_steps ∙ ap (λ n. drop n steps) (sym next) in
     let id_is : first.id ≡ new.id = ap (λ (s : Step). s.id) (first_is ∙ get_or_default steps i first was within ∙ sym is) ∙ sym (ap (λ (s : Step). s.id) same) in
-    let count_is : count ≡ all_inserted_into new.id (drop (suc i) steps) = counted ∙ ap (all_inserted_into first.id) later ∙ ap (λ n. all_inserted_into n (drop (suc i) steps)) id_is in
+    let count_is : count ≡ room_needed new.id (drop (suc i) steps) = counted ∙ ap (room_needed first.id) later ∙ ap (λ n. room_needed n (drop (suc i) steps)) id_is in
     let P : List Step → Type 0 = AreWide in
     let Q : ℕ → Type 0 = λ n. IsWide n new.doc in
     record {

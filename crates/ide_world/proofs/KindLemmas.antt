@@ -1,5 +1,5 @@
 -- The step of each kind of change makes it.
-use Rattle.std.proofs.Common.{ℕ, ◌≡◌, ◌+◌, ◌<◌, ◌≤◌, Bool, true, false, List, length, refl, ap, sym, ◌∙◌, subst, arith, Some, None, ltb-false}
+use Rattle.std.proofs.Common.{ℕ, ◌≡◌, ◌+◌, ◌<◌, Bool, true, false, List, length, refl, ap, sym, ◌∙◌, subst, arith, Some, None, ltb-false}
 use Rattle.std.specs.Prelude.{Option, IfSome, is_some, is_none, unwrap_or, option_map, not, ◌||◌, nat_lt, ◌==◌, bytes_eq}
 use Rattle.std.specs.Option.{option_and_then}
 use Rattle.std.specs.Cmp.Lexicographic.{bytes_decides}

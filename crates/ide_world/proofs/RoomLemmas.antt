@@ -1,9 +1,8 @@
 -- What room is left after a step.
-use Rattle.std.proofs.Common.{◌≡◌, ℕ, zero, suc, ◌+◌, ◌*◌, ◌<◌, ◌≤◌, Bool, true, false, cond, eqb, List, [], ◌∷◌, ◌++◌, length, get_or, take, Some, None, refl, sym, ap, ◌∙◌, subst, arith, inl, inr, ⊎_elim, ◌⊎◌}
+use Rattle.std.proofs.Common.{◌≡◌, ℕ, zero, suc, ◌+◌, ◌*◌, ◌<◌, ◌≤◌, true, false, eqb, List, [], ◌∷◌, ◌++◌, length, get_or, take, Some, None, refl, sym, ap, ◌∙◌, subst, arith, inl, inr, ⊎_elim, ◌⊎◌}
 use Rattle.std.specs.Prelude.{Option, is_some, IsSome, IfSome}
 use Rattle.std.proofs.lemmas.List.{take_more}
-use Rattle.std.proofs.lemmas.Bool.{eq-eqb, ne_eqb, eqb-true, cond-true, cond-false, cases_eq}
-use Rattle.list_laws.proofs.BoolLemmas.{bool_cases}
+use Rattle.std.proofs.lemmas.Bool.{eq-eqb, ne_eqb, cond-true, cond-false, cases_eq}
 use Rattle.vfs_core.specs.declared.row.FileRow.{FileRow}
 use Rattle.vfs_core.specs.Held as files
 use Rattle.document_buf.specs.Held as docs
@@ -19,7 +18,7 @@ use Rattle.ide_world.specs.DocEdits.{edited_document, IsWide, inserted_by}
 use Rattle.ide_world.specs.Step.{after_step, after_steps}
 use Rattle.ide_world.specs.Lawful.{IsLawfulStep, AreLawfulFrom, AreLawful}
 use Rattle.list_laws.specs.Rows.{one_if}
-use Rattle.ide_world.specs.Room.{Room, HasStepRoom, HasEachRoom, HasRoomIn, KeepsRoom, KeepsCounts, inserted_into, all_inserted_into, rows_of, brought}
+use Rattle.ide_world.specs.Room.{Room, HasStepRoom, HasEachRoom, HasRoomIn, KeepsRoom, KeepsCounts, room_before, room_before_step, room_needed, rows_of, brought}
 use Rattle.ide_world.specs.Held.{Held, HasRoom}
 use Rattle.ide_world.specs.StepsReady.{IsReady}
 use Rattle.list_laws.proofs.RowLemmas.{one_if_le}
@@ -28,24 +27,24 @@ use Rattle.list_laws.proofs.RowLemmas.{one_if_le}
 pub chars_left : (old new : docs.Held) (step : Step)
     → docs.Becomes old new step.id (edited_document step.doc (docs.document_of old step.id))
     → ((other : ℕ) → eqb step.id other ≡ false → docs.room_of old other ≤ docs.room_of new other)
-    → ((n : ℕ) → IsWide n step.doc → (IsSome (docs.document_of old step.id) → inserted_by step.doc + n ≤ docs.room_of old step.id)
+    → ((n : ℕ) → IsWide n step.doc → (IsSome (docs.document_of old step.id) → room_before step.doc n ≤ docs.room_of old step.id)
     → IsSome (edited_document step.doc (docs.document_of old step.id)) → n ≤ docs.room_of new step.id)
-    → (id n : ℕ) → (step.id ≡ id → IsWide n step.doc) → (IsSome (docs.document_of old id) → inserted_into id step + n ≤ docs.room_of old id)
+    → (id n : ℕ) → (step.id ≡ id → IsWide n step.doc) → (IsSome (docs.document_of old id) → room_before_step id step n ≤ docs.room_of old id)
     → IsSome (docs.document_of new id) → n ≤ docs.room_of new id
 chars_left old new step becomes others here id n wide room open' = ⊎_elim
     (λ (same : step.id ≡ id).
     let is : eqb step.id id ≡ true = eq-eqb step.id id same in
-    let into : inserted_into id step ≡ inserted_by step.doc = cond-true (eqb step.id id) (inserted_by step.doc) 0 is in
+    let into : room_before_step id step n ≡ room_before step.doc n = cond-true (eqb step.id id) (room_before step.doc n) n is in
     let open_here : IsSome (edited_document step.doc (docs.document_of old step.id)) =
     ap is_some (sym (becomes id ∙ cond-true (eqb step.id id) (edited_document step.doc (docs.document_of old step.id)) (docs.document_of old id) is)) ∙ open' in
     let left : n ≤ docs.room_of new step.id = here n (wide same) (λ some.
-    let had : inserted_into id step + n ≤ docs.room_of old id = room (ap (λ i. is_some (docs.document_of old i)) (sym same) ∙ some) in
+    let had : room_before_step id step n ≤ docs.room_of old id = room (ap (λ i. is_some (docs.document_of old i)) (sym same) ∙ some) in
     omega (arith, had, into, ap (docs.room_of old) same)) open_here in
     omega (arith, left, ap (docs.room_of new) same))
     (λ (apart : step.id ≡ id → ⊥).
     let is : eqb step.id id ≡ false = ne_eqb step.id id apart in
-    let into : inserted_into id step ≡ 0 = cond-false (eqb step.id id) (inserted_by step.doc) 0 is in
-    let had : inserted_into id step + n ≤ docs.room_of old id = room
+    let into : room_before_step id step n ≡ n = cond-false (eqb step.id id) (room_before step.doc n) n is in
+    let had : room_before_step id step n ≤ docs.room_of old id = room
     (ap is_some (sym (becomes id ∙ cond-false (eqb step.id id) (edited_document step.doc (docs.document_of old step.id)) (docs.document_of old id) is)) ∙ open') in
     omega (arith, had, into, others id is))
     (cases_eq step.id id)
@@ -75,7 +74,7 @@ each_room_kept old new (step ∷ steps) keeps room = (step_room_kept old new ste
 pub ready_after : (old new : Held) (step : Step) (steps : List Step) → IsReady old (step ∷ steps)
     → new.world ≡ after_step old.world step → KeepsRoom old.room new.room
     → ((count : ℕ) → files.HasRowRoom old.room.files (one_if (is_some (put_row step.row)) + count) → files.HasRowRoom new.room.files count)
-    → ((id n : ℕ) → (step.id ≡ id → IsWide n step.doc) → (IsSome (docs.document_of old.room.docs id) → inserted_into id step + n ≤ docs.room_of old.room.docs id)
+    → ((id n : ℕ) → (step.id ≡ id → IsWide n step.doc) → (IsSome (docs.document_of old.room.docs id) → room_before_step id step n ≤ docs.room_of old.room.docs id)
     → IsSome (docs.document_of new.room.docs id) → n ≤ docs.room_of new.room.docs id)
     → IsReady new steps
 ready_after old new step steps ready world keeps rows chars = record {
@@ -83,19 +82,44 @@ ready_after old new step steps ready world keeps rows chars = record {
   room = record {
     rows = rows (rows_of steps) ready.room.rows;
     each = each_room_kept old.room new.room steps keeps ready.room.each.1;
-    chars = λ id open'. chars id (all_inserted_into id steps) (λ same. subst (λ i. IsWide (all_inserted_into i steps) step.doc) same ready.wide.0)
+    chars = λ id open'. chars id (room_needed id steps) (λ same. subst (λ i. IsWide (room_needed i steps) step.doc) same ready.wide.0)
         (ready.room.chars id) open';
   };
   wide = ready.wide.1;
   stamps = omega (arith, ready.stamps, ap (λ (w : World). w.next_stamp) world, ap (λ (w : World). w.entries) world, one_if_le step.draws);
 }
 
+-- an insert needs room for what it inserts
+inserted_before : (edit : DocEdit) (n : ℕ) → inserted_by edit ≤ room_before edit n
+inserted_before Keep n = omega arith
+inserted_before (Open doc) n = omega arith
+inserted_before (Insert at text) n = omega arith
+inserted_before (Erase from to) n = omega arith
+inserted_before (Commit text) n = omega arith
+inserted_before MarkSaved n = omega arith
+inserted_before (Replace doc) n = omega arith
+inserted_before Close n = omega arith
+
+-- no other edit needs room where none is needed behind it
+none_before : (edit : DocEdit) → inserted_by edit ≡ 0 → room_before edit 0 ≡ 0
+none_before Keep none = refl
+none_before (Open doc) none = refl
+none_before (Insert at text) none = omega (arith, none)
+none_before (Erase from to) none = omega arith
+none_before (Commit text) none = refl
+none_before MarkSaved none = refl
+none_before (Replace doc) none = refl
+none_before Close none = refl
+
 -- what carrying out the first of them asks
 pub first_rows : (held : Held) (step : Step) (steps : List Step) → IsReady held (step ∷ steps) → files.HasRowRoom held.room.files (one_if (is_some (put_row step.row)))
 first_rows held step steps ready = omega (arith, ready.room.rows)
 
-pub first_chars : (held : Held) (step : Step) (steps : List Step) → IsReady held (step ∷ steps) → IsSome (docs.document_of held.room.docs step.id) → inserted_into step.id step ≤ docs.room_of held.room.docs step.id
-first_chars held step steps ready some = omega (arith, ready.room.chars step.id some)
+pub first_chars : (held : Held) (step : Step) (steps : List Step) → IsReady held (step ∷ steps) → IsSome (docs.document_of held.room.docs step.id) → inserted_by step.doc ≤ docs.room_of held.room.docs step.id
+first_chars held step steps ready some =
+    let needed = room_needed step.id steps in
+    let here : room_before_step step.id step needed ≡ room_before step.doc needed = cond-true (eqb step.id step.id) (room_before step.doc needed) needed (eq-eqb step.id step.id refl) in
+    omega (arith, ready.room.chars step.id some, here, inserted_before step.doc needed)
 
 pub first_stamps : (held : Held) (step : Step) (steps : List Step) → IsReady held (step ∷ steps) → held.world.next_stamp + 1 ≤ 64 * held.world.entries + 1
 first_stamps held step steps ready = omega (arith, ready.stamps)
@@ -136,7 +160,7 @@ after_steps-counted world (step ∷ steps) = after_steps-counted (after_step wor
 abbrev pub HasEachChars : Room → List Step → List Step → Type 0
 HasEachChars room all [] = Unit {0}
 HasEachChars room all (step ∷ steps) =
-    (0 < inserted_by step.doc → IsSome (docs.document_of room.docs step.id) → all_inserted_into step.id all ≤ docs.room_of room.docs step.id)
+    (0 < inserted_by step.doc → IsSome (docs.document_of room.docs step.id) → room_needed step.id all ≤ docs.room_of room.docs step.id)
     × HasEachChars room all steps
 
 each_room_push : (room : Room) (steps : List Step) (step : Step) → HasEachRoom room steps → HasStepRoom room step → HasEachRoom room (steps ++ step ∷ [])
@@ -144,7 +168,7 @@ each_room_push room [] step each one = (one, tt)
 each_room_push room (first ∷ steps) step each one = (each.0, each_room_push room steps step each.1 one)
 
 each_chars_push : (room : Room) (all steps : List Step) (step : Step) → HasEachChars room all steps
-    → (0 < inserted_by step.doc → IsSome (docs.document_of room.docs step.id) → all_inserted_into step.id all ≤ docs.room_of room.docs step.id)
+    → (0 < inserted_by step.doc → IsSome (docs.document_of room.docs step.id) → room_needed step.id all ≤ docs.room_of room.docs step.id)
     → HasEachChars room all (steps ++ step ∷ [])
 each_chars_push room all [] step each one = (one, tt)
 each_chars_push room all (first ∷ steps) step each one = (each.0, each_chars_push room all steps step each.1 one)
@@ -159,7 +183,7 @@ each_chars_kept old new all (step ∷ steps) keeps each = (
 -- room was made for one step more
 pub each_more : (old new : Room) (all : List Step) (i : ℕ) (step : Step) → i < length all → step ≡ get_or all i step
     → KeepsRoom old new → KeepsCounts old new → HasStepRoom new step
-    → (0 < inserted_by step.doc → IsSome (docs.document_of new.docs step.id) → all_inserted_into step.id all ≤ docs.room_of new.docs step.id)
+    → (0 < inserted_by step.doc → IsSome (docs.document_of new.docs step.id) → room_needed step.id all ≤ docs.room_of new.docs step.id)
     → HasEachRoom old (take i all) × HasEachChars old all (take i all) → HasEachRoom new (take (i + 1) all) × HasEachChars new all (take (i + 1) all)
 each_more old new all i step within at_i keeps counts room chars each =
     let more : take (i + 1) all ≡ take i all ++ step ∷ [] = take_more all i step within ∙ ap (λ s. take i all ++ s ∷ []) (sym at_i) in
@@ -173,28 +197,30 @@ rows_le [] = omega arith
 rows_le (step ∷ steps) = omega (arith, rows_le steps, one_if_le (is_some (put_row step.row)))
 
 chars_or_none : (room : Room) (all steps : List Step) (id : ℕ) → HasEachChars room all steps → IsSome (docs.document_of room.docs id)
-    → (all_inserted_into id steps ≡ 0) ⊎ (all_inserted_into id all ≤ docs.room_of room.docs id)
+    → (room_needed id steps ≡ 0) ⊎ (room_needed id all ≤ docs.room_of room.docs id)
 chars_or_none room all [] id each open' = inl refl
 chars_or_none room all (step ∷ steps) id each open' = ⊎_elim
-    (λ (none : all_inserted_into id steps ≡ 0). ⊎_elim
-    (λ (nothing : inserted_into id step ≡ 0). inl (omega (arith, none, nothing)))
+    (λ (none : room_needed id steps ≡ 0). ⊎_elim
+    (λ (nothing : room_before_step id step 0 ≡ 0). inl (ap (room_before_step id step) none ∙ nothing))
     (λ (some : (step.id ≡ id) × (0 < inserted_by step.doc)).
-    let here : all_inserted_into step.id all ≤ docs.room_of room.docs step.id = each.0 some.1 (ap (λ i. is_some (docs.document_of room.docs i)) some.0 ∙ open') in
-    inr (subst (λ i. all_inserted_into i all ≤ docs.room_of room.docs i) some.0 here))
-    (into_cases id step))
-    (λ (held : all_inserted_into id all ≤ docs.room_of room.docs id). inr held)
+    let here : room_needed step.id all ≤ docs.room_of room.docs step.id = each.0 some.1 (ap (λ i. is_some (docs.document_of room.docs i)) some.0 ∙ open') in
+    inr (subst (λ i. room_needed i all ≤ docs.room_of room.docs i) some.0 here))
+    (needed_cases id step))
+    (λ (held : room_needed id all ≤ docs.room_of room.docs id). inr held)
     (chars_or_none room all steps id each.1 open')
   where
-    by : (b : Bool) (n : ℕ) → (cond b n 0 ≡ 0) ⊎ ((b ≡ true) × (0 < n))
-    by true zero = inl refl
-    by true (suc n) = inr (refl, omega arith)
-    by false n = inl refl
+    some_inserted : (edit : DocEdit) (n : ℕ) → inserted_by edit ≡ n → (room_before edit 0 ≡ 0) ⊎ (0 < inserted_by edit)
+    some_inserted edit zero e = inl (none_before edit e)
+    some_inserted edit (suc n) e = inr (omega (arith, e))
 
-    into_cases : (id : ℕ) (step : Step) → (inserted_into id step ≡ 0) ⊎ ((step.id ≡ id) × (0 < inserted_by step.doc))
-    into_cases id step = ⊎_elim
-        (λ (nothing : inserted_into id step ≡ 0). inl nothing)
-        (λ (some : (eqb step.id id ≡ true) × (0 < inserted_by step.doc)). inr (eqb-true step.id id some.0, some.1))
-        (by (eqb step.id id) (inserted_by step.doc))
+    needed_cases : (id : ℕ) (step : Step) → (room_before_step id step 0 ≡ 0) ⊎ ((step.id ≡ id) × (0 < inserted_by step.doc))
+    needed_cases id step = ⊎_elim
+        (λ (same : step.id ≡ id). ⊎_elim
+        (λ (nothing : room_before step.doc 0 ≡ 0). inl (cond-true (eqb step.id id) (room_before step.doc 0) 0 (eq-eqb step.id id same) ∙ nothing))
+        (λ (some : 0 < inserted_by step.doc). inr (same, some))
+        (some_inserted step.doc (inserted_by step.doc) refl))
+        (λ (apart : step.id ≡ id → ⊥). inl (cond-false (eqb step.id id) (room_before step.doc 0) 0 (ne_eqb step.id id apart)))
+        (cases_eq step.id id)
 
 -- room was made for all of them
 pub room_made : (room : Room) (all : List Step) → files.HasRowRoom room.files (length all) → HasEachRoom room all × HasEachChars room all all → HasRoomIn room all
@@ -202,7 +228,7 @@ room_made room all rows each = record {
   rows = omega (arith, rows, rows_le all);
   each = each.0;
   chars = λ id open'. ⊎_elim
-      (λ (none : all_inserted_into id all ≡ 0). omega (arith, none))
-      (λ (held : all_inserted_into id all ≤ docs.room_of room.docs id). held)
+      (λ (none : room_needed id all ≡ 0). omega (arith, none))
+      (λ (held : room_needed id all ≤ docs.room_of room.docs id). held)
       (chars_or_none room all all id each.1 open');
 }

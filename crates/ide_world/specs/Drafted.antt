@@ -1,5 +1,5 @@
 -- A draft: a world, and the steps that were made from it so far.
-use Rattle.std.specs.Prelude.{ℕ, ◌≡◌, ◌≤◌, ◌+◌, ◌*◌, List, [], ◌∷◌, ◌++◌, length}
+use Rattle.std.specs.Prelude.{◌≡◌, ◌≤◌, ◌+◌, ◌*◌, List, [], ◌∷◌, ◌++◌, length}
 use Rattle.write_history.specs.declared.change.Change.{Change}
 use Rattle.write_history.specs.World.{World, count_of, is_open}
 use Rattle.write_history.specs.Effect.{put_of, max_files, max_entries}

@@ -8,7 +8,7 @@ use Rattle.ide_world.specs.DocEdits.{edited_document, IsDocEditFit, IsWide}
 use Rattle.ide_world.specs.IndexEdits.{Indexed, edited_index}
 use Rattle.ide_world.specs.Step.{row_part, document_part, stepped, after_step, drawn_by}
 use Rattle.ide_world.specs.Sound.{IsSoundFile, HoldsIndex}
-use Rattle.ide_world.specs.Room.{all_inserted_into}
+use Rattle.ide_world.specs.Room.{room_needed}
 
 -- the most steps of a list
 abbrev pub max_steps : ℕ
@@ -34,10 +34,10 @@ abbrev pub AreLawfulFrom : World → List Step → Type 0
 AreLawfulFrom world [] = Unit {0}
 AreLawfulFrom world (step ∷ steps) = IsLawfulStep world step × AreLawfulFrom (after_step world step) steps
 
--- each document that a step brings has room for what the later ones insert into it
+-- each document that a step brings has the room that it needs before the later ones
 abbrev pub AreWide : List Step → Type 0
 AreWide [] = Unit {0}
-AreWide (step ∷ steps) = IsWide (all_inserted_into step.id steps) step.doc × AreWide steps
+AreWide (step ∷ steps) = IsWide (room_needed step.id steps) step.doc × AreWide steps
 
 -- a list of steps that may be carried out
 pub record AreLawful (world : World) (steps : List Step) : Type 0 where

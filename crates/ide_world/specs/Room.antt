@@ -1,5 +1,5 @@
 -- What steps need room for.
-use Rattle.std.specs.Prelude.{ℕ, ◌≡◌, ◌≤◌, ◌<◌, ◌+◌, ◌==◌, Bool, true, false, if◌then◌else◌, is_some, List, [], ◌∷◌, Option, Some, None, IsSome, IfSome}
+use Rattle.std.specs.Prelude.{ℕ, ◌≡◌, ◌≤◌, ◌<◌, ◌+◌, ◌-◌, ◌==◌, Bool, true, false, if◌then◌else◌, is_some, List, [], ◌∷◌, length, Option, Some, None, IsSome, IfSome}
 use Rattle.vfs_core.specs.Held as files
 use Rattle.document_buf.specs.Held as docs
 use Rattle.overlay_index.specs.Layers as layers
@@ -10,7 +10,6 @@ use Rattle.ide_world.specs.declared.step.IndexEdit.{IndexEdit}
 use Rattle.ide_world.specs.declared.step.IndexEdit.TheVariants.{Keep as KeepIndex, SetBase, SetOverlay, ToBase, Drop}
 use Rattle.ide_world.specs.declared.step.Step.{Step}
 use Rattle.ide_world.specs.RowEdits.{put_row}
-use Rattle.ide_world.specs.DocEdits.{inserted_by}
 use Rattle.list_laws.specs.Rows.{one_if}
 use Rattle.ide_world.specs.Marks.{Marks, has_mark}
 
@@ -45,14 +44,26 @@ abbrev pub rows_of : List Step → ℕ
 rows_of [] = 0
 rows_of (step ∷ steps) = one_if (is_some (put_row step.row)) + rows_of steps
 
--- how many characters a step inserts into the document of a file
-abbrev pub inserted_into : ℕ → Step → ℕ
-inserted_into id step = if step.id == id then inserted_by step.doc else 0
+-- how much room a document needs before an edit, if it needs so much behind it: an insert takes room and an erase gives it
+-- back, and a document that is opened or put in another's place brings its own
+abbrev pub room_before : DocEdit → ℕ → ℕ
+room_before KeepDoc n = n
+room_before (Open doc) n = 0
+room_before (Insert at text) n = length text + n
+room_before (Erase from to) n = n - (to - from)
+room_before (Commit text) n = n
+room_before MarkSaved n = n
+room_before (Replace doc) n = 0
+room_before Close n = 0
 
--- how many characters steps insert into the document of a file
-abbrev pub all_inserted_into : ℕ → List Step → ℕ
-all_inserted_into id [] = 0
-all_inserted_into id (step ∷ steps) = inserted_into id step + all_inserted_into id steps
+-- how much room the document of a file needs before a step
+abbrev pub room_before_step : ℕ → Step → ℕ → ℕ
+room_before_step id step n = if step.id == id then room_before step.doc n else n
+
+-- how much room the document of a file needs before steps
+abbrev pub room_needed : ℕ → List Step → ℕ
+room_needed id [] = 0
+room_needed id (step ∷ steps) = room_before_step id step (room_needed id steps)
 
 -- room for what a step brings, but for rows and characters, which add up
 pub record HasStepRoom (room : Room) (step : Step) : Type 0 where
@@ -70,7 +81,7 @@ HasEachRoom room (step ∷ steps) = HasStepRoom room step × HasEachRoom room st
 pub record HasRoomIn (room : Room) (steps : List Step) : Type 0 where
   pub rows : files.HasRowRoom room.files (rows_of steps)
   pub each : HasEachRoom room steps
-  pub chars : (id : ℕ) → IsSome (docs.document_of room.docs id) → all_inserted_into id steps ≤ docs.room_of room.docs id
+  pub chars : (id : ℕ) → IsSome (docs.document_of room.docs id) → room_needed id steps ≤ docs.room_of room.docs id
 
 -- what had room for what a step brings still has it
 pub record KeepsRoom (old new : Room) : Type 0 where

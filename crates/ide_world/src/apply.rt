@@ -8,7 +8,7 @@ ghost use Rattle.ide_world.specs.RowEdits.{edited_row, put_row};
 ghost use Rattle.ide_world.specs.DocEdits.{edited_document, IsDocEditFit, IsWide, inserted_by};
 ghost use Rattle.ide_world.specs.IndexEdits.{edited_index};
 ghost use Rattle.list_laws.specs.Rows.{one_if};
-ghost use Rattle.ide_world.specs.Room.{opens, brought};
+ghost use Rattle.ide_world.specs.Room.{opens, room_before, brought};
 ghost use Rattle.ide_world.specs.State.{indexed_in};
 
 use crate::{DocEdit, IndexEdit, RowEdit};
@@ -52,7 +52,7 @@ pub(crate) fn apply_document(docs: &mut Docs, id: u32, edit: DocEdit)
     ensures open { open_of docs.new + one_if (is_some (document_of docs.old id)) ≡ open_of docs.old + one_if (is_some (edited_document edit (document_of docs.old id))) }
     ensures places { (other : ℕ) → HasPlace docs.old other → HasPlace docs.new other }
     ensures others { (other : ℕ) → (id == other) ≡ false → room_of docs.old other ≤ room_of docs.new other }
-    ensures room { (n : ℕ) → IsWide n edit → (IsSome (document_of docs.old id) → inserted_by edit + n ≤ room_of docs.old id)
+    ensures room { (n : ℕ) → IsWide n edit → (IsSome (document_of docs.old id) → room_before edit n ≤ room_of docs.old id)
         → IsSome (edited_document edit (document_of docs.old id)) → n ≤ room_of docs.new id }
 {
     match edit {

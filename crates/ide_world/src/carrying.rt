@@ -9,14 +9,14 @@ ghost use Rattle.write_history.specs.World.{file_of, is_unready};
 ghost use Rattle.write_history.specs.Effect.{max_entries};
 ghost use Rattle.write_history.specs.Fold.{counted};
 ghost use Rattle.ide_world.specs.RowEdits.{put_row};
-ghost use Rattle.ide_world.specs.DocEdits.{IsWide};
+ghost use Rattle.ide_world.specs.DocEdits.{IsWide, inserted_by};
 ghost use Rattle.ide_world.specs.Step.{joined, drawn_by, after_step, after_steps};
 ghost use Rattle.ide_world.specs.Ready.{first_unready, ids_of};
 ghost use Rattle.ide_world.specs.Lawful.{AreLawful, IsLawfulStep};
 ghost use Rattle.list_laws.specs.Rows.{one_if};
 ghost use Rattle.ide_world.specs.Held.{HasRoom};
 ghost use Rattle.ide_world.specs.StepsReady.{IsReady, ids_of_gone};
-ghost use Rattle.ide_world.specs.Room.{HasStepRoom, inserted_into, KeepsRoom};
+ghost use Rattle.ide_world.specs.Room.{HasStepRoom, room_before_step, KeepsRoom};
 
 use crate::apply::{Gone, apply_document, apply_index, apply_row};
 use crate::{State, Step, Steps};
@@ -82,14 +82,14 @@ impl State {
         requires lawful { IsLawfulStep self.old.world step }
         requires room { HasStepRoom self.old.room step }
         requires rows { HasRowRoom self.old.room.files (one_if (is_some (put_row step.row))) }
-        requires chars { IsSome (document_of self.old.room.docs step.id) → inserted_into step.id step ≤ room_of self.old.room.docs step.id }
+        requires chars { IsSome (document_of self.old.room.docs step.id) → inserted_by step.doc ≤ room_of self.old.room.docs step.id }
         requires stamps { self.old.world.next_stamp + 1 ≤ 64 * self.old.world.entries + 1 }
         ensures id { result.id ≡ step.id }
         ensures world { self.new.world ≡ after_step self.old.world step }
         ensures keeps { KeepsRoom self.old.room self.new.room }
         ensures rows { (count : ℕ) → HasRowRoom self.old.room.files (one_if (is_some (put_row step.row)) + count) → HasRowRoom self.new.room.files count }
         ensures chars { (id n : ℕ) → (step.id ≡ id → IsWide n step.doc)
-            → (IsSome (document_of self.old.room.docs id) → inserted_into id step + n ≤ room_of self.old.room.docs id)
+            → (IsSome (document_of self.old.room.docs id) → room_before_step id step n ≤ room_of self.old.room.docs id)
             → IsSome (document_of self.new.room.docs id) → n ≤ room_of self.new.room.docs id }
     {
         let id = step.id;

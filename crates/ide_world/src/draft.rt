@@ -243,7 +243,7 @@ impl<'a> Draft<'a> {
         Ok(())
     }
 
-    /// The steps, each document that one brings with room for what the later ones insert into it.
+    /// The steps, each document that one brings with the room that it needs before the later ones.
     pub(crate) fn into_steps(self) -> Result<Steps, AllocError>
         ensures alike { IfOk result (AreAlike self.entry.steps) }
         ensures wide { IfOk result AreWide }

@@ -201,7 +201,7 @@ fn step_of(alloc: Global, draft: &Draft<'_>, change: &Change) -> Result<Step, Al
     }
 }
 
-/// The steps of a draft, with room for what they insert.
+/// The steps of a draft, whose documents have the room that they need.
 fn made_ready(draft: Draft<'_>) -> Result<Ready, Refusal>
     ensures alike { IfOk result (AreAlike draft.entry.steps) }
     ensures wide { IfOk result AreWide }

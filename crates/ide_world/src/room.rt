@@ -5,10 +5,10 @@ ghost use Rattle.document_buf.specs.Held.{document_of, room_of, open_of, HasPlac
 ghost use Rattle.overlay_index.specs.Layers.{base_of, overlay_of, HasRoom as HasLayerRoom, KeepsRoom as KeepsLayerRoom};
 ghost use Rattle.ide_world.specs.RowEdits.{put_row};
 ghost use Rattle.ide_world.specs.DocEdits.{inserted_by};
-ghost use Rattle.ide_world.specs.Room.{opens, brought, all_inserted_into, HasStepRoom, HasRoomIn, KeepsRoom, KeepsCounts};
+ghost use Rattle.ide_world.specs.Room.{opens, brought, room_needed, HasStepRoom, HasRoomIn, KeepsRoom, KeepsCounts};
 ghost use Rattle.ide_world.specs.Held.{HasRoom};
 
-use crate::steps::inserted_into;
+use crate::steps::room_needed;
 use crate::{DocEdit, IndexEdit, RowEdit, State, Step, Steps};
 use document_buf::Docs;
 use overlay_index::Layers;
@@ -29,24 +29,21 @@ fn reserve_path(files: &mut Files, edit: &RowEdit) -> Result<(), AllocError>
     }
 }
 
-/// Makes a place for a document that is opened, and room for what steps insert into one that is open.
+/// Makes a place for a document that is opened, and the room that one needs into which steps insert.
 fn reserve_document(docs: &mut Docs, steps: &[Step], step: &Step) -> Result<(), AllocError>
     ensures same { SameDocuments docs.old docs.new }
     ensures open { open_of docs.new ≡ open_of docs.old }
     ensures keeps { KeepsDocRoom docs.old docs.new }
     ensures place { OnOk result (opens step.now.doc ≡ true → 0 < step.now.id → HasPlace docs.new step.now.id) }
     ensures room { OnOk result (0 < step.now.id → 0 < inserted_by step.now.doc → IsSome (document_of docs.old step.now.id)
-        → all_inserted_into step.now.id steps.now ≤ room_of docs.new step.now.id) }
+        → room_needed step.now.id steps.now ≤ room_of docs.new step.now.id) }
 {
     if step.id == 0 {
         return Ok(());
     }
     match &step.doc {
         DocEdit::Open { .. } => docs.reserve(step.id, 0),
-        DocEdit::Insert { .. } => {
-            let count = inserted_into(steps, step.id)?;
-            docs.reserve(step.id, count)
-        }
+        DocEdit::Insert { .. } => { docs.reserve(step.id, room_needed(steps, step.id)?) }
         _ => Ok(()),
     }
 }
@@ -81,7 +78,7 @@ impl State {
         ensures counts { KeepsCounts self.old.room self.new.room }
         ensures room { OnOk result (HasStepRoom self.new.room step.now) }
         ensures chars { OnOk result (0 < inserted_by step.now.doc → IsSome (document_of self.new.room.docs step.now.id)
-            → all_inserted_into step.now.id steps.now ≤ room_of self.new.room.docs step.now.id) }
+            → room_needed step.now.id steps.now ≤ room_of self.new.room.docs step.now.id) }
     {
         reserve_path(&mut self.files, &step.row)?;
         reserve_document(&mut self.docs, steps, step)?;

@@ -1,12 +1,12 @@
 //! A list of steps.
 ghost use Rattle.std.specs.Prelude.{◌≡◌, ◌≤◌, [], ◌∷◌, ◌++◌, IfOk, OnOk, OnErr, length};
-ghost use Rattle.ide_world.specs.Room.{all_inserted_into};
+ghost use Rattle.ide_world.specs.Room.{room_before, room_needed};
 ghost use Rattle.ide_world.specs.DocEdits.{IsWide};
 ghost use Rattle.ide_world.specs.Lawful.{AreWide};
 ghost use Rattle.ide_world.specs.Alike.{bare_step, AreAlike};
 
-use crate::{DocEdit, Step};
 use crate::apply::Gone;
+use crate::{DocEdit, Step};
 use std::alloc::{AllocError, Global};
 use std::marker::Model;
 
@@ -67,7 +67,7 @@ impl Steps {
         self.steps.len()
     }
 
-    /// Makes the documents that the steps bring wide enough for what the later steps insert into them.
+    /// Gives each document that a step brings the room that it needs before the later steps, from the last step on.
     pub(crate) fn widen(&mut self) -> Result<(), AllocError>
         ensures alike { OnOk result (AreAlike self.old self.new) }
         ensures wide { OnOk result (AreWide self.new) }
@@ -75,7 +75,7 @@ impl Steps {
         let mut at = self.steps.len();
         while at > 0 {
             let id = self.steps[at - 1].id;
-            let count = inserted_into(&self.steps[at..], id)?;
+            let count = room_needed(&self.steps[at..], id)?;
             at -= 1;
             widen_document(&mut self.steps[at], count)?;
         }
@@ -95,17 +95,32 @@ fn widen_document(step: &mut Step, count: u32) -> Result<(), AllocError>
     }
 }
 
-/// How many characters steps insert into the document of a file.
-pub(crate) fn inserted_into(steps: &[Step], id: u32) -> Result<u32, AllocError>
-    ensures { IfOk result (λ count. count ≡ all_inserted_into id steps.now) }
+/// How much room the document of a file needs before steps: as much as it grows by at most, so never more than a text
+/// may have.
+pub(crate) fn room_needed(steps: &[Step], id: u32) -> Result<u32, AllocError>
+    ensures { IfOk result (λ count. count ≡ room_needed id steps.now) }
 {
     let mut count: u32 = 0;
-    for step in steps {
-        if step.id == id
-            && let DocEdit::Insert { text, .. } = &step.doc
-        {
-            count = count.checked_add(text.len()).ok_or(AllocError)?;
+    let mut at = steps.len();
+    while at > 0 {
+        at -= 1;
+        if steps[at].id == id {
+            count = room_before(&steps[at].doc, count)?;
         }
     }
     Ok(count)
+}
+
+/// How much room a document needs before an edit, if it needs so much behind it.
+fn room_before(edit: &DocEdit, count: u32) -> Result<u32, AllocError>
+    ensures { IfOk result (λ before. before ≡ room_before edit.now count) }
+{
+    match edit {
+        DocEdit::Insert { text, .. } => text.len().checked_add(count).ok_or(AllocError),
+        DocEdit::Erase { from, to } => Ok(count.saturating_sub(to.saturating_sub(*from))),
+        DocEdit::Open { .. } => Ok(0),
+        DocEdit::Replace { .. } => Ok(0),
+        DocEdit::Close => Ok(0),
+        _ => Ok(count),
+    }
 }

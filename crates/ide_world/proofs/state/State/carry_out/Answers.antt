@@ -6,7 +6,7 @@ use Rattle.ide_world.specs.DocEdits.{IsDocEditFit}
 use Rattle.ide_world.specs.Step.{after_step}
 use Rattle.ide_world.specs.RowEdits.{put_row}
 use Rattle.list_laws.specs.Rows.{one_if}
-use Rattle.ide_world.specs.Room.{Room, KeepsRoom, inserted_into}
+use Rattle.ide_world.specs.Room.{Room, KeepsRoom, room_before_step}
 use Rattle.ide_world.specs.Lawful.{IsLawfulStep}
 use Rattle.ide_world.proofs.WorldLemmas.{rows_known, document_here, new_row_room, may_have, marks_some, marks_few, rows_left, carried_out, world_after, kept_after}
 use Rattle.ide_world.proofs.RoomLemmas.{chars_left}
@@ -91,7 +91,7 @@ returns-clause-rows c = λ count room.
 pub returns-clause-chars : goal.returns-clause-chars
 returns-clause-chars c = λ id n wide room open'.
     chars_left c.self.inside.docs c.apply_document.new.docs c.args.step c.apply_document.ensures.documents c.apply_document.ensures.others c.apply_document.ensures.room
-    id n wide (subst (λ s. IsSome (document_of s.room.docs id) → inserted_into id c.args.step + n ≤ room_of s.room.docs id) (sym c.self.view_is) room) open'
+    id n wide (subst (λ s. IsSome (document_of s.room.docs id) → room_before_step id c.args.step n ≤ room_of s.room.docs id) (sym c.self.view_is) room) open'
 
 pub returns-clause-keeps : goal.returns-clause-keeps
 returns-clause-keeps c =
