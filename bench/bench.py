@@ -5,6 +5,8 @@
     bench/bench.py creates    N files, a settle and some words, at N, 2N and 4N
     bench/bench.py edits      the cost of write, settle and class of one small file, and of insert, commit and class in
                               an open document of 1,000 characters, in workspaces of 1,000 and 15,000 files
+    bench/bench.py texts      what a turn costs in one file of 500,000 and of 1,000,000 characters: an open and a close, a
+                              commit and a save of what is committed, an edit with its commit, a move, a letter in and out
     bench/bench.py limits     a history, files and documents at their limits, at a half and at all of them
     bench/bench.py demo       `ide demo` with 5,000 and 10,000 files
     bench/bench.py one        one file of 1,000,000 characters, of ordinary code and of hostile texts
@@ -71,7 +73,7 @@ def workspace(files, size):
 
 def row(name, script, seconds, rest=""):
     size = len(script.encode()) / 1e6
-    print(f"  {name:14} {size:7.2f} MB  {seconds:7.3f} s  {size / seconds:6.1f} MB/s{rest}")
+    print(f"  {name:22} {size:7.2f} MB  {seconds:7.3f} s  {size / seconds:6.1f} MB/s{rest}")
 
 
 def rows(name, script):
@@ -100,8 +102,35 @@ def edits(turns=20000, size=500):
         print(f"  {what}")
         for n in (1000, 15000):
             base = workspace(n, size)
-            alone, more = run(base), run(base + turn)
-            row(f"{n} files", base, alone, f"  {(more - alone) / turns * 1e6:6.1f} us a turn")
+            tell_turn(f"{n} files", base, turn, turns)
+
+
+def tell_turn(name, base, turn, turns):
+    """A row for the script `base`, with what each of so many turns behind it costs; beside another program, where one is named."""
+    alone = run(base)
+    cost = (run(base + turn) - alone) / turns * 1e6
+    rest = f"  {cost:8.1f} us a turn"
+    for other in BESIDE:
+        before = (measured(other, base + turn)[0] - measured(other, base)[0]) / turns * 1e6
+        rest += f"   beside {before:8.1f} us   {cost / before:5.2f}"
+    row(name, base, alone, rest)
+
+
+def texts(turns=200, size=1_000_000):
+    print(f"one indexed file of a half of {size} characters and of all of them; then {turns} turns")
+    opened = "open f0.java\n"
+    changed = opened + "insert f0.java 0 \" \"\ncommit f0.java\nsave f0.java\n"
+    measures = {
+        "open, close": ("", "open f0.java\nclose f0.java\n"),
+        "commit": (changed, "commit f0.java\n"),
+        "save": (changed, "save f0.java\n"),
+        "edit, commit": (opened, "insert f0.java 0 \" \"\ncommit f0.java\nerase f0.java 0 1\ncommit f0.java\n"),
+        "move": ("", "move f0.java g.java\nmove g.java f0.java\n"),
+        "insert, erase": (opened, "insert f0.java 9 \"x\"\nerase f0.java 9 10\n"),
+    }
+    for what, (head, turn) in measures.items():
+        for n in (size // 2, size):
+            tell_turn(f"{what} {n}", workspace(1, n) + head, turn * turns, turns)
 
 
 def limits():
@@ -124,7 +153,9 @@ def demo():
     print("ide demo, five edits a file")
     for n in (5000, 10000):
         words = ["demo", "--files", str(n), "--edits", str(5 * n)]
-        print(f"  {n} files       {run('', words):7.3f} s")
+        taken = run("", words)
+        rest = "".join(f"   beside {before:7.3f} s {taken / before:5.2f}" for before in (measured(it, "", words)[0] for it in BESIDE))
+        print(f"  {n} files       {taken:7.3f} s{rest}")
 
 
 def one(size=1_000_000):
@@ -218,7 +249,7 @@ def names():
 
 
 def main():
-    measures = {"creates": creates, "edits": edits, "one": one, "wide": wide, "group": group, "names": names, "limits": limits, "demo": demo}
+    measures = {"creates": creates, "edits": edits, "texts": texts, "one": one, "wide": wide, "group": group, "names": names, "limits": limits, "demo": demo}
     words = sys.argv[1:]
     if "--beside" in words:
         words, BESIDE[:] = words[: words.index("--beside")], words[words.index("--beside") + 1 :]
