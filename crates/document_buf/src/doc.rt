@@ -1,10 +1,10 @@
 //! A document: the text that is edited, the text as last committed, and whether the file has its text.
-ghost use Rattle.std.specs.Prelude.{◌≡◌, ◌≤◌, ◌+◌, ◌-◌, IfOk, OnOk, OnErr, bytes_eq, length};
+ghost use Rattle.std.specs.Prelude.{◌≡◌, ◌≤◌, ◌+◌, ◌-◌, max, IfOk, OnOk, OnErr, bytes_eq, length};
 ghost use Rattle.ide_text.specs.Text.{max_chars, IsText};
 ghost use Rattle.document_buf.specs.Document.{opened, inserted, erased, committed as committed_now, marked_saved, replaced};
 
 use crate::gap::GapBuffer;
-use ide_text::{SharedText, Text};
+use ide_text::{MAX_CHARS, SharedText, Text};
 use std::alloc::{AllocError, Global};
 use std::marker::Model;
 
@@ -166,15 +166,18 @@ impl Doc {
         self.state.edited = true;
     }
 
-    /// Makes room for a number of characters more.
+    /// Makes room for a number of characters more. Where it has to be made, half the text's length is made at once, but
+    /// never more than was asked for and than a text may still grow by.
     pub fn reserve(&mut self, count: u32) -> Result<(), AllocError>
         ensures document { self.new.document ≡ self.old.document }
         ensures ok { OnOk result (count ≤ self.new.spare) }
         ensures keeps { self.old.spare ≤ self.new.spare }
+        ensures most { self.new.spare ≤ max (max self.old.spare count) (max_chars - length self.old.document.text) }
     {
         let count = count as usize;
         if self.state.buffer.spare() < count {
-            let wide = count.max(self.state.buffer.len() / 2);
+            let len = self.state.buffer.len();
+            let wide = count.max((len / 2).min(MAX_CHARS - len));
             self.state.buffer = self.state.buffer.with_spare(wide)?;
         }
         Ok(())

@@ -1,5 +1,5 @@
 //! A list of characters in one buffer with a gap, at which characters go in and out.
-ghost use Rattle.std.specs.Prelude.{◌≡◌, ◌≤◌, ◌<◌, ◌+◌, ◌-◌, [], ◌++◌, IfOk, OnOk, Some, bytes_eq, length, slice_get, take, drop};
+ghost use Rattle.std.specs.Prelude.{◌≡◌, ◌≤◌, ◌<◌, ◌+◌, ◌-◌, ◌^◌, [], ◌++◌, IfOk, OnOk, Some, bytes_eq, length, slice_get, take, drop};
 ghost use Rattle.document_buf.specs.Gap.{joined_of};
 
 use ide_text::Text;
@@ -160,11 +160,12 @@ impl GapBuffer {
         self.end += count;
     }
 
-    /// The same characters with a gap of another width. Linear in them.
+    /// The same characters with a gap of another width, in memory for just as many. Linear in them.
     pub(crate) fn with_spare(&self, spare: usize) -> Result<GapBuffer, AllocError>
+        requires { length (joined_of self.now) + spare < 2 ^ 33 }
         ensures { IfOk result (λ made. made ≡ record { front = self.now.front; back = self.now.back; spare = spare }) }
     {
-        let mut chars = Vec::new(self.alloc());
+        let mut chars = Vec::with_capacity(self.alloc(), self.len() + spare)?;
         chars.extend_from_slice(self.front())?;
         for _ in 0..spare {
             chars.push('\0')?;
