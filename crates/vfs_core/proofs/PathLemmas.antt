@@ -1,80 +1,75 @@
 -- The map from paths to ids, before and after a change.
-use Rattle.std.proofs.Common.{◌≡◌, ℕ, Bool, true, false, cond, List, [], ◌∷◌, ◌||◌, Some, None, IsTrue, bytes_eq, refl, sym, ap, ◌∙◌}
+use Rattle.std.proofs.Common.{◌≡◌, ℕ, Bool, true, false, cond, List, ◌||◌, Some, None, IsTrue, bytes_eq, refl, sym, ap, ◌∙◌}
 use Rattle.std.specs.Prelude.{Option, is_some, unwrap_or, not, ◌&&◌, if◌then◌else◌}
-use Rattle.std.specs.List.{list_any}
 use Rattle.std.specs.Map.{lookup, keys_of}
-use Rattle.std.specs.BTreeMap.{BTreeMap, get, keys, is_at}
-use Rattle.std.specs.Cmp.Lexicographic.{slice_cmp, same_text, nat_list_eq_equiv}
-use Rattle.std.specs.Ordering.{nat_cmp}
+use Rattle.std.specs.Cmp.Lexicographic.{same_text, nat_list_eq_equiv}
 use Rattle.std.proofs.lemmas.Bool.{false≢true}
-use Rattle.std.proofs.lemmas.Map.Text.{is_eq-slice_cmp}
 use Rattle.std.proofs.lemmas.Map.Made.{is_some-lookup}
 use Rattle.vfs_core.specs.Held.{has_name}
 use Rattle.vfs_core.specs.Table.{id_kept}
 
 abbrev Ids : Type 0
-Ids = BTreeMap (List ℕ) (Option ℕ)
+Ids = List (List ℕ × Option ℕ)
 
-names_by_order : (path : List ℕ) (names : List (List ℕ)) → list_any (is_at (slice_cmp nat_cmp path)) names ≡ has_name names path
-names_by_order path [] = refl
-names_by_order path (name ∷ names) = ap (λ b. b || list_any (is_at (slice_cmp nat_cmp path)) names) (is_eq-slice_cmp path name) ∙ ap (λ b. bytes_eq path name || b) (names_by_order path names)
+-- what stands at a path, where it has a place
+abbrev kept_at : Ids → List ℕ → Option (Option ℕ)
+kept_at ids path = lookup (bytes_eq path) ids
 
 -- a path has a place where it is among the keys
-pub has_name-keys : (ids : Ids) (path : List ℕ) → is_some (get (slice_cmp nat_cmp) ids path) ≡ has_name (keys_of ids.entries) path
-has_name-keys ids path = is_some-lookup (is_at (slice_cmp nat_cmp path)) ids.entries ∙ names_by_order path (keys ids)
+pub has_name-keys : (ids : Ids) (path : List ℕ) → is_some (kept_at ids path) ≡ has_name (keys_of ids) path
+has_name-keys ids path = is_some-lookup (bytes_eq path) ids
 
 -- what is kept for a path after a write for another
-pub id_kept-updated : (old new : Ids) (path : List ℕ) (id : Option ℕ) (other : List ℕ) → get (slice_cmp nat_cmp) new other ≡ cond (is_at (slice_cmp nat_cmp path) other) (Some id) (get (slice_cmp nat_cmp) old other)
-    → id_kept other new.entries ≡ (if bytes_eq path other then id else id_kept other old.entries)
+pub id_kept-updated : (old new : Ids) (path : List ℕ) (id : Option ℕ) (other : List ℕ) → kept_at new other ≡ cond (bytes_eq path other) (Some id) (kept_at old other)
+    → id_kept other new ≡ (if bytes_eq path other then id else id_kept other old)
 id_kept-updated old new path id other h =
-    ap (λ o. unwrap_or o None) h ∙ ap (λ b. unwrap_or (cond b (Some id) (get (slice_cmp nat_cmp) old other)) None) (is_eq-slice_cmp path other) ∙ both (bytes_eq path other) (get (slice_cmp nat_cmp) old other)
+    ap (λ o. unwrap_or o None) h ∙ both (bytes_eq path other) (kept_at old other)
   where
     both : (b : Bool) (o : Option (Option ℕ)) → unwrap_or (cond b (Some id) o) None ≡ cond b id (unwrap_or o None)
     both true o = refl
     both false o = refl
 
 -- which paths have a place after a write for one
-pub places-updated : (old new : Ids) (path : List ℕ) (id : Option ℕ) (other : List ℕ) → get (slice_cmp nat_cmp) new other ≡ cond (is_at (slice_cmp nat_cmp path) other) (Some id) (get (slice_cmp nat_cmp) old other)
-    → IsTrue (has_name (keys_of old.entries) other) → IsTrue (has_name (keys_of new.entries) other)
+pub places-updated : (old new : Ids) (path : List ℕ) (id : Option ℕ) (other : List ℕ) → kept_at new other ≡ cond (bytes_eq path other) (Some id) (kept_at old other)
+    → IsTrue (has_name (keys_of old) other) → IsTrue (has_name (keys_of new) other)
 places-updated old new path id other h had =
-    sym (has_name-keys new other) ∙ ap is_some h ∙ by (is_at (slice_cmp nat_cmp path) other) (get (slice_cmp nat_cmp) old other) (has_name-keys old other ∙ had)
+    sym (has_name-keys new other) ∙ ap is_some h ∙ by (bytes_eq path other) (kept_at old other) (has_name-keys old other ∙ had)
   where
     by : (b : Bool) (o : Option (Option ℕ)) → is_some o ≡ true → is_some (cond b (Some id) o) ≡ true
     by true o had = refl
     by false o had = had
 
 -- a place for a path changes no id
-pub id_kept-reserved : (old new : Ids) (path key other : List ℕ) → key ≡ path → false ≡ is_some (get (slice_cmp nat_cmp) old path) → get (slice_cmp nat_cmp) new other ≡ cond (is_at (slice_cmp nat_cmp key) other) (Some None) (get (slice_cmp nat_cmp) old other)
-    → id_kept other new.entries ≡ id_kept other old.entries
+pub id_kept-reserved : (old new : Ids) (path key other : List ℕ) → key ≡ path → false ≡ is_some (kept_at old path) → kept_at new other ≡ cond (bytes_eq key other) (Some None) (kept_at old other)
+    → id_kept other new ≡ id_kept other old
 id_kept-reserved old new path key other same absent h = id_kept-updated old new key None other h ∙ by (bytes_eq key other) refl
   where
     nothing : (o : Option (Option ℕ)) → false ≡ is_some o → None ≡ unwrap_or o None
     nothing None e = refl
     nothing (Some x) e = absurd (false≢true e)
 
-    by : (b : Bool) → bytes_eq key other ≡ b → cond b None (id_kept other old.entries) ≡ id_kept other old.entries
-    by true e = nothing (get (slice_cmp nat_cmp) old path) absent ∙ ap (λ p. id_kept p old.entries) (sym same ∙ same_text key other (sym e))
+    by : (b : Bool) → bytes_eq key other ≡ b → cond b None (id_kept other old) ≡ id_kept other old
+    by true e = nothing (kept_at old path) absent ∙ ap (λ p. id_kept p old) (sym same ∙ same_text key other (sym e))
     by false e = refl
 
 -- a path without an id that goes
-pub id_kept-swept : (old new : Ids) (path other : List ℕ) → id_kept path old.entries ≡ None → get (slice_cmp nat_cmp) new other ≡ cond (is_at (slice_cmp nat_cmp path) other) None (get (slice_cmp nat_cmp) old other)
-    → id_kept other new.entries ≡ id_kept other old.entries
+pub id_kept-swept : (old new : Ids) (path other : List ℕ) → id_kept path old ≡ None → kept_at new other ≡ cond (bytes_eq path other) None (kept_at old other)
+    → id_kept other new ≡ id_kept other old
 id_kept-swept old new path other none h =
-    ap (λ o. unwrap_or o None) h ∙ ap (λ b. unwrap_or (cond b None (get (slice_cmp nat_cmp) old other)) None) (is_eq-slice_cmp path other) ∙ by (bytes_eq path other) refl
+    ap (λ o. unwrap_or o None) h ∙ by (bytes_eq path other) refl
   where
-    by : (b : Bool) → bytes_eq path other ≡ b → unwrap_or (cond b None (get (slice_cmp nat_cmp) old other)) None ≡ id_kept other old.entries
-    by true e = sym none ∙ ap (λ p. id_kept p old.entries) (same_text path other (sym e))
+    by : (b : Bool) → bytes_eq path other ≡ b → unwrap_or (cond b None (kept_at old other)) None ≡ id_kept other old
+    by true e = sym none ∙ ap (λ p. id_kept p old) (same_text path other (sym e))
     by false e = refl
 
-pub places-swept : (old new : Ids) (path other : List ℕ) → id_kept path old.entries ≡ None → get (slice_cmp nat_cmp) new other ≡ cond (is_at (slice_cmp nat_cmp path) other) None (get (slice_cmp nat_cmp) old other)
-    → has_name (keys_of new.entries) other ≡ (has_name (keys_of old.entries) other && (not (bytes_eq path other) || is_some (id_kept path old.entries)))
+pub places-swept : (old new : Ids) (path other : List ℕ) → id_kept path old ≡ None → kept_at new other ≡ cond (bytes_eq path other) None (kept_at old other)
+    → has_name (keys_of new) other ≡ (has_name (keys_of old) other && (not (bytes_eq path other) || is_some (id_kept path old)))
 places-swept old new path other none h =
     sym (has_name-keys new other)
     ∙ ap is_some h
-    ∙ ap (λ b. is_some (cond b None (get (slice_cmp nat_cmp) old other))) (is_eq-slice_cmp path other)
-    ∙ by (bytes_eq path other) (get (slice_cmp nat_cmp) old other)
+    ∙ by (bytes_eq path other) (kept_at old other)
     ∙ ap (λ b. b && (not (bytes_eq path other) || false)) (has_name-keys old other)
-    ∙ ap (λ o. has_name (keys_of old.entries) other && (not (bytes_eq path other) || is_some o)) (sym none)
+    ∙ ap (λ o. has_name (keys_of old) other && (not (bytes_eq path other) || is_some o)) (sym none)
   where
     by : (b : Bool) (o : Option (Option ℕ)) → is_some (cond b None o) ≡ (is_some o && (not b || false))
     by true None = refl
@@ -85,7 +80,7 @@ places-swept old new path other none h =
 -- an id that is kept for a path has a place, by the entries alone
 pub place_kept : (entries : List (List ℕ × Option ℕ)) (path : List ℕ) (id : ℕ) → id_kept path entries ≡ Some id → IsTrue (has_name (keys_of entries) path)
 place_kept entries path id kept =
-    sym (is_some-lookup (is_at (slice_cmp nat_cmp path)) entries ∙ names_by_order path (keys_of entries)) ∙ by (lookup (is_at (slice_cmp nat_cmp path)) entries) kept
+    sym (has_name-keys entries path) ∙ by (kept_at entries path) kept
   where
     by : (o : Option (Option ℕ)) → unwrap_or o None ≡ Some id → is_some o ≡ true
     by None e = absurd (false≢true (ap is_some e))

@@ -1,19 +1,19 @@
-//! The ids of files by their paths, each found, kept and changed in the time of the logarithm of their number.
+//! The ids of files by their paths, each found, kept and changed in constant time on average.
 ghost use Rattle.std.specs.Prelude.{◌≡◌, ℕ, [], None, Bool, not, ◌&&◌, ◌||◌, List, IsTrue, OnOk, IfOk, bytes_eq, is_some, if◌then◌else◌};
 ghost use Rattle.std.specs.Map.{keys_of};
 ghost use Rattle.vfs_core.specs.Held.{has_name};
 ghost use Rattle.vfs_core.specs.Table.{id_kept};
 
 use ide_text::Name;
+use indexmap::IndexMap;
 use std::alloc::{AllocError, Global};
-use std::collections::BTreeMap;
 use std::marker::Model;
 
 /// The ids by paths. A path without an id is one for which there is a place.
 #[derive(Drop)]
 pub(crate) struct Paths {
     alloc: Global,
-    ids: BTreeMap<Name, Option<u32>>,
+    ids: IndexMap<Name, Option<u32>>,
 }
 
 impl Model for Paths {
@@ -21,14 +21,7 @@ impl Model for Paths {
 
     ghost Value = { List (List ℕ × Option ℕ) };
 
-    ghost use Rattle.std.specs.Ordering.{nat_cmp};
-    ghost use Rattle.std.specs.Cmp.Lexicographic.{slice_cmp};
-    ghost use Rattle.std.specs.Map.{keys_of};
-    ghost use Rattle.std.specs.List.Sorted.{IsStrictlySortedBy};
-
     ghost view = { λ p. p.ids.entries };
-
-    ghost invariant = { λ p. IsStrictlySortedBy (slice_cmp nat_cmp) (keys_of p.ids.entries) };
 }
 
 impl Paths {
@@ -38,7 +31,7 @@ impl Paths {
     {
         Paths {
             alloc,
-            ids: BTreeMap::new(alloc),
+            ids: IndexMap::new(alloc),
         }
     }
 
@@ -79,7 +72,7 @@ impl Paths {
         ensures places { (other : List ℕ) → has_name (keys_of self.new) other ≡ (has_name (keys_of self.old) other && (not (bytes_eq path.now other) || is_some (id_kept path.now self.old))) }
     {
         if self.get(path).is_none() {
-            self.ids.remove(path);
+            self.ids.swap_remove(path);
         }
     }
 
@@ -87,7 +80,7 @@ impl Paths {
     pub(crate) fn copy(&self) -> Result<Paths, AllocError>
         ensures { IfOk result (λ copy. (path : List ℕ) → id_kept path copy ≡ id_kept path self.now) }
     {
-        let mut ids = BTreeMap::new(self.alloc);
+        let mut ids = IndexMap::with_capacity(self.alloc, self.ids.len())?;
         for (path, id) in &self.ids {
             ids.insert(path.copy()?, *id)?;
         }
