@@ -45,9 +45,12 @@ pub ready_in : (files : List (Option File)) → option_map suc (position is_unre
 ready_in files none zero = refl
 ready_in files none (suc place) = ready_at files none place
 
+pub indexed_at : (present : ℕ) (indexed : Option ℕ) → is_indexed_at present indexed ≡ true → indexed ≡ Some present
+indexed_at present None h = absurd (false≢true h)
+indexed_at present (Some stamp) h = ap Some (eqb-true stamp present h)
+
 indexed_now : (present : ℕ) (indexed : Option ℕ) → not (is_indexed_at present indexed) ≡ false → indexed ≡ Some present
-indexed_now present None h = absurd (false≢true (sym h))
-indexed_now present (Some stamp) h = ap Some (eqb-true stamp present (by (eqb stamp present) h))
+indexed_now present indexed h = indexed_at present indexed (by (is_indexed_at present indexed) h)
   where
     by : (b : Bool) → not b ≡ false → b ≡ true
     by true e = refl
@@ -89,7 +92,7 @@ module _ {V : Type 0} (own : FileKind) (part : Parts → List (List ℕ × V)) (
           ∙ ap (λ o. cond same (read (option_map_or (λ (x : Document). x.committed) o file.content)) []) (sym open')
       by None closed =
           ap (λ o. walk.values_of name (part (unwrap_or o held.base))) (holds.0 ∙ ap (option_map (λ (x : Document). parts_of kind x.committed)) closed)
-          ∙ ap (λ p. walk.values_of name (part p)) (holds.1 (indexed_now file.stamp file.indexed
+          ∙ ap (λ p. walk.values_of name (part p)) (holds.1 closed (indexed_now file.stamp file.indexed
           (sym (ap (λ j. is_some j && not (is_some file.document) && not (is_indexed_at file.stamp file.indexed)) is
           ∙ ap (λ o. true && not (is_some o) && not (is_indexed_at file.stamp file.indexed)) closed) ∙ ready)))
           ∙ law kind file.content

@@ -11,6 +11,7 @@ use Rattle.document_buf.specs.Document.{Document, opened, inserted, erased, comm
 use Rattle.dumb_mode.specs.declared.kind.FileKind.{FileKind}
 use Rattle.dumb_mode.specs.declared.kind.FileKind.TheVariants.{Java, Properties}
 use Rattle.dumb_mode.specs.Filter.{kind_of}
+use Rattle.dumb_mode.specs.Unready.{is_indexed_at}
 use Rattle.overlay_index.specs.Parts.{Parts, parts_of, no_parts}
 use Rattle.write_history.specs.declared.change.Change.TheVariants.{Create, Write, Delete, OpenDoc, Insert, Erase, Commit, Save, CloseDoc, Intake, Move}
 use Rattle.write_history.specs.World.{World, File, file_of, id_at, document_at, next_id}
@@ -31,19 +32,29 @@ use Rattle.ide_world.specs.Sound.{IsSoundLive, IsSoundFile, AreSoundFiles, Holds
 use Rattle.ide_world.specs.Lawful.{IsLawfulStep}
 use Rattle.ide_world.specs.declared.look.Look.{Look}
 use Rattle.ide_world.specs.Walk.{look_of}
-use Rattle.ide_world.specs.Builds.{Builds, IsLiveAt, edit_step, overlay_edit, commit_index, renewed_index, moved_index, close_index, intake_index}
+use Rattle.ide_world.specs.Builds.{Builds, IsLiveAt, edit_step, overlay_edit, show_index, open_index, commit_index, renewed_index, moved_index, close_index, intake_index}
 use Rattle.ide_world.proofs.PathLemmas.{id_at-of}
+use Rattle.ide_world.proofs.FoundLemmas.{indexed_at}
 use Rattle.ide_world.proofs.BuildLemmas.{IsFileAt, is_file_at, file_of_row, edit_effect, edit_lawful, kept_path, sound_at}
 
 -- the index data of a document's committed text
 abbrev overlay_parts : FileKind → Option Document → Option Parts
 overlay_parts kind doc = option_map (λ d. parts_of kind d.committed) doc
 
+some_none : {A : Type 0} (a : A) → ◌≡◌ {A = Option A} (Some a) None → ⊥
+some_none a e = cc
+
+-- a file without a committed text beside its content is closed
+was_closed : (kind : FileKind) (doc : Option Document) → overlay_parts kind doc ≡ None → doc ≡ None
+was_closed kind None h = refl
+was_closed kind (Some d) h = absurd (some_none (parts_of kind d.committed) h)
+
 -- index data stay right where the committed text stays, and what is indexed at its stamp was so with the same content
 index_kept : (k : Option FileKind) (f g : File) (held : Indexed) → ((kind : FileKind) → overlay_parts kind f.document ≡ overlay_parts kind g.document)
     → (g.indexed ≡ Some g.stamp → (f.indexed ≡ Some f.stamp) × (f.content ≡ g.content)) → HoldsLive k f held → HoldsLive k g held
 index_kept None f g held e n h = h
-index_kept (Some kind) f g held e n h = (h.0 ∙ e kind, λ i. let k = n i in h.1 k.0 ∙ ap (parts_of kind) k.1)
+index_kept (Some kind) f g held e n h =
+    (h.0 ∙ e kind, λ closed i. let k = n i in h.1 (was_closed kind f.document (e kind ∙ ap (overlay_parts kind) closed)) k.0 ∙ ap (parts_of kind) k.1)
 
 -- a file isn't indexed at a stamp that is still to be drawn
 not_yet : (next : ℕ) (indexed : Option ℕ) → IfSome indexed (λ s. s < next) → indexed ≡ Some next → ⊥
@@ -51,9 +62,6 @@ not_yet next indexed h e = let P : Option ℕ → Type 0 = λ o. IfSome o (λ s.
   where
     below : next < next → ⊥
     below l = absurd (omega arith)
-
-some_none : {A : Type 0} (a : A) → ◌≡◌ {A = Option A} (Some a) None → ⊥
-some_none a e = cc
 
 false_true : false ≡ true → ⊥
 false_true e = cc
@@ -89,7 +97,7 @@ next_is_free w (Some f) e = let l = live_is_made w.files (next_id w) f e in absu
 
 index_new : (k : Option FileKind) (f : File) (held : Indexed) → f.indexed ≡ None → f.document ≡ None → (held.base ≡ no_parts) × (held.overlay ≡ None) → HoldsLive k f held
 index_new None f held i d h = h
-index_new (Some kind) f held i d h = (h.1 ∙ sym (ap (overlay_parts kind) d), λ e. absurd (some_none f.stamp (sym e ∙ i)))
+index_new (Some kind) f held i d h = (h.1 ∙ sym (ap (overlay_parts kind) d), λ closed e. absurd (some_none f.stamp (sym e ∙ i)))
 
 abbrev create_step : List ℕ → List ℕ → ℕ → ℕ → Step
 create_step path text id stamp = record { id = id; row = row_edit.Put (record { path = path; content = text; stamp = stamp; indexed = None }); doc = doc_edit.Keep; index = index_edit.Keep; draws = true }
@@ -206,10 +214,26 @@ erase_builds w path id from to row (Some d) sound h accepted =
 index_opened : (k : Option FileKind) (row : FileRow) (held : Indexed) → HoldsLive k (file_with None row) held
     → HoldsLive k (file_with (Some (opened row.content)) row) (edited_index (overlay_edit k row.content) held)
 index_opened None row held h = h
-index_opened (Some kind) row held h = (refl, h.1)
+index_opened (Some kind) row held h = (refl, λ closed. absurd (some_none (opened row.content) closed))
+
+-- index data that are those of the content are shown on
+index_shown : (k : Option FileKind) (row : FileRow) (held : Indexed) → row.indexed ≡ Some row.stamp → HoldsLive k (file_with None row) held
+    → HoldsLive k (file_with (Some (opened row.content)) row) (edited_index (show_index k) held)
+index_shown None row held i h = h
+index_shown (Some kind) row held i h =
+    (ap (λ o. Some (unwrap_or o held.base)) h.0 ∙ ap Some (h.1 refl i), λ closed. absurd (some_none (opened row.content) closed))
+
+index_open : (row : FileRow) (held : Indexed) → HoldsLive (kind_of row.path) (file_with None row) held
+    → HoldsLive (kind_of row.path) (file_with (Some (opened row.content)) row) (edited_index (open_index (is_indexed_at row.stamp row.indexed) (kind_of row.path) row.content) held)
+index_open row held h = by (is_indexed_at row.stamp row.indexed) refl
+  where
+    by : (b : Bool) → is_indexed_at row.stamp row.indexed ≡ b
+        → HoldsLive (kind_of row.path) (file_with (Some (opened row.content)) row) (edited_index (open_index b (kind_of row.path) row.content) held)
+    by true e = index_shown (kind_of row.path) row held (indexed_at row.stamp row.indexed e) h
+    by false e = index_opened (kind_of row.path) row held h
 
 pub open_builds : (w : World) (path : List ℕ) (id : ℕ) (row : FileRow) (doc : Option Document) (new : HeldDoc) (index : IndexEdit) → AreSoundFiles w → IsFileAt w path id row doc
-    → refusal_of w (OpenDoc path) ≡ None → new.document ≡ opened row.content → index ≡ overlay_edit (kind_of row.path) row.content
+    → refusal_of w (OpenDoc path) ≡ None → new.document ≡ opened row.content → index ≡ open_index (is_indexed_at row.stamp row.indexed) (kind_of row.path) row.content
     → Builds w (OpenDoc path) (record { id = id; row = row_edit.Keep; doc = doc_edit.Open new; index = index; draws = false })
 open_builds w path id row (Some d) new index sound h accepted e i =
     let r = accepted_reasons w (OpenDoc path) accepted in
@@ -226,7 +250,7 @@ open_builds w path id row None new index sound h accepted e i =
       same_id = named w path id row None h;
       lawful = edit_lawful w path row None step h tt refl (λ n. absurd (some_none row n))
           (subst P (sym e) (record { stamp = let l = s.stamp in omega arith; indexed = IfSome_then row.indexed s.indexed (λ x l. omega arith); saved = λ t. refl }))
-          (subst Q (sym e) (subst R (sym i) (λ held k. index_opened (kind_of row.path) row held k)));
+          (subst Q (sym e) (subst R (sym i) (λ held k. index_open row held k)));
     }
 
 -- ---- commit
@@ -234,7 +258,7 @@ open_builds w path id row None new index sound h accepted e i =
 index_committed : (k : Option FileKind) (row : FileRow) (d : Document) (held : Indexed) → HoldsLive k (file_with (Some d) row) held
     → HoldsLive k (file_with (Some (committed d)) row) (edited_index (overlay_edit k d.text) held)
 index_committed None row d held h = h
-index_committed (Some kind) row d held h = (refl, h.1)
+index_committed (Some kind) row d held h = (refl, λ closed. absurd (some_none (committed d) closed))
 
 -- a text that isn't uncommitted is the committed one
 unchanged : (d : Document) → is_uncommitted (Some d) ≡ false → d.committed ≡ d.text
@@ -296,7 +320,7 @@ save_builds w path id row (Some d) text stamp sound h t n =
 index_closed : (k : Option FileKind) (row : FileRow) (d : Document) (held : Indexed) → d.committed ≡ row.content → HoldsLive k (file_with (Some d) row) held
     → HoldsLive k (closed (file_with (Some d) row)) (edited_index (close_index k) held)
 index_closed None row d held e h = h
-index_closed (Some kind) row d held e h = (refl, λ i. ap (λ o. unwrap_or o held.base) h.0 ∙ ap (parts_of kind) e)
+index_closed (Some kind) row d held e h = (refl, λ closed i. ap (λ o. unwrap_or o held.base) h.0 ∙ ap (parts_of kind) e)
 
 abbrev close_step : ℕ → FileRow → IndexEdit → Step
 close_step id row index = record { id = id; row = row_edit.Put (record { path = row.path; content = row.content; stamp = row.stamp; indexed = Some row.stamp }); doc = doc_edit.Close; index = index; draws = false }
@@ -365,7 +389,7 @@ write_open_builds w path id row (Some d) text stamp new sound h t n e =
 index_taken : (k : Option FileKind) (f : File) (held : Indexed) (text : List ℕ) → f.content ≡ text → HoldsLive k f held
     → HoldsLive k (taken_in f.stamp f) (edited_index (intake_index k text) held)
 index_taken None f held text e h = h
-index_taken (Some kind) f held text e h = (h.0, λ i. ap (parts_of kind) (sym e))
+index_taken (Some kind) f held text e h = (h.0, λ closed i. ap (parts_of kind) (sym e))
 
 abbrev intake_step : ℕ → FileRow → ℕ → IndexEdit → Step
 intake_step id row stamp index = record { id = id; row = row_edit.Put (record { path = row.path; content = row.content; stamp = row.stamp; indexed = Some stamp }); doc = doc_edit.Keep; index = index; draws = false }
@@ -403,13 +427,13 @@ intake_builds w id stamp row doc text index sound live accepted of_world i =
 
 -- a kind that stays
 index_stays : (kind : FileKind) (f g : File) (held : Indexed) → f.document ≡ g.document → (g.indexed ≡ Some g.stamp → ⊥) → HoldsLive (Some kind) f held → HoldsLive (Some kind) g held
-index_stays kind f g held e n h = (h.0 ∙ ap (overlay_parts kind) e, λ i. absurd (n i))
+index_stays kind f g held e n h = (h.0 ∙ ap (overlay_parts kind) e, λ closed i. absurd (n i))
 
 -- another kind
 index_renewed : (kind : FileKind) (g : File) (held : Indexed) (doc : Option Document) → doc ≡ g.document → (g.indexed ≡ Some g.stamp → ⊥)
     → HoldsLive (Some kind) g (edited_index (renewed_index (Some kind) (option_map (λ d. d.committed) doc)) held)
-index_renewed kind g held None e n = (ap (overlay_parts kind) e, λ i. absurd (n i))
-index_renewed kind g held (Some d) e n = (ap (overlay_parts kind) e, λ i. absurd (n i))
+index_renewed kind g held None e n = (ap (overlay_parts kind) e, λ closed i. absurd (n i))
+index_renewed kind g held (Some d) e n = (ap (overlay_parts kind) e, λ closed i. absurd (n i))
 
 index_moved : (before after : Option FileKind) (f g : File) (held : Indexed) → f.document ≡ g.document → (g.indexed ≡ Some g.stamp → ⊥) → HoldsLive before f held
     → HoldsLive after g (edited_index (moved_index before after (option_map (λ d. d.committed) f.document)) held)

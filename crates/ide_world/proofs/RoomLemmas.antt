@@ -54,6 +54,7 @@ step_room_kept old new step keeps room = record {
   path = path (put_row step.row) room.path;
   place = λ opening above. keeps.places step.id (room.place opening above);
   parts = parts (brought step.index) room.parts;
+  layer = λ shows. keeps.layers step.id (room.layer shows);
   mark = keeps.marks step.id room.mark;
 }
   where

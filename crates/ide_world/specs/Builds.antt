@@ -11,7 +11,7 @@ use Rattle.ide_world.specs.declared.step.Step.{Step}
 use Rattle.ide_world.specs.declared.step.RowEdit.TheVariants as row_edit
 use Rattle.ide_world.specs.declared.step.DocEdit.{DocEdit}
 use Rattle.ide_world.specs.declared.step.IndexEdit.{IndexEdit}
-use Rattle.ide_world.specs.declared.step.IndexEdit.TheVariants.{Keep, SetBase, SetOverlay, ToBase, Drop}
+use Rattle.ide_world.specs.declared.step.IndexEdit.TheVariants.{Keep, SetBase, SetOverlay, ToOverlay, ToBase, Drop}
 use Rattle.overlay_index.specs.Parts.{parts_of}
 use Rattle.ide_world.specs.Step.{after_step, row_part}
 use Rattle.ide_world.specs.Lawful.{IsLawfulStep}
@@ -35,6 +35,15 @@ edit_step id edit = record { id = id; row = row_edit.Keep; doc = edit; index = K
 abbrev pub overlay_edit : Option FileKind → List ℕ → IndexEdit
 overlay_edit None text = Keep
 overlay_edit (Some kind) text = SetOverlay (parts_of kind text)
+
+-- the index data that a file shows, as those of its document, where the file has a kind
+abbrev pub show_index : Option FileKind → IndexEdit
+show_index None = Keep
+show_index (Some kind) = ToOverlay
+
+-- what an open makes of index data: where those of the content are there, they are shown on
+abbrev pub open_index : Bool → Option FileKind → List ℕ → IndexEdit
+open_index is_indexed kind content = if is_indexed then show_index kind else overlay_edit kind content
 
 -- what a commit makes of index data: where the text is the committed one, they stay
 abbrev pub commit_index : Bool → Option FileKind → List ℕ → IndexEdit

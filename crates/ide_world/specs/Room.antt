@@ -7,7 +7,7 @@ use Rattle.overlay_index.specs.Parts.{Parts}
 use Rattle.ide_world.specs.declared.step.DocEdit.{DocEdit}
 use Rattle.ide_world.specs.declared.step.DocEdit.TheVariants.{Keep as KeepDoc, Open, Insert, Erase, Commit, MarkSaved, Replace, Close}
 use Rattle.ide_world.specs.declared.step.IndexEdit.{IndexEdit}
-use Rattle.ide_world.specs.declared.step.IndexEdit.TheVariants.{Keep as KeepIndex, SetBase, SetOverlay, ToBase, Drop}
+use Rattle.ide_world.specs.declared.step.IndexEdit.TheVariants.{Keep as KeepIndex, SetBase, SetOverlay, ToOverlay, ToBase, Drop}
 use Rattle.ide_world.specs.declared.step.Step.{Step}
 use Rattle.ide_world.specs.RowEdits.{put_row}
 use Rattle.list_laws.specs.Rows.{one_if}
@@ -36,8 +36,18 @@ abbrev pub brought : IndexEdit → Option Parts
 brought KeepIndex = None
 brought (SetBase parts) = Some parts
 brought (SetOverlay parts) = Some parts
+brought ToOverlay = None
 brought ToBase = None
 brought Drop = None
+
+-- whether an edit lets what a file shows be its overlay
+abbrev pub shows_on : IndexEdit → Bool
+shows_on KeepIndex = false
+shows_on (SetBase parts) = false
+shows_on (SetOverlay parts) = false
+shows_on ToOverlay = true
+shows_on ToBase = false
+shows_on Drop = false
 
 -- how many rows steps may make
 abbrev pub rows_of : List Step → ℕ
@@ -70,6 +80,7 @@ pub record HasStepRoom (room : Room) (step : Step) : Type 0 where
   pub path : IfSome (put_row step.row) (λ row. files.HasPathRoom room.files row.path)
   pub place : opens step.doc ≡ true → 0 < step.id → docs.HasPlace room.docs step.id
   pub parts : IfSome (brought step.index) (layers.HasRoom room.layers step.id)
+  pub layer : shows_on step.index ≡ true → layers.HasPlace room.layers step.id
   pub mark : has_mark room.marks step.id ≡ true
 
 -- the same for each of the steps
@@ -88,6 +99,7 @@ pub record KeepsRoom (old new : Room) : Type 0 where
   pub paths : (path : List ℕ) → files.HasPathRoom old.files path → files.HasPathRoom new.files path
   pub places : (id : ℕ) → docs.HasPlace old.docs id → docs.HasPlace new.docs id
   pub parts : layers.KeepsRoom old.layers new.layers
+  pub layers : layers.KeepsPlace old.layers new.layers
   pub marks : (id : ℕ) → has_mark old.marks id ≡ true → has_mark new.marks id ≡ true
 
 -- the room that adds up isn't less, and the same documents are open

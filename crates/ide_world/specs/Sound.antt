@@ -29,12 +29,13 @@ pub record IsSoundWorld (world : World) : Type 0 where
   pub stamps : world.next_stamp ≤ 64 * world.entries + 1
   pub entries : world.entries ≤ max_entries
 
--- what the tables hold of a live file of a kind, or of none: the rows that are made for the kind, and no others
+-- what the tables hold of a live file of a kind, or of none: the rows that are made for the kind, and no others. While it is
+-- open nothing is said of its base
 abbrev pub HoldsLive : Option FileKind → File → Indexed → Type 0
 HoldsLive None file held = (held.base ≡ no_parts) × (held.overlay ≡ None)
 HoldsLive (Some kind) file held =
     (held.overlay ≡ option_map (λ d. parts_of kind d.committed) file.document)
-    × (file.indexed ≡ Some file.stamp → held.base ≡ parts_of kind file.content)
+    × (file.document ≡ None → file.indexed ≡ Some file.stamp → held.base ≡ parts_of kind file.content)
 
 -- what the tables hold of a file
 abbrev pub HoldsIndex : Option File → Indexed → Type 0

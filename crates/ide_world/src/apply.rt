@@ -3,12 +3,12 @@ ghost use Rattle.std.specs.Prelude.{◌≡◌, ◌≢◌, ◌≤◌, ◌<◌, �
 ghost use Rattle.vfs_core.specs.Row.{IsStamped};
 ghost use Rattle.vfs_core.specs.Held.{row_of, HasRowRoom, MayHave, KeepsRoom as KeepsFileRoom};
 ghost use Rattle.document_buf.specs.Held.{document_of, room_of, open_of, HasPlace, Becomes};
-ghost use Rattle.overlay_index.specs.Layers.{base_of, overlay_of, HasRoom as HasLayerRoom, KeepsRoom as KeepsLayerRoom};
+ghost use Rattle.overlay_index.specs.Layers.{base_of, overlay_of, HasRoom as HasLayerRoom, HasPlace as HasLayerPlace, KeepsRoom as KeepsLayerRoom, KeepsPlace as KeepsLayerPlace};
 ghost use Rattle.ide_world.specs.RowEdits.{edited_row, put_row};
 ghost use Rattle.ide_world.specs.DocEdits.{edited_document, IsDocEditFit, IsWide, inserted_by};
 ghost use Rattle.ide_world.specs.IndexEdits.{edited_index};
 ghost use Rattle.list_laws.specs.Rows.{one_if};
-ghost use Rattle.ide_world.specs.Room.{opens, room_before, brought};
+ghost use Rattle.ide_world.specs.Room.{opens, room_before, brought, shows_on};
 ghost use Rattle.ide_world.specs.State.{indexed_in};
 
 use crate::{DocEdit, IndexEdit, RowEdit};
@@ -77,15 +77,18 @@ pub(crate) fn apply_document(docs: &mut Docs, id: u32, edit: DocEdit)
 
 /// Carries out the edit of index data, and gives the data that went.
 pub(crate) fn apply_index(layers: &mut Layers, id: u32, edit: IndexEdit) -> Option<GoneData>
-    requires { IfSome (brought edit) (HasLayerRoom layers.old id) }
+    requires room { IfSome (brought edit) (HasLayerRoom layers.old id) }
+    requires place { shows_on edit ≡ true → HasLayerPlace layers.old id }
     ensures base { (other : ℕ) → base_of layers.new other ≡ (if id == other then (edited_index edit (indexed_in layers.old id)).base else base_of layers.old other) }
     ensures overlay { (other : ℕ) → overlay_of layers.new other ≡ (if id == other then (edited_index edit (indexed_in layers.old id)).overlay else overlay_of layers.old other) }
     ensures keeps { KeepsLayerRoom layers.old layers.new }
+    ensures keeps_place { KeepsLayerPlace layers.old layers.new }
 {
     match edit {
         IndexEdit::Keep => None,
         IndexEdit::SetBase { parts } => Some(layers.set_base(id, parts)),
         IndexEdit::SetOverlay { parts } => Some(layers.set_overlay(id, parts)),
+        IndexEdit::ToOverlay => Some(layers.base_to_overlay(id)),
         IndexEdit::ToBase => Some(layers.overlay_to_base(id)),
         IndexEdit::Drop => Some(layers.drop_file(id)),
     }

@@ -3,8 +3,9 @@ ghost use Rattle.std.specs.Prelude.{◌≡◌, ℕ, List, None, IfOk};
 ghost use Rattle.write_history.specs.declared.change.Change.TheVariants.{OpenDoc, Insert, Erase, Commit, Save, CloseDoc};
 ghost use Rattle.write_history.specs.Effect.{refusal_of};
 ghost use Rattle.dumb_mode.specs.Filter.{kind_of};
+ghost use Rattle.dumb_mode.specs.Unready.{is_indexed_at};
 ghost use Rattle.ide_world.specs.Drafted.{world_now};
-ghost use Rattle.ide_world.specs.Builds.{Builds, overlay_edit, commit_index, close_index, edit_step};
+ghost use Rattle.ide_world.specs.Builds.{Builds, overlay_edit, show_index, open_index, commit_index, close_index, edit_step};
 
 use crate::draft::Draft;
 use crate::{DocEdit, IndexEdit, RowEdit, Step};
@@ -28,7 +29,7 @@ pub(crate) fn opened(alloc: Global, draft: &Draft<'_>, path: &Name) -> Result<St
         doc: DocEdit::Open {
             doc: Doc::open(alloc, &found.row.content, 0)?,
         },
-        index: overlay(alloc, &found.row.path, &found.row.content)?,
+        index: opened_index(alloc, found.row)?,
         draws: false,
     })
 }
@@ -151,6 +152,26 @@ fn closed_index(path: &Name) -> IndexEdit
 {
     match kind_of(path) {
         Some(_) => IndexEdit::ToBase,
+        None => IndexEdit::Keep,
+    }
+}
+
+/// What an open makes of the index data: where those of the content are there, they are shown on, else they are made.
+fn opened_index(alloc: Global, row: &FileRow) -> Result<IndexEdit, AllocError>
+    ensures { IfOk result (λ edit. edit ≡ open_index (is_indexed_at row.now.stamp row.now.indexed) (kind_of row.now.path) row.now.content) }
+{
+    if row.indexed == Some(row.stamp) {
+        return Ok(shown_index(&row.path));
+    }
+    overlay(alloc, &row.path, &row.content)
+}
+
+/// The index data that a file shows, as those of its document, where the path's file has a kind.
+fn shown_index(path: &Name) -> IndexEdit
+    ensures { result ≡ show_index (kind_of path.now) }
+{
+    match kind_of(path) {
+        Some(_) => IndexEdit::ToOverlay,
         None => IndexEdit::Keep,
     }
 }

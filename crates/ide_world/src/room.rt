@@ -2,10 +2,10 @@
 ghost use Rattle.std.specs.Prelude.{◌≡◌, ◌≤◌, ◌<◌, ◌+◌, ℕ, true, List, length, IsSome, IfSome, IfOk, OnOk};
 ghost use Rattle.vfs_core.specs.Held.{HasRowRoom, HasPathRoom, KeepsRoom as KeepsFileRoom};
 ghost use Rattle.document_buf.specs.Held.{document_of, room_of, open_of, HasPlace, KeepsRoom as KeepsDocRoom, SameDocuments};
-ghost use Rattle.overlay_index.specs.Layers.{base_of, overlay_of, HasRoom as HasLayerRoom, KeepsRoom as KeepsLayerRoom};
+ghost use Rattle.overlay_index.specs.Layers.{base_of, overlay_of, HasRoom as HasLayerRoom, HasPlace as HasLayerPlace, KeepsRoom as KeepsLayerRoom, KeepsPlace as KeepsLayerPlace};
 ghost use Rattle.ide_world.specs.RowEdits.{put_row};
 ghost use Rattle.ide_world.specs.DocEdits.{inserted_by};
-ghost use Rattle.ide_world.specs.Room.{opens, brought, room_needed, HasStepRoom, HasRoomIn, KeepsRoom, KeepsCounts};
+ghost use Rattle.ide_world.specs.Room.{opens, brought, shows_on, room_needed, HasStepRoom, HasRoomIn, KeepsRoom, KeepsCounts};
 ghost use Rattle.ide_world.specs.Held.{HasRoom};
 
 use crate::steps::room_needed;
@@ -53,11 +53,14 @@ fn reserve_index(layers: &mut Layers, id: u32, edit: &IndexEdit) -> Result<(), A
     ensures base { (other : ℕ) → base_of layers.new other ≡ base_of layers.old other }
     ensures overlay { (other : ℕ) → overlay_of layers.new other ≡ overlay_of layers.old other }
     ensures keeps { KeepsLayerRoom layers.old layers.new }
+    ensures keeps_place { KeepsLayerPlace layers.old layers.new }
     ensures room { OnOk result (IfSome (brought edit.now) (HasLayerRoom layers.new id)) }
+    ensures place { OnOk result (shows_on edit.now ≡ true → HasLayerPlace layers.new id) }
 {
     match edit {
         IndexEdit::SetBase { parts } => layers.reserve(id, parts),
         IndexEdit::SetOverlay { parts } => layers.reserve(id, parts),
+        IndexEdit::ToOverlay => layers.reserve_place(id),
         _ => Ok(()),
     }
 }

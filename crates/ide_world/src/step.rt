@@ -31,6 +31,7 @@ pub enum IndexEdit {
     Keep,
     SetBase { parts: FileData },
     SetOverlay { parts: FileData },
+    ToOverlay,
     ToBase,
     Drop,
 }

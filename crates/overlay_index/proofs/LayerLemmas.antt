@@ -227,6 +227,24 @@ module _ (old new : Held) where
         by true = refl
         by false = refl
 
+    -- a base that becomes the overlay
+    pub base_taken : hidden_in new.hidden other ≡ cond b (Some no_parts) h → parts_in new.shown other ≡ p → base_of new other ≡ cond b no_parts (base_of old other)
+    unfolding base_of
+    base_taken hidden shown = base_now (cond b (Some no_parts) h) p hidden shown ∙ by b
+      where
+        by : (t : Bool) → unwrap_or (cond t (Some no_parts) h) p ≡ cond t no_parts (unwrap_or h p)
+        by true = refl
+        by false = refl
+
+    pub overlay_from_base : hidden_in new.hidden other ≡ cond b (Some no_parts) h → parts_in new.shown other ≡ p → overlay_of new other ≡ cond b (Some (shown_of old file)) (overlay_of old other)
+    unfolding overlay_of
+    overlay_from_base hidden shown =
+        overlay_now (cond b (Some no_parts) h) p hidden shown ∙ by b (λ e. ap (parts_in old.shown) (sym (eqb-true file other e)) ∙ sym (shown_is old file))
+      where
+        by : (t : Bool) → (t ≡ true → p ≡ shown_of old file) → cond (is_some (cond t (Some no_parts) h)) (Some p) None ≡ cond t (Some (shown_of old file)) (cond (is_some h) (Some p) None)
+        by true same = ap Some (same refl)
+        by false same = refl
+
     -- a file that is dropped
     pub base_dropped : hidden_in new.hidden other ≡ cond b None h → parts_in new.shown other ≡ cond b no_parts p → base_of new other ≡ cond b no_parts (base_of old other)
     unfolding base_of

@@ -75,6 +75,14 @@ pub record HasRoom (held : Held) (file : ℕ) (parts : Parts) : Type 0 where
   pub tables : HasTableRoom held.shown file parts
   pub place : has_place held.hidden file ≡ true
 
+-- there is a place for the base of a file, so that what it shows may become its overlay
+abbrev pub HasPlace : Held → ℕ → Type 0
+HasPlace held file = has_place held.hidden file ≡ true
+
+-- what had a place still has it
+abbrev pub KeepsPlace : Held → Held → Type 0
+KeepsPlace old new = (file : ℕ) → HasPlace old file → HasPlace new file
+
 -- what had room still has it
 abbrev pub KeepsRoom : Held → Held → Type 0
 KeepsRoom old new = (file : ℕ) (parts : Parts) → HasRoom old file parts → HasRoom new file parts

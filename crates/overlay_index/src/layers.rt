@@ -2,7 +2,7 @@
 ghost use Rattle.std.specs.Prelude.{◌≡◌, ◌==◌, ◌++◌, ◌∷◌, [], ℕ, true, false, is_some, Some, None, if◌then◌else◌, option_to_list, IfOk, OnOk};
 ghost use Rattle.overlay_index.specs.Parts.{Parts, no_parts};
 ghost use Rattle.overlay_index.specs.Layers.{base_of, overlay_of, shown_of, covered_of, parts_in, IsShownTo};
-ghost use Rattle.overlay_index.specs.Layers.{HasTableRoom, HasRoom, KeepsRoom, KeepsRoomBut, GivesUp, IsSwept};
+ghost use Rattle.overlay_index.specs.Layers.{HasTableRoom, HasRoom, HasPlace, KeepsRoom, KeepsPlace, KeepsRoomBut, GivesUp, IsSwept};
 ghost use Rattle.overlay_index.specs.Found.{values_of, found_to};
 
 use crate::beside::beside;
@@ -55,9 +55,22 @@ impl Layers {
         ensures overlay { (other : ℕ) → overlay_of self.new other ≡ overlay_of self.old other }
         ensures room { OnOk result (HasRoom self.new file parts.now) }
         ensures keeps_room { KeepsRoom self.old self.new }
+        ensures keeps_place { KeepsPlace self.old self.new }
     {
         self.hidden.make_place(file)?;
         self.tables.reserve(file, parts)
+    }
+
+    /// Makes a place for the base of a file, so that what it shows may become its overlay without memory. No row
+    /// changes.
+    pub fn reserve_place(&mut self, file: u32) -> Result<(), AllocError>
+        ensures base { (other : ℕ) → base_of self.new other ≡ base_of self.old other }
+        ensures overlay { (other : ℕ) → overlay_of self.new other ≡ overlay_of self.old other }
+        ensures place { OnOk result (HasPlace self.new file) }
+        ensures keeps_room { KeepsRoom self.old self.new }
+        ensures keeps_place { KeepsPlace self.old self.new }
+    {
+        self.hidden.make_place(file)
     }
 
     /// Gives a file these rows as its base. They are shown where the file has no overlay.
@@ -67,6 +80,7 @@ impl Layers {
         ensures base { (other : ℕ) → base_of self.new other ≡ (if file == other then parts else base_of self.old other) }
         ensures overlay { (other : ℕ) → overlay_of self.new other ≡ overlay_of self.old other }
         ensures keeps_room { KeepsRoom self.old self.new }
+        ensures keeps_place { KeepsPlace self.old self.new }
     {
         if self.hidden.has(file) {
             Gone {
@@ -88,6 +102,7 @@ impl Layers {
         ensures base { (other : ℕ) → base_of self.new other ≡ base_of self.old other }
         ensures overlay { (other : ℕ) → overlay_of self.new other ≡ (if file == other then Some parts else overlay_of self.old other) }
         ensures keeps_room { KeepsRoom self.old self.new }
+        ensures keeps_place { KeepsPlace self.old self.new }
     {
         let old = self.tables.swap(file, parts);
         if self.hidden.has(file) {
@@ -109,10 +124,27 @@ impl Layers {
         ensures base { (other : ℕ) → base_of self.new other ≡ (if file == other then shown_of self.old file else base_of self.old other) }
         ensures overlay { (other : ℕ) → overlay_of self.new other ≡ (if file == other then None else overlay_of self.old other) }
         ensures keeps_room { KeepsRoom self.old self.new }
+        ensures keeps_place { KeepsPlace self.old self.new }
     {
         Gone {
             shown: None,
             hidden: self.hidden.take(file),
+        }
+    }
+
+    /// Lets what a file shows be its overlay from now on, over a base without rows. The base that an overlay hid goes.
+    pub fn base_to_overlay(&mut self, file: u32) -> Gone
+        requires { HasPlace self.old file }
+        ensures gone { result ≡ covered_of self.old file }
+        ensures base { (other : ℕ) → base_of self.new other ≡ (if file == other then no_parts else base_of self.old other) }
+        ensures overlay { (other : ℕ) → overlay_of self.new other ≡ (if file == other then Some (shown_of self.old file) else overlay_of self.old other) }
+        ensures keeps_room { KeepsRoom self.old self.new }
+        ensures keeps_place { KeepsPlace self.old self.new }
+    {
+        let bare = FileData::new(self.alloc);
+        Gone {
+            shown: None,
+            hidden: self.hidden.put(file, Some(bare)),
         }
     }
 
@@ -122,6 +154,7 @@ impl Layers {
         ensures base { (other : ℕ) → base_of self.new other ≡ (if file == other then no_parts else base_of self.old other) }
         ensures overlay { (other : ℕ) → overlay_of self.new other ≡ (if file == other then None else overlay_of self.old other) }
         ensures keeps_room { KeepsRoom self.old self.new }
+        ensures keeps_place { KeepsPlace self.old self.new }
     {
         Gone {
             shown: Some(self.tables.withdraw(file)),

@@ -100,5 +100,6 @@ returns-clause-keeps c =
       paths = λ path had. c.apply_row-row.ensures.keeps.paths path (c.draw_if.ensures.keeps.paths path had);
       places = c.apply_document.ensures.places;
       parts = c.apply_index-index.ensures.keeps;
+      layers = c.apply_index-index.ensures.keeps_place;
       marks = λ id had. c.set.ensures.keeps id ∙ had;
     }

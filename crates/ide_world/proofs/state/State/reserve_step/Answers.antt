@@ -31,6 +31,7 @@ returns-in_err-reserve_index-clause-keeps c =
       paths = c.reserve_path.ensures.keeps.paths;
       places = c.reserve_document.ensures.keeps.places;
       parts = c.reserve_index.ensures.keeps;
+      layers = c.reserve_index.ensures.keeps_place;
       marks = λ id had. had;
     }
 
@@ -41,5 +42,6 @@ returns-clause-keeps c =
       paths = c.reserve_path.ensures.keeps.paths;
       places = c.reserve_document.ensures.keeps.places;
       parts = c.reserve_index.ensures.keeps;
+      layers = c.reserve_index.ensures.keeps_place;
       marks = c.reserve.ensures.keeps;
     }

@@ -1,0 +1,8 @@
+use Rattle.ide_world.proofs.BuildLemmas.{is_file_at}
+use Rattle.ide_world.proofs.KindLemmas.{open_builds}
+use Rattle.ide_world.proofs.documents.opened.Goals as goal
+
+pub returns : goal.returns
+returns c =
+    open_builds _ _ _ c.in-Some.found.row.now _ _ _ c.in-Some.ensures.draft.files (is_file_at _ _ _ c.in-Some.found.row.now c.in-Some.ensures.found)
+    c.requires c.in_ok-open.ensures.document c.in_ok-opened_index.ensures
