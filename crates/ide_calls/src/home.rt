@@ -110,7 +110,7 @@ impl Home for IdeHome {
     fn share(&self, alloc: Global) -> Result<IdeShare, AllocError> {
         let block = Block {
             kept: Arc::try_clone(&self.kept)?,
-            apart: [0; 14],
+            apart: [0; 12],
         };
         Ok(IdeShare {
             block: Arc::new(alloc, block)?,

@@ -13,11 +13,12 @@ pub struct IdeShare {
     pub(crate) block: Arc<Block>,
 }
 
-/// What the shares of one place have in common. It is so large that the counts of no two blocks share a cache line.
+/// What the shares of one place have in common. It is so large that the counts of no two blocks share a cache line, and
+/// small enough for the lists of free blocks that common allocators keep at hand.
 #[derive(Drop)]
 pub(crate) struct Block {
     pub(crate) kept: Arc<Kept>,
-    pub(crate) apart: [u64; 14],
+    pub(crate) apart: [u64; 12],
 }
 
 impl Model for IdeShare {

@@ -1,5 +1,6 @@
 //! Reading what the loads of a prelude ask for.
 ghost use Rattle.std.specs.Prelude.{◌≡◌, ◌≢◌, IfOk, OnOk, Err};
+ghost use Rattle.std.specs.String.{string_bytes};
 ghost use Rattle.ide_io.specs.Asks.{AsksEach, AsksFront, AsksSome};
 ghost use Rattle.ide_io.specs.Fault.{HasFault};
 ghost use Rattle.transcripts.specs.Loads.{AreLoadsOf, IsLoadOf, loaded_of, paths_asked, paths_of};
@@ -52,17 +53,30 @@ fn read_load<T: Tree>(alloc: Global, command: &Command, tree: &mut T) -> Result<
                 Err(ReadFileError::Failed) => return Err(LoadRefusal::TreeFault),
                 Err(ReadFileError::OutOfMemory) => return Err(LoadRefusal::OutOfMemory),
             };
-            Ok(loaded(alloc, &bytes)?)
+            Ok(loaded(alloc, bytes)?)
         }
         _ => Ok(Loaded::Nothing),
     }
 }
 
-/// What bytes give as a text.
-fn loaded(alloc: Global, bytes: &[u8]) -> Result<Loaded, AllocError>
-    ensures { IfOk result (λ load. load ≡ loaded_of bytes.now) }
+/// What bytes give as a text, which takes their memory over where it can.
+fn loaded(alloc: Global, bytes: Vec<u8>) -> Result<Loaded, AllocError>
+    ensures { IfOk result (λ load. load ≡ loaded_of bytes.items) }
 {
-    match Text::from_utf8(alloc, bytes) {
+    match String::from_utf8(bytes) {
+        Ok(text) => loaded_text(alloc, text),
+        Err(fault) => Ok(Loaded::NotText {
+            at: fault.utf8_error().valid_up_to(),
+        }),
+    }
+}
+
+/// What a string gives as a text, which takes its memory over where it can.
+fn loaded_text(alloc: Global, mut text: String) -> Result<Loaded, AllocError>
+    ensures { IfOk result (λ load. load ≡ loaded_of (string_bytes text)) }
+{
+    text.shrink_to_fit();
+    match Text::from_string(alloc, text) {
         Ok(text) => Ok(Loaded::Text {
             text: SharedText::new(alloc, text)?,
         }),
