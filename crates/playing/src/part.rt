@@ -18,7 +18,7 @@ use std::thread::Threads;
 use transcripts::Records;
 
 /// What the pass of a part is for.
-#[derive(Clone, Copy, Debug, PartialEq, Eq)]
+#[derive(Clone, Copy)]
 pub(crate) enum Task {
     /// The lane of the script with this index.
     Lane { index: usize },

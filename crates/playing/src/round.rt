@@ -18,7 +18,7 @@ use std::sync::Wait;
 use std::thread::{Threads, for_each_mut};
 
 /// How many lanes and workers go beside one another.
-#[derive(Clone, Copy, Debug, PartialEq, Eq)]
+#[derive(Clone, Copy)]
 pub(crate) struct Round {
     pub(crate) lanes: usize,
     pub(crate) workers: usize,

@@ -304,7 +304,7 @@ lane
 ];
 
 /// A script that is played, and another as whose run it is not to pass.
-#[derive(Clone, Copy, Debug)]
+#[derive(Clone, Copy)]
 pub struct Mistake {
     pub played: &'static str,
     pub judged: &'static str,

@@ -11,7 +11,7 @@ const TURNS: u64 = 10_000_000;
 const PAUSE: u64 = 1_000;
 
 /// A spot of a run.
-#[derive(Clone, Copy, Debug, PartialEq, Eq)]
+#[derive(Clone, Copy)]
 pub enum Spot {
     /// A lane is about to begin the command on this line.
     Start(u32),
@@ -37,7 +37,7 @@ impl Spot {
 }
 
 /// Who comes to a spot is held there until another spot was reached so often.
-#[derive(Clone, Copy, Debug, PartialEq, Eq)]
+#[derive(Clone, Copy)]
 pub struct Hold {
     pub at: Spot,
     pub until: Spot,
