@@ -216,29 +216,22 @@ fn places_of_a_text(rt: HostRuntime) -> Result<(), Fail> {
 /// Whether bytes give a text of 8 characters with a name of 3 at its beginning and this one, of 3 too, at 4.
 fn has_names(alloc: Global, bytes: &[u8], second: &str) -> Result<bool, Fail> {
     let text = Text::from_utf8(alloc, bytes)?;
-    let mut again = Name::of(alloc, "before")?;
     for (from, to, wanted) in [(0, 3, "int"), (4, 7, second), (8, 8, ""), (0, 0, "")] {
-        if from > to || to > text.len() || !is_name(alloc, &text, (from, to), wanted, &mut again)? {
+        if from > to || to > text.len() || !is_name(alloc, &text, (from, to), wanted)? {
             return Ok(false);
         }
     }
     Ok(text.len() == 8)
 }
 
-/// Whether this name stands between two offsets, read into a new name, into its copy and into one that is there.
-fn is_name(
-    alloc: Global,
-    text: &Text,
-    range: (u32, u32),
-    wanted: &str,
-    again: &mut Name,
-) -> Result<bool, AllocError>
+/// Whether this name stands between two offsets, made of a string, of its copy and of a piece of the text alike.
+fn is_name(alloc: Global, text: &Text, range: (u32, u32), wanted: &str) -> Result<bool, AllocError>
     requires { range.0 ≤ range.1 × range.1 ≤ length text.now }
 {
     let (from, to) = range;
     let name = Name::of_text(alloc, text, from, to)?;
-    again.refill(text, from, to)?;
     let same = Name::of(alloc, wanted)?;
+    let again = Name::of_string(alloc, String::from_str(alloc, wanted)?)?;
     Ok(
         name.same(&same)
             && name.copy()?.same(&same)
@@ -248,6 +241,12 @@ fn is_name(
             && name.as_str() == wanted
             && is_printed(alloc, &name, wanted)?,
     )
+}
+
+/// Whether a text that is one name gives that name.
+fn is_whole_name(alloc: Global, wanted: &str) -> Result<bool, Fail> {
+    let text = Text::from_utf8(alloc, wanted.as_bytes())?;
+    Ok(is_name(alloc, &text, (0, text.len()), wanted)?)
 }
 
 /// Whether a name is printed so.
@@ -266,8 +265,22 @@ fn names_of_a_text(rt: HostRuntime) -> Result<(), Fail> {
     Ok(())
 }
 
+/// Of 14 bytes, as many as lie in place, and of more.
+#[test]
+fn names_of_some_length(rt: HostRuntime) -> Result<(), Fail> {
+    for name in [
+        "fourteen_bytes",
+        "fifteen_bytes__",
+        "\u{e9}twelve_bytes",
+        "\u{20ac}twelve_bytes",
+    ] {
+        assert!(rt; is_whole_name(rt.alloc(), name)?);
+    }
+    Ok(())
+}
+
 /// Names in order. Scalar values decide: U+FF5E stands before U+1F600, whose first UTF-16 unit is the lower one.
-static NAMES: [&str; 12] = [
+static NAMES: [&str; 15] = [
     "",
     "A",
     "Z",
@@ -275,6 +288,9 @@ static NAMES: [&str; 12] = [
     "a\r",
     "a$",
     "aa",
+    "aaaaaaaaaaaaaa",
+    "aaaaaaaaaaaaaaa",
+    "aaaaaaaaaaaaaab",
     "ab",
     "b",
     "\u{e9}",
@@ -284,7 +300,7 @@ static NAMES: [&str; 12] = [
 
 /// Whether two names are compared as their places are.
 fn are_in_order(alloc: Global, i: usize, j: usize) -> Result<bool, AllocError>
-    requires { i < 12 × j < 12 }
+    requires { i < 15 × j < 15 }
 {
     let one = Name::of(alloc, NAMES[i])?;
     let other = Name::of(alloc, NAMES[j])?;
@@ -299,8 +315,8 @@ fn are_in_order(alloc: Global, i: usize, j: usize) -> Result<bool, AllocError>
 
 #[test]
 fn order_of_names(rt: HostRuntime) -> Result<(), Fail> {
-    for i in 0..12 {
-        for j in 0..12 {
+    for i in 0..15 {
+        for j in 0..15 {
             assert!(rt; are_in_order(rt.alloc(), i, j)?, "{i} and {j}");
         }
     }

@@ -1,10 +1,14 @@
 //! How the characters of a text lie in memory: a byte each where all of them are ASCII, as in most sources.
-ghost use Rattle.std.specs.Prelude.{◌≡◌, ◌≤◌, ◌<◌, ◌-◌, ◌++◌, IsTrue, IfOk, OnOk, Some, length, slice_get, take, drop, encode_utf8_all};
+ghost use Rattle.std.specs.Prelude.{◌≡◌, ◌≤◌, ◌<◌, ◌-◌, ◌++◌, IsTrue, IfOk, IfSome, OnOk, Some, length, slice_get, take, drop, encode_utf8_all};
 ghost use Rattle.std.specs.Str.{chars, all_scalars};
 ghost use Rattle.std.specs.String.{string_bytes};
 ghost use Rattle.ide_text.specs.Chars.{chars_of, IsKept};
+ghost use Rattle.ide_text.specs.Spelling.{bytes_of};
 ghost use Rattle.ide_text.specs.Text.{repaired, repaired_char};
 
+use crate::inline::ROOM;
+use crate::spelling::Spelling;
+use arrayvec::ArrayString;
 use std::alloc::{AllocError, Global};
 
 /// Some characters.
@@ -49,6 +53,16 @@ impl Chars {
         }
     }
 
+    /// The characters as a string, where they are kept as ASCII.
+    pub(crate) fn ascii(&self) -> Option<&str>
+        ensures { IfSome result (λ ascii. ascii.now ≡ chars_of self.now) }
+    {
+        match self {
+            Chars::Ascii(text) => Some(text.as_str()),
+            Chars::Any(_) => None,
+        }
+    }
+
     /// Adds the characters from one place up to another, in UTF-8.
     pub(crate) fn add_part(
         &self,
@@ -64,6 +78,24 @@ impl Chars {
         match self {
             Chars::Ascii(text) => out.push_str(&text[from..to]),
             Chars::Any(chars) => add_chars(out, &chars[from..to]),
+        }
+    }
+
+    /// How the characters from one place up to another are spelt.
+    pub(crate) fn spelling(
+        &self,
+        alloc: Global,
+        from: usize,
+        to: usize,
+    ) -> Result<Spelling, AllocError>
+        requires kept { IsKept self.now }
+        requires ordered { from ≤ to }
+        requires inside { to ≤ length (chars_of self.now) }
+        ensures { IfOk result (λ made. bytes_of made ≡ encode_utf8_all (take (to - from) (drop from (chars_of self.now)))) }
+    {
+        match self {
+            Chars::Ascii(text) => Spelling::of(alloc, &text[from..to]),
+            Chars::Any(chars) => spelling_of(alloc, &chars[from..to]),
         }
     }
 
@@ -134,6 +166,31 @@ pub(crate) fn joined(alloc: Global, front: &[char], back: &[char]) -> Result<Cha
     add_chars(&mut out, front)?;
     add_chars(&mut out, back)?;
     Chars::of(alloc, out)
+}
+
+/// How some characters are spelt.
+fn spelling_of(alloc: Global, chars: &[char]) -> Result<Spelling, AllocError>
+    ensures { IfOk result (λ made. bytes_of made ≡ encode_utf8_all chars.now) }
+{
+    if let Some(short) = short_of(chars) {
+        return Spelling::of(alloc, short.as_str());
+    }
+    let mut out = String::with_capacity(alloc, chars.len())?;
+    add_chars(&mut out, chars)?;
+    Spelling::of_string(alloc, out)
+}
+
+/// Some characters in UTF-8, if they are few.
+fn short_of(chars: &[char]) -> Option<ArrayString<ROOM>>
+    ensures { IfSome result (λ short. short.bytes ≡ encode_utf8_all chars.now) }
+{
+    let mut short = ArrayString::new();
+    for c in chars {
+        if short.try_push(*c).is_err() {
+            return None;
+        }
+    }
+    Some(short)
 }
 
 /// Adds some characters in UTF-8.

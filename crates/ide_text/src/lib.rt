@@ -2,9 +2,11 @@
 #![tactic(auto)]
 
 mod chars;
+mod inline;
 mod line_walk;
 mod name;
 mod shared;
+mod spelling;
 mod text;
 
 pub use line_walk::LineWalk;

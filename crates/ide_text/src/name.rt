@@ -1,5 +1,5 @@
 //! A name: a short list of characters, as a path, an identifier or a key, with their order.
-ghost use Rattle.std.specs.Prelude.{◌≡◌, ◌≤◌, ◌-◌, ◌↔◌, [], Some, IfOk, OnOk, OnErr, IsTrue, ◌==◌, length, take, drop, refl, bytes_eq, encode_utf8_all};
+ghost use Rattle.std.specs.Prelude.{◌≡◌, ◌≤◌, ◌-◌, ◌↔◌, Some, IfOk, IsTrue, ◌==◌, length, take, drop, refl, bytes_eq, encode_utf8_all};
 ghost use Rattle.std.specs.Hash as fed;
 ghost use Rattle.std.specs.Str.{chars, all_scalars};
 ghost use Rattle.std.specs.String.{string_bytes};
@@ -9,26 +9,28 @@ ghost use Rattle.std.specs.Cmp.Lexicographic.{slice_cmp, nat_list_eq_equiv, nat_
 ghost use Rattle.std.proofs.Common.{ap};
 
 use crate::Text;
+use crate::spelling::Spelling;
 use std::alloc::{AllocError, Global};
 use std::cmp::Ordering;
 use std::fmt;
 use std::hash::{Hash, Hasher};
 use std::marker::Model;
 
-/// A list of characters, ordered by them from the left, which is the order of their UTF-8.
+/// A list of characters, ordered by them from the left, which is the order of their UTF-8. It is never changed; a short one lies
+/// in place, and a longer one may have several owners.
 #[derive(Drop)]
 pub struct Name {
-    text: String,
+    spelling: Spelling,
 }
 
 impl Model for Name {
     ghost use Rattle.std.specs.Prelude.{List, ℕ};
     ghost use Rattle.std.specs.Str.{chars};
-    ghost use Rattle.std.specs.String.{string_bytes};
+    ghost use Rattle.ide_text.specs.Spelling.{bytes_of};
 
     ghost Value = { List ℕ };
 
-    ghost view = { λ n. chars (string_bytes n.text) };
+    ghost view = { λ n. chars (bytes_of n.spelling) };
 }
 
 impl Name {
@@ -37,7 +39,16 @@ impl Name {
         ensures { IfOk result (λ name. name ≡ chars text.now) }
     {
         Ok(Name {
-            text: String::from_str(alloc, text)?,
+            spelling: Spelling::of(alloc, text)?,
+        })
+    }
+
+    /// The characters of a string, whose memory the name takes over where it isn't short.
+    pub fn of_string(alloc: Global, text: String) -> Result<Name, AllocError>
+        ensures { IfOk result (λ name. name ≡ chars (string_bytes text)) }
+    {
+        Ok(Name {
+            spelling: Spelling::of_string(alloc, text)?,
         })
     }
 
@@ -47,33 +58,16 @@ impl Name {
         requires inside { to ≤ length text.now }
         ensures { IfOk result (λ name. name ≡ take (to - from) (drop from text.now)) }
     {
-        let mut name = Name::from(String::with_capacity(alloc, (to - from) as usize)?);
-        name.refill(text, from, to)?;
-        Ok(name)
-    }
-
-    /// Takes on the characters of a text from one offset up to another, in the memory that the name has. Without
-    /// memory it has no character.
-    pub fn refill(&mut self, text: &Text, from: u32, to: u32) -> Result<(), AllocError>
-        requires ordered { from ≤ to }
-        requires inside { to ≤ length text.now }
-        ensures filled { OnOk result (self.new ≡ take (to - from) (drop from text.now)) }
-        ensures err { OnErr result (self.new ≡ []) }
-    {
-        match text.read_part(&mut self.text, from, to) {
-            Ok(()) => Ok(()),
-            Err(e) => {
-                self.text.clear();
-                Err(e)
-            }
-        }
+        Ok(Name {
+            spelling: text.spelling(alloc, from, to)?,
+        })
     }
 
     /// The number of characters. Linear in it.
     pub fn len(&self) -> usize
         ensures { result ≡ length self.now }
     {
-        self.text.chars().count()
+        self.as_str().chars().count()
     }
 
     /// Whether there is no character.
@@ -89,15 +83,15 @@ impl Name {
         ensures value { chars result.now ≡ self.now }
         ensures scalars { IsTrue (all_scalars self.now) }
     {
-        self.text.as_str()
+        self.spelling.as_str()
     }
 
-    /// The same name once more.
+    /// The same name once more. Constant time.
     pub fn copy(&self) -> Result<Name, AllocError>
         ensures { IfOk result (λ copy. copy ≡ self.now) }
     {
         Ok(Name {
-            text: self.text.clone()?,
+            spelling: self.spelling.share()?,
         })
     }
 
@@ -106,14 +100,6 @@ impl Name {
         ensures { IsTrue result ↔ (self.now ≡ other.now) }
     {
         self == other
-    }
-}
-
-impl From<String> for Name {
-    ghost from_gives = { λ text name. name ≡ chars (string_bytes text) };
-
-    fn from(text: String) -> Name {
-        Name { text }
     }
 }
 

@@ -1,13 +1,15 @@
 //! A text: a list of at most `MAX_CHARS` characters, with `\n` as its only line break.
-ghost use Rattle.std.specs.Prelude.{◌≡◌, ◌≤◌, ◌<◌, ◌+◌, ◌-◌, ◌++◌, IfOk, IfErr, OnOk, OnErr, bytes_eq, length, slice_get, take, drop, Some, ◌==◌, encode_utf8_all};
+ghost use Rattle.std.specs.Prelude.{◌≡◌, ◌≤◌, ◌<◌, ◌+◌, ◌-◌, ◌++◌, IfSome, IfOk, IfErr, OnOk, OnErr, bytes_eq, length, slice_get, take, drop, Some, ◌==◌, encode_utf8_all};
 ghost use Rattle.std.specs.Str.{chars};
 ghost use Rattle.std.specs.String.{string_bytes};
 ghost use Rattle.ide_text.specs.Chars.{chars_of, IsKept};
 ghost use Rattle.ide_text.specs.Text.{IsText, max_chars, repaired};
+ghost use Rattle.ide_text.specs.Spelling.{bytes_of};
 ghost use Rattle.ide_text.specs.Place.{line_at, column_at};
 
 use crate::LineWalk;
 use crate::chars::{Chars, joined, repaired};
+use crate::spelling::Spelling;
 use std::alloc::{AllocError, Global};
 use std::marker::Model;
 use thiserror::Error;
@@ -113,6 +115,13 @@ impl Text {
         self.chars.char_at(at as usize)
     }
 
+    /// The text as a string, where its characters are kept as ASCII. Constant time.
+    pub fn ascii(&self) -> Option<&str>
+        ensures { IfSome result (λ ascii. ascii.now ≡ self.now) }
+    {
+        self.chars.ascii()
+    }
+
     /// The line and the column of an offset, both from 1. Linear in the offset.
     pub fn line_col(&self, at: u32) -> (u32, u32)
         requires { at ≤ length self.now }
@@ -122,15 +131,13 @@ impl Text {
         LineWalk::new(self).line_col(at)
     }
 
-    /// Puts the characters from one offset up to another into a string, in UTF-8, in place of what it has.
-    pub(crate) fn read_part(&self, out: &mut String, from: u32, to: u32) -> Result<(), AllocError>
+    /// How the characters from one offset up to another are spelt.
+    pub(crate) fn spelling(&self, alloc: Global, from: u32, to: u32) -> Result<Spelling, AllocError>
         requires ordered { from ≤ to }
         requires inside { to ≤ length self.now }
-        ensures utf8 { OnOk result (string_bytes out.new ≡ encode_utf8_all (take (to - from) (drop from self.now))) }
-        ensures value { OnOk result (chars (string_bytes out.new) ≡ take (to - from) (drop from self.now)) }
+        ensures { IfOk result (λ made. chars (bytes_of made) ≡ take (to - from) (drop from self.now)) }
     {
-        out.clear();
-        self.chars.add_part(out, from as usize, to as usize)
+        self.chars.spelling(alloc, from as usize, to as usize)
     }
 
     /// Puts the characters of another text in before an offset. Linear in both texts; without memory nothing changes.

@@ -1,19 +1,17 @@
 -- The identifiers of a text are whole words, and no word has a line break.
 use Rattle.std.proofs.Common.{◌≡◌, ◌≢◌, ℕ, zero, suc, ◌+◌, ◌≤◌, Bool, true, false, not, cond, ◌&&◌, ◌||◌, ◌==◌, List, [], ◌∷◌, length, map, take, drop, refl, sym, ap, ◌∙◌, subst, ⊎_elim, arith, lit<}
-use Rattle.std.specs.Prelude.{All, Contains, filter}
+use Rattle.std.specs.Prelude.{Contains, filter}
 use Rattle.std.specs.List.{AllByRecursion, list_all, prefix_len}
-use Rattle.std.specs.Str.{bytes_eq}
-use Rattle.std.proofs.lemmas.Bool.{cases_Bool, cases_lt, and_parts, eqb-true, true≢false}
+use Rattle.std.proofs.lemmas.Bool.{cases_lt, and_parts, eqb-true, true≢false}
 use Rattle.std.proofs.lemmas.List.Elements.{All-from_recursion}
 use Rattle.std.proofs.lemmas.Slice.Eq.{bytes_eq-Decides}
 use Rattle.unicode_ident.proofs.IdentLemmas.{is_xid_continue-ascii}
-use Rattle.java_tokens.specs.declared.kind.Kind.{Kind}
-use Rattle.java_tokens.specs.declared.kind.Kind.TheVariants.{Word, Number, Str, Char, TextBlock, LineComment, BlockComment, Punct}
+use Rattle.java_tokens.specs.declared.kind.Kind.TheVariants.{Word}
 use Rattle.java_tokens.specs.declared.token.Token.{Token}
 use Rattle.java_tokens.specs.Chars.{line_feed, is_white_space, is_in_line, begins_word, continues_word, first_passes}
-use Rattle.java_tokens.specs.Identifier.{is_word, is_reserved}
+use Rattle.java_tokens.specs.Identifier.{is_word}
 use Rattle.java_tokens.specs.Kind.{code_of, kind_at, length_of}
-use Rattle.java_tokens.specs.Tokens.{token_len, token_at, tokens_past, tokens_of, characters_of}
+use Rattle.java_tokens.specs.Tokens.{token_len, tokens_past, tokens_of, characters_of}
 use Rattle.java_tokens.specs.Words.{is_identifier_token}
 use Rattle.java_tokens.specs.Places.{is_use_of, places_of}
 use Rattle.java_tokens.proofs.KindLemmas.{by_kind, continues_word-begins}

@@ -31,7 +31,7 @@ pub fn words(alloc: Global, text: &Text, tokens: &[Token]) -> Result<WordList, A
     ensures in_order { IfOk result AreInOrder }
     ensures masks { IfOk result (λ list. HasMasksOf list (occurrences_of text.now)) }
 {
-    WordList::from_masks(alloc, masks_of(alloc, text, tokens)?)
+    WordList::from_masks(masks_of(alloc, text, tokens)?)
 }
 
 /// The words of a text, each with the places where it stands.

@@ -19,8 +19,7 @@ use std::marker::Model;
 #[derive(Drop)]
 pub(crate) struct Masks {
     rows: IndexMap<Name, u8>,
-    /// The name of the word at hand, in memory that is used again for each.
-    name: Name,
+    alloc: Global,
 }
 
 impl Model for Masks {
@@ -43,7 +42,7 @@ impl Masks {
     {
         Ok(Masks {
             rows: IndexMap::with_capacity(alloc, count)?,
-            name: Name::from(String::new(alloc)),
+            alloc,
         })
     }
 
@@ -59,29 +58,29 @@ impl Masks {
         requires inside { to ≤ length piece.now }
         ensures { OnOk result (self.new ≡ with_occurrence self.old (take (to - from) (drop from piece.now), bit_of place)) }
     {
-        piece.read_name(&mut self.name, from, to)?;
-        add_name(&mut self.rows, &self.name, place)
+        let name = piece.name(self.alloc, from, to)?;
+        add_name(&mut self.rows, name, place)
     }
 
     /// The words in order, each with its mask.
-    pub(crate) fn into_rows(self, alloc: Global) -> Result<Vec<(Name, u8)>, AllocError>
+    pub(crate) fn into_rows(self) -> Result<Vec<(Name, u8)>, AllocError>
         ensures { IfOk result (λ rows. rows.items ≡ self) }
     {
-        let mut rows = all_rows(alloc, self.rows)?;
+        let mut rows = all_rows(self.alloc, self.rows)?;
         put_in_order(&mut rows);
-        plain_rows(alloc, rows)
+        plain_rows(self.alloc, rows)
     }
 }
 
 /// Adds one occurrence of a name. It is looked up once where it was seen before.
-fn add_name(rows: &mut IndexMap<Name, u8>, name: &Name, place: Place) -> Result<(), AllocError>
-    ensures words { OnOk result (in_order_of rows.new.entries ≡ with_occurrence (in_order_of rows.old.entries) (name.now, bit_of place)) }
+fn add_name(rows: &mut IndexMap<Name, u8>, name: Name, place: Place) -> Result<(), AllocError>
+    ensures words { OnOk result (in_order_of rows.new.entries ≡ with_occurrence (in_order_of rows.old.entries) (name, bit_of place)) }
     ensures unique { IsUnique bytes_eq rows.new }
 {
-    match rows.get_mut(name) {
+    match rows.get_mut(&name) {
         Some(mask) => *mask |= place.bit(),
         None => {
-            rows.insert(name.copy()?, place.bit())?;
+            rows.insert(name, place.bit())?;
         }
     }
     Ok(())

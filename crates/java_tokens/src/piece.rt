@@ -1,10 +1,10 @@
 //! A part of a text, read by places of its own.
-ghost use Rattle.std.specs.Prelude.{◌≡◌, ◌+◌, ◌-◌, ◌<◌, ◌≤◌, suc, [], ◌∷◌, IsTrue, IfSome, IfNone, OnSome, OnOk, length, take, drop};
+ghost use Rattle.std.specs.Prelude.{◌≡◌, ◌+◌, ◌-◌, ◌<◌, ◌≤◌, suc, [], ◌∷◌, IsTrue, IfOk, IfSome, IfNone, OnSome, length, take, drop};
 ghost use Rattle.ide_text.specs.Text.{max_chars};
 ghost use Rattle.java_tokens.specs.Chars.{begins_with};
 
 use ide_text::{Name, Text};
-use std::alloc::AllocError;
+use std::alloc::{AllocError, Global};
 use std::marker::Model;
 
 /// Some characters of a text that follow one another.
@@ -13,17 +13,20 @@ pub struct Piece<'a> {
     text: &'a Text,
     from: u32,
     len: u32,
+    /// Its bytes, where the text is kept as ASCII.
+    ascii: Option<&'a [u8]>,
 }
 
 impl<'a> Model for Piece<'a> {
-    ghost use Rattle.std.specs.Prelude.{List, ℕ, ◌+◌, ◌≤◌, length, take, drop};
+    ghost use Rattle.std.specs.Prelude.{List, ℕ, ◌≡◌, ◌+◌, ◌≤◌, IfSome, length, take, drop};
     ghost use Rattle.ide_text.specs.Text.{max_chars};
 
     ghost Value = { List ℕ };
 
     ghost view = { λ p. take p.len (drop p.from p.text.now) };
 
-    ghost invariant = { λ p. (p.from + p.len ≤ length p.text.now) × (length p.text.now ≤ max_chars) };
+    ghost invariant = { λ p. (p.from + p.len ≤ length p.text.now) × (length p.text.now ≤ max_chars)
+        × IfSome p.ascii (λ bytes. bytes.now ≡ take p.len (drop p.from p.text.now)) };
 }
 
 impl<'a> Piece<'a> {
@@ -31,11 +34,7 @@ impl<'a> Piece<'a> {
     pub fn whole(text: &'a Text) -> Piece<'a>
         ensures { result ≡ text.now }
     {
-        Piece {
-            text,
-            from: 0,
-            len: text.len(),
-        }
+        Piece::part(text, 0, text.len())
     }
 
     /// So many characters from a place on.
@@ -44,7 +43,12 @@ impl<'a> Piece<'a> {
         ensures { result ≡ take len (drop from text.now) }
     {
         prove!(text.len() >= from + len);
-        Piece { text, from, len }
+        Piece {
+            text,
+            from,
+            len,
+            ascii: ascii_part(text, from, len),
+        }
     }
 
     /// The number of characters.
@@ -63,10 +67,10 @@ impl<'a> Piece<'a> {
         ensures none { IfNone result (drop at self.now ≡ []) }
         ensures few { length self.now ≤ max_chars }
     {
-        if at < self.len {
-            Some(self.text.char_at(self.from + at))
-        } else {
-            None
+        match self.ascii {
+            Some(bytes) => Some(*bytes.get(at as usize)? as char),
+            None if at < self.len => Some(self.text.char_at(self.from + at)),
+            None => None,
         }
     }
 
@@ -86,12 +90,22 @@ impl<'a> Piece<'a> {
         true
     }
 
-    /// Gives a name the characters from one place up to another.
-    pub fn read_name(&self, name: &mut Name, from: u32, to: u32) -> Result<(), AllocError>
+    /// The name that the characters from one place up to another are.
+    pub fn name(&self, alloc: Global, from: u32, to: u32) -> Result<Name, AllocError>
         requires ordered { from ≤ to }
         requires inside { to ≤ length self.now }
-        ensures { OnOk result (name.new ≡ take (to - from) (drop from self.now)) }
+        ensures { IfOk result (λ name. name ≡ take (to - from) (drop from self.now)) }
     {
-        name.refill(self.text, self.from + from, self.from + to)
+        Name::of_text(alloc, self.text, self.from + from, self.from + to)
     }
+}
+
+/// The bytes of so many characters of a text from a place on, where it is kept as ASCII.
+fn ascii_part(text: &Text, from: u32, len: u32) -> Option<&[u8]>
+    requires { from + len ≤ length text.now }
+    ensures { IfSome result (λ bytes. bytes.now ≡ take len (drop from text.now)) }
+{
+    let bytes = text.ascii()?.as_bytes();
+    let from = from as usize;
+    Some(&bytes[from..from + len as usize])
 }

@@ -4,7 +4,7 @@ ghost use Rattle.java_tokens.specs.Words.{AreInOrder, mask_in};
 
 use crate::masks::Masks;
 use ide_text::Name;
-use std::alloc::{AllocError, Global};
+use std::alloc::AllocError;
 use std::marker::Model;
 
 /// Names with masks: the names in order, each once, and the mask of each the union of the bits of the places where
@@ -28,12 +28,12 @@ impl Model for WordList {
 
 impl WordList {
     /// The words that were gathered.
-    pub(crate) fn from_masks(alloc: Global, masks: Masks) -> Result<WordList, AllocError>
+    pub(crate) fn from_masks(masks: Masks) -> Result<WordList, AllocError>
         requires { AreInOrder masks }
         ensures { IfOk result (λ list. list ≡ masks) }
     {
         Ok(WordList {
-            rows: masks.into_rows(alloc)?,
+            rows: masks.into_rows()?,
         })
     }
 

@@ -21,7 +21,7 @@ pub fn read_key(alloc: Global, text: &Text, from: u32) -> Result<(Name, u32), Al
         key.push(meant)?;
         at = past_joins(text, end);
     }
-    Ok((Name::from(key), at))
+    Ok((Name::of_string(alloc, key)?, at))
 }
 
 /// The character of a key that stands at an offset, and where it ends; none where the key ends before it.

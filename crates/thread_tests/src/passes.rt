@@ -133,7 +133,7 @@ fn change_of(alloc: Global, action: Action, number: u32) -> Result<Change, Alloc
 
 /// The path of a file.
 fn path_of(alloc: Global, number: u32) -> Result<Name, AllocError> {
-    Ok(Name::from(format!(in alloc; "F{number}.java")?))
+    Name::of_string(alloc, format!(in alloc; "F{number}.java")?)
 }
 
 /// A text of a file. One that is none, or too long, counts as running out of memory.

@@ -242,18 +242,19 @@ impl Files {
         ensures keeps_room { KeepsRoom self.old self.new }
     {
         let stamp = self.draw();
-        if let Some(row) = self.rows.put(id, None) {
-            self.paths.set(&row.path, None);
-            self.paths.set(&to, Some(id));
-            self.rows.put(
-                id,
-                Some(FileRow {
-                    path: to,
-                    stamp,
-                    ..row
-                }),
-            );
-        }
+        let Some(row) = self.rows.put(id, None) else {
+            unreachable!()
+        };
+        self.paths.set(&row.path, None);
+        self.paths.set(&to, Some(id));
+        self.rows.put(
+            id,
+            Some(FileRow {
+                path: to,
+                stamp,
+                ..row
+            }),
+        );
     }
 
     /// The same files once more.

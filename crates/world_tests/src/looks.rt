@@ -56,7 +56,7 @@ pub fn tell(
     let mut file = 0u32;
     for count in counts {
         file = file.saturating_add(1);
-        let path = Name::from(format!(in alloc; "{file}.{extension}")?);
+        let path = Name::of_string(alloc, format!(in alloc; "{file}.{extension}")?)?;
         add(alloc, home, path, line, *count)?;
         late_intake(alloc, home, &[], file, &[])?;
         let share = share_of(alloc, home)?;

@@ -11,7 +11,7 @@ use Rattle.java_tokens.proofs.masks.add_name.Goals as goal
 pub returns-in-Some-clause-words : goal.returns-in-Some-clause-words
 returns-in-Some-clause-words c =
     let es = c.args.rows.now.entries in
-    let name = c.args.name.now in
+    let name = c.args.name in
     let bit = bit_of c.args.place in
     let mask = bit_or c.in-Some.mask.now c.bit.result in
     let after = c.get_mut.follows.holds mask in
@@ -25,7 +25,7 @@ returns-in-Some-clause-words c =
 pub returns-in_ok-insert-in-None-clause-words : goal.returns-in_ok-insert-in-None-clause-words
 returns-in_ok-insert-in-None-clause-words c =
     let es = c.args.rows.now.entries in
-    let name = c.args.name.now in
+    let name = c.args.name in
     let bit = bit_of c.args.place in
     let mask = c.bit-in-None.result in
     let after = c.in_ok-insert-in-None.ensures in
@@ -34,6 +34,5 @@ returns-in_ok-insert-in-None-clause-words c =
     c.bit-in-None.ensures ∙ sym (or_zero_l bit) ∙ ap (λ had. bit_or (unwrap_or had 0) bit) c.in-None.ensures.value in
     gathered_more es c.insert.new.self.entries name bit c.get_mut.ensures.unique after.unique (λ other.
     after.updates.0 other
-    ∙ ap (λ k. cond (bytes_eq k other) (Some mask) (lookup (bytes_eq other) before.entries)) c.in_ok-copy-in-None.ensures
     ∙ ap (λ m. cond (bytes_eq name other) (Some mask) (lookup (bytes_eq other) m.entries)) c.get_mut.follows.holds-at-none
     ∙ ap (λ m. cond (bytes_eq name other) (Some m) (lookup (bytes_eq other) es)) is)

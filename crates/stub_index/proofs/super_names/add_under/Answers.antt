@@ -18,7 +18,7 @@ loop-name-preserved-in_ok-push c =
     let last : c.is_last.result ≡ true = search rules in
     let gone : has_name name rest ≡ false = not-true (has_name name rest)
     (sym (found_last found c.loop-name.left.now rest name split c.loop-name.invariant.1) ∙ sym c.is_last.ensures ∙ last) in (
-      for_last c.loop-name.rows.items c.push.new.self.items _ c.loop-name.left.now rest name c.args.stub.now split c.loop-name.invariant.0 gone (search rules),
+      for_last c.loop-name.rows.items c.push-then-is_last.new.self.items _ c.loop-name.left.now rest name c.args.stub.now split c.loop-name.invariant.0 gone (search rules),
       found_behind found c.loop-name.left.now rest name split c.loop-name.invariant.1,
     )
 

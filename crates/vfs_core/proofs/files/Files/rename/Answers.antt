@@ -19,19 +19,19 @@ set-requires c =
 pub invariant_of-self : goal.invariant_of-self
 invariant_of-self c =
     let rows = c.self.inside.rows.rows in
-    let rows' = c.put-in-Some.new.self.rows in
+    let rows' = c.put-2.new.self.rows in
     let ids = c.self.inside.paths in
     let id = c.args.id in
     let new = renamed c.args.to c.draw-stamp.result c.in-Some.row in
     let was = sym c.put.ensures.old ∙ c.in-Some.is in
-    let each = each_twice rows c.put.new.self.rows rows' id (Some new) c.put.ensures.each c.put-in-Some.ensures.each in
+    let each = each_twice rows c.put.new.self.rows rows' id (Some new) c.put.ensures.each c.put-2.ensures.each in
     let same = ap (λ h. h.rows) c.self.view_is ∙ c.draw-stamp.ensures.rows in
     let next = ap (λ h. h.next_stamp) c.self.view_is in
     let old = c.self.invariant.stamped id in
     record {
-      found = put_found rows rows' ids c.set-in-Some.new.self id (Some new) c.self.invariant.found each
+      found = put_found rows rows' ids c.set-2.new.self id (Some new) c.self.invariant.found each
           (λ path.
-          c.set-in-Some.ensures.ids path
+          c.set-2.ensures.ids path
           ∙ ap (λ o. cond (bytes_eq c.args.to path) (Some id) o) (c.set.ensures.ids path)
           ∙ ap (λ o. id_after id o (Some new) path (id_kept path ids)) (sym was))
           (λ path has lacks. ap (λ rs. id_at (record c.args.self.now { rows = rs }) path) same ∙ subst (λ p. id_at c.args.self.now p ≡ None) (same_text c.args.to path (sym has)) c.requires.free);
@@ -43,14 +43,14 @@ invariant_of-self c =
           c.self.invariant.stamped;
     }
 
-pub returns-in-Some-clause-rows : goal.returns-in-Some-clause-rows
-returns-in-Some-clause-rows c =
+pub returns-clause-rows : goal.returns-clause-rows
+returns-clause-rows c =
     let id = c.args.id in
     let new : ℕ → FileRow = λ stamp. renamed c.args.to stamp c.in-Some.row in
     let same = ap (λ h. h.rows) c.self.view_is ∙ c.draw-stamp.ensures.rows in
     let was = ap (λ rs. row_in rs id) (sym same) ∙ sym c.put.ensures.old ∙ c.in-Some.is in
-    set_twice c.self.inside.rows.rows c.put.new.self.rows c.put-in-Some.new.self.rows id (Some (new c.draw-stamp.result))
-    (ap (λ rs. is_some (row_in rs id)) same ∙ c.requires.live) c.put.ensures.kept c.put.ensures.made c.put-in-Some.ensures.kept
+    set_twice c.self.inside.rows.rows c.put.new.self.rows c.put-2.new.self.rows id (Some (new c.draw-stamp.result))
+    (ap (λ rs. is_some (row_in rs id)) same ∙ c.requires.live) c.put.ensures.kept c.put.ensures.made c.put-2.ensures.kept
     ∙ ap (λ rs. set rs (id - 1) (Some (new c.draw-stamp.result))) same
     ∙ ap (λ stamp. set c.args.self.now.rows (id - 1) (Some (new stamp))) c.draw-stamp.ensures.value
     ∙ ap (λ o. set c.args.self.now.rows (id - 1) (option_map (renamed c.args.to c.args.self.now.next_stamp) o)) (sym was)

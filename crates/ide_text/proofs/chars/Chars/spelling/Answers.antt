@@ -1,0 +1,6 @@
+use Rattle.std.proofs.Common.{rules}
+use Rattle.ide_text.proofs.Utf8Lemmas.{encodes-ascii_part}
+use Rattle.ide_text.proofs.chars.Chars.spelling.Goals as goal
+
+pub returns-in-Ascii : goal.returns-in-Ascii
+returns-in-Ascii c = search (rules, encodes-ascii_part)

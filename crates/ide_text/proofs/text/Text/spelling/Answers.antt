@@ -1,0 +1,6 @@
+use Rattle.std.proofs.Common.{rules}
+use Rattle.ide_text.proofs.Utf8Lemmas.{chars-part}
+use Rattle.ide_text.proofs.text.Text.spelling.Goals as goal
+
+pub returns : goal.returns
+returns c = search (rules, chars-part)
