@@ -1,5 +1,5 @@
 -- The rule at the beginning, and what it says at the end.
-use Rattle.std.proofs.Common.{◌≡◌, ℕ, zero, suc, ◌+◌, ◌<◌, Bool, true, false, List, [], ◌∷◌, length, get_or, refl, ap, ◌∙◌, sym, subst, arith, Some, None, Option, All, nat_lt, eqb, eqb-true}
+use Rattle.std.proofs.Common.{◌≡◌, ℕ, zero, suc, ◌+◌, ◌<◌, ◌≤◌, Bool, true, false, List, [], ◌∷◌, length, get_or, refl, ap, ◌∙◌, sym, subst, arith, Some, None, Option, All, nat_lt, eqb, eqb-true}
 use mathlib.Core.Option.{some, some-injective, some-ne-none}
 use lib.ListN.{get_elem?}
 use Rattle.std.proofs.lemmas.Bool.Decides.{nat_tests}
@@ -14,7 +14,7 @@ use Rattle.action_lock.specs.declared.view.Ended.{Ended}
 use Rattle.action_lock.specs.declared.view.View.{View}
 use Rattle.action_lock.specs.declared.view.Phase.TheVariants.{Out}
 use Rattle.action_lock.specs.Views.{bit, number_count, number_is, weight, weight_in, here, numbers, times, first_view, spent_view}
-use Rattle.action_lock.specs.Rule.{entries_of, IsSound, IsRecorded}
+use Rattle.action_lock.specs.Rule.{entries_of, KnowsPlaces, IsSound, IsRecorded}
 use Rattle.action_lock.specs.Steps.{KnowsItsLists}
 use Rattle.action_lock.proofs.Lookups.{replicate_there, there_or}
 use Rattle.action_lock.proofs.Placing.{Rule}
@@ -29,8 +29,8 @@ first_once zero = refl
 first_once (suc n) = grind (arith, nat_tests)
 
 module _ {E : Type 0} (number_of : E → ℕ) where
-  first_sound : IsSound number_of [] 1 first_view
-  first_sound = record {
+  first_sound : (places : ℕ) → IsSound number_of [] 1 (first_view places)
+  first_sound places = record {
     spent = λ none_there. absurd (cc);
     counts = λ _. refl;
     asks = λ some_mark. absurd (omega arith);
@@ -43,9 +43,9 @@ module _ {E : Type 0} (number_of : E → ℕ) where
     ended = λ k d l. absurd (omega arith);
   }
 
-  only_first : (seat : ℕ) (v : View E) → get_elem? (first_view ∷ []) seat ≡ some v → IsSound number_of [] 1 v
-  only_first zero v e = subst (IsSound number_of [] 1) (some-injective first_view v e) first_sound
-  only_first (suc seat) v e = absurd (some-ne-none v (sym e))
+  only_first : (places seat : ℕ) (v : View E) → get_elem? (first_view places ∷ []) seat ≡ some v → IsSound number_of [] 1 v
+  only_first places zero v e = subst (IsSound number_of [] 1) (some-injective (first_view places) v e) (first_sound places)
+  only_first places (suc seat) v e = absurd (some-ne-none v (sym e))
 
   -- a view without a number weighs nothing
   no_weight : (history : List E) (drawn : ℕ) (f : View E → ℕ) → f (spent_view {E = E}) ≡ 0 → (v : View E) (number : Option ℕ) → v.number ≡ number → IsSound number_of history drawn v → numbers v ≡ 0 → f v ≡ 0
@@ -82,15 +82,20 @@ module _ {E : Type 0} (number_of : E → ℕ) where
         (λ d k l. let e : E = get_or history k d in
         number_seen history drawn v (number_of e) v.number refl (r.each id v at) (has_all number_of history drawn vs r id v at leads full (number_of e) (r.known k d l)))
 
-module _ {H S E : Type 0} (stands : H → List E → Type 0) where
+-- the first view knows how many places there are
+first_knows : {E : Type 0} (places seat : ℕ) (v : View E) → get_elem? (first_view places ∷ []) seat ≡ some v → KnowsPlaces places v
+first_knows places zero v e = subst (KnowsPlaces places) (some-injective (first_view places) v e) (λ n has. refl)
+first_knows places (suc seat) v e = absurd (some-ne-none v (sym e))
+
+module _ {H S E : Type 0} (stands : H → List E → Type 0) (places : ℕ) where
   -- what each slot has when the lock is closed: the places no home value, and the last slot the home value, which stands for these entries
   pub record IsClosed (slots : List (Slot H S)) (entries : List E) : Type 0 where
     pub home : H
-    pub home_there : get_elem? slots 32 ≡ some (Home home)
+    pub home_there : get_elem? slots places ≡ some (Home home)
     pub home_stands : stands home entries
-    pub others : (p : ℕ) → p < 32 → (kept : Slot H S) × (get_elem? slots p ≡ some kept) × HasNoHome kept
+    pub others : (p : ℕ) → p < places → (kept : Slot H S) × (get_elem? slots p ≡ some kept) × HasNoHome kept
 
-module _ {H S E : Type 0} (number_of : E → ℕ) (stands : H → List E → Type 0) (share_stands : S → List E → Type 0) where
+module _ {H S E : Type 0} (number_of : E → ℕ) (stands : H → List E → Type 0) (share_stands : S → List E → Type 0) (places : ℕ) where
   -- what the place keeps is among the shares
   kept_at : (shares more : List (Slot H S)) (p : ℕ) → p < length shares → All (MayKeep share_stands []) shares
       → (kept : Slot H S) × (get_elem? (map some (shares ++ more)) p ≡ some (some kept)) × MayKeep {E = E} share_stands [] kept
@@ -99,9 +104,9 @@ module _ {H S E : Type 0} (number_of : E → ℕ) (stands : H → List E → Typ
       (kept, at_map some (shares ++ more) p kept (at_longer shares more p kept (there_or shares p Empty l)), may p Empty l)
 
   -- a home value that stands for no entry opens the lock, behind shares of it
-  pub opens : (home : H) (shares : List (Slot H S)) → stands home [] → length shares ≡ 32 → All (MayKeep share_stands []) shares
-      → Rule number_of stands share_stands (opening (replicate 544 0) (shares ++ Home home ∷ []) first_view)
-  opens home shares empty many may = record {
+  pub opens : (home : H) (shares : List (Slot H S)) → stands home [] → 0 < places → places ≤ 32 → length shares ≡ places → All (MayKeep share_stands []) shares
+      → Rule number_of stands share_stands places (opening (replicate 544 0) (shares ++ Home home ∷ []) (first_view places))
+  opens home shares empty some_place few many may = record {
     history = [];
     drawn = 1;
     recorded = record {
@@ -110,9 +115,11 @@ module _ {H S E : Type 0} (number_of : E → ℕ) (stands : H → List E → Typ
       in_all = refl;
       limit = omega arith;
       known = λ k d l. absurd (omega arith);
-      each = only_first number_of;
+      each = only_first number_of places;
     };
     placed = record {
+      some_place = some_place;
+      spread = first_knows places;
       each = λ p l. record {
         word_is = replicate_there 544 (word_at p) 0 (omega arith);
         one_turn = omega arith;
@@ -121,7 +128,7 @@ module _ {H S E : Type 0} (number_of : E → ℕ) (stands : H → List E → Typ
         away = λ some_holds. absurd (omega arith);
       };
       home = record {
-        at_home = λ _. (home, at_map some (shares ++ Home home ∷ []) 32 (Home home) (at_last shares (Home home) 32 many), empty);
+        at_home = λ _. (home, at_map some (shares ++ Home home ∷ []) places (Home home) (at_last shares (Home home) places many), empty);
         away = λ some_write. absurd (omega arith);
       };
       intents_are = replicate_there 544 16 0 (omega arith);
@@ -132,7 +139,7 @@ module _ {H S E : Type 0} (number_of : E → ℕ) (stands : H → List E → Typ
 
   -- where number 0 has met all others, all is at home, and the home value stands for all that it has seen
   pub closes : (id : ℕ) (v : View E) (words : List ℕ) (slots : List (Slot H S)) → v.number ≡ Some 0 → v.drawn ≡ length v.ended + 1 → v.phase ≡ Out
-      → Final (Seen (Rule number_of stands share_stands) id v) words slots → IsClosed stands slots v.seen × KnowsItsLists number_of v
+      → Final (Seen (Rule number_of stands share_stands places) id v) words slots → IsClosed stands places slots v.seen × KnowsItsLists number_of v × (v.places ≡ places)
   closes id v words slots leads full is (s, (r, at), words_are, as_long, there) =
       let one : number_count v.number ≡ 1 = ap number_count leads in
       let sound = r.recorded.each id v at in
@@ -148,9 +155,10 @@ module _ {H S E : Type 0} (number_of : E → ℕ) (stands : H → List E → Typ
       let whole = seen_whole number_of r.history r.drawn s.views r.recorded id v at leads full in (
         record {
           home = home.0;
-          home_there = there 32 (Home home.0) home.1;
+          home_there = there places (Home home.0) home.1;
           home_stands = subst (stands home.0) (sym whole) home.2;
           others = λ p l. let kept = (r.placed.each p l).at_home (none_held p) in (kept.0, there p kept.0 kept.1, no_home share_stands r.history kept.0 kept.2);
         },
         knows number_of r.history r.drawn s.views r.recorded id v at,
+        r.placed.spread id v at 0 leads,
       )

@@ -11,7 +11,7 @@ use Rattle.action_lock.specs.declared.view.Ended.{Ended}
 use Rattle.action_lock.specs.declared.view.View.{View}
 use Rattle.action_lock.specs.Words.{own_place}
 use Rattle.action_lock.specs.Views.{Tally, Writing, weight_in, weight, here, tally, intending, writes, bit, number_is, times}
-use Rattle.action_lock.specs.Rule.{turns, entries_of, IsSound, IsRecorded, SeesAll}
+use Rattle.action_lock.specs.Rule.{turns, entries_of, KnowsPlaces, IsSound, IsRecorded, SeesAll}
 use Rattle.action_lock.specs.Steps.{placing}
 use Rattle.action_lock.proofs.Weights.{own_within, bit_below, below_yes, weighs_own}
 use Rattle.action_lock.proofs.Placing.{recorded_as}
@@ -66,7 +66,7 @@ module _ {E : Type 0} (number_of : E → ℕ) where
 
   module _ (history : List E) (drawn : ℕ) (e : E) where
     -- a view that has not the number of the entry, and isn't in, stays sound
-    grown : (u : View E) → IsSound number_of history drawn u → times (number_of e) u ≡ 0 → (weight (own_place u.number) u).visitors ≡ 0 → (weight (own_place u.number) u).readers ≡ 0 → bit u.intent ≡ 0
+    grown : (u : View E) → IsSound number_of history drawn u → times (number_of e) u ≡ 0 → (weight (own_place u.places u.number) u).visitors ≡ 0 → (weight (own_place u.places u.number) u).readers ≡ 0 → bit u.intent ≡ 0
         → IsSound number_of (history ++ e ∷ []) drawn u
     grown u sound not_its no_turn no_read intentless = record {
       spent = sound.spent;
@@ -76,7 +76,7 @@ module _ {E : Type 0} (number_of : E → ℕ) where
       seen = front_trans u.seen history (history ++ e ∷ []) sound.seen (e ∷ [], refl);
       olds = sound.olds;
       entered = let own = weighs_own u u.phase refl in
-          sees_nothing (own_place u.number) u.phase (u.seen ≡ history ++ e ∷ []) (sym (ap (λ (t : Tally). t.visitors) own) ∙ no_turn) (sym (ap (λ (t : Tally). t.readers) own) ∙ no_read)
+          sees_nothing (own_place u.places u.number) u.phase (u.seen ≡ history ++ e ∷ []) (sym (ap (λ (t : Tally). t.visitors) own) ∙ no_turn) (sym (ap (λ (t : Tally). t.readers) own) ∙ no_read)
           (no_write u.phase u.intent sound.asks intentless);
       current = λ is. absurd (let a = sound.current_intends is in let b = no_intent u.intent intentless in cc);
       mine = λ n is. ((sound.mine n is).0 ∙ sym (others_same n e history (λ same. absurd (let one = counted_once n u.number is in let none_there : times n u ≡ 0 = subst (λ (k : ℕ). times k u ≡ 0) same not_its in omega arith))), (sound.mine n is).1);
@@ -86,7 +86,7 @@ module _ {E : Type 0} (number_of : E → ℕ) where
     }
 
     -- the view that made it
-    made : (v : View E) → IsSound number_of history drawn v → v.number ≡ Some (number_of e) → v.phase ≡ Writing → v.seen ≡ history → times (number_of e) v ≤ 1
+    made : (v : View E) → IsSound number_of history drawn v → v.number ≡ Some (number_of e) → v.phase ≡ Writing v.places → v.seen ≡ history → times (number_of e) v ≤ 1
         → IsSound number_of (history ++ e ∷ []) drawn (placing e v)
     made v sound has is all_seen few = record {
       spent = λ none_there. absurd (some_number v.number (number_of e) has none_there);
@@ -108,17 +108,17 @@ module _ {E : Type 0} (number_of : E → ℕ) where
         same_number : (o : Option ℕ) (a b : ℕ) → o ≡ Some a → o ≡ Some b → a ≡ b
         same_number o a b p q = cc
 
-    module _ (vs : List (View E)) (r : IsRecorded number_of history drawn vs) (id : ℕ) (v : View E) (at : get_elem? vs id ≡ some v) (has : v.number ≡ Some (number_of e)) (is : v.phase ≡ Writing)
-        (intends : v.intent ≡ true) (all_seen : v.seen ≡ history) (one_turn : (p : ℕ) → p < 32 → turns (tally p vs) ≤ 1) (one_intent : intending vs ≤ 1)
-        (no_read : (p : ℕ) → p < 32 → (tally p vs).readers ≡ 0) where
+    module _ (vs : List (View E)) (r : IsRecorded number_of history drawn vs) (id : ℕ) (v : View E) (at : get_elem? vs id ≡ some v) (has : v.number ≡ Some (number_of e)) (is : v.phase ≡ Writing v.places)
+        (intends : v.intent ≡ true) (all_seen : v.seen ≡ history) (some_place : 0 < v.places) (spread : (j : ℕ) (u : View E) → get_elem? vs j ≡ some u → KnowsPlaces v.places u)
+        (one_turn : (p : ℕ) → p < v.places → turns (tally p vs) ≤ 1) (one_intent : intending vs ≤ 1) (no_read : (p : ℕ) → p < v.places → (tally p vs).readers ≡ 0) where
       others : (j : ℕ) (u : View E) → j ≢ id → get_elem? vs j ≡ some u → IsSound number_of (history ++ e ∷ []) drawn u
       others j u apart there =
           let two = total-two (times (number_of e)) vs id j v u apart at there in let once = r.once (number_of e) in let bound = bit_below (nat_lt (number_of e) drawn) in
           let one = counted_once (number_of e) v.number has in
-          let p : ℕ = own_place u.number in let within : p < 32 = own_within u.number in
+          let p : ℕ = own_place u.places u.number in let within : p < v.places = own_within u v.places some_place (spread j u there) in
           let visits = total-at (λ (w : View E). (weight p w).visitors) vs j u there in
           let shuts = total-at (λ (w : View E). (weight p w).writers) vs id v at in
-          let writes_there : (weight p v).writers ≡ 1 = ap (λ P. (weight_in (here p v) p P).writers) is ∙ below_yes p 32 within in
+          let writes_there : (weight p v).writers ≡ 1 = ap (λ P. (weight_in (here p v) p P).writers) is ∙ below_yes p v.places within in
           let turn = one_turn p within in let none_reads = no_read p within in
           let reads = total-at (λ (w : View E). (weight p w).readers) vs j u there in
           let intent_two = total-two (λ (w : View E). bit w.intent) vs id j v u apart at there in

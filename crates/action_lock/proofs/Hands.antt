@@ -1,24 +1,32 @@
 -- What a seat has in hand, and the slot that it took last.
-use Rattle.std.proofs.Common.{◌≡◌, ℕ, suc, ◌+◌, List, [], ◌∷◌, get_or, refl, ap, ◌∙◌, sym, arith}
+use Rattle.std.proofs.Common.{◌≡◌, ℕ, suc, ◌+◌, ◌-◌, ◌<◌, List, [], ◌∷◌, get_or, refl, ap, ◌∙◌, sym, arith}
 use Rattle.atomic_table.specs.Table.{rest}
 use Rattle.action_lock.specs.declared.slot.Slot.{Slot}
 use Rattle.action_lock.specs.declared.slot.Slot.TheVariants.{Home, Share, Empty}
-use Rattle.action_lock.specs.Slots.{shut_hand}
+use Rattle.action_lock.specs.Slots.{shut_hand, writing_hand}
 
 module _ {H S : Type 0} where
   -- one place more is shut
-  pub hand_next : (k : ℕ) → shut_hand {H = H} {S = S} (k + 1) ≡ (k, Empty) ∷ shut_hand k
+  pub hand_next : (places k : ℕ) → shut_hand {H = H} {S = S} places (k + 1) ≡ (k, Empty) ∷ shut_hand places k
   unfolding shut_hand
-  hand_next k = ap (shut_hand {H = H} {S = S}) (let e : k + 1 ≡ suc k = omega arith in e)
+  hand_next places k = ap (shut_hand {H = H} {S = S} places) (let e : k + 1 ≡ suc k = omega arith in e)
 
   -- with no place but the first shut there is its slot and that of the home value
-  pub hand_first : shut_hand {H = H} {S = S} 1 ≡ (0, Empty) ∷ (32, Empty) ∷ []
+  pub hand_first : (places : ℕ) → shut_hand {H = H} {S = S} places 1 ≡ (0, Empty) ∷ (places, Empty) ∷ []
   unfolding shut_hand
-  hand_first = refl
+  hand_first places = refl
 
   -- all places are shut
-  pub hand_last : shut_hand {H = H} {S = S} 32 ≡ (31, Empty) ∷ shut_hand 31
-  hand_last = hand_next 31
+  pub hand_last : (places : ℕ) → 0 < places → shut_hand {H = H} {S = S} places places ≡ (places - 1, Empty) ∷ shut_hand places (places - 1)
+  hand_last places some_place = ap (shut_hand {H = H} {S = S} places) (let e : places ≡ places - 1 + 1 = omega arith in e) ∙ hand_next places (places - 1)
+
+  -- the same, by the number that the code found
+  pub hand_all : (places found : ℕ) → found ≡ places → 0 < found → shut_hand {H = H} {S = S} places places ≡ (found - 1, Empty) ∷ shut_hand places (places - 1)
+  hand_all places found own some_place = hand_last places (omega arith) ∙ ap (λ n. (n - 1, Empty) ∷ shut_hand places (places - 1)) (sym own)
+
+  -- and with the home value in the slot of the last place
+  pub hand_home : (places found : ℕ) (home : H) → found ≡ places → writing_hand {H = H} {S = S} places home ≡ (found - 1, Home home) ∷ shut_hand places (places - 1)
+  hand_home places found home own = ap (λ n. (n - 1, Home home) ∷ shut_hand places (places - 1)) (sym own)
 
   -- the home value of a slot, if it has one
   abbrev pub home_or : H → Slot H S → H

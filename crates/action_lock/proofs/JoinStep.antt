@@ -11,7 +11,7 @@ use Rattle.action_lock.specs.declared.view.View.{View}
 use Rattle.action_lock.specs.Views.{weight, weight_in, here, tally, bit, number_count, number_is, leading, numbers, times, spent_view}
 use Rattle.action_lock.specs.Rule.{entries_of, IsSound, IsRecorded, SeesAll}
 use Rattle.action_lock.specs.Steps.{joined, end_of}
-use Rattle.action_lock.proofs.Placing.{Rule, each_set, placed_same}
+use Rattle.action_lock.proofs.Placing.{Rule, each_set, placed_same, spread_put, spread_set}
 use Rattle.list_laws.specs.Totals.{total}
 use Rattle.list_laws.specs.Fronts.{IsFront, longer}
 use Rattle.list_laws.proofs.TotalLemmas.{total-set, total-append}
@@ -137,16 +137,17 @@ module _ {E : Type 0} (number_of : E → ℕ) where
             (each_set number_of history drawn vs id both (joined_sound history drawn v w n m has has' (r.each id v at) (r.each other w there') is) r.each);
       }
 
-module _ {H S E : Type 0} (number_of : E → ℕ) (stands : H → List E → Type 0) (share_stands : S → List E → Type 0) where
+module _ {H S E : Type 0} (number_of : E → ℕ) (stands : H → List E → Type 0) (share_stands : S → List E → Type 0) (places : ℕ) where
   pub joins : (id : ℕ) (v : View E) (other : ℕ) (w : View E) (n m : ℕ) → v.number ≡ Some n → v.phase ≡ Out → w.number ≡ Some m → 0 < m → w.phase ≡ Out → w.intent ≡ false
-      → Joins (Rule number_of stands share_stands) id v other w (joined v w) spent_view
+      → Joins (Rule number_of stands share_stands places) id v other w (joined v w) spent_view
   joins id v other w n m has is has' follows is' free s r at apart there =
       let there' : get_elem? s.views other ≡ some w = sym (set_else s.views id other (joined v w) apart) ∙ there in
       record {
         history = r.history;
         drawn = r.drawn;
         recorded = joined_recorded number_of r.history r.drawn s.views r.recorded id v other w n m at there' there has is has' follows;
-        placed = placed_same stands share_stands r.history s (set (set s.views id (joined v w)) other spent_view) r.placed
+        placed = placed_same stands share_stands places r.history s (set (set s.views id (joined v w)) other spent_view) r.placed
+            (spread_put places (set s.views id (joined v w)) other spent_view (λ k none_there. absurd (cc)) (spread_set places s.views id v (joined v w) at refl refl r.placed.spread))
             (λ p. join_tally p s.views id other v w (joined v w) at there refl (ap (weight_in (here p w) p) is'))
             (both_same (λ (u : View E). bit u.intent) s.views id other v w (joined v w) spent_view at there (λ k. bit v.intent + bit (sym free k)));
       }

@@ -7,9 +7,9 @@ use Rattle.atomic_table.specs.Table.{Splits}
 use Rattle.atomic_table.proofs.Lists.{at_set, at_snoc}
 use Rattle.action_lock.specs.declared.view.View.{View}
 use Rattle.action_lock.specs.Views.{weight, tally, bit, number_count, number_is, leading, numbers, times}
-use Rattle.action_lock.specs.Rule.{entries_of, IsSound, IsRecorded}
+use Rattle.action_lock.specs.Rule.{entries_of, IsSound, IsRecorded, KnowsPlaces}
 use Rattle.action_lock.specs.Steps.{splitting, split_off}
-use Rattle.action_lock.proofs.Placing.{Rule, placed_same}
+use Rattle.action_lock.proofs.Placing.{Rule, placed_same, spread_set}
 use Rattle.list_laws.specs.Totals.{total}
 use Rattle.list_laws.proofs.TotalLemmas.{total-same, total-at, total-two, total-append}
 use Rattle.list_laws.proofs.FrontLemmas.{front_all, filter_none, All-weaken}
@@ -37,6 +37,16 @@ module _ {E : Type 0} where
     readers = unchanged (λ (u : View E). (weight p u).readers) views id v left right at (ap (λ t. t.readers) same) (ap (λ t. t.readers) none_more) k;
     holders = unchanged (λ (u : View E). (weight p u).holders) views id v left right at (ap (λ t. t.holders) same) (ap (λ t. t.holders) none_more) k;
   }
+
+module _ {E : Type 0} where
+  -- the new pass knows as much
+  split_spread : (places : ℕ) (vs : List (View E)) (id : ℕ) (v : View E) → get_elem? vs id ≡ some v → v.places ≡ places
+      → ((j : ℕ) (u : View E) → get_elem? vs j ≡ some u → KnowsPlaces places u)
+      → (j : ℕ) (u : View E) → get_elem? (set vs id (splitting v) ++ split_off v ∷ []) j ≡ some u → KnowsPlaces places u
+  split_spread places vs id v at knows all j u e = ⊎_elim
+      (λ (t : get_elem? (set vs id (splitting v)) j ≡ some u). spread_set places vs id v (splitting v) at refl refl all j u t)
+      (λ (t : split_off v ≡ u). subst (KnowsPlaces places) t (λ n has. knows))
+      (at_snoc (set vs id (splitting v)) (split_off v) u j e)
 
 one_more : (n d : ℕ) → bit (nat_lt n d) + bit (eqb d n) ≡ bit (nat_lt n (d + 1))
 one_more n d = grind (arith, nat_tests)
@@ -127,12 +137,13 @@ module _ {E : Type 0} (number_of : E → ℕ) where
               (at_snoc (set vs id left) right u j e);
         }
 
-module _ {H S E : Type 0} (number_of : E → ℕ) (stands : H → List E → Type 0) (share_stands : S → List E → Type 0) where
-  pub splits : (id : ℕ) (v : View E) → v.number ≡ Some 0 → v.drawn < 65536 → Splits (Rule number_of stands share_stands) id v (splitting v) (split_off v)
+module _ {H S E : Type 0} (number_of : E → ℕ) (stands : H → List E → Type 0) (share_stands : S → List E → Type 0) (places : ℕ) where
+  pub splits : (id : ℕ) (v : View E) → v.number ≡ Some 0 → v.drawn < 65536 → Splits (Rule number_of stands share_stands places) id v (splitting v) (split_off v)
   splits id v leads room s r at = record {
     history = r.history;
     drawn = r.drawn + 1;
     recorded = split_recorded number_of r.history r.drawn s.views r.recorded id v leads at room;
-    placed = placed_same stands share_stands r.history s (set s.views id (splitting v) ++ split_off v ∷ []) r.placed (λ p. split_tally p s.views id v (splitting v) (split_off v) at refl refl)
+    placed = placed_same stands share_stands places r.history s (set s.views id (splitting v) ++ split_off v ∷ []) r.placed
+        (split_spread places s.views id v at (r.placed.spread id v at 0 leads) r.placed.spread) (λ p. split_tally p s.views id v (splitting v) (split_off v) at refl refl)
         (unchanged (λ (u : View E). bit u.intent) s.views id v (splitting v) (split_off v) at refl refl);
   }

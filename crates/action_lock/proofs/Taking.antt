@@ -3,14 +3,14 @@ use Rattle.std.proofs.Common.{◌≡◌, ℕ, ◌+◌, ◌<◌, ◌≤◌, Bool,
 use Rattle.std.proofs.lemmas.Bool.{eqb-false}
 use Rattle.std.proofs.lemmas.List.{get_or-set_same, get_or-set_other}
 
--- those from this place on, and no others
-pub record HasTaken (place : ℕ) (filled : List Bool) : Type 0 where
-  pub left : (k : ℕ) → place ≤ k → k < 33 → get_or filled k false ≡ true
+-- of so many, those from this place on, and no others
+pub record HasTaken (slots place : ℕ) (filled : List Bool) : Type 0 where
+  pub left : (k : ℕ) → place ≤ k → k < slots → get_or filled k false ≡ true
   pub gone : (k : ℕ) → k < place → get_or filled k false ≡ false
 
 -- one more is taken
-pub taken_next : (place : ℕ) (filled : List Bool) → place < length filled → HasTaken place filled → HasTaken (place + 1) (set filled place false)
-taken_next place filled l taken = record {
+pub taken_next : (slots place : ℕ) (filled : List Bool) → place < length filled → HasTaken slots place filled → HasTaken slots (place + 1) (set filled place false)
+taken_next slots place filled l taken = record {
   left = λ k more less. get_or-set_other filled place k false false (λ e. omega arith) ∙ taken.left k (omega arith) less;
   gone = λ k less. by_test k less (eqb k place) refl;
 }

@@ -50,14 +50,14 @@ module _ {E : Type 0} where
       no_others = λ leads full. All-weaken (λ e. number_of e < drawn) (λ e. times (number_of e) v ≡ 1) v.seen (λ e below. has_all leads full (number_of e) below) all_known;
     }
 
-module _ {H S E : Type 0} (number_of : E → ℕ) (stands : H → List E → Type 0) (share_stands : S → List E → Type 0) where
-  pub tells : (slots id n : ℕ) (me : Me (Slot H S) (View E)) → me.0.number ≡ Some n → Allows (Rule number_of stands share_stands) slots id me count (λ x. x) (Tells number_of (step slots count 0 0 none) me)
+module _ {H S E : Type 0} (number_of : E → ℕ) (stands : H → List E → Type 0) (share_stands : S → List E → Type 0) (places : ℕ) where
+  pub tells : (slots id n : ℕ) (me : Me (Slot H S) (View E)) → me.0.number ≡ Some n → Allows (Rule number_of stands share_stands places) slots id me count (λ x. x) (Tells number_of (step slots count 0 0 none) me)
   tells slots id n me has s r _ at _ =
       let v : View E = me.0 in let sound = r.recorded.each id v at in
       let known = knows number_of r.history r.drawn s.views r.recorded id v at in (
         told v,
         keeps,
         tt,
-        quiet number_of stands share_stands s r count id v (told v) at refl refl refl refl (told_all number_of r.history r.drawn v n has sound),
+        quiet number_of stands share_stands places s r count id v (told v) at refl refl refl refl refl (told_all number_of r.history r.drawn v n has sound),
         (refl, sound.olds, record { few = known.few; mine = known.mine; ended = known.ended; known = known.known; no_others = known.no_others }),
       )

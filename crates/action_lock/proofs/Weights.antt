@@ -1,5 +1,5 @@
 -- What a view weighs at each place.
-use Rattle.std.proofs.Common.{◌≡◌, ◌≢◌, ℕ, ◌+◌, ◌<◌, ◌≤◌, Bool, true, false, if◌then◌else◌, Option, Some, None, refl, sym, ap, ◌∙◌, arith, eqb, nat_lt, ne_eqb, eqb-true, lt-ltb, ltb-true}
+use Rattle.std.proofs.Common.{◌≡◌, ◌≢◌, ℕ, ◌+◌, ◌<◌, ◌≤◌, Bool, true, false, if◌then◌else◌, Option, Some, None, refl, sym, ap, ◌∙◌, arith, eqb, nat_lt, ne_eqb, eqb-true, lt-ltb, ltb-true, mod-lt, ◌%◌, subst}
 use Rattle.std.proofs.lemmas.Bool.{eq-eqb, le-ltb, ltb-false}
 use Rattle.action_lock.specs.declared.view.Phase.{Phase}
 use Rattle.action_lock.specs.declared.view.Phase.TheVariants.{Out, Marking, Opening}
@@ -7,11 +7,6 @@ use Rattle.action_lock.specs.declared.view.View.{View}
 use Rattle.action_lock.specs.Words.{own_place}
 use Rattle.action_lock.specs.Views.{Writing, weight_in, weight, below, bit}
 use Rattle.action_lock.specs.Steps.{marked, opened}
-
--- each pass has one of the 32 places
-pub own_within : (o : Option ℕ) → own_place o < 32
-own_within (Some n) = omega arith
-own_within None = omega arith
 
 pub bit_below : (b : Bool) → bit b ≤ 1
 bit_below true = omega arith
@@ -41,12 +36,12 @@ marked_weighs h p k = by_test (eqb k 0) refl
     by_test false e = refl
 
 -- with all places shut it weighs what it does before the first is opened
-pub opened_weighs : (h p k : ℕ) → p < 32 → weight_in h p (opened k) ≡ weight_in h p (Opening k)
-opened_weighs h p k within = by_test (eqb k 32) refl
+pub opened_weighs : (places h p k : ℕ) → p < places → weight_in h p (opened places k) ≡ weight_in h p (Opening k)
+opened_weighs places h p k within = by_test (eqb k places) refl
   where
-    by_test : (b : Bool) → eqb k 32 ≡ b → weight_in h p (if b then Writing else Opening k) ≡ weight_in h p (Opening k)
-    by_test true e = let all_shut : k ≡ 32 = eqb-true k 32 e in let one : below p 32 ≡ 1 = below_yes p 32 within in
-        let same : below p 32 ≡ below p k = ap (below p) (sym all_shut) in
+    by_test : (b : Bool) → eqb k places ≡ b → weight_in h p (if b then Writing places else Opening k) ≡ weight_in h p (Opening k)
+    by_test true e = let all_shut : k ≡ places = eqb-true k places e in let one : below p places ≡ 1 = below_yes p places within in
+        let same : below p places ≡ below p k = ap (below p) (sym all_shut) in
         λ i. record { visitors = 0; writers = same i; pendings = (sym one ∙ same) i; readers = 0; holders = same i }
     by_test false e = refl
 
@@ -55,24 +50,32 @@ pub marked_next : (k : ℕ) → marked (k + 1) ≡ Marking (k + 1)
 marked_next k = ap (λ b. if b then Out else Marking (k + 1)) (ne_eqb (k + 1) 0 (λ e. omega arith))
 
 -- a place that isn't the last is opened
-pub opened_next : (k : ℕ) → k < 32 → opened k ≡ Opening k
-opened_next k l = ap (λ b. if b then Writing else Opening k) (ne_eqb k 32 (λ e. omega arith))
+pub opened_next : (places k : ℕ) → k < places → opened places k ≡ Opening k
+opened_next places k l = ap (λ b. if b then Writing places else Opening k) (ne_eqb k places (λ e. omega arith))
 
 module _ {E : Type 0} where
+  -- each view has one of the places
+  pub own_within : (v : View E) (places : ℕ) → 0 < places → ((n : ℕ) → v.number ≡ Some n → v.places ≡ places) → own_place v.places v.number < places
+  own_within v places some_place known = by_number v.number refl
+    where
+      by_number : (o : Option ℕ) → v.number ≡ o → own_place v.places o < places
+      by_number None e = some_place
+      by_number (Some n) e = subst (λ p. n % p < places) (sym (known n e)) (mod-lt n some_place)
+
   -- what a view weighs by its phase, at its own place
-  pub weighs_own : (v : View E) (P : Phase) → v.phase ≡ P → weight (own_place v.number) v ≡ weight_in 1 (own_place v.number) P
-  weighs_own v P is = λ i. weight_in (bit (eq-eqb (own_place v.number) (own_place v.number) refl i)) (own_place v.number) (is i)
+  pub weighs_own : (v : View E) (P : Phase) → v.phase ≡ P → weight (own_place v.places v.number) v ≡ weight_in 1 (own_place v.places v.number) P
+  weighs_own v P is = λ i. weight_in (bit (eq-eqb (own_place v.places v.number) (own_place v.places v.number) refl i)) (own_place v.places v.number) (is i)
 
   -- and at another
-  pub weighs_else : (v : View E) (P : Phase) (p : ℕ) → v.phase ≡ P → p ≢ own_place v.number → weight p v ≡ weight_in 0 p P
-  weighs_else v P p is apart = λ i. weight_in (bit (ne_eqb (own_place v.number) p (λ e. apart (sym e)) i)) p (is i)
+  pub weighs_else : (v : View E) (P : Phase) (p : ℕ) → v.phase ≡ P → p ≢ own_place v.places v.number → weight p v ≡ weight_in 0 p P
+  weighs_else v P p is apart = λ i. weight_in (bit (ne_eqb (own_place v.places v.number) p (λ e. apart (sym e)) i)) p (is i)
 
   -- a view of the same number in another phase of a reader weighs the same but at its own place
-  pub else_same : (v w : View E) (P Q : Phase) → v.phase ≡ P → w.phase ≡ Q → w.number ≡ v.number → ((p : ℕ) → weight_in 0 p Q ≡ weight_in 0 p P)
-      → (p : ℕ) → p ≢ own_place v.number → weight p w ≡ weight p v
-  else_same v w P Q is is' number same p apart =
-      weighs_else w Q p is' (λ e. apart (e ∙ ap own_place number)) ∙ (same p ∙ sym (weighs_else v P p is apart))
+  pub else_same : (v w : View E) (P Q : Phase) → v.phase ≡ P → w.phase ≡ Q → w.places ≡ v.places → w.number ≡ v.number → ((p : ℕ) → weight_in 0 p Q ≡ weight_in 0 p P)
+      → (p : ℕ) → p ≢ own_place v.places v.number → weight p w ≡ weight p v
+  else_same v w P Q is is' spread number same p apart =
+      weighs_else w Q p is' (λ e. apart (e ∙ (λ k. own_place (spread k) (number k)))) ∙ (same p ∙ sym (weighs_else v P p is apart))
 
   -- a view of the same number and phase weighs the same
-  pub weighs_same : (v w : View E) → w.phase ≡ v.phase → w.number ≡ v.number → (p : ℕ) → weight p w ≡ weight p v
-  weighs_same v w phase number p = λ i. weight_in (bit (eqb (own_place (number i)) p)) p (phase i)
+  pub weighs_same : (v w : View E) → w.phase ≡ v.phase → w.places ≡ v.places → w.number ≡ v.number → (p : ℕ) → weight p w ≡ weight p v
+  weighs_same v w phase spread number p = λ i. weight_in (bit (eqb (own_place (spread i) (number i)) p)) p (phase i)

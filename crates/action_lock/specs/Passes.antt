@@ -7,8 +7,8 @@ use Rattle.action_lock.specs.declared.view.View.{View}
 use Rattle.action_lock.specs.declared.pass.Pass.{Pass}
 use Rattle.action_lock.specs.declared.lock.ActionLock.{ActionLock}
 use Rattle.action_lock.specs.declared.slot.Slot.{Slot}
-use Rattle.action_lock.specs.declared.slot.Slot.TheVariants.{Home, Share, Empty}
-use Rattle.action_lock.specs.Slots.{shut_hand}
+use Rattle.action_lock.specs.declared.slot.Slot.TheVariants.{Share, Empty}
+use Rattle.action_lock.specs.Slots.{writing_hand}
 use Rattle.action_lock.specs.Words.{own_place}
 use Rattle.action_lock.specs.Views.{Writing}
 
@@ -56,7 +56,7 @@ module _ {H E S : Type 0} {g : Ghosts H E S} where
     pub table : p.seat.table_id ≡ l.table.shared.table_id
     pub phase : (view_of p).phase ≡ Entering
     pub told : (view_of p).olds ≡ []
-    pub hand : p.seat.me.1 ≡ (own_place (view_of p).number, Share share) ∷ []
+    pub hand : p.seat.me.1 ≡ (own_place (view_of p).places (view_of p).number, Share share) ∷ []
     pub stands : g.share_stands share (view_of p).seen
 
   -- the pass has found no share at its place, and has the empty slot in hand
@@ -64,7 +64,7 @@ module _ {H E S : Type 0} {g : Ghosts H E S} where
     pub table : p.seat.table_id ≡ l.table.shared.table_id
     pub phase : (view_of p).phase ≡ Lacking
     pub told : (view_of p).olds ≡ []
-    pub hand : p.seat.me.1 ≡ (own_place (view_of p).number, Empty) ∷ []
+    pub hand : p.seat.me.1 ≡ (own_place (view_of p).places (view_of p).number, Empty) ∷ []
 
   -- the pass has the turn of its place, and what the place keeps in hand: a share, or nothing
   abbrev pub HasFound : ActionLock H E S → Pass H E S g → Type 0
@@ -92,14 +92,14 @@ module _ {H E S : Type 0} {g : Ghosts H E S} where
 
   -- this home value is in the pass's hand, before the empty slots of the places that it has shut
   abbrev pub InHand : Pass H E S g → H → Type 0
-  InHand p home = p.seat.me.1 ≡ (31, Home home) ∷ shut_hand 31
+  InHand p home = p.seat.me.1 ≡ writing_hand (view_of p).places home
 
   -- the pass is one of this lock and writes: it has the home value in hand
   pub record Writes (l : ActionLock H E S) (p : Pass H E S g) : Type 0 where
     pub home : H
     pub hand : InHand p home
     pub table : p.seat.table_id ≡ l.table.shared.table_id
-    pub phase : (view_of p).phase ≡ Writing
+    pub phase : (view_of p).phase ≡ Writing (view_of p).places
     pub intent : (view_of p).intent ≡ true
     pub told : (view_of p).olds ≡ []
     pub no_share : p.share ≡ None

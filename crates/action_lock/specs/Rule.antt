@@ -11,7 +11,7 @@ use Rattle.action_lock.specs.declared.view.Phase.TheVariants.{Out, Entering, Lac
 use Rattle.action_lock.specs.declared.view.Ended.{Ended}
 use Rattle.action_lock.specs.declared.view.View.{View}
 use Rattle.action_lock.specs.Slots.{MayKeep}
-use Rattle.action_lock.specs.Words.{count, intents, word_at, home_slot}
+use Rattle.action_lock.specs.Words.{count, intents, word_at}
 use Rattle.action_lock.specs.Views.{Tally, tally, writes, intending, leading, numbers, times, bit, spent_view}
 use Rattle.list_laws.specs.Totals.{total}
 use Rattle.list_laws.specs.Fronts.{IsFront}
@@ -79,6 +79,10 @@ module _ {E : Type 0} (number_of : E → ℕ) where
       -- each view is sound
       pub each : (seat : ℕ) (v : View E) → get_elem? views seat ≡ some v → IsSound v
 
+-- a view with a number knows how many places the lock has
+abbrev pub KnowsPlaces : {E : Type 0} → ℕ → View E → Type 0
+KnowsPlaces places v = (n : ℕ) → v.number ≡ Some n → v.places ≡ places
+
 module _ {H S E : Type 0} (share_stands : S → List E → Type 0) where
   -- A place: its word and its slot, where the views weigh so much, beside the history
   pub record IsGuarded (history : List E) (t : Tally) (word : maybe.Option ℕ) (slot : maybe.Option (maybe.Option (Slot H S))) : Type 0 where
@@ -101,13 +105,17 @@ module _ {H S E : Type 0} (stands : H → List E → Type 0) where
     -- and else it is out
     pub away : 0 < writers → slot ≡ some none
 
-module _ {H S E : Type 0} (stands : H → List E → Type 0) (share_stands : S → List E → Type 0) where
-  -- The words and slots of these views, beside the history
+module _ {H S E : Type 0} (stands : H → List E → Type 0) (share_stands : S → List E → Type 0) (places : ℕ) where
+  -- The words and slots of these views, beside the history, where the lock has so many places
   pub record IsPlaced (history : List E) (s : State (Slot H S) (View E)) : Type 0 where
+    -- there is a place
+    pub some_place : 0 < places
+    -- each view with a number knows how many there are
+    pub spread : (seat : ℕ) (v : View E) → get_elem? s.views seat ≡ some v → KnowsPlaces places v
     -- each place is in order
-    pub each : (place : ℕ) → place < 32 → IsGuarded share_stands history (tally place s.views) (get_elem? s.words (word_at place)) (get_elem? s.homes place)
+    pub each : (place : ℕ) → place < places → IsGuarded share_stands history (tally place s.views) (get_elem? s.words (word_at place)) (get_elem? s.homes place)
     -- and so is the home value
-    pub home : IsHoused stands history (tally 0 s.views).writers (get_elem? s.homes home_slot)
+    pub home : IsHoused stands history (tally 0 s.views).writers (get_elem? s.homes places)
     -- the intent word counts the holders of the intent
     pub intents_are : get_elem? s.words intents ≡ some (intending s.views)
     -- one view at most has the intent
@@ -115,12 +123,12 @@ module _ {H S E : Type 0} (stands : H → List E → Type 0) (share_stands : S �
     -- the count word counts the entries, modulo 2^64
     pub count_is : get_elem? s.words count ≡ some (length history % 2 ^ 64)
 
-module _ {H S E : Type 0} (number_of : E → ℕ) (stands : H → List E → Type 0) (share_stands : S → List E → Type 0) where
-  -- The rule: there is a history, with which the numbers and entries, and the words and slots, are in order
+module _ {H S E : Type 0} (number_of : E → ℕ) (stands : H → List E → Type 0) (share_stands : S → List E → Type 0) (places : ℕ) where
+  -- The rule of a lock with so many places: there is a history, with which the numbers and entries, and the words and slots, are in order
   pub record IsKept (s : State (Slot H S) (View E)) : Type 0 where
     -- the whole history
     pub history : List E
     -- how many numbers were given
     pub drawn : ℕ
     pub recorded : IsRecorded number_of history drawn s.views
-    pub placed : IsPlaced stands share_stands history s
+    pub placed : IsPlaced stands share_stands places history s

@@ -1,5 +1,5 @@
 -- What the slots of the lock's table hold.
-use Rattle.std.specs.Prelude.{ℕ, zero, suc, List, [], ◌∷◌}
+use Rattle.std.specs.Prelude.{ℕ, zero, suc, ◌-◌, List, [], ◌∷◌}
 use Rattle.action_lock.specs.declared.slot.Slot.{Slot}
 use Rattle.action_lock.specs.declared.slot.Slot.TheVariants.{Home, Share, Empty}
 
@@ -16,8 +16,12 @@ module _ {H S : Type 0} where
   MayKeep share_stands entries (Share share) = share_stands share entries
   MayKeep share_stands entries Empty = Unit {0}
 
-  -- The hand of a seat that has shut so many places, and has let go what they kept: the slots from the last shut to the first,
+  -- The hand of a seat that has shut so many of a lock's places, and has let go what they kept: the slots from the last shut to the first,
   -- and that of the home value, all empty
-  unfoldable pub shut_hand : ℕ → List (ℕ × Slot H S)
-  shut_hand zero = (32, Empty) ∷ []
-  shut_hand (suc k) = (k, Empty) ∷ shut_hand k
+  unfoldable pub shut_hand : (places shut : ℕ) → List (ℕ × Slot H S)
+  shut_hand places zero = (places, Empty) ∷ []
+  shut_hand places (suc k) = (k, Empty) ∷ shut_hand places k
+
+  -- the hand of a seat that writes: the home value in the slot of the last place, before the empty slots of the others
+  abbrev pub writing_hand : ℕ → H → List (ℕ × Slot H S)
+  writing_hand places home = (places - 1, Home home) ∷ shut_hand places (places - 1)

@@ -8,7 +8,7 @@ use Rattle.action_lock.specs.declared.slot.Slot.TheVariants.{Home, Share, Empty}
 use Rattle.action_lock.specs.declared.view.Ended.{Ended}
 use Rattle.action_lock.specs.declared.view.View.{View}
 use Rattle.action_lock.specs.Counts.{counted}
-use Rattle.action_lock.specs.Slots.{HasNoHome, shut_hand}
+use Rattle.action_lock.specs.Slots.{HasNoHome, writing_hand}
 use Rattle.action_lock.specs.Words.{own_place, place_of, has_turn, has_pending}
 use Rattle.action_lock.specs.Views.{Writing, numbers, times, fresh, all_checks}
 use Rattle.action_lock.specs.Rule.{entries_of}
@@ -22,9 +22,9 @@ sights_after sights found = if has_pending found then counted sights else sights
 abbrev pub marked : ℕ → Phase
 marked k = if k == 0 then Out else Marking k
 
--- so many places are still shut, where the others were opened from the last on: where all are, the seat writes
-abbrev pub opened : ℕ → Phase
-opened k = if k == 32 then Writing else Opening k
+-- so many of a lock's places are still shut, where the others were opened from the last on: where all are, the seat writes
+abbrev pub opened : (places shut : ℕ) → Phase
+opened places k = if k == places then Writing places else Opening k
 
 module _ {E : Type 0} where
   -- a try to enter that found this word
@@ -75,7 +75,7 @@ module _ {E : Type 0} where
 
   -- the readers of all places have left, and the home value is taken, which stands for what is now seen
   abbrev pub writing : List E → View E → View E
-  writing seen v = record v { phase = Writing; seen = seen; current = true }
+  writing seen v = record v { phase = Writing v.places; seen = seen; current = true }
 
   -- there is one entry more, while all places are shut
   abbrev pub placing : E → View E → View E
@@ -99,7 +99,7 @@ module _ {E : Type 0} where
 
   -- the view of the pass that gets the number
   abbrev pub split_off : View E → View E
-  split_off v = fresh (Some v.drawn) 0 v.seen
+  split_off v = fresh v.places (Some v.drawn) 0 v.seen
 
   -- what is kept of a pass that was met
   abbrev pub end_of : Option ℕ → View E → List (Ended E)
@@ -160,8 +160,8 @@ module _ {E : Type 0} where
     -- the seat has taken the turn of its place and what that keeps: a share that stands for the history, or nothing
     abbrev pub Finds : (E → ℕ) → (S → List E → Type 0) → Me (Slot H S) (View E) → ℕ → Me (Slot H S) (View E) → Type 0
     Finds number_of share_stands m found m' =
-        ((seen : List E) × (share : S) × Learns number_of m.0 seen × share_stands share seen × (m' ≡ (entering found seen m.0, (own_place m.0.number, Share share) ∷ m.1)))
-        ⊎ (m' ≡ (lacking found m.0, (own_place m.0.number, Empty) ∷ m.1))
+        ((seen : List E) × (share : S) × Learns number_of m.0 seen × share_stands share seen × (m' ≡ (entering found seen m.0, (own_place m.0.places m.0.number, Share share) ∷ m.1)))
+        ⊎ (m' ≡ (lacking found m.0, (own_place m.0.places m.0.number, Empty) ∷ m.1))
 
     -- by what the word had: the pending mark, and the turn
     abbrev pub EntersAt : (E → ℕ) → (S → List E → Type 0) → Bool → Bool → Me (Slot H S) (View E) → ℕ → Me (Slot H S) (View E) → Type 0
@@ -195,7 +195,7 @@ module _ {E : Type 0} where
     abbrev pub ClaimsAt : (E → ℕ) → (H → List E → Type 0) → Bool → Me (Slot H S) (View E) → Me (Slot H S) (View E) → Type 0
     ClaimsAt number_of stands true m m' =
         (seen : List E) × (home : H) × (kept : Slot H S) × Learns number_of m.0 seen × stands home seen × HasNoHome kept
-        × (m' ≡ (shutting seen m.0, (32, Home home) ∷ (0, kept) ∷ m.1))
+        × (m' ≡ (shutting seen m.0, (m.0.places, Home home) ∷ (0, kept) ∷ m.1))
     ClaimsAt number_of stands false m m' = m' ≡ m
 
     -- the first place is shut
@@ -214,7 +214,7 @@ module _ {E : Type 0} where
     -- The entry is counted: whatever entry it is by which the home value in hand stands for one more than was seen
     abbrev pub Places : (H → List E → Type 0) → Step (Slot H S) → Me (Slot H S) (View E) → ℕ → Me (Slot H S) (View E) → Type 0
     Places stands st m found m' =
-        (home : H) (entry : E) → m.1 ≡ (31, Home home) ∷ shut_hand 31 → stands home (m.0.seen ++ entry ∷ []) → m' ≡ (placing entry m.0, m.1)
+        (home : H) (entry : E) → m.1 ≡ writing_hand m.0.places home → stands home (m.0.seen ++ entry ∷ []) → m' ≡ (placing entry m.0, m.1)
 
     -- a place behind the first is opened, and what it is to keep is given back
     abbrev pub Opens : Step (Slot H S) → Me (Slot H S) (View E) → ℕ → Me (Slot H S) (View E) → Type 0

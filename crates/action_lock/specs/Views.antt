@@ -7,9 +7,9 @@ use Rattle.action_lock.specs.declared.view.View.{View}
 use Rattle.action_lock.specs.Words.{own_place}
 use Rattle.list_laws.specs.Totals.{total}
 
--- the phase of a seat that writes: it has shut all places
-abbrev pub Writing : Phase
-Writing = Shutting 32
+-- the phase of a seat that writes: it has shut all places, which are so many
+abbrev pub Writing : ℕ → Phase
+Writing places = Shutting places
 
 -- what one view weighs at a place, or all of them together
 pub record Tally : Type 0 where
@@ -69,7 +69,7 @@ number_is n None = 0
 module _ {E : Type 0} where
   -- 1 where the place is the view's own
   abbrev pub here : ℕ → View E → ℕ
-  here place v = bit (own_place v.number == place)
+  here place v = bit (own_place v.places v.number == place)
 
   -- what the view weighs at a place
   abbrev pub weight : ℕ → View E → Tally
@@ -105,9 +105,10 @@ module _ {E : Type 0} where
   abbrev pub all_checks : View E → ℕ
   all_checks v = v.earlier_checks + v.checks
 
-  -- the view of a new pass
-  abbrev pub fresh : Option ℕ → ℕ → List E → View E
-  fresh number drawn seen = record {
+  -- the view of a new pass of a lock with so many places
+  abbrev pub fresh : ℕ → Option ℕ → ℕ → List E → View E
+  fresh places number drawn seen = record {
+    places = places;
     number = number;
     drawn = drawn;
     phase = Out;
@@ -127,9 +128,9 @@ module _ {E : Type 0} where
   }
 
   -- the view of the first pass
-  abbrev pub first_view : View E
-  first_view = fresh (Some 0) 1 []
+  abbrev pub first_view : ℕ → View E
+  first_view places = fresh places (Some 0) 1 []
 
   -- the view of a seat that was joined to another
   abbrev pub spent_view : View E
-  spent_view = fresh None 0 []
+  spent_view = fresh 0 None 0 []

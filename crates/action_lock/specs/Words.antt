@@ -1,5 +1,6 @@
--- The words and slots of the lock's table. There are 32 places, each with a word and a slot of its own; a pass uses the place of its number.
-use Rattle.std.specs.Prelude.{ℕ, ◌+◌, ◌-◌, ◌*◌, ◌/◌, ◌%◌, ◌==◌, Bool, Option, Some, None}
+-- The words and slots of the lock's table. Each place has a word and a slot of its own, and behind the slots of the places is that of the home value;
+-- a pass uses the place of its number.
+use Rattle.std.specs.Prelude.{ℕ, ◌+◌, ◌-◌, ◌*◌, ◌/◌, ◌%◌, ◌==◌, Bool, Option, Some, None, max, min}
 
 -- where the count of entries stands
 abbrev pub count : ℕ
@@ -17,14 +18,14 @@ word_at place = 16 * place + 32
 abbrev pub place_of : ℕ → ℕ
 place_of word = (word - 32) / 16
 
--- the slot of the home value, behind those of the places
-abbrev pub home_slot : ℕ
-home_slot = 32
+-- how many places a lock has for which so many are asked: one at least, and 32 at most
+abbrev pub places_for : ℕ → ℕ
+places_for asked = max 1 (min asked 32)
 
--- the place of a pass
-abbrev pub own_place : Option ℕ → ℕ
-own_place (Some number) = number % 32
-own_place None = 0
+-- the place of a pass, among so many
+abbrev pub own_place : ℕ → Option ℕ → ℕ
+own_place places (Some number) = number % places
+own_place places None = 0
 
 -- The word of a place: TURN 1, WRITER 2, PENDING 4, and 8 for each reader.
 -- One seat alone may change what the place guards

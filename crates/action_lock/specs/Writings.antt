@@ -1,5 +1,5 @@
 -- What contracts see of a pass that asks for the intent, and writes.
-use Rattle.std.specs.Prelude.{◌≡◌, ◌≤◌}
+use Rattle.std.specs.Prelude.{◌≡◌, ◌≤◌, ◌-◌}
 use Rattle.std.specs.Borrow.{Fml, RattleType, MutBor, Lends}
 use Rattle.atomic_table.specs.Lent.{seat_with}
 use Rattle.action_lock.specs.declared.home.Home.{Ghosts}
@@ -16,7 +16,7 @@ pub record HasIntended {E : Type 0} (v w : View E) : Type 0 where
 
 -- the pass, with this home value in its hand
 abbrev pub with_home : {H E S : Type 0} {g : Ghosts H E S} → Pass H E S g → H → Pass H E S g
-with_home p home = record p { seat = seat_with p.seat 31 (Home home) }
+with_home p home = record p { seat = seat_with p.seat (p.seat.me.0.places - 1) (Home home) }
 
 module _ (H E S : RattleType) (g : Ghosts H.Denot E.Denot S.Denot) where
   -- what is written to the home value that was lent is what the pass then has in its hand, and nothing else of the pass changes

@@ -1,9 +1,10 @@
 //! The lock: its words, its slots and the views of its passes.
-ghost use Rattle.std.specs.Prelude.{◌≡◌, ◌≢◌, ◌<◌, ◌↔◌, List, [], ◌∷◌, ◌++◌, length, All, Some, IfOk, IfErr, OnOk, OnErr, MatchResult, IsTrue};
+ghost use Rattle.std.specs.Prelude.{◌≡◌, ◌≢◌, ◌+◌, ◌<◌, ◌↔◌, List, [], ◌∷◌, ◌++◌, length, All, Some, IfOk, IfErr, OnOk, OnErr, MatchResult, IsTrue};
 ghost use Rattle.action_lock.specs.declared.slot.Slot.TheVariants.{Home, Share};
 ghost use Rattle.action_lock.specs.Slots.{HasNoHome, MayKeep};
 ghost use Rattle.action_lock.specs.Steps.{KnowsItsLists, joined, splitting, split_off, told};
 ghost use Rattle.action_lock.specs.Views.{first_view};
+ghost use Rattle.action_lock.specs.Words.{places_for};
 ghost use Rattle.list_laws.specs.Fronts.{IsFront};
 
 use crate::home::Home;
@@ -13,7 +14,7 @@ use crate::refusal::SplitRefusal;
 use crate::rule::GateRule;
 use crate::slot::Slot;
 use crate::view::View;
-use crate::words::{COUNT, HOME, PLACES, WORDS};
+use crate::words::{COUNT, MOST_PLACES, WORDS};
 use atomic_table::{Refused, Table};
 use std::alloc::{AllocError, AllocFailed, Global};
 
@@ -21,24 +22,30 @@ use std::alloc::{AllocError, AllocFailed, Global};
 const NUMBERS: u32 = 65536;
 
 /// A lock with reads that go side by side, one write-intent, and writes that come before new reads. It holds a home value, and is used by passes.
-/// Each of its 32 places has a word for its readers, and keeps a share for them.
+/// Each of its places has a word for its readers, and keeps a share for them.
 pub struct ActionLock<H: Home> {
-    pub(crate) table: Table<Slot<H, H::Share>, View<H::Entry>, (), GateRule<H>, Global>,
+    pub(crate) table: Table<Slot<H, H::Share>, View<H::Entry>, u32, GateRule<H>, Global>,
     pub(crate) alloc: Global,
-    ghost sized: { (table.shared.table_id.words ≡ 544) × (table.shared.table_id.slots ≡ 33) },
+    ghost sized: { (table.shared.table_id.words ≡ 544) × (table.shared.table_id.slots ≡ table.shared.key + 1) },
 }
 
 impl<H: Home> ActionLock<H> {
     ghost use Rattle.action_lock.specs.Passes.{view_of, IsSamePass, IsPassOf, IsLast};
 
     /// A lock over a home value that stands for no entry yet, with a share of it at each place, and its first pass. Where there is no memory, the
-    /// home value comes back.
-    pub fn new(alloc: Global, home: H) -> Result<(ActionLock<H>, Pass<H>), AllocFailed<H>>
+    /// home value comes back. It has as many places as are asked for, but one at least and 32 at most. Reads at one place take turns at its word,
+    /// and a write goes through all places: ask for as many as there will be passes that read at the same time.
+    pub fn new(
+        alloc: Global,
+        home: H,
+        places: u32,
+    ) -> Result<(ActionLock<H>, Pass<H>), AllocFailed<H>>
         requires { H.stands home [] }
-        ensures ok { IfOk result (λ made. IsPassOf made.0 made.1 × (view_of made.1 ≡ first_view)) }
+        ensures ok { IfOk result (λ made. IsPassOf made.0 made.1 × (view_of made.1 ≡ first_view (places_for places))) }
         ensures err { IfErr result (λ failed. failed.value ≡ home) }
     {
-        let Ok(mut slots) = shares_of(alloc, &home) else {
+        let places = places_for(places);
+        let Ok(mut slots) = shares_of(alloc, &home, places) else {
             return Err(AllocFailed { value: home });
         };
         if let Err(AllocFailed { value }) = slots.push(Slot::Home(home)) {
@@ -47,11 +54,12 @@ impl<H: Home> ActionLock<H> {
                 value: value.into_home(),
             });
         }
-        match Table::new(alloc, &[0; WORDS], slots, &()) {
+        match Table::new(alloc, &[0; WORDS], slots, &places) {
             Ok((table, seat)) => {
                 let pass = Pass {
                     seat,
                     number: 0,
+                    places,
                     drawn: 1,
                     met: 0,
                     sights: 0,
@@ -84,6 +92,7 @@ impl<H: Home> ActionLock<H> {
         Ok(Pass {
             seat,
             number,
+            places: pass.places,
             drawn: 0,
             met: 0,
             sights: 0,
@@ -105,6 +114,7 @@ impl<H: Home> ActionLock<H> {
         let Pass {
             seat,
             number: _,
+            places: _,
             drawn: _,
             met,
             sights: _,
@@ -139,6 +149,7 @@ impl<H: Home> ActionLock<H> {
         let Pass {
             seat,
             number: _,
+            places,
             drawn: _,
             met: _,
             sights: _,
@@ -146,23 +157,35 @@ impl<H: Home> ActionLock<H> {
         } = pass;
         let None = share else { unreachable!() };
         let mut closed = table.close_with(seat);
-        for place in 0..PLACES {
+        let behind = places as usize;
+        for place in 0..behind {
             closed.take(place).clear();
         }
-        let home = closed.take(HOME).into_home();
+        let home = closed.take(behind).into_home();
         closed.free();
         home
     }
 }
 
+/// How many places a lock has for which so many are asked.
+fn places_for(asked: u32) -> u32
+    ensures { result ≡ places_for asked }
+{
+    asked.min(MOST_PLACES).max(1)
+}
+
 /// A share for each place.
-fn shares_of<H: Home>(alloc: Global, home: &H) -> Result<Vec<Slot<H, H::Share>>, AllocError>
-    ensures many { IfOk result (λ slots. length slots.items ≡ 32) }
+fn shares_of<H: Home>(
+    alloc: Global,
+    home: &H,
+    places: u32,
+) -> Result<Vec<Slot<H, H::Share>>, AllocError>
+    ensures many { IfOk result (λ slots. length slots.items ≡ places) }
     ensures keeps { IfOk result (λ slots. (entries : List H.Entry) → H.stands home.now entries → All (MayKeep H.share_stands entries) slots.items) }
     ensures shares { IfOk result (λ slots. All HasNoHome slots.items) }
 {
     let mut slots = Vec::new(alloc);
-    for made in 0..PLACES {
+    for made in 0..places {
         if let Err(refused) = push_share(alloc, home, &mut slots) {
             discard(slots);
             return Err(refused);

@@ -5,13 +5,14 @@ ghost use Rattle.std.proofs.Props.{props};
 use crate::home::Home;
 use crate::slot::Slot;
 use crate::view::View;
-use crate::words::PLACES;
 use atomic_table::Seat;
 
 /// What one thread knows of a lock, and its right to step on it. It has to be spent: met into another pass, or given to `close`.
 pub struct Pass<H: Home> {
     pub(crate) seat: Seat<Slot<H, H::Share>, View<H::Entry>>,
     pub(crate) number: u32,
+    // How many places the lock has.
+    pub(crate) places: u32,
     // How many numbers it has given, if it is number 0.
     pub(crate) drawn: u32,
     // How many passes were met into it.
@@ -24,6 +25,9 @@ pub struct Pass<H: Home> {
     ghost meets: { length seat.me.0.ended ≡ met },
     ghost few: { drawn ≤ 65536 },
     ghost sees: { seat.me.0.sights ≡ sights },
+    ghost spread: { seat.me.0.places ≡ places },
+    ghost some_place: { 0 < places },
+    ghost few_places: { places ≤ 32 },
 }
 
 impl<H: Home> Pass<H> {
@@ -44,12 +48,21 @@ impl<H: Home> Pass<H> {
         self.sights
     }
 
-    /// Its place: passes whose numbers are 32 apart share one.
+    /// Its place: passes whose numbers are as far apart as there are places share one.
     pub(crate) fn place(&self) -> usize
-        ensures own { result ≡ own_place (view_of self.now).number }
+        ensures own { result ≡ own_place (view_of self.now).places (view_of self.now).number }
         ensures within { result < 32 }
     {
-        self.number as usize % PLACES
+        (self.number % self.places) as usize
+    }
+
+    /// How many places its lock has.
+    pub(crate) fn places(&self) -> usize
+        ensures is { result ≡ (view_of self.now).places }
+        ensures some_place { 0 < result }
+        ensures few { result ≤ 32 }
+    {
+        self.places as usize
     }
 
     /// Keeps the share of a read.

@@ -11,7 +11,7 @@ use crate::home::Home;
 use crate::lock::ActionLock;
 use crate::pass::Pass;
 use crate::slot::Slot;
-use crate::words::{HOME, LAST, PENDING, PLACES, word_at};
+use crate::words::{PENDING, word_at};
 use std::sync::Wait;
 
 impl<H: Home> ActionLock<H> {
@@ -19,19 +19,19 @@ impl<H: Home> ActionLock<H> {
     pub(crate) fn mark_all(&self, pass: &mut Pass<H>)
         requires { Intends self.now pass.old }
         ensures same { IsSamePass pass.old pass.new }
-        ensures marks { IsWriting self.now pass.new (Marking 32) [] }
+        ensures marks { IsWriting self.now pass.new (Marking (view_of pass.new).places) [] }
         ensures view { with_phase Out (view_of pass.new) ≡ with_phase Out (view_of pass.old) }
     {
-        for place in 0..PLACES {
+        for place in 0..pass.places() {
             self.mark(pass, place);
         }
     }
 
     /// Shuts the first place as soon as its readers have left, and takes the home value out. May block.
     pub(crate) fn shut_first<R: Wait>(&self, rt: &R, pass: &mut Pass<H>) -> H
-        requires { IsWriting self.now pass.old (Marking 32) [] }
+        requires { IsWriting self.now pass.old (Marking (view_of pass.old).places) [] }
         ensures same { IsSamePass pass.old pass.new }
-        ensures shuts { IsWriting self.now pass.new (Shutting 1) (shut_hand 1) }
+        ensures shuts { IsWriting self.now pass.new (Shutting 1) (shut_hand (view_of pass.new).places 1) }
         ensures learns { Learns H.number_of (view_of pass.old) (view_of pass.new).seen }
         ensures view { view_of pass.new ≡ shutting (view_of pass.new).seen (view_of pass.old) }
         ensures stands { H.stands result (view_of pass.new).seen }
@@ -47,15 +47,16 @@ impl<H: Home> ActionLock<H> {
 
     /// Empties the slots that come with the first place, and gives the home value.
     fn empty_first(&self, pass: &mut Pass<H>) -> H
-        requires { (home : H) × (kept : Slot H H.Share) × HasNoHome kept × IsWriting self.now pass.old (Shutting 1) ((32, Home home) ∷ (0, kept) ∷ []) }
+        requires { (home : H) × (kept : Slot H H.Share) × HasNoHome kept × IsWriting self.now pass.old (Shutting 1) (((view_of pass.old).places, Home home) ∷ (0, kept) ∷ []) }
         ensures same { IsSamePass pass.old pass.new }
-        ensures shuts { IsWriting self.now pass.new (Shutting 1) (shut_hand 1) }
+        ensures shuts { IsWriting self.now pass.new (Shutting 1) (shut_hand (view_of pass.new).places 1) }
         ensures view { view_of pass.new ≡ view_of pass.old }
-        ensures home { (kept : Slot H H.Share) × (pass.old.seat.me.1 ≡ (32, Home result) ∷ (0, kept) ∷ []) }
+        ensures home { (kept : Slot H H.Share) × (pass.old.seat.me.1 ≡ ((view_of pass.old).places, Home result) ∷ (0, kept) ∷ []) }
     {
         let shared = &self.table.shared;
+        let behind = pass.places();
         let home = shared
-            .exchange(&mut pass.seat, HOME, Slot::Empty)
+            .exchange(&mut pass.seat, behind, Slot::Empty)
             .into_home();
         pass.seat.turn();
         shared.exchange(&mut pass.seat, 0, Slot::Empty).clear();
@@ -64,22 +65,22 @@ impl<H: Home> ActionLock<H> {
 
     /// Shuts the other places, each as soon as its readers have left. May block.
     pub(crate) fn shut_others<R: Wait>(&self, rt: &R, pass: &mut Pass<H>)
-        requires { IsWriting self.now pass.old (Shutting 1) (shut_hand 1) }
+        requires { IsWriting self.now pass.old (Shutting 1) (shut_hand (view_of pass.old).places 1) }
         ensures same { IsSamePass pass.old pass.new }
-        ensures writes { IsWriting self.now pass.new Writing (shut_hand 32) }
+        ensures writes { IsWriting self.now pass.new (Writing (view_of pass.new).places) (shut_hand (view_of pass.new).places (view_of pass.new).places) }
         ensures view { with_phase Out (view_of pass.new) ≡ with_phase Out (view_of pass.old) }
     {
-        for place in 1..PLACES {
+        for place in 1..pass.places() {
             self.shut_at(rt, pass, place);
         }
     }
 
     /// Shuts a place behind the first as soon as its readers have left, and lets go what it kept. May block.
     fn shut_at<R: Wait>(&self, rt: &R, pass: &mut Pass<H>, place: usize)
-        requires within { (0 < place) × (place < 32) }
-        requires shuts { IsWriting self.now pass.old (Shutting place) (shut_hand place) }
+        requires within { (0 < place) × (place < (view_of pass.old).places) }
+        requires shuts { IsWriting self.now pass.old (Shutting place) (shut_hand (view_of pass.old).places place) }
         ensures same { IsSamePass pass.old pass.new }
-        ensures shuts { IsWriting self.now pass.new (Shutting (place + 1)) (shut_hand (place + 1)) }
+        ensures shuts { IsWriting self.now pass.new (Shutting (place + 1)) (shut_hand (view_of pass.new).places (place + 1)) }
         ensures view { with_phase Out (view_of pass.new) ≡ with_phase Out (view_of pass.old) }
     {
         for _ in rt.forever() {
@@ -95,15 +96,16 @@ impl<H: Home> ActionLock<H> {
 
     /// Lays the home value into the slot that was emptied last.
     pub(crate) fn lay(&self, pass: &mut Pass<H>, home: H)
-        requires { IsWriting self.now pass.old Writing (shut_hand 32) }
+        requires { IsWriting self.now pass.old (Writing (view_of pass.old).places) (shut_hand (view_of pass.old).places (view_of pass.old).places) }
         ensures same { IsSamePass pass.old pass.new }
         ensures writes { Writes self.now pass.new }
         ensures hand { InHand pass.new home }
         ensures view { view_of pass.new ≡ view_of pass.old }
     {
         let shared = &self.table.shared;
+        let last = pass.places() - 1;
         shared
-            .exchange(&mut pass.seat, LAST, Slot::Home(home))
+            .exchange(&mut pass.seat, last, Slot::Home(home))
             .clear();
     }
 
@@ -111,13 +113,14 @@ impl<H: Home> ActionLock<H> {
     fn lift(&self, pass: &mut Pass<H>) -> H
         requires { Writes self.now pass.old }
         ensures same { IsSamePass pass.old pass.new }
-        ensures shuts { IsWriting self.now pass.new Writing (shut_hand 32) }
+        ensures shuts { IsWriting self.now pass.new (Writing (view_of pass.new).places) (shut_hand (view_of pass.new).places (view_of pass.new).places) }
         ensures hand { InHand pass.old result }
         ensures view { view_of pass.new ≡ view_of pass.old }
     {
         let shared = &self.table.shared;
+        let last = pass.places() - 1;
         shared
-            .exchange(&mut pass.seat, LAST, Slot::Empty)
+            .exchange(&mut pass.seat, last, Slot::Empty)
             .into_home()
     }
 
@@ -130,7 +133,7 @@ impl<H: Home> ActionLock<H> {
         ensures view { view_of pass.new ≡ with_phase Out (view_of pass.old) }
     {
         let home = self.lift(pass);
-        let mut place = LAST;
+        let mut place = pass.places() - 1;
         while place > 0 {
             self.open_at(pass, place, &home);
             place -= 1;
@@ -150,11 +153,11 @@ impl<H: Home> ActionLock<H> {
 
     /// Opens a place behind the first.
     fn open_at(&self, pass: &mut Pass<H>, place: usize, home: &H)
-        requires within { (0 < place) × (place < 32) }
+        requires within { (0 < place) × (place < (view_of pass.old).places) }
         requires stands { H.stands home.now (view_of pass.old).seen }
-        requires shuts { IsWriting self.now pass.old (opened (place + 1)) (shut_hand (place + 1)) }
+        requires shuts { IsWriting self.now pass.old (opened (view_of pass.old).places (place + 1)) (shut_hand (view_of pass.old).places (place + 1)) }
         ensures same { IsSamePass pass.old pass.new }
-        ensures opens { IsWriting self.now pass.new (opened place) (shut_hand place) }
+        ensures opens { IsWriting self.now pass.new (opened (view_of pass.new).places place) (shut_hand (view_of pass.new).places place) }
         ensures view { with_phase Out (view_of pass.new) ≡ with_phase Out (view_of pass.old) }
     {
         let shared = &self.table.shared;
@@ -166,17 +169,18 @@ impl<H: Home> ActionLock<H> {
     /// Opens the first place, and gives the home value back.
     fn open_first(&self, pass: &mut Pass<H>, home: H)
         requires stands { H.stands home (view_of pass.old).seen }
-        requires shuts { IsWriting self.now pass.old (Opening 1) (shut_hand 1) }
+        requires shuts { IsWriting self.now pass.old (opened (view_of pass.old).places 1) (shut_hand (view_of pass.old).places 1) }
         ensures same { IsSamePass pass.old pass.new }
         ensures intends { Intends self.now pass.new }
         ensures view { view_of pass.new ≡ with_phase Out (view_of pass.old) }
     {
         let shared = &self.table.shared;
+        let behind = pass.places();
         let kept = self.kept_of(&home);
         shared.exchange(&mut pass.seat, 0, kept).clear();
         pass.seat.turn();
         shared
-            .exchange(&mut pass.seat, HOME, Slot::Home(home))
+            .exchange(&mut pass.seat, behind, Slot::Home(home))
             .clear();
         self.end(pass);
     }

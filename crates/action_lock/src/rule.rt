@@ -10,11 +10,12 @@ pub struct GateRule<H> {
     home: PhantomData<H>,
 }
 
-impl<H: Home> TableRule<Slot<H, H::Share>, View<H::Entry>, ()> for GateRule<H> {
+impl<H: Home> TableRule<Slot<H, H::Share>, View<H::Entry>, u32> for GateRule<H> {
     ghost use Rattle.action_lock.specs.Rule.{IsKept};
     ghost use Rattle.action_lock.specs.Views.{first_view};
 
-    ghost holds = { λ _. IsKept H.number_of H.stands H.share_stands };
+    // The table is told how many places the lock has.
+    ghost holds = { IsKept H.number_of H.stands H.share_stands };
 
-    ghost first = { λ _. first_view };
+    ghost first = { first_view };
 }

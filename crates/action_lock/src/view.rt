@@ -28,6 +28,8 @@ pub struct Ended<E> {
 
 /// What the lock's rule knows of one pass: its number, its phase, and what it has seen and made. No value of it is made.
 pub struct View<E> {
+    /// How many places the lock has.
+    pub places: u32,
     pub number: Option<u32>,
     /// Of number 0: how many numbers were given, its own included.
     pub drawn: u64,

@@ -3,11 +3,8 @@ ghost use Rattle.std.specs.Prelude.{◌≡◌, ◌<◌};
 ghost use Rattle.action_lock.specs.Words.{word_at, has_turn, has_pending};
 ghost use Rattle.action_lock.specs.Steps.{sights_after};
 
-/// How many places there are.
-pub(crate) const PLACES: usize = 32;
-
-/// The last place.
-pub(crate) const LAST: usize = 31;
+/// The most places that a lock has.
+pub(crate) const MOST_PLACES: u32 = 32;
 
 /// How many words there are. Those that are used lie 16 apart, so that no two share a cache line.
 pub(crate) const WORDS: usize = 544;
@@ -17,9 +14,6 @@ pub(crate) const COUNT: usize = 0;
 
 /// Where the intent word stands.
 pub(crate) const INTENT: usize = 16;
-
-/// The slot of the home value.
-pub(crate) const HOME: usize = 32;
 
 pub(crate) const TURN: u64 = 1;
 

@@ -40,7 +40,7 @@ impl<H: Home> ActionLock<H> {
 
     /// The pending mark of a place is set: from now on no reader enters by it.
     pub(crate) fn mark(&self, pass: &mut Pass<H>, place: usize)
-        requires within { place < 32 }
+        requires within { place < (view_of pass.old).places }
         requires marks { IsWriting self.now pass.old (marked place) [] }
         ensures same { IsSamePass pass.old pass.new }
         ensures share { pass.new.share ≡ pass.old.share }
@@ -52,7 +52,7 @@ impl<H: Home> ActionLock<H> {
 
     /// The first place is shut and the home value is taken, if no reader is in by this place. Whether it was.
     pub(crate) fn claim(&self, pass: &mut Pass<H>) -> bool
-        requires { IsWriting self.now pass.old (Marking 32) [] }
+        requires { IsWriting self.now pass.old (Marking (view_of pass.old).places) [] }
         ensures same { IsSamePass pass.old pass.new }
         ensures share { pass.new.share ≡ pass.old.share }
         ensures told { ClaimsAt H.number_of H.stands result pass.old.seat.me pass.new.seat.me }
@@ -64,8 +64,8 @@ impl<H: Home> ActionLock<H> {
 
     /// A place behind the first is shut, if no reader is in by it. Whether it was.
     pub(crate) fn shut(&self, pass: &mut Pass<H>, place: usize) -> bool
-        requires within { (0 < place) × (place < 32) }
-        requires shuts { IsWriting self.now pass.old (Shutting place) (shut_hand place) }
+        requires within { (0 < place) × (place < (view_of pass.old).places) }
+        requires shuts { IsWriting self.now pass.old (Shutting place) (shut_hand (view_of pass.old).places place) }
         ensures same { IsSamePass pass.old pass.new }
         ensures share { pass.new.share ≡ pass.old.share }
         ensures told { ShutsAt result place pass.old.seat.me pass.new.seat.me }
@@ -89,11 +89,11 @@ impl<H: Home> ActionLock<H> {
 
     /// A place behind the first is opened, with what it is to keep.
     pub(crate) fn open(&self, pass: &mut Pass<H>, place: usize)
-        requires within { (0 < place) × (place < 32) }
-        requires opens { (kept : Slot H H.Share) × MayKeep H.share_stands (view_of pass.old).seen kept × IsWriting self.now pass.old (opened (place + 1)) ((place, kept) ∷ shut_hand place) }
+        requires within { (0 < place) × (place < (view_of pass.old).places) }
+        requires opens { (kept : Slot H H.Share) × MayKeep H.share_stands (view_of pass.old).seen kept × IsWriting self.now pass.old (opened (view_of pass.old).places (place + 1)) ((place, kept) ∷ shut_hand (view_of pass.old).places place) }
         ensures same { IsSamePass pass.old pass.new }
         ensures share { pass.new.share ≡ pass.old.share }
-        ensures view { pass.new.seat.me ≡ (with_phase (Opening place) (view_of pass.old), shut_hand place) }
+        ensures view { pass.new.seat.me ≡ (with_phase (Opening place) (view_of pass.old), shut_hand (view_of pass.old).places place) }
     {
         let shared = &self.table.shared;
         shared.store::<Open>(&mut pass.seat, word_at(place), 0);
@@ -102,7 +102,7 @@ impl<H: Home> ActionLock<H> {
     /// The first place is opened, with what it is to keep, and the home value is given back.
     pub(crate) fn end(&self, pass: &mut Pass<H>)
         requires { (home : H) × (kept : Slot H H.Share) × H.stands home (view_of pass.old).seen × MayKeep H.share_stands (view_of pass.old).seen kept
-            × IsWriting self.now pass.old (Opening 1) ((32, Home home) ∷ (0, kept) ∷ []) }
+            × IsWriting self.now pass.old (opened (view_of pass.old).places 1) (((view_of pass.old).places, Home home) ∷ (0, kept) ∷ []) }
         ensures same { IsSamePass pass.old pass.new }
         ensures share { pass.new.share ≡ pass.old.share }
         ensures view { pass.new.seat.me ≡ (with_phase Out (view_of pass.old), []) }

@@ -13,7 +13,7 @@ use crate::lock::ActionLock;
 use crate::pass::Pass;
 use crate::refusal::IntentRefusal;
 use crate::slot::Slot;
-use crate::words::{INTENT, LAST};
+use crate::words::INTENT;
 use std::sync::Wait;
 
 impl<H: Home> Pass<H> {
@@ -70,7 +70,8 @@ impl<H: Home> Pass<H> {
         ensures* writes_back { sem 𝓛 (lends_home H.row H.Entry.row H.Share.row H.Home self.entry result) }
         ensures value { InHand self.old result.now }
     {
-        match self.seat.slot_mut(&lock.table.shared, LAST) {
+        let last = self.places() - 1;
+        match self.seat.slot_mut(&lock.table.shared, last) {
             Slot::Home(home) => home,
             Slot::Share(_) => unreachable!(),
             Slot::Empty => unreachable!(),

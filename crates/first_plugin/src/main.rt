@@ -12,8 +12,8 @@ use threads::{ask, edit, inspect};
 
 fn main(rt: HostRuntime) -> io::Result<()> {
     let alloc = rt.alloc();
-    // The workspace, and the first pass. By a pass one thread calls the workspace.
-    let (ide, mut first) = SharedIde::new(alloc, Store::empty(alloc))?;
+    // The workspace, for two passes at the same time, and the first pass. By a pass one thread calls the workspace.
+    let (ide, mut first) = SharedIde::new(alloc, Store::empty(alloc), 2)?;
     // A pass for the other thread.
     let Ok(mut second) = ide.split(&mut first) else {
         unreachable!()

@@ -20,7 +20,7 @@ pub fn ours<R: Threads + Wait + Sync>(
     turn: Turn,
     turns: u64,
 ) -> Result<u64, AllocError> {
-    match ActionLock::new(alloc, Counter::new(alloc)?) {
+    match ActionLock::new(alloc, Counter::new(alloc)?, 4) {
         Ok((lock, mut one)) => {
             let Ok(mut two) = lock.split(&mut one) else {
                 unreachable!()

@@ -9,9 +9,9 @@ use std::alloc::Global;
 
 /// A lock over an empty board, and its first pass.
 pub fn begun(alloc: Global) -> Option<(ActionLock<Board>, Pass<Board>)>
-    ensures { IfSome result (λ made. IsPassOf made.0 made.1 × (view_of made.1 ≡ first_view)) }
+    ensures { IfSome result (λ made. IsPassOf made.0 made.1 × (view_of made.1 ≡ first_view 32)) }
 {
-    match ActionLock::new(alloc, Board::empty(alloc).ok()?) {
+    match ActionLock::new(alloc, Board::empty(alloc).ok()?, 32) {
         Ok(made) => Some(made),
         Err(_) => None,
     }

@@ -10,7 +10,7 @@ use std::sync::Wait;
 
 /// Whether a lock is refused where the share of one place is, and the home value comes back; or else the lock and its pass.
 pub fn comes_back(alloc: Global, refused: u64) -> Result<bool, (ActionLock<Scarce>, Pass<Scarce>)> {
-    match ActionLock::new(alloc, Scarce::new(refused, 1)) {
+    match ActionLock::new(alloc, Scarce::new(refused, 1), 32) {
         Ok((lock, pass)) => match ended(lock, pass) {
             Ok(_home) => Ok(false),
             Err(both) => Err(both),
@@ -27,7 +27,7 @@ pub fn begun_scarce(
 ) -> Option<(ActionLock<Scarce>, Pass<Scarce>, Pass<Scarce>)>
     ensures { IfSome result (λ made. IsPassOf made.0 made.1 × IsPassOf made.0 made.2 × ((view_of made.1).number ≡ Some 0) × ((view_of made.2).number ≢ Some 0)) }
 {
-    let Ok((lock, mut first)) = ActionLock::new(alloc, Scarce::new(from, refused)) else {
+    let Ok((lock, mut first)) = ActionLock::new(alloc, Scarce::new(from, refused), 32) else {
         return None;
     };
     match lock.split(&mut first) {

@@ -1,5 +1,5 @@
 //! A whole script, played over one shared workspace.
-ghost use Rattle.std.specs.Prelude.{◌≡◌, ◌≤◌, [], All, IfOk, OnOk, length};
+ghost use Rattle.std.specs.Prelude.{◌≡◌, ◌≤◌, ℕ, [], All, IfOk, OnOk, length};
 ghost use Rattle.action_lock.specs.Views.{first_view};
 ghost use Rattle.script_lang.specs.Held.{IsOfLine};
 ghost use Rattle.transcripts.specs.Fits.{RunFits};
@@ -39,7 +39,8 @@ pub fn play<R: Threads + Wait + Sync, G: Gate + Sync>(
         (record { history = played.history.entries; records = played.records; last = played.last })) }
     ensures workers { IfOk result (λ played. length played.workers.items ≡ workers) }
 {
-    let (ide, mut pass) = SharedIde::new(alloc, store)?;
+    let places = script.lanes() as u32 + workers;
+    let (ide, mut pass) = SharedIde::new(alloc, store, places)?;
     let mut answers = Answers::new(alloc);
     let mut last = Records::new(alloc);
     let done = play_all(
@@ -80,7 +81,7 @@ fn play_all<R: Threads + Wait + Sync, G: Gate + Sync>(
     gate: &G,
 ) -> Result<(), AllocError>
     requires pass { IsIdePassOf ide.now pass.old }
-    requires first { ide_view pass.old ≡ first_view }
+    requires first { (places : ℕ) × (ide_view pass.old ≡ first_view places) }
     requires no_answers { (answers.old.records ≡ []) × (answers.old.workers.items ≡ []) × (last.old ≡ []) }
     requires few { workers ≤ 8 }
     ensures pass { IsIdePassOf ide.now pass.new × IsSameIdePass pass.old pass.new }

@@ -12,9 +12,9 @@ use std::io;
 
 fn main(rt: HostRuntime) -> io::Result<()> {
     alone::play(&rt, rt.alloc())?;
-    let (ide, mut pass) = match SharedIde::new(rt.alloc(), Store::empty(rt.alloc())) {
+    let (ide, mut pass) = match SharedIde::new(rt.alloc(), Store::empty(rt.alloc()), 2) {
         Ok(made) => made,
-        Err(_) => SharedIde::new(rt.alloc(), Store::empty(rt.alloc()))?,
+        Err(_) => SharedIde::new(rt.alloc(), Store::empty(rt.alloc()), 2)?,
     };
     let played = shared::play(&rt, rt.alloc(), &ide, &mut pass);
     ide.close(pass).into_history();

@@ -4,6 +4,7 @@ ghost use Rattle.list_laws.specs.Fronts.{IsFront};
 ghost use Rattle.action_lock.specs.Passes.{IsLast};
 ghost use Rattle.action_lock.specs.Steps.{KnowsItsLists, joined, splitting, split_off, told};
 ghost use Rattle.action_lock.specs.Views.{first_view};
+ghost use Rattle.action_lock.specs.Words.{places_for};
 ghost use Rattle.action_lock.specs.declared.refusal.SplitRefusal.TheVariants.{Full};
 ghost use Rattle.write_history.specs.declared.entry.Entry.{Entry};
 ghost use Rattle.write_history.specs.Fold.{IsLegal};
@@ -30,14 +31,20 @@ pub struct SharedIde {
 
 impl SharedIde {
     /// The workspace without a file, and its first pass. Index data that the store has aren't made anew; `Store::empty` has none.
-    pub fn new(alloc: Global, store: Store) -> Result<(SharedIde, IdePass), AllocError>
+    /// Ask for as many places as there will be passes that call it at the same time, from 1 up to 32: with fewer some reads take
+    /// turns, and each place more makes a change dearer.
+    pub fn new(
+        alloc: Global,
+        store: Store,
+        places: u32,
+    ) -> Result<(SharedIde, IdePass), AllocError>
         ensures pass { IfOk result (λ made. IsIdePassOf made.0 made.1) }
-        ensures view { IfOk result (λ made. ide_view made.1 ≡ first_view) }
+        ensures view { IfOk result (λ made. ide_view made.1 ≡ first_view (places_for places)) }
         ensures hints { IfOk result (λ made. queue_view made.1.queue ≡ first_queue_view) }
     {
         let home = IdeHome::new(alloc)?;
         let (queue, of_queue) = JobQueue::new(alloc)?;
-        match ActionLock::new(alloc, home) {
+        match ActionLock::new(alloc, home, places) {
             Ok((lock, of_lock)) => {
                 let ide = SharedIde { lock, queue, store };
                 Ok((ide, first(of_lock, of_queue)))

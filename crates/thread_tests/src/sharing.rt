@@ -67,7 +67,7 @@ fn share_on<R: Threads + Wait + Sync>(
     scene: &Sharing,
     stage: &Stage,
 ) -> Result<Shared, AllocError> {
-    let (ide, mut first) = SharedIde::new(alloc, Store::empty(alloc))?;
+    let (ide, mut first) = SharedIde::new(alloc, Store::empty(alloc), 4)?;
     let said = play(rt, alloc, &ide, &mut first, scene, stage);
     let hints = first.queue.offered();
     let history = ide.close(first).into_history();

@@ -13,7 +13,7 @@ join_seat-requires g c = (
   search rules,
   search rules,
   search rules,
-  joins g.H.Home.number_of g.H.Home.stands g.H.Home.share_stands _ _ _ _ _ _ c.args.pass.now.numbered c.requires.pass.out.at.phase c.args.other.numbered
+  joins g.H.Home.number_of g.H.Home.stands g.H.Home.share_stands _ _ _ _ _ _ _ c.args.pass.now.numbered c.requires.pass.out.at.phase c.args.other.numbered
       (positive _ _ c.args.other.numbered c.requires.follows) c.requires.other.out.at.phase c.requires.other.no_intent,
 )
 
@@ -21,5 +21,5 @@ pub load-requires : goal.load-requires
 load-requires g c = (
   search rules,
   search rules,
-  tells g.H.Home.number_of g.H.Home.stands g.H.Home.share_stands _ _ _ _ (ap (λ m. m.0.number) c.join_seat.ensures.2 ∙ c.args.pass.now.numbered),
+  tells g.H.Home.number_of g.H.Home.stands g.H.Home.share_stands _ _ _ _ _ (ap (λ m. m.0.number) c.join_seat.ensures.2 ∙ c.args.pass.now.numbered),
 )

@@ -7,9 +7,9 @@ use Rattle.action_lock.proofs.lock.ActionLock.open_all.Given as goal
 
 abbrev pub invariant-loop-place : goal.invariant-loop-place
 invariant-loop-place g l = record {
-  within : l.place < 32;
+  within : l.place < (view_of l.pass).places;
   same : IsSamePass l.initial.pass l.pass;
-  opens : IsWriting l.self l.pass (opened (l.place + 1)) (shut_hand (l.place + 1));
+  opens : IsWriting l.self l.pass (opened (view_of l.pass).places (l.place + 1)) (shut_hand (view_of l.pass).places (l.place + 1));
   view : with_phase Out (view_of l.pass) ≡ with_phase Out (view_of l.initial.pass);
   stands : g.H.Home.stands l.home (view_of l.pass).seen;
 }

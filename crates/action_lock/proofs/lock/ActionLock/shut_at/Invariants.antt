@@ -9,6 +9,6 @@ invariant-loop g l = record {
   can : (goal.iterator-loop g).can_next l.iterator';
   ends : (goal.iterator-loop g).is_finite l.iterator';
   same : IsSamePass l.initial.pass l.pass;
-  shuts : IsWriting l.self l.pass (Shutting l.place) (shut_hand l.place);
+  shuts : IsWriting l.self l.pass (Shutting l.place) (shut_hand (view_of l.pass).places l.place);
   view : view_of l.pass ≡ view_of l.initial.pass;
 }

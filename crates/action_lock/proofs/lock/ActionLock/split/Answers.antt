@@ -8,4 +8,4 @@ split_seat-seat-requires g c =
     let leads = c.requires.leads in let numbered = pass.numbered in
     let first : pass.number ≡ 0 = cc in
     let drawn = pass.counts first in let few = pass.few in let room = c.if-pass-eq-NUMBERS.false in
-    (search rules, search rules, splits g.H.Home.number_of g.H.Home.stands g.H.Home.share_stands _ _ leads (omega arith))
+    (search rules, search rules, splits g.H.Home.number_of g.H.Home.stands g.H.Home.share_stands _ _ _ leads (omega arith))
