@@ -34,22 +34,23 @@ all_from_push P place (y ∷ ys) x all last =
 
 -- before the first
 pub none_begun : (ide : SharedIde) (lanes : ℕ) (v : View Entry) → HasBegun ide lanes v v []
-none_begun ide lanes v = record { number = refl; drawn = omega arith; seen = refl; mine = refl; ended = refl; each = tt }
+none_begun ide lanes v = record { places = refl; number = refl; drawn = omega arith; seen = refl; mine = refl; ended = refl; each = tt }
 
 -- one more
 pub begun_more : (ide : SharedIde) (lanes : ℕ) (v x y : View Entry) (parts : List Part) (p : Part) → HasBegun ide lanes v x parts → y ≡ splitting x
     → IsIdePassOf ide p.pass → ide_view p.pass ≡ split_off x → IsTaskAt lanes (length parts) p.task → HasBegun ide lanes v y (parts ++ p ∷ [])
 begun_more ide lanes v x y parts p begun gives rests is task =
+    let places : y.places ≡ x.places = ap (λ (u : View Entry). u.places) gives in
     let number : y.number ≡ x.number = ap (λ (u : View Entry). u.number) gives in
     let drawn : y.drawn ≡ x.drawn + 1 = ap (λ (u : View Entry). u.drawn) gives in
     let seen : y.seen ≡ x.seen = ap (λ (u : View Entry). u.seen) gives in
     let mine : y.mine ≡ x.mine = ap (λ (u : View Entry). u.mine) gives in
     let ended : y.ended ≡ x.ended = ap (λ (u : View Entry). u.ended) gives in
-    let view : split_off x ≡ fresh (Some (v.drawn + length parts)) 0 v.seen =
-    ap (λ (n : ℕ). fresh (Some n) 0 x.seen) begun.drawn ∙ ap (λ (l : List Entry). fresh (Some (v.drawn + length parts)) 0 l) begun.seen in
+    let view : split_off x ≡ fresh v.places (Some (v.drawn + length parts)) 0 v.seen = λ k. fresh (begun.places k) (Some (begun.drawn k)) 0 (begun.seen k) in
     let here : IsBegun ide lanes v (length parts) p = record { rests = rests; view = is ∙ view; task = task } in
     let place : length parts ≡ 0 + length parts = omega arith in
     record {
+      places = places ∙ begun.places;
       number = number ∙ begun.number;
       drawn = omega (arith, drawn, begun.drawn, length-append parts (p ∷ []));
       seen = seen ∙ begun.seen;
@@ -77,8 +78,8 @@ pub record IsRun (ide : SharedIde) (lanes : List (List Line)) (beside : Bool) (v
   pub rests : IsIdePassOf ide p.pass
   pub task : Task
   pub is_task : IsTaskAt (length lanes) place task
-  pub advances : Advances (fresh (Some (v.drawn + place)) 0 v.seen) (ide_view p.pass)
-  pub done : HasDoneTask lanes beside task (fresh (Some (v.drawn + place)) 0 v.seen) (ide_view p.pass) p.outcome
+  pub advances : Advances (fresh v.places (Some (v.drawn + place)) 0 v.seen) (ide_view p.pass)
+  pub done : HasDoneTask lanes beside task (fresh v.places (Some (v.drawn + place)) 0 v.seen) (ide_view p.pass) p.outcome
 
 run_one : (ide : SharedIde) (script : Parts) (beside : Bool) (v : View Entry) (place : ℕ) (p q : Part) → IsBegun ide (length script.lanes) v place p
     → HasRun ide script beside p q → IsRun ide script.lanes beside v place q

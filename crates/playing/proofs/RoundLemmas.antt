@@ -40,12 +40,12 @@ record LaneFits (beside : Bool) (seen history middle : List Entry) (seat : ℕ) 
   fits : SectionFits beside history seat (mark_at (length seen)) lane [] (records_of o) (made_by seat middle) high
   no_worker : worked_of o ≡ []
 
-lane_done : (beside : Bool) (seen history middle : List Entry) (seat index : ℕ) (w : View Entry) (lanes : List (List Line)) (lane : List Line)
+lane_done : (places : ℕ) (beside : Bool) (seen history middle : List Entry) (seat index : ℕ) (w : View Entry) (lanes : List (List Line)) (lane : List Line)
     (records : List Record)
-    → HasDoneLane lanes beside index (fresh (Some seat) 0 seen) w (Answered records) → slice_get lanes index ≡ Some lane → w.mine ≡ made_by seat middle
+    → HasDoneLane lanes beside index (fresh places (Some seat) 0 seen) w (Answered records) → slice_get lanes index ≡ Some lane → w.mine ≡ made_by seat middle
     → IsFront w.seen history → LaneFits beside seen history middle seat lane (Answered records)
-lane_done beside seen history middle seat index w lanes lane records told is mine front =
-    let done : HasDone beside told.seat told.lane [] (fresh (Some seat) 0 seen) w records = told.done in
+lane_done places beside seen history middle seat index w lanes lane records told is mine front =
+    let done : HasDone beside told.seat told.lane [] (fresh places (Some seat) 0 seen) w records = told.done in
     let lane_is : told.lane ≡ lane = same_some told.lane lane (sym told.is ∙ is) in
     let seat_is : told.seat ≡ seat = same_some told.seat seat (sym told.number) in
     let own_is : done.own ≡ made_by seat middle = sym done.mine ∙ mine in
@@ -61,16 +61,16 @@ lane_done beside seen history middle seat index w lanes lane records told is min
     same_some : {A : Type 0} (a b : A) → Some a ≡ Some b → a ≡ b
     same_some a b e = cc
 
-lane_fits : (beside : Bool) (seen history middle : List Entry) (place seat : ℕ) (w : View Entry) (lanes : List (List Line)) (lane : List Line)
+lane_fits : (places : ℕ) (beside : Bool) (seen history middle : List Entry) (place seat : ℕ) (w : View Entry) (lanes : List (List Line)) (lane : List Line)
     (task : Task) (o : Outcome)
     → place < length lanes → slice_get lanes place ≡ Some lane → IsTaskAt (length lanes) place task
-    → HasDoneTask lanes beside task (fresh (Some seat) 0 seen) w o → IsWhole o → w.mine ≡ made_by seat middle
+    → HasDoneTask lanes beside task (fresh places (Some seat) 0 seen) w o → IsWhole o → w.mine ≡ made_by seat middle
     → IsFront w.seen history → LaneFits beside seen history middle seat lane o
-lane_fits beside seen history middle place seat w lanes lane (Lane index) Nothing inside is task done whole mine front = absurd whole
-lane_fits beside seen history middle place seat w lanes lane (Lane index) (Answered records) inside is task done whole mine front =
-    lane_done beside seen history middle seat index w lanes lane records done (ap (slice_get lanes) task.0 ∙ is) mine front
-lane_fits beside seen history middle place seat w lanes lane (Lane index) (Indexed worked) inside is task done whole mine front = absurd done.done
-lane_fits beside seen history middle place seat w lanes lane Worker o inside is task done whole mine front = absurd (omega arith)
+lane_fits places beside seen history middle place seat w lanes lane (Lane index) Nothing inside is task done whole mine front = absurd whole
+lane_fits places beside seen history middle place seat w lanes lane (Lane index) (Answered records) inside is task done whole mine front =
+    lane_done places beside seen history middle seat index w lanes lane records done (ap (slice_get lanes) task.0 ∙ is) mine front
+lane_fits places beside seen history middle place seat w lanes lane (Lane index) (Indexed worked) inside is task done whole mine front = absurd done.done
+lane_fits places beside seen history middle place seat w lanes lane Worker o inside is task done whole mine front = absurd (omega arith)
 
 -- ---- one worker
 
@@ -96,9 +96,9 @@ record WorkerTells (seen history middle : List Entry) (seat : ℕ) (o : Outcome)
   no_record : records_of o ≡ []
   fits : length history ≤ max_entries → WorkerFits history (length seen) seat middle worked
 
-worker_done : (seen history middle : List Entry) (seat : ℕ) (w : View Entry) (worked : Worked) → HasWorkedSo (fresh (Some seat) 0 seen) w worked
+worker_done : (places : ℕ) (seen history middle : List Entry) (seat : ℕ) (w : View Entry) (worked : Worked) → HasWorkedSo (fresh places (Some seat) 0 seen) w worked
     → w.mine ≡ made_by seat middle → IsFront w.seen history → WorkerTells seen history middle seat (Indexed worked)
-worker_done seen history middle seat w worked so mine front =
+worker_done places seen history middle seat w worked so mine front =
     let done = so.done in
     let seat_is : worked.seat ≡ seat = same_some worked.seat seat (sym done.gone.number) in
     let own_is : done.own ≡ made_by seat middle = sym done.gone.mine ∙ mine in
@@ -118,13 +118,13 @@ worker_done seen history middle seat w worked so mine front =
     same_some : {A : Type 0} (a b : A) → Some a ≡ Some b → a ≡ b
     same_some a b e = cc
 
-worker_tells : (beside : Bool) (seen history middle : List Entry) (place seat : ℕ) (w : View Entry) (lanes : List (List Line)) (task : Task) (o : Outcome)
-    → length lanes ≤ place → IsTaskAt (length lanes) place task → HasDoneTask lanes beside task (fresh (Some seat) 0 seen) w o → IsWhole o
+worker_tells : (places : ℕ) (beside : Bool) (seen history middle : List Entry) (place seat : ℕ) (w : View Entry) (lanes : List (List Line)) (task : Task) (o : Outcome)
+    → length lanes ≤ place → IsTaskAt (length lanes) place task → HasDoneTask lanes beside task (fresh places (Some seat) 0 seen) w o → IsWhole o
     → w.mine ≡ made_by seat middle → IsFront w.seen history → WorkerTells seen history middle seat o
-worker_tells beside seen history middle place seat w lanes (Lane index) o past task done whole mine front = absurd (omega (arith, task.1))
-worker_tells beside seen history middle place seat w lanes Worker Nothing past task done whole mine front = absurd whole
-worker_tells beside seen history middle place seat w lanes Worker (Answered records) past task done whole mine front = absurd done
-worker_tells beside seen history middle place seat w lanes Worker (Indexed worked) past task done whole mine front = worker_done seen history middle
+worker_tells places beside seen history middle place seat w lanes (Lane index) o past task done whole mine front = absurd (omega (arith, task.1))
+worker_tells places beside seen history middle place seat w lanes Worker Nothing past task done whole mine front = absurd whole
+worker_tells places beside seen history middle place seat w lanes Worker (Answered records) past task done whole mine front = absurd done
+worker_tells places beside seen history middle place seat w lanes Worker (Indexed worked) past task done whole mine front = worker_done places seen history middle
     seat w worked done mine front
 
 -- ---- all parts
@@ -157,7 +157,7 @@ module _ (ide : SharedIde) (lanes : List (List Line)) (beside : Bool) (v : View 
   workers_tell place seat [] is past kept = record { no_records = refl; count = refl; fits = λ bounded. tt }
   workers_tell place seat (p ∷ ps) is past kept =
       let k = kept.0 in
-      let one = worker_tells beside v.seen history middle place (v.drawn + place) (ide_view p.pass) lanes k.run.task p.outcome past k.run.is_task
+      let one = worker_tells v.places beside v.seen history middle place (v.drawn + place) (ide_view p.pass) lanes k.run.task p.outcome past k.run.is_task
       k.run.done k.whole k.mine k.learned in
       let others = workers_tell (suc place) (suc seat) ps (omega arith) (omega arith) kept.1 in
       let later : List Worked = flat_map (λ (q : Part). worked_of q.outcome) ps in
@@ -194,7 +194,7 @@ module _ (ide : SharedIde) (lanes : List (List Line)) (beside : Bool) (v : View 
       let within : place < length lanes = omega arith in
       let lane : List Line = get_or lanes (place) [] in
       let found : slice_get lanes (place) ≡ Some lane = slice_get-get_or lanes (place) [] within in
-      let one = lane_fits beside v.seen history middle place (v.drawn + place) (ide_view p.pass) lanes lane k.run.task p.outcome (omega arith) found
+      let one = lane_fits v.places beside v.seen history middle place (v.drawn + place) (ide_view p.pass) lanes lane k.run.task p.outcome (omega arith) found
       k.run.is_task k.run.done k.whole k.mine k.learned in
       let others = parts_tell count (suc place) (suc seat) ps (omega arith) (omega arith) (omega arith) kept.1 in
       let next : place + 1 ≡ suc place = omega arith in

@@ -73,7 +73,7 @@ IsTaskAt lanes place Worker = lanes ≤ place
 -- the part at this place of a round that begins with this view has a number of its own, and has seen as much
 pub record IsBegun (ide : SharedIde) (lanes : ℕ) (v : View Entry) (place : ℕ) (p : Part) : Type 0 where
   pub rests : IsIdePassOf ide p.pass
-  pub view : ide_view p.pass ≡ fresh (Some (v.drawn + place)) 0 v.seen
+  pub view : ide_view p.pass ≡ fresh v.places (Some (v.drawn + place)) 0 v.seen
   pub task : IsTaskAt lanes place p.task
 
 -- something holds of each element and its place, counted from this one on
@@ -83,6 +83,7 @@ AllFrom P place (x ∷ xs) = P place x × AllFrom P (suc place) xs
 
 -- so many parts of a round were begun, and number 0 has given as many numbers
 pub record HasBegun (ide : SharedIde) (lanes : ℕ) (v w : View Entry) (parts : List Part) : Type 0 where
+  pub places : w.places ≡ v.places
   pub number : w.number ≡ v.number
   pub drawn : w.drawn ≡ v.drawn + length parts
   pub seen : w.seen ≡ v.seen

@@ -9,18 +9,18 @@ ghost use Rattle.transcripts.specs.Transcript.{transcript_of, summary_of, histor
 use crate::found::push_found;
 use crate::{Answer, Played, Record};
 use std::alloc::{AllocError, Global};
-use write_history::{History, Refusal, line_of};
+use write_history::{History, Refusal, push_line};
 
 /// The transcript: the history, then one record for each command, in UTF-8.
 pub fn transcript(alloc: Global, played: &Played) -> Result<Vec<u8>, AllocError>
     ensures { IfOk result (λ bytes. bytes.items
         ≡ transcript_of (record { history = played.now.history.entries; records = played.now.records; last = played.now.last })) }
 {
-    let mut out = Vec::new(alloc);
-    push_history(alloc, &mut out, &played.history)?;
-    push_records(alloc, &mut out, played.records.as_slice())?;
-    push_records(alloc, &mut out, played.last.as_slice())?;
-    Ok(out)
+    let mut out = String::new(alloc);
+    push_history(&mut out, &played.history)?;
+    push_records(&mut out, played.records.as_slice())?;
+    push_records(&mut out, played.last.as_slice())?;
+    Ok(out.into_bytes())
 }
 
 /// The summary: what the commands of the last section were answered, without the numbers of lines and prefixes.
@@ -28,79 +28,78 @@ pub fn summary(alloc: Global, played: &Played) -> Result<Vec<u8>, AllocError>
     ensures { IfOk result (λ bytes. bytes.items
         ≡ summary_of (record { history = played.now.history.entries; records = played.now.records; last = played.now.last })) }
 {
-    let mut out = Vec::new(alloc);
-    push_answers(alloc, &mut out, played.last.as_slice())?;
-    Ok(out)
+    let mut out = String::new(alloc);
+    push_answers(&mut out, played.last.as_slice())?;
+    Ok(out.into_bytes())
 }
 
 /// The text of a record, in UTF-8: the line of its answer, then one for each row. Linear in it.
 pub fn record_text(alloc: Global, reply: &Record) -> Result<Vec<u8>, AllocError>
     ensures { IfOk result (λ bytes. bytes.items ≡ record_text reply.now) }
 {
-    let mut out = Vec::new(alloc);
-    push_record(alloc, &mut out, reply)?;
-    Ok(out)
+    let mut out = String::new(alloc);
+    push_record(&mut out, reply)?;
+    Ok(out.into_bytes())
 }
 
 /// Adds the history: its length, then the lines of each entry.
-fn push_history(alloc: Global, out: &mut Vec<u8>, history: &History) -> Result<(), AllocError>
-    ensures { OnOk result (out.new.items ≡ out.old.items ++ history_text history.now.entries) }
+fn push_history(out: &mut String, history: &History) -> Result<(), AllocError>
+    ensures { OnOk result (string_bytes out.new ≡ string_bytes out.old ++ history_text history.now.entries) }
 {
     let len = history.len();
-    push_text(out, &format!(in alloc; "history {len}\n")?)?;
-    push_entries(alloc, out, history)
+    write!(out, "history {len}\n")?;
+    push_entries(out, history)
 }
 
 /// Adds the lines of each entry.
-fn push_entries(alloc: Global, out: &mut Vec<u8>, history: &History) -> Result<(), AllocError>
-    ensures { OnOk result (out.new.items ≡ out.old.items ++ entry_lines 1 history.now.entries) }
+fn push_entries(out: &mut String, history: &History) -> Result<(), AllocError>
+    ensures { OnOk result (string_bytes out.new ≡ string_bytes out.old ++ entry_lines 1 history.now.entries) }
 {
     for before in 0..history.len() {
         let position = before + 1;
-        let line = line_of(alloc, position, history.get(position))?;
-        out.extend_from_slice(&line)?;
+        push_line(out, position, history.get(position))?;
     }
     Ok(())
 }
 
 /// Adds the records.
-fn push_records(alloc: Global, out: &mut Vec<u8>, replies: &[Record]) -> Result<(), AllocError>
-    ensures { OnOk result (out.new.items ≡ out.old.items ++ flat_map record_text replies.now) }
+fn push_records(out: &mut String, replies: &[Record]) -> Result<(), AllocError>
+    ensures { OnOk result (string_bytes out.new ≡ string_bytes out.old ++ flat_map record_text replies.now) }
 {
     for reply in replies {
-        push_record(alloc, out, reply)?;
+        push_record(out, reply)?;
     }
     Ok(())
 }
 
 /// Adds the records as a summary tells them.
-fn push_answers(alloc: Global, out: &mut Vec<u8>, replies: &[Record]) -> Result<(), AllocError>
-    ensures { OnOk result (out.new.items ≡ out.old.items ++ flat_map summary_text replies.now) }
+fn push_answers(out: &mut String, replies: &[Record]) -> Result<(), AllocError>
+    ensures { OnOk result (string_bytes out.new ≡ string_bytes out.old ++ flat_map summary_text replies.now) }
 {
     for reply in replies {
-        push_answer(alloc, out, &reply.answer)?;
+        push_answer(out, &reply.answer)?;
     }
     Ok(())
 }
 
 /// Adds a record.
-fn push_record(alloc: Global, out: &mut Vec<u8>, reply: &Record) -> Result<(), AllocError>
-    ensures { OnOk result (out.new.items ≡ out.old.items ++ record_text reply.now) }
+fn push_record(out: &mut String, reply: &Record) -> Result<(), AllocError>
+    ensures { OnOk result (string_bytes out.new ≡ string_bytes out.old ++ record_text reply.now) }
 {
     let line = reply.line;
-    push_text(out, &format!(in alloc; "{line} ")?)?;
-    push_prefix(alloc, out, &reply.answer)?;
-    push_answer(alloc, out, &reply.answer)
+    write!(out, "{line} ")?;
+    push_prefix(out, &reply.answer)?;
+    push_answer(out, &reply.answer)
 }
 
 /// Adds the prefix at which an answer holds, where it has one.
-fn push_prefix(alloc: Global, out: &mut Vec<u8>, answer: &Answer) -> Result<(), AllocError>
-    ensures { OnOk result (out.new.items ≡ out.old.items ++ prefix_text answer.now) }
+fn push_prefix(out: &mut String, answer: &Answer) -> Result<(), AllocError>
+    ensures { OnOk result (string_bytes out.new ≡ string_bytes out.old ++ prefix_text answer.now) }
 {
     let Some(at) = prefix(answer) else {
         return Ok(());
     };
-    push_text(out, &format!(in alloc; "at {at} ")?)
+    write!(out, "at {at} ")
 }
 
 /// The prefix at which an answer holds, where it has one.
@@ -120,44 +119,30 @@ fn prefix(answer: &Answer) -> Option<u64>
 }
 
 /// Adds an answer without its prefix.
-fn push_answer(alloc: Global, out: &mut Vec<u8>, answer: &Answer) -> Result<(), AllocError>
-    ensures { OnOk result (out.new.items ≡ out.old.items ++ answer_text answer.now) }
+fn push_answer(out: &mut String, answer: &Answer) -> Result<(), AllocError>
+    ensures { OnOk result (string_bytes out.new ≡ string_bytes out.old ++ answer_text answer.now) }
 {
     match answer {
-        Answer::Accepted { .. } => out.extend_from_slice(b"accepted\n"),
-        Answer::Refused { at: _, place, why } => push_refusal(alloc, out, *place, *why),
-        Answer::NotText { at } => push_text(out, &format!(in alloc; "not-text {at}\n")?),
-        Answer::TooLong { count } => push_text(out, &format!(in alloc; "too-long {count}\n")?),
-        Answer::Smart { .. } => out.extend_from_slice(b"smart\n"),
-        Answer::NotReady { at: _, path } => {
-            push_text(out, &format!(in alloc; "not-ready {path}\n")?)
-        }
-        Answer::Found { at: _, found } => push_found(alloc, out, found),
+        Answer::Accepted { .. } => out.push_str("accepted\n"),
+        Answer::Refused { at: _, place, why } => push_refusal(out, *place, *why),
+        Answer::NotText { at } => write!(out, "not-text {at}\n"),
+        Answer::TooLong { count } => write!(out, "too-long {count}\n"),
+        Answer::Smart { .. } => out.push_str("smart\n"),
+        Answer::NotReady { at: _, path } => { write!(out, "not-ready {path}\n") }
+        Answer::Found { at: _, found } => push_found(out, found),
         Answer::Cancelled { sighted } => {
             let attempts = sighted.attempts();
-            push_text(out, &format!(in alloc; "cancelled {attempts}\n")?)
+            write!(out, "cancelled {attempts}\n")
         }
     }
 }
 
 /// Adds a refusal, of a group with the place of the change that it refuses.
-fn push_refusal(
-    alloc: Global,
-    out: &mut Vec<u8>,
-    place: Option<u32>,
-    why: Refusal,
-) -> Result<(), AllocError>
-    ensures { OnOk result (out.new.items ≡ out.old.items ++ (codes "refused " ++ place_of_refusal place ++ why_text why ++ codes "\n")) }
+fn push_refusal(out: &mut String, place: Option<u32>, why: Refusal) -> Result<(), AllocError>
+    ensures { OnOk result (string_bytes out.new ≡ string_bytes out.old ++ (codes "refused " ++ place_of_refusal place ++ why_text why ++ codes "\n")) }
 {
     match place {
-        None => push_text(out, &format!(in alloc; "refused {why}\n")?),
-        Some(place) => push_text(out, &format!(in alloc; "refused in {place} {why}\n")?),
+        None => write!(out, "refused {why}\n"),
+        Some(place) => write!(out, "refused in {place} {why}\n"),
     }
-}
-
-/// Adds a text.
-pub(crate) fn push_text(out: &mut Vec<u8>, text: &String) -> Result<(), AllocError>
-    ensures { OnOk result (out.new.items ≡ out.old.items ++ string_bytes text.now) }
-{
-    out.extend_from_slice(text.as_bytes())
 }

@@ -1,5 +1,5 @@
 -- The paths of live files, and those that the entries of a legal history name, are lawful.
-use Rattle.std.proofs.Common.{ℕ, ◌≡◌, Bool, true, false, not, List, [], ◌∷◌, refl, ap, sym, ◌∙◌, subst, Some, None, arith}
+use Rattle.std.proofs.Common.{ℕ, ◌≡◌, Bool, true, false, not, List, [], ◌∷◌, refl, sym, subst, Some, None, arith}
 use Rattle.std.specs.Prelude.{Option, is_none, option_map}
 use Rattle.std.specs.List.{All, AllByRecursion}
 use Rattle.std.proofs.lemmas.List.Elements.{All-from_recursion}

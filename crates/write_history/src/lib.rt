@@ -15,5 +15,5 @@ pub use changes::{Changes, MAX_CHANGES};
 pub use entry::Entry;
 pub use history::{History, MAX_ENTRIES};
 pub use path::is_lawful_path;
-pub use print::line_of;
+pub use print::{line_of, push_line};
 pub use refusal::Refusal;

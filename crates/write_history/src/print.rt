@@ -1,6 +1,6 @@
 //! How the transcript prints an entry of the history, and why a change was refused.
-ghost use Rattle.std.specs.Prelude.{◌≡◌, ◌++◌, IfOk, OnOk};
-ghost use Rattle.write_history.specs.Print.{entry_line, changes_text, group_text, group_line};
+ghost use Rattle.std.specs.Prelude.{◌≡◌, ◌++◌, IfOk, OnOk, string_bytes};
+ghost use Rattle.write_history.specs.Print.{entry_line, changes_text, group_text};
 
 use crate::{Change, Entry, Refusal};
 use std::alloc::{AllocError, Global};
@@ -33,39 +33,40 @@ impl fmt::Display for Change {
 pub fn line_of(alloc: Global, position: u64, entry: &Entry) -> Result<Vec<u8>, AllocError>
     ensures { IfOk result (λ line. line.items ≡ entry_line position entry.now) }
 {
+    let mut out = String::new(alloc);
+    push_line(&mut out, position, entry)?;
+    Ok(out.into_bytes())
+}
+
+/// Adds that line.
+pub fn push_line(out: &mut String, position: u64, entry: &Entry) -> Result<(), AllocError>
+    ensures { OnOk result (string_bytes out.new ≡ string_bytes out.old ++ entry_line position entry.now) }
+{
     let seat = entry.seat;
     let line = entry.line;
-    let mut out = format!(in alloc; "{position} {seat} {line} ")?.into_bytes();
-    add_changes(alloc, &mut out, entry.changes.as_slice())?;
-    Ok(out)
+    write!(out, "{position} {seat} {line} ")?;
+    push_changes(out, entry.changes.as_slice())
 }
 
 /// Adds what the line of an entry ends in, and the lines of a group.
-fn add_changes(alloc: Global, out: &mut Vec<u8>, changes: &[Change]) -> Result<(), AllocError>
-    ensures { OnOk result (out.new.items ≡ out.old.items ++ changes_text changes.now) }
+fn push_changes(out: &mut String, changes: &[Change]) -> Result<(), AllocError>
+    ensures { OnOk result (string_bytes out.new ≡ string_bytes out.old ++ changes_text changes.now) }
 {
     match changes {
-        [change] => out.extend_from_slice(format!(in alloc; "{change}\n")?.as_bytes()),
-        _ => add_group(alloc, out, changes),
+        [change] => write!(out, "{change}\n"),
+        _ => push_group(out, changes),
     }
 }
 
 /// Adds the number of the changes of a group, and a line for each.
-fn add_group(alloc: Global, out: &mut Vec<u8>, changes: &[Change]) -> Result<(), AllocError>
-    ensures { OnOk result (out.new.items ≡ out.old.items ++ group_text changes.now) }
+fn push_group(out: &mut String, changes: &[Change]) -> Result<(), AllocError>
+    ensures { OnOk result (string_bytes out.new ≡ string_bytes out.old ++ group_text changes.now) }
 {
-    out.extend_from_slice(format!(in alloc; "group {}\n", changes.len())?.as_bytes())?;
+    write!(out, "group {}\n", changes.len())?;
     for change in changes {
-        add_line(alloc, out, change)?;
+        write!(out, "  {change}\n")?;
     }
     Ok(())
-}
-
-/// Adds the line of a change of a group.
-fn add_line(alloc: Global, out: &mut Vec<u8>, change: &Change) -> Result<(), AllocError>
-    ensures { OnOk result (out.new.items ≡ out.old.items ++ group_line change.now) }
-{
-    out.extend_from_slice(format!(in alloc; "  {change}\n")?.as_bytes())
 }
 
 impl fmt::Display for Refusal {

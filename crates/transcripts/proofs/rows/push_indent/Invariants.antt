@@ -1,7 +1,7 @@
-use Rattle.std.proofs.Common.{◌≡◌, ◌++◌}
+use Rattle.std.proofs.Common.{◌≡◌, ◌++◌, string_bytes}
 use Rattle.transcripts.specs.Transcript.{indent}
 use Rattle.transcripts.proofs.rows.push_indent.Given as goal
 
 -- two spaces for each depth so far
 abbrev pub invariant-loop-level : goal.invariant-loop-level
-invariant-loop-level l = l.out.items ≡ l.fn.out.items ++ indent l._level
+invariant-loop-level l = string_bytes l.out ≡ string_bytes l.fn.out ++ indent l._level

@@ -1,8 +1,8 @@
-use Rattle.std.proofs.Common.{◌≡◌, ◌++◌, drop}
+use Rattle.std.proofs.Common.{◌≡◌, ◌++◌, drop, string_bytes}
 use Rattle.std.specs.List.{flat_map}
 use Rattle.transcripts.specs.Transcript.{level_line}
 use Rattle.transcripts.proofs.rows.push_levels.Given as goal
 
 -- what was printed so far and what the rest gives is all
 abbrev pub invariant-loop-found : goal.invariant-loop-found
-invariant-loop-found l = l.out.items ++ flat_map level_line (drop l.found-index l.rows) ≡ l.fn.out.items ++ flat_map level_line l.rows
+invariant-loop-found l = string_bytes l.out ++ flat_map level_line (drop l.found-index l.rows) ≡ string_bytes l.fn.out ++ flat_map level_line l.rows

@@ -1,8 +1,8 @@
-use Rattle.std.proofs.Common.{◌≡◌, ◌++◌, drop}
+use Rattle.std.proofs.Common.{◌≡◌, ◌++◌, drop, string_bytes}
 use Rattle.std.specs.List.{flat_map}
 use Rattle.transcripts.specs.Transcript.{super_text}
 use Rattle.transcripts.proofs.rows.push_names.Given as goal
 
 -- what was printed so far and what the rest gives is all
 abbrev pub invariant-loop-name : goal.invariant-loop-name
-invariant-loop-name l = l.out.items ++ flat_map super_text (drop l.name-index l.names) ≡ l.fn.out.items ++ flat_map super_text l.names
+invariant-loop-name l = string_bytes l.out ++ flat_map super_text (drop l.name-index l.names) ≡ string_bytes l.fn.out ++ flat_map super_text l.names

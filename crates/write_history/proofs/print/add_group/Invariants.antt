@@ -1,7 +1,0 @@
-use Rattle.std.proofs.Common.{◌≡◌, ◌++◌, flat_map, drop}
-use Rattle.write_history.specs.Print.{group_line}
-use Rattle.write_history.proofs.print.add_group.Given as goal
-
--- what stands there, with the lines of the rest, is what all give
-abbrev pub invariant-loop-change : goal.invariant-loop-change
-invariant-loop-change l = l.out.items ++ flat_map group_line (drop l.change-index l.changes) ≡ l.initial.out.items ++ flat_map group_line l.changes
