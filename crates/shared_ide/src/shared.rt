@@ -33,11 +33,7 @@ impl SharedIde {
     /// The workspace without a file, and its first pass. Index data that the store has aren't made anew; `Store::empty` has none.
     /// Ask for as many places as there will be passes that call it at the same time, from 1 up to 32: with fewer some reads take
     /// turns, and each place more makes a change dearer.
-    pub fn new(
-        alloc: Global,
-        store: Store,
-        places: u32,
-    ) -> Result<(SharedIde, IdePass), AllocError>
+    pub fn new(alloc: Global, store: Store, places: u32) -> Result<(SharedIde, IdePass), AllocError>
         ensures pass { IfOk result (λ made. IsIdePassOf made.0 made.1) }
         ensures view { IfOk result (λ made. ide_view made.1 ≡ first_view (places_for places)) }
         ensures hints { IfOk result (λ made. queue_view made.1.queue ≡ first_queue_view) }
