@@ -2,12 +2,12 @@ use Rattle.std.proofs.Common.{◌≡◌, ◌<◌, sym, arith, get_or, length}
 use Rattle.std.proofs.lemmas.Grind.{common_steps}
 use Rattle.std.proofs.lemmas.Option.{get_or_from_slice_get, slice_get_within}
 use Rattle.ide_text.proofs.TextLemmas.{since_break_at_break, since_break_at_other}
-use Rattle.ide_text.proofs.line_walk.LineWalk.line_col.Goals as goal
-use Rattle.ide_text.proofs.line_walk.LineWalk.line_col.Goals.{then-char_at-eq10, else-char_at-eq10}
+use Rattle.ide_text.proofs.line_walk.past_chars.Goals as goal
+use Rattle.ide_text.proofs.line_walk.past_chars.Goals.{then-char_at-eq10, else-char_at-eq10}
 
 pub loop-place-preserved : goal.loop-place-preserved
 loop-place-preserved c =
-    let text = c.self.inside.text.now in
+    let text = c.args.text.now in
     let place = c.loop-place.place in
     let char = c.char_at.result in
     let at : char ≡ get_or text place char = sym (get_or_from_slice_get text place char char c.char_at.ensures) in

@@ -1,7 +1,7 @@
 use Rattle.std.proofs.Common.{◌≡◌, ◌≤◌, ◌+◌, ◌==◌, take, count_by}
 use Rattle.ide_text.specs.Text.{line_feed}
 use Rattle.ide_text.specs.Place.{since_break}
-use Rattle.ide_text.proofs.line_walk.LineWalk.line_col.Given as goal
+use Rattle.ide_text.proofs.line_walk.past_chars.Given as goal
 
 -- the line and the column of the place that the loop has come to
 abbrev pub invariant-loop-place : goal.invariant-loop-place
