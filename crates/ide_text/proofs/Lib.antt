@@ -1,3 +1,4 @@
 pub mod Utf8Lemmas
 pub mod TextLemmas
 pub mod EditLemmas
+pub mod AsciiLemmas
