@@ -1,5 +1,6 @@
 //! From tokens to the forest of groups: partners of brackets, and brackets without one.
-ghost use Rattle.std.specs.Prelude.{◌≡◌, ◌+◌, ◌-◌, ◌≤◌, ◌++◌, ◌∷◌, [], All, IfOk, OnOk, length};
+ghost use Rattle.std.specs.Prelude.{◌≡◌, ◌+◌, ◌-◌, ◌<◌, ◌≤◌, ◌++◌, ◌∷◌, [], All, IfOk, OnOk, length};
+ghost use Rattle.std.specs.Prelude.{vec_len, vec_capacity};
 ghost use Rattle.java_tokens.specs.Tokens.{IsInside};
 ghost use Rattle.decl_parser.specs.Forest.{Scan, with_size, without_bracket, close, close_rest, step, forest_of};
 
@@ -17,7 +18,7 @@ pub(crate) fn forest(alloc: Global, text: &Text, tokens: &[Token]) -> Result<Vec
     requires { All (IsInside text.now) tokens.now }
     ensures { IfOk result (λ nodes. nodes.items ≡ forest_of text.now tokens.now) }
 {
-    let mut nodes = Vec::new(alloc);
+    let mut nodes = Vec::with_capacity(alloc, tokens.len())?;
     let mut unclosed = OpenBrackets::new(alloc);
     for token in tokens {
         add_token(text, *token, &mut nodes, &mut unclosed)?;
@@ -26,7 +27,7 @@ pub(crate) fn forest(alloc: Global, text: &Text, tokens: &[Token]) -> Result<Vec
     Ok(nodes)
 }
 
-/// Goes on by one token.
+/// Goes on by one token. There is room for its node.
 #[tactic(auto, unfolding(crate::specs::Forest::step))]
 fn add_token(
     text: &Text,
@@ -34,9 +35,12 @@ fn add_token(
     nodes: &mut Vec<Node>,
     unclosed: &mut OpenBrackets,
 ) -> Result<(), AllocError>
-    requires { token.at + token.len ≤ length text.now }
-    ensures { OnOk result (step text.now (record { nodes = nodes.old.items; unclosed = unclosed.old }) token
+    requires inside { token.at + token.len ≤ length text.now }
+    requires room { vec_len nodes.old < vec_capacity nodes.old }
+    ensures step { OnOk result (step text.now (record { nodes = nodes.old.items; unclosed = unclosed.old }) token
         ≡ record { nodes = nodes.new.items; unclosed = unclosed.new }) }
+    ensures room { vec_capacity nodes.new ≡ vec_capacity nodes.old }
+    ensures len { vec_len nodes.new ≤ vec_len nodes.old + 1 }
 {
     let role = role_of(text, &token);
     let node = Node {
@@ -49,13 +53,13 @@ fn add_token(
             place: nodes.len(),
             bracket,
         })?;
-        nodes.push(node)?;
+        nodes.push_reserved(node);
     } else if let Some(bracket) = role.closed() {
         if unclosed.finds(bracket) {
             close_group(nodes, unclosed, bracket);
         }
     } else if !role.is(Role::Comment) {
-        nodes.push(node)?;
+        nodes.push_reserved(node);
     }
     Ok(())
 }
@@ -63,7 +67,9 @@ fn add_token(
 /// Closes the innermost open bracket of a kind; those opened since stay without a partner.
 #[tactic(auto, unfolding(crate::specs::Forest::close))]
 fn close_group(nodes: &mut Vec<Node>, unclosed: &mut OpenBrackets, bracket: Bracket)
-    ensures { close bracket nodes.old.items unclosed.old ≡ record { nodes = nodes.new.items; unclosed = unclosed.new } }
+    ensures closed { close bracket nodes.old.items unclosed.old ≡ record { nodes = nodes.new.items; unclosed = unclosed.new } }
+    ensures room { vec_capacity nodes.new ≡ vec_capacity nodes.old }
+    ensures len { vec_len nodes.new ≡ vec_len nodes.old }
 {
     while let Some(innermost) = unclosed.pop() {
         if innermost.bracket.is(bracket) {
@@ -86,7 +92,9 @@ fn close_at_end(nodes: &mut Vec<Node>, unclosed: &mut OpenBrackets)
 
 /// Lets the group at a place reach to the last node.
 fn set_size(nodes: &mut Vec<Node>, place: usize)
-    ensures { nodes.new.items ≡ with_size place nodes.old.items }
+    ensures size { nodes.new.items ≡ with_size place nodes.old.items }
+    ensures room { vec_capacity nodes.new ≡ vec_capacity nodes.old }
+    ensures len { vec_len nodes.new ≡ vec_len nodes.old }
 {
     let size = nodes.len().saturating_sub(place).saturating_sub(1);
     if place < nodes.len() {
@@ -99,7 +107,9 @@ fn set_size(nodes: &mut Vec<Node>, place: usize)
 
 /// Marks the bracket at a place as one without a partner.
 fn take_out(nodes: &mut Vec<Node>, place: usize)
-    ensures { nodes.new.items ≡ without_bracket place nodes.old.items }
+    ensures role { nodes.new.items ≡ without_bracket place nodes.old.items }
+    ensures room { vec_capacity nodes.new ≡ vec_capacity nodes.old }
+    ensures len { vec_len nodes.new ≡ vec_len nodes.old }
 {
     if place < nodes.len() {
         nodes[place] = Node {

@@ -25,6 +25,32 @@ fn role_among(text: &Text, token: &Token, words: &[(&str, Role)]) -> Role
     requires { token.now.at + token.now.len ≤ length text.now }
     ensures { result ≡ role_among (λ w. w.0.now) (λ w. w.1) words.now (characters_of text.now token.now) }
 {
+    match text.ascii() {
+        Some(ascii) => {
+            let from = token.at as usize;
+            role_of_bytes(&ascii.as_bytes()[from..from + token.len as usize], words)
+        }
+        None => role_of_token(text, token, words),
+    }
+}
+
+/// The same of a token by its bytes, which are its characters where the text is kept as ASCII.
+fn role_of_bytes(bytes: &[u8], words: &[(&str, Role)]) -> Role
+    ensures { result ≡ role_among (λ w. w.0.now) (λ w. w.1) words.now bytes.now }
+{
+    for entry in words {
+        if entry.0.as_bytes() == bytes {
+            return entry.1;
+        }
+    }
+    Role::Identifier
+}
+
+/// The same of a token in any text.
+fn role_of_token(text: &Text, token: &Token, words: &[(&str, Role)]) -> Role
+    requires { token.now.at + token.now.len ≤ length text.now }
+    ensures { result ≡ role_among (λ w. w.0.now) (λ w. w.1) words.now (characters_of text.now token.now) }
+{
     for entry in words {
         if spells(text, token, entry.0) {
             return entry.1;

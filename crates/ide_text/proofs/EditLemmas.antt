@@ -56,10 +56,6 @@ chars-with_piece at piece text bytes scalar e =
     ∙ sym (encodes-append (take at text ++ piece) (drop at text)))
     ∙ chars-encodes (take at text ++ piece ++ drop at text) scalar
 
--- the same of two lists, one pushed after the other
-pub chars-two : (front back bytes : List ℕ) → all_scalars (front ++ back) ≡ true → bytes ≡ encode_utf8_all front ++ encode_utf8_all back → chars bytes ≡ front ++ back
-chars-two front back bytes scalar e = ap chars (e ∙ sym (encodes-append front back)) ∙ chars-encodes (front ++ back) scalar
-
 -- lists of one length that are the same up to it are the same
 pub same_to_end : (xs ys : List ℕ) (n : ℕ) → length xs ≡ n → length ys ≡ n → take n xs ≡ take n ys → true ≡ bytes_eq xs ys
 same_to_end xs ys n l m h = sym ((bytes_decides xs ys).1 (sym (take_all n xs (omega arith)) ∙ h ∙ take_all n ys (omega arith)))

@@ -2,3 +2,4 @@ pub mod Utf8Lemmas
 pub mod TextLemmas
 pub mod EditLemmas
 pub mod WalkLemmas
+pub mod AsciiLemmas

@@ -1,8 +1,8 @@
 //! How the characters of a text lie in memory: a byte each where all of them are ASCII, as in most sources.
-ghost use Rattle.std.specs.Prelude.{◌≡◌, ◌≤◌, ◌<◌, ◌-◌, ◌++◌, IsTrue, IfOk, IfSome, OnOk, Some, length, slice_get, take, drop, encode_utf8_all};
+ghost use Rattle.std.specs.Prelude.{◌≡◌, ◌≤◌, ◌<◌, ◌-◌, ◌++◌, IsTrue, IfOk, IfSome, OnOk, Some, length, slice_get, take, drop, map, encode_utf8_all};
 ghost use Rattle.std.specs.Str.{chars, all_scalars};
 ghost use Rattle.std.specs.String.{string_bytes};
-ghost use Rattle.ide_text.specs.Chars.{chars_of, IsKept};
+ghost use Rattle.ide_text.specs.Chars.{chars_of, capped, IsKept};
 ghost use Rattle.ide_text.specs.Spelling.{bytes_of};
 ghost use Rattle.ide_text.specs.Text.{repaired, repaired_char};
 
@@ -156,16 +156,29 @@ impl Chars {
     }
 }
 
-/// Two lists of characters, one after the other.
+/// Two lists of characters, one after the other. Linear in both, with room for both made at once.
 pub(crate) fn joined(alloc: Global, front: &[char], back: &[char]) -> Result<Chars, AllocError>
-    requires { IsTrue (all_scalars (front.now ++ back.now)) }
     ensures value { IfOk result (λ cs. chars_of cs ≡ front.now ++ back.now) }
     ensures kept { IfOk result IsKept }
 {
-    let mut out = String::with_capacity(alloc, front.len())?;
-    add_chars(&mut out, front)?;
-    add_chars(&mut out, back)?;
-    Chars::of(alloc, out)
+    let len = front.len().saturating_add(back.len());
+    let mut bytes = Vec::with_capacity(alloc, len)?;
+    add_capped(&mut bytes, front)?;
+    add_capped(&mut bytes, back)?;
+    if bytes.is_ascii() {
+        return Ok(Chars::Ascii(unsafe { String::from_utf8_unchecked(bytes) }));
+    }
+    let mut chars = Vec::with_capacity(alloc, len)?;
+    chars.extend_from_slice(front)?;
+    chars.extend_from_slice(back)?;
+    Ok(Chars::Any(chars))
+}
+
+/// Adds a byte for each character: its own, where it is ASCII, and else one that isn't.
+fn add_capped(bytes: &mut Vec<u8>, chars: &[char]) -> Result<(), AllocError>
+    ensures { OnOk result (bytes.new.items ≡ bytes.old.items ++ map capped chars.now) }
+{
+    bytes.extend(chars.iter().map(|c| (*c as u32).min(128) as u8))
 }
 
 /// How some characters are spelt.

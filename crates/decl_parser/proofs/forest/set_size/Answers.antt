@@ -2,8 +2,8 @@ use Rattle.std.proofs.Common.{◌≡◌, ◌-◌, ◌<◌, ◌≤◌, length, ap
 use Rattle.decl_parser.proofs.ForestLemmas.{changed-set, changed-beyond}
 use Rattle.decl_parser.proofs.forest.set_size.Goals as goal
 
-pub returns-then-place-len : goal.returns-then-place-len
-returns-then-place-len c =
+pub returns-then-place-len-clause-size : goal.returns-then-place-len-clause-size
+returns-then-place-len-clause-size c =
     let nodes = c.args.nodes.now.items in
     let n = c.index.result.now in
     let inside : c.args.place < length nodes = omega arith in
@@ -11,8 +11,8 @@ returns-then-place-len c =
     ap (λ s. slice_set nodes c.args.place (record { token = n.token; role = n.role; size = s })) size
     ∙ changed-set (λ n. record { token = n.token; role = n.role; size = length nodes - c.args.place - 1 }) nodes c.args.place n c.index.ensures inside
 
-pub returns-else-place-len : goal.returns-else-place-len
-returns-else-place-len c =
+pub returns-else-place-len-clause-size : goal.returns-else-place-len-clause-size
+returns-else-place-len-clause-size c =
     let nodes = c.args.nodes.now.items in
     let beyond : length nodes ≤ c.args.place = omega arith in
     changed-beyond (λ n. record { token = n.token; role = n.role; size = length nodes - c.args.place - 1 }) nodes c.args.place beyond

@@ -1,17 +1,18 @@
-use Rattle.std.proofs.Common.{◌≡◌, ◌++◌, rules, ◌∙◌, encode_utf8_all}
-use Rattle.std.specs.Str.{chars}
-use Rattle.std.specs.String.{string_bytes}
-use Rattle.std.proofs.lemmas.Result.{IfOk-weaker}
-use Rattle.ide_text.specs.Chars.{chars_of}
-use Rattle.ide_text.proofs.EditLemmas.{chars-two}
+use Rattle.std.proofs.Common.{◌≡◌, ◌++◌, rules, map, ◌∙◌, subst}
+use Rattle.std.specs.Str.{IsAscii}
+use Rattle.std.proofs.lemmas.Str.{IsUtf8-from_ascii}
+use Rattle.ide_text.specs.Chars.{capped}
+use Rattle.ide_text.proofs.AsciiLemmas.{ascii_two}
 use Rattle.ide_text.proofs.chars.joined.Goals as goal
 
-pub returns-clause-value : goal.returns-clause-value
-returns-clause-value c =
+pub from_utf8_unchecked-requires : goal.from_utf8_unchecked-requires
+from_utf8_unchecked-requires c = IsUtf8-from_ascii c.add_capped-2.new.bytes.items (subst IsAscii c.deref.ensures.value c.if-is_ascii.ensures.cases)
+
+pub returns-then-is_ascii-clause-value : goal.returns-then-is_ascii-clause-value
+returns-then-is_ascii-clause-value c =
     let front = c.args.front.now in
     let back = c.args.back.now in
-    let bytes = string_bytes c.add_chars-2.new.out in
-    let spelled : bytes ≡ encode_utf8_all front ++ encode_utf8_all back = search rules in
-    IfOk-weaker c.of.result (λ cs. chars_of cs ≡ chars bytes) (λ cs. chars_of cs ≡ front ++ back)
-    (λ cs made. made ∙ chars-two front back bytes c.requires spelled)
-    c.of.ensures.value
+    let bytes = c.add_capped-2.new.bytes.items in
+    let made : bytes ≡ map capped front ++ map capped back = search rules in
+    let same = ascii_two front back bytes made (subst IsAscii c.deref.ensures.value c.if-is_ascii.ensures.cases) in
+    (search rules) ∙ same
