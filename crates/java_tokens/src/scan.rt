@@ -28,12 +28,12 @@ pub fn run_end(piece: &Piece, from: u32, class: Class) -> u32
 pub fn comment_end(piece: &Piece, from: u32) -> u32
     ensures { result ≡ from + comment_rest (drop from piece.now) }
 {
-    let mut at = from;
+    let mut at = piece.skip_to(from, b'*');
     while let Some(c) = piece.get(at) {
         if ends_comment(c, piece, at + 1) {
             return at + 2;
         }
-        at += 1;
+        at = piece.skip_to(at + 1, b'*');
     }
     at
 }
