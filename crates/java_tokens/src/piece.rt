@@ -61,6 +61,15 @@ impl<'a> Piece<'a> {
         self.len
     }
 
+    /// The characters as bytes, where the text is kept as ASCII.
+    #[inline]
+    pub fn ascii(&self) -> Option<&[u8]>
+        ensures value { IfSome result (λ bytes. bytes.now ≡ self.now) }
+        ensures few { length self.now ≤ max_chars }
+    {
+        self.ascii
+    }
+
     /// The character at a place, if the place is inside.
     #[inline]
     pub fn get(&self, at: u32) -> Option<char>
