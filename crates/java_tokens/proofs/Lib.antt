@@ -1,5 +1,6 @@
 pub mod Pieces
 pub mod KindLemmas
+pub mod SkipLemmas
 pub mod TokenLemmas
 pub mod WordLemmas
 pub mod WordListLemmas

@@ -52,6 +52,10 @@ underscore = 95
 abbrev pub is_white_space : ℕ → Bool
 is_white_space c = c == space || c == tab || c == form_feed || c == line_feed
 
+-- any character but this one
+abbrev pub is_other : ℕ → ℕ → Bool
+is_other mark c = not (c == mark)
+
 -- InputCharacter: what may stand in a line
 abbrev pub is_in_line : ℕ → Bool
 is_in_line c = not (c == line_feed)

@@ -11,8 +11,6 @@ use unicode_ident::{is_xid_continue, is_xid_start};
 pub enum Class {
     /// Space, tab, form feed and line feed.
     WhiteSpace,
-    /// All but the line feed.
-    InLine,
     /// What may go on in a word.
     Word,
     /// What may go on in a number.
@@ -26,8 +24,8 @@ impl Class {
         ensures { result ≡ is_in self c }
     {
         match self {
-            Class::WhiteSpace => matches!(c, ' ' | '\t' | '\x0c' | '\n'),
-            Class::InLine => c != '\n',
+            // Most characters are behind the space.
+            Class::WhiteSpace => c <= ' ' && matches!(c, ' ' | '\t' | '\x0c' | '\n'),
             Class::Word => continues_word(c),
             Class::Number => continues_word(c) || c == '.',
         }

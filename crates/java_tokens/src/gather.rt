@@ -55,13 +55,21 @@ fn add_token(masks: &mut Masks, text: &Text, token: &Token) -> Result<(), AllocE
     ensures { OnOk result (masks.new
         ≡ fold with_occurrence masks.old (occurrences_at text.now token.now)) }
 {
-    let piece = Piece::part(text, token.at, token.len);
     if is_identifier_at(text, token) {
+        let piece = Piece::part(text, token.at, token.len);
         masks.add(&piece, 0, token.len, Place::Code)?;
     } else if token.is(Kind::LineComment) || token.is(Kind::BlockComment) {
-        add_words(masks, &piece, Place::Comment)?;
+        add_words(
+            masks,
+            &Piece::part(text, token.at, token.len),
+            Place::Comment,
+        )?;
     } else if token.is(Kind::Str) || token.is(Kind::TextBlock) {
-        add_words(masks, &piece, Place::String)?;
+        add_words(
+            masks,
+            &Piece::part(text, token.at, token.len),
+            Place::String,
+        )?;
     }
     Ok(())
 }

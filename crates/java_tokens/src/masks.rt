@@ -72,17 +72,12 @@ impl Masks {
     }
 }
 
-/// Adds one occurrence of a name. It is looked up once where it was seen before.
+/// Adds one occurrence of a name, which is hashed and looked up once.
 fn add_name(rows: &mut IndexMap<Name, u8>, name: Name, place: Place) -> Result<(), AllocError>
     ensures words { OnOk result (in_order_of rows.new.entries ≡ with_occurrence (in_order_of rows.old.entries) (name, bit_of place)) }
     ensures unique { IsUnique bytes_eq rows.new }
 {
-    match rows.get_mut(&name) {
-        Some(mask) => *mask |= place.bit(),
-        None => {
-            rows.insert(name, place.bit())?;
-        }
-    }
+    *rows.entry(name)?.or_insert(0) |= place.bit();
     Ok(())
 }
 

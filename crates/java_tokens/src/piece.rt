@@ -1,9 +1,11 @@
 //! A part of a text, read by places of its own.
 ghost use Rattle.std.specs.Prelude.{◌≡◌, ◌+◌, ◌-◌, ◌<◌, ◌≤◌, suc, [], ◌∷◌, IsTrue, IfOk, IfSome, IfNone, OnSome, length, take, drop};
+ghost use Rattle.std.specs.List.{prefix_len};
 ghost use Rattle.ide_text.specs.Text.{max_chars};
-ghost use Rattle.java_tokens.specs.Chars.{begins_with};
+ghost use Rattle.java_tokens.specs.Chars.{begins_with, is_other};
 
 use ide_text::{Name, Text};
+use memchr::memchr;
 use std::alloc::{AllocError, Global};
 use std::marker::Model;
 
@@ -59,6 +61,15 @@ impl<'a> Piece<'a> {
         self.len
     }
 
+    /// The characters as bytes, where the text is kept as ASCII.
+    #[inline]
+    pub fn ascii(&self) -> Option<&[u8]>
+        ensures value { IfSome result (λ bytes. bytes.now ≡ self.now) }
+        ensures few { length self.now ≤ max_chars }
+    {
+        self.ascii
+    }
+
     /// The character at a place, if the place is inside.
     #[inline]
     pub fn get(&self, at: u32) -> Option<char>
@@ -72,6 +83,33 @@ impl<'a> Piece<'a> {
             None if at < self.len => Some(self.text.char_at(self.from + at)),
             None => None,
         }
+    }
+
+    /// The first place from one on at which a mark stands, an ASCII character, or else the end. An ASCII text is searched many
+    /// bytes at once.
+    pub fn skip_to(&self, from: u32, mark: u8) -> u32
+        ensures { result ≡ from + prefix_len (is_other mark) (drop from self.now) }
+    {
+        match self.ascii {
+            Some(bytes) if from < self.len => {
+                from + bytes_before(&bytes[from as usize..], mark) as u32
+            }
+            _ => self.walk_to(from, mark as char),
+        }
+    }
+
+    /// The same, character by character.
+    fn walk_to(&self, from: u32, mark: char) -> u32
+        ensures { result ≡ from + prefix_len (is_other mark) (drop from self.now) }
+    {
+        let mut at = from;
+        while let Some(c) = self.get(at) {
+            if c == mark {
+                break;
+            }
+            at += 1;
+        }
+        at
     }
 
     /// Whether the characters from a place on begin with a mark.
@@ -108,4 +146,12 @@ fn ascii_part(text: &Text, from: u32, len: u32) -> Option<&[u8]>
     let bytes = text.ascii()?.as_bytes();
     let from = from as usize;
     Some(&bytes[from..from + len as usize])
+}
+
+/// How many bytes stand before the first that is a mark.
+fn bytes_before(bytes: &[u8], mark: u8) -> usize
+    ensures value { result ≡ prefix_len (is_other mark) bytes.now }
+    ensures inside { result ≤ length bytes.now }
+{
+    memchr(mark, bytes).unwrap_or(bytes.len())
 }

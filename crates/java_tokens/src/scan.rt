@@ -1,5 +1,5 @@
 //! How far a run, a comment or a literal goes on.
-ghost use Rattle.std.specs.Prelude.{◌≡◌, ℕ, ◌+◌, ◌≤◌, ◌∷◌, drop};
+ghost use Rattle.std.specs.Prelude.{◌≡◌, ℕ, ◌+◌, ◌≤◌, ◌∷◌, length, drop};
 ghost use Rattle.std.specs.List.{prefix_len};
 ghost use Rattle.ide_text.specs.Text.{max_chars};
 ghost use Rattle.java_tokens.specs.Chars.{begins_with};
@@ -10,7 +10,34 @@ use crate::chars::Class;
 use crate::piece::Piece;
 
 /// Where the longest run of a class that begins at a place ends.
+#[inline]
 pub fn run_end(piece: &Piece, from: u32, class: Class) -> u32
+    ensures { result ≡ from + prefix_len (is_in class) (drop from piece.now) }
+{
+    match piece.ascii() {
+        Some(bytes) => run_end_in_bytes(bytes, from, class),
+        None => run_end_in_text(piece, from, class),
+    }
+}
+
+/// The same over ASCII, in a loop that only reads its bytes.
+#[inline(always)]
+fn run_end_in_bytes(bytes: &[u8], from: u32, class: Class) -> u32
+    requires { length bytes.now ≤ max_chars }
+    ensures { result ≡ from + prefix_len (is_in class) (drop from bytes.now) }
+{
+    let mut at = from;
+    while let Some(byte) = bytes.get(at as usize) {
+        if !class.contains(*byte as char) {
+            break;
+        }
+        at += 1;
+    }
+    at
+}
+
+/// The same over any text.
+fn run_end_in_text(piece: &Piece, from: u32, class: Class) -> u32
     ensures { result ≡ from + prefix_len (is_in class) (drop from piece.now) }
 {
     let mut at = from;
@@ -28,12 +55,12 @@ pub fn run_end(piece: &Piece, from: u32, class: Class) -> u32
 pub fn comment_end(piece: &Piece, from: u32) -> u32
     ensures { result ≡ from + comment_rest (drop from piece.now) }
 {
-    let mut at = from;
+    let mut at = piece.skip_to(from, b'*');
     while let Some(c) = piece.get(at) {
         if ends_comment(c, piece, at + 1) {
             return at + 2;
         }
-        at += 1;
+        at = piece.skip_to(at + 1, b'*');
     }
     at
 }

@@ -142,7 +142,7 @@ fn token_end(piece: &Piece, at: u32, kind: Kind) -> u32
     ensures { result ≡ at + length_of kind (drop at piece.now) }
 {
     match kind {
-        Kind::LineComment => run_end(piece, at, Class::InLine),
+        Kind::LineComment => piece.skip_to(at, b'\n'),
         Kind::BlockComment => comment_end(piece, at + 2),
         Kind::TextBlock => text_block_end(piece, at + 3),
         Kind::Str => literal_end(piece, at + 1, '"'),

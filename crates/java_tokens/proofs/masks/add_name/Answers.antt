@@ -1,38 +1,26 @@
-use Rattle.std.proofs.Common.{◌≡◌, Some, cond, ap, sym, ◌∙◌}
-use Rattle.std.specs.Prelude.{bit_or, is_some, unwrap_or}
+use Rattle.std.proofs.Common.{◌≡◌, Some, cond, ap, ◌∙◌, rules}
+use Rattle.std.specs.Prelude.{bit_or, unwrap_or}
 use Rattle.std.specs.Map.{lookup}
 use Rattle.std.specs.Str.{bytes_eq}
-use Rattle.std.specs.Int.Bits.{or_zero_l}
+use Rattle.indexmap.specs.Entry.{map_with_value}
 use Rattle.java_tokens.specs.Words.{bit_of}
 use Rattle.java_tokens.proofs.GatherLemmas.{gathered_more, mask_with}
 use Rattle.java_tokens.proofs.masks.add_name.Goals as goal
 
--- the mask of a name that is there is written over
-pub returns-in-Some-clause-words : goal.returns-in-Some-clause-words
-returns-in-Some-clause-words c =
+-- the mask of the name is written, over the one that is there or as a new one
+pub returns-clause-words : goal.returns-clause-words
+returns-clause-words c =
     let es = c.args.rows.now.entries in
     let name = c.args.name in
     let bit = bit_of c.args.place in
-    let mask = bit_or c.in-Some.mask.now c.bit.result in
-    let after = c.get_mut.follows.holds mask in
+    let mask = bit_or c.or_insert.result.now c.bit.result in
+    let entry = c.in_ok-rows.ensures in
     let is : mask ≡ mask_with es name bit =
-    ap (bit_or c.in-Some.mask.now) c.bit.ensures ∙ ap (λ had. bit_or (unwrap_or had 0) bit) c.in-Some.ensures.value in
-    gathered_more es (c.get_mut.follows.lender mask).entries name bit c.get_mut.ensures.unique after.4 (λ other.
-    (after.3 (ap is_some (sym c.in-Some.ensures.value))).0 other
-    ∙ ap (λ m. cond (bytes_eq name other) (Some m) (lookup (bytes_eq other) es)) is)
-
--- and one that isn't there is put in
-pub returns-in_ok-insert-in-None-clause-words : goal.returns-in_ok-insert-in-None-clause-words
-returns-in_ok-insert-in-None-clause-words c =
-    let es = c.args.rows.now.entries in
-    let name = c.args.name in
-    let bit = bit_of c.args.place in
-    let mask = c.bit-in-None.result in
-    let after = c.in_ok-insert-in-None.ensures in
-    let before = c.get_mut.follows.lender-at-none in
-    let is : mask ≡ mask_with es name bit =
-    c.bit-in-None.ensures ∙ sym (or_zero_l bit) ∙ ap (λ had. bit_or (unwrap_or had 0) bit) c.in-None.ensures.value in
-    gathered_more es c.insert.new.self.entries name bit c.get_mut.ensures.unique after.unique (λ other.
-    after.updates.0 other
-    ∙ ap (λ m. cond (bytes_eq name other) (Some mask) (lookup (bytes_eq other) m.entries)) c.get_mut.follows.holds-at-none
-    ∙ ap (λ m. cond (bytes_eq name other) (Some m) (lookup (bytes_eq other) es)) is)
+    ap (bit_or c.or_insert.result.now) c.bit.ensures
+    ∙ ap (λ had. bit_or had bit) c.or_insert.ensures.value
+    ∙ ap (λ had. bit_or (unwrap_or had 0) bit) entry.value in
+    let gathered =
+    gathered_more es (map_with_value c.in_ok-rows.field-0 mask).entries name bit entry.unique (entry.update.2 mask) (λ other.
+    (entry.update.0 mask).0 other
+    ∙ ap (λ m. cond (bytes_eq name other) (Some m) (lookup (bytes_eq other) es)) is) in
+    search (rules, gathered)

@@ -1,7 +1,7 @@
 use Rattle.std.proofs.Common.{◌≡◌, ◌+◌, length, drop, ◌-◌}
 use Rattle.std.specs.List.{prefix_len}
 use Rattle.java_tokens.specs.Class.{is_in}
-use Rattle.java_tokens.proofs.scan.run_end.Given as goal
+use Rattle.java_tokens.proofs.scan.run_end_in_text.Given as goal
 
 abbrev pub invariant-loop-c : goal.invariant-loop-c
 invariant-loop-c l = l.at + prefix_len (is_in l.class) (drop l.at l.piece) ≡ l.from + prefix_len (is_in l.class) (drop l.from l.piece)
