@@ -1,16 +1,18 @@
 //! The words of a text, gathered token by token.
-ghost use Rattle.std.specs.Prelude.{◌≡◌, ◌+◌, ◌-◌, ◌≤◌, OnOk, IfOk, length, take, drop, fold, [], ◌∷◌};
+ghost use Rattle.std.specs.Prelude.{◌≡◌, ◌+◌, ◌-◌, ◌≤◌, OnOk, IfOk, length, take, drop, fold, [], ◌∷◌, if◌then◌else◌};
 ghost use Rattle.std.specs.List.{prefix_len};
 ghost use Rattle.java_tokens.specs.Chars.{continues_word};
+ghost use Rattle.java_tokens.specs.Identifier.{is_reserved};
+ghost use Rattle.java_tokens.specs.declared.place.Place.TheVariants.{Code};
 ghost use Rattle.java_tokens.specs.Tokens.{tokens_of};
 ghost use Rattle.java_tokens.specs.Words.{AreInOrder, HasMasksOf, bit_of, gap_at, words_among, words_at, marked, occurrences_at, occurrences_of, with_occurrence, words_of};
 
 use crate::chars::{Class, continues_word};
-use crate::identifier::is_identifier_at;
 use crate::kind::Kind;
 use crate::masks::Masks;
 use crate::piece::Piece;
 use crate::place::Place;
+use crate::reserved::is_reserved;
 use crate::scan::run_end;
 use crate::token::Token;
 use crate::tokenizer::begins_word_at;
@@ -55,9 +57,8 @@ fn add_token(masks: &mut Masks, text: &Text, token: &Token) -> Result<(), AllocE
     ensures { OnOk result (masks.new
         ≡ fold with_occurrence masks.old (occurrences_at text.now token.now)) }
 {
-    if is_identifier_at(text, token) {
-        let piece = Piece::part(text, token.at, token.len);
-        masks.add(&piece, 0, token.len, Place::Code)?;
+    if token.is(Kind::Word) {
+        add_identifier(masks, &Piece::part(text, token.at, token.len))?;
     } else if token.is(Kind::LineComment) || token.is(Kind::BlockComment) {
         add_words(
             masks,
@@ -70,6 +71,17 @@ fn add_token(masks: &mut Masks, text: &Text, token: &Token) -> Result<(), AllocE
             &Piece::part(text, token.at, token.len),
             Place::String,
         )?;
+    }
+    Ok(())
+}
+
+/// Adds a word of code that isn't reserved.
+fn add_identifier(masks: &mut Masks, piece: &Piece) -> Result<(), AllocError>
+    ensures { OnOk result (masks.new
+        ≡ fold with_occurrence masks.old (if is_reserved piece.now then [] else marked Code (piece.now ∷ []))) }
+{
+    if !is_reserved(piece) {
+        masks.add(piece, 0, piece.len(), Place::Code)?;
     }
     Ok(())
 }

@@ -64,6 +64,28 @@ fn reserved_from(first: char) -> &'static [&'static str]
 fn spells_any(piece: &Piece, words: &[&str]) -> bool
     ensures { result ≡ list_any (λ word. bytes_eq word.now piece.now) words.now }
 {
+    match piece.ascii() {
+        Some(bytes) => is_any_of(bytes, words),
+        None => spells_any_of(piece, words),
+    }
+}
+
+/// Whether these bytes are those of one of these words.
+fn is_any_of(bytes: &[u8], words: &[&str]) -> bool
+    ensures { result ≡ list_any (λ word. bytes_eq word.now bytes.now) words.now }
+{
+    for word in words {
+        if word.as_bytes() == bytes {
+            return true;
+        }
+    }
+    false
+}
+
+/// Whether the characters of any text are those of one of these ASCII words.
+fn spells_any_of(piece: &Piece, words: &[&str]) -> bool
+    ensures { result ≡ list_any (λ word. bytes_eq word.now piece.now) words.now }
+{
     for word in words {
         if spells(piece, word) {
             return true;
