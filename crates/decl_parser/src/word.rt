@@ -7,7 +7,7 @@ ghost use Rattle.decl_parser.specs.Role.{is_marked, role_among, word_role};
 
 use crate::role::Role;
 use ide_text::Text;
-use java_tokens::{Token, spells};
+use java_tokens::{Token, has_bytes, spells};
 
 /// What a word is to the rules. Only words that begin with its first character are looked at.
 pub(crate) fn word_role(text: &Text, token: &Token) -> Role
@@ -39,7 +39,7 @@ fn role_of_bytes(bytes: &[u8], words: &[(&str, Role)]) -> Role
     ensures { result ≡ role_among (λ w. w.0.now) (λ w. w.1) words.now bytes.now }
 {
     for entry in words {
-        if entry.0.as_bytes() == bytes {
+        if has_bytes(entry.0, bytes) {
             return entry.1;
         }
     }

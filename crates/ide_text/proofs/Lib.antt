@@ -2,4 +2,3 @@ pub mod Utf8Lemmas
 pub mod TextLemmas
 pub mod EditLemmas
 pub mod WalkLemmas
-pub mod AsciiLemmas

@@ -1,5 +1,5 @@
 -- The characters of a text by how they lie in memory.
-use Rattle.std.specs.Prelude.{ℕ, min, List}
+use Rattle.std.specs.Prelude.{ℕ, List}
 use Rattle.std.specs.Str.{IsAscii}
 use Rattle.std.specs.String.{string_bytes}
 use Rattle.ide_text.specs.declared.chars.Chars.{Chars}
@@ -14,7 +14,3 @@ chars_of (Any chars) = chars.items
 abbrev pub IsKept : Chars → Type 0
 IsKept (Ascii text) = IsAscii (string_bytes text)
 IsKept (Any chars) = Unit {0}
-
--- the byte for a character in a text that may be ASCII: its own, where it is ASCII, and else the first that isn't
-abbrev pub capped : ℕ → ℕ
-capped c = min c 128

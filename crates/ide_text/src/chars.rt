@@ -1,10 +1,10 @@
 //! How the characters of a text lie in memory: a byte each where all of them are ASCII, as in most sources.
-ghost use Rattle.std.specs.Prelude.{◌≡◌, ◌≤◌, ◌<◌, ◌-◌, ◌++◌, IsTrue, IfOk, IfSome, OnOk, Some, length, slice_get, take, drop, map, encode_utf8_all};
-ghost use Rattle.std.specs.Str.{chars, all_scalars};
+ghost use Rattle.std.specs.Prelude.{◌≡◌, ◌≤◌, ◌<◌, ◌+◌, ◌-◌, ◌++◌, IsTrue, IfOk, IfSome, OnOk, Some, length, slice_get, take, drop, vec_len, vec_capacity, encode_utf8_all};
+ghost use Rattle.std.specs.Str.{chars, all_scalars, IsAscii};
 ghost use Rattle.std.specs.String.{string_bytes};
-ghost use Rattle.ide_text.specs.Chars.{chars_of, capped, IsKept};
+ghost use Rattle.ide_text.specs.Chars.{chars_of, IsKept};
 ghost use Rattle.ide_text.specs.Spelling.{bytes_of};
-ghost use Rattle.ide_text.specs.Text.{repaired, repaired_char};
+ghost use Rattle.ide_text.specs.Text.{max_chars, repaired, repaired_char};
 
 use crate::inline::ROOM;
 use crate::spelling::Spelling;
@@ -156,16 +156,15 @@ impl Chars {
     }
 }
 
-/// Two lists of characters, one after the other. Linear in both, with room for both made at once.
+/// Two lists of characters, one after the other, which a text may have. Linear in both, with room for both made at once.
 pub(crate) fn joined(alloc: Global, front: &[char], back: &[char]) -> Result<Chars, AllocError>
+    requires { length front.now + length back.now ≤ max_chars }
     ensures value { IfOk result (λ cs. chars_of cs ≡ front.now ++ back.now) }
     ensures kept { IfOk result IsKept }
 {
-    let len = front.len().saturating_add(back.len());
+    let len = front.len() + back.len();
     let mut bytes = Vec::with_capacity(alloc, len)?;
-    add_capped(&mut bytes, front)?;
-    add_capped(&mut bytes, back)?;
-    if bytes.is_ascii() {
+    if add_ascii(&mut bytes, front) && add_ascii(&mut bytes, back) {
         return Ok(Chars::Ascii(unsafe { String::from_utf8_unchecked(bytes) }));
     }
     let mut chars = Vec::with_capacity(alloc, len)?;
@@ -174,11 +173,21 @@ pub(crate) fn joined(alloc: Global, front: &[char], back: &[char]) -> Result<Cha
     Ok(Chars::Any(chars))
 }
 
-/// Adds a byte for each character: its own, where it is ASCII, and else one that isn't.
-fn add_capped(bytes: &mut Vec<u8>, chars: &[char]) -> Result<(), AllocError>
-    ensures { OnOk result (bytes.new.items ≡ bytes.old.items ++ map capped chars.now) }
+/// Adds a byte for each character up to the first that isn't ASCII, and answers whether there is none. There is room for all.
+fn add_ascii(bytes: &mut Vec<u8>, chars: &[char]) -> bool
+    requires { vec_len bytes.old + length chars.now ≤ vec_capacity bytes.old }
+    ensures all { IsTrue result → bytes.new.items ≡ bytes.old.items ++ chars.now }
+    ensures ascii { IsAscii bytes.old.items → IsAscii bytes.new.items }
+    ensures room { vec_capacity bytes.new ≡ vec_capacity bytes.old }
+    ensures len { IsTrue result → vec_len bytes.new ≡ vec_len bytes.old + length chars.now }
 {
-    bytes.extend(chars.iter().map(|c| (*c as u32).min(128) as u8))
+    for c in chars {
+        if !c.is_ascii() {
+            return false;
+        }
+        bytes.push_reserved(*c as u8);
+    }
+    true
 }
 
 /// How some characters are spelt.

@@ -24,8 +24,7 @@ impl Class {
         ensures { result ≡ is_in self c }
     {
         match self {
-            // Most characters are behind the space.
-            Class::WhiteSpace => c <= ' ' && matches!(c, ' ' | '\t' | '\x0c' | '\n'),
+            Class::WhiteSpace => matches!(c, ' ' | '\t' | '\x0c' | '\n'),
             Class::Word => continues_word(c),
             Class::Number => continues_word(c) || c == '.',
         }

@@ -75,11 +75,19 @@ fn is_any_of(bytes: &[u8], words: &[&str]) -> bool
     ensures { result ≡ list_any (λ word. bytes_eq word.now bytes.now) words.now }
 {
     for word in words {
-        if word.as_bytes() == bytes {
+        if has_bytes(word, bytes) {
             return true;
         }
     }
     false
+}
+
+/// Whether a word has just these bytes. Lengths are compared first, which differ for most words.
+#[inline]
+pub fn has_bytes(word: &str, bytes: &[u8]) -> bool
+    ensures { result ≡ bytes_eq word.now bytes.now }
+{
+    word.len() == bytes.len() && word.as_bytes() == bytes
 }
 
 /// Whether the characters of any text are those of one of these ASCII words.
