@@ -33,10 +33,3 @@ indent-more depth = ap indent (one_more depth)
 pub three_pieces : (out a b c out1 out2 out3 : List ℕ) → out1 ≡ out ++ a → out2 ≡ out1 ++ b → out3 ≡ out2 ++ c → out3 ≡ out ++ (a ++ b ++ c)
 three_pieces out a b c out1 out2 out3 e1 e2 e3 =
     e3 ∙ ap (λ o. o ++ c) (e2 ∙ ap (λ o. o ++ b) e1 ∙ append_assoc out a b) ∙ append_assoc out (a ++ b) c
-
--- five pieces, one after another
-pub five_pieces : (out a b c d e out1 out2 out3 out4 out5 : List ℕ) → out1 ≡ out ++ a → out2 ≡ out1 ++ b → out3 ≡ out2 ++ c → out4 ≡ out3 ++ d → out5 ≡ out4 ++ e → out5 ≡ out ++ (a ++ b ++ c ++ d ++ e)
-five_pieces out a b c d e out1 out2 out3 out4 out5 e1 e2 e3 e4 e5 =
-    e5
-    ∙ ap (λ o. o ++ e) (e4 ∙ ap (λ o. o ++ d) (e3 ∙ ap (λ o. o ++ c) (e2 ∙ ap (λ o. o ++ b) e1 ∙ append_assoc out a b) ∙ append_assoc out (a ++ b) c) ∙ append_assoc out (a ++ b ++ c) d)
-    ∙ append_assoc out (a ++ b ++ c ++ d) e
