@@ -13,7 +13,7 @@ use Rattle.std.specs.Cmp.Lexicographic.{slice_cmp, nat_list_cmp_total}
 use Rattle.std.proofs.lemmas.Bool.{cond_both, cases_lt, ltb-true, ltb-false, ne_eqb}
 use Rattle.std.proofs.lemmas.List.Folds.{list_any-append}
 use Rattle.std.proofs.lemmas.Map.Text.{is_eq-slice_cmp}
-use Rattle.std.proofs.lemmas.Str.{encode_ascii, encodes-chars, chars-encodes, length-le-encodes, encodes-IsAscii, IsAscii-take, IsAscii-drop}
+use Rattle.std.proofs.lemmas.Str.{encode_ascii, encodes-chars, chars-encodes, length-le-encodes, encodes-IsAscii, chars-IsAscii, IsAscii-take, IsAscii-drop}
 
 -- what holds of the one to four bytes of a character
 encode_by : (P : List ℕ → Type 0) (c : ℕ)
@@ -198,3 +198,7 @@ chars-part bytes cs from n h e = ap chars e ∙ chars-encodes (take n (drop from
 -- a part of an ASCII text is itself in UTF-8
 pub encodes-ascii_part : (cs : List ℕ) (from n : ℕ) → IsAscii cs → take n (drop from cs) ≡ encode_utf8_all (take n (drop from cs))
 encodes-ascii_part cs from n h = sym (encodes-IsAscii (take n (drop from cs)) (IsAscii-take (drop from cs) n (IsAscii-drop cs from h)))
+
+-- and has itself for its characters
+pub chars-ascii_part : (cs : List ℕ) (from n : ℕ) → IsAscii cs → chars (take n (drop from cs)) ≡ take n (drop from cs)
+chars-ascii_part cs from n h = chars-IsAscii (take n (drop from cs)) (IsAscii-take (drop from cs) n (IsAscii-drop cs from h))

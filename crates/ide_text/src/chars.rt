@@ -63,6 +63,19 @@ impl Chars {
         }
     }
 
+    /// The characters from one place up to another as a string, where they are kept as ASCII.
+    pub(crate) fn letters(&self, from: usize, to: usize) -> Option<&str>
+        requires kept { IsKept self.now }
+        requires ordered { from ≤ to }
+        requires inside { to ≤ length (chars_of self.now) }
+        ensures { IfSome result (λ letters. chars letters.now ≡ take (to - from) (drop from (chars_of self.now))) }
+    {
+        match self {
+            Chars::Ascii(text) => Some(&text[from..to]),
+            Chars::Any(_) => None,
+        }
+    }
+
     /// Adds the characters from one place up to another, in UTF-8.
     pub(crate) fn add_part(
         &self,

@@ -7,9 +7,11 @@ mod line_walk;
 mod name;
 mod shared;
 mod spelling;
+mod spelt;
 mod text;
 
 pub use line_walk::LineWalk;
 pub use name::Name;
 pub use shared::SharedText;
+pub use spelt::Spelt;
 pub use text::{MAX_CHARS, Text, TextRefusal};

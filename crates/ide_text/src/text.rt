@@ -7,9 +7,9 @@ ghost use Rattle.ide_text.specs.Text.{IsText, max_chars, repaired};
 ghost use Rattle.ide_text.specs.Spelling.{bytes_of};
 ghost use Rattle.ide_text.specs.Place.{line_at, column_at};
 
-use crate::LineWalk;
 use crate::chars::{Chars, joined, repaired};
 use crate::spelling::Spelling;
+use crate::{LineWalk, Spelt};
 use std::alloc::{AllocError, Global};
 use std::marker::Model;
 use thiserror::Error;
@@ -138,6 +138,16 @@ impl Text {
         ensures { IfOk result (λ made. chars (bytes_of made) ≡ take (to - from) (drop from self.now)) }
     {
         self.chars.spelling(alloc, from as usize, to as usize)
+    }
+
+    /// The characters from one offset up to another, to look a name up by, where they are kept as ASCII. Constant time.
+    pub fn spelt(&self, from: u32, to: u32) -> Option<Spelt<'_>>
+        requires ordered { from ≤ to }
+        requires inside { to ≤ length self.now }
+        ensures { IfSome result (λ spelt. spelt ≡ take (to - from) (drop from self.now)) }
+    {
+        let letters = self.chars.letters(from as usize, to as usize)?;
+        Some(Spelt::of(letters))
     }
 
     /// Puts the characters of another text in before an offset. Linear in both texts; without memory nothing changes.

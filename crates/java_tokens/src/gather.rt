@@ -24,7 +24,7 @@ use std::alloc::{AllocError, Global};
 const FIRST_ROOM: usize = 256;
 
 /// The words of a text, of which the tokens are at hand: its identifiers, and the words in its comments and strings.
-/// Each occurrence is looked up once, by hash, and the distinct words are sorted at the end.
+/// Each occurrence is looked up by hash, and the distinct words are sorted at the end.
 pub fn words(alloc: Global, text: &Text, tokens: &[Token]) -> Result<WordList, AllocError>
     requires { tokens.now ≡ tokens_of text.now }
     ensures value { IfOk result (λ list. list ≡ words_of text.now) }

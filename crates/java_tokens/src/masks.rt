@@ -9,7 +9,7 @@ ghost use Rattle.java_tokens.specs.Words.{bit_of, in_order_of, with_occurrence};
 use crate::fronted::Fronted;
 use crate::piece::Piece;
 use crate::place::Place;
-use ide_text::Name;
+use ide_text::{Name, Spelt};
 use indexmap::IndexMap;
 use std::alloc::{AllocError, Global};
 use std::marker::Model;
@@ -46,7 +46,8 @@ impl Masks {
         })
     }
 
-    /// Adds one occurrence: the characters of a piece from one place up to another.
+    /// Adds one occurrence: the characters of a piece from one place up to another. They are looked up as they lie in the text,
+    /// where it is kept as ASCII.
     pub(crate) fn add(
         &mut self,
         piece: &Piece,
@@ -58,8 +59,10 @@ impl Masks {
         requires inside { to ≤ length piece.now }
         ensures { OnOk result (self.new ≡ with_occurrence self.old (take (to - from) (drop from piece.now), bit_of place)) }
     {
-        let name = piece.name(self.alloc, from, to)?;
-        add_name(&mut self.rows, name, place)
+        match piece.spelt(from, to) {
+            Some(word) => add_spelt(&mut self.rows, self.alloc, &word, place),
+            None => add_name(&mut self.rows, piece.name(self.alloc, from, to)?, place),
+        }
     }
 
     /// The words in order, each with its mask.
@@ -70,6 +73,24 @@ impl Masks {
         put_in_order(&mut rows);
         plain_rows(self.alloc, rows)
     }
+}
+
+/// Adds one occurrence of a word, which is looked up by its letters. A name is made for a new word alone.
+fn add_spelt(
+    rows: &mut IndexMap<Name, u8>,
+    alloc: Global,
+    word: &Spelt,
+    place: Place,
+) -> Result<(), AllocError>
+    ensures words { OnOk result (in_order_of rows.new.entries ≡ with_occurrence (in_order_of rows.old.entries) (word.now, bit_of place)) }
+    ensures unique { IsUnique bytes_eq rows.new }
+{
+    if let Some(mask) = rows.get_mut(word) {
+        *mask |= place.bit();
+        return Ok(());
+    }
+    rows.insert(word.name(alloc)?, place.bit())?;
+    Ok(())
 }
 
 /// Adds one occurrence of a name, which is hashed and looked up once.

@@ -4,7 +4,7 @@ ghost use Rattle.std.specs.List.{prefix_len};
 ghost use Rattle.ide_text.specs.Text.{max_chars};
 ghost use Rattle.java_tokens.specs.Chars.{begins_with, is_other};
 
-use ide_text::{Name, Text};
+use ide_text::{Name, Spelt, Text};
 use memchr::memchr;
 use std::alloc::{AllocError, Global};
 use std::marker::Model;
@@ -126,6 +126,15 @@ impl<'a> Piece<'a> {
             place += 1;
         }
         true
+    }
+
+    /// The characters from one place up to another, to look a name up by, where the text is kept as ASCII.
+    pub fn spelt(&self, from: u32, to: u32) -> Option<Spelt<'_>>
+        requires ordered { from ≤ to }
+        requires inside { to ≤ length self.now }
+        ensures { IfSome result (λ spelt. spelt ≡ take (to - from) (drop from self.now)) }
+    {
+        self.text.spelt(self.from + from, self.from + to)
     }
 
     /// The name that the characters from one place up to another are.
