@@ -1,16 +1,17 @@
 -- Rising ids, and what is among them after one was put in or taken out.
-use Rattle.std.proofs.Common.{⊎_elim, subst, ◌≡◌, ℕ, zero, suc, ◌<◌, ◌≤◌, Bool, true, false, ◌||◌, ◌&&◌, eqb, cond, List, [], ◌∷◌, length, get_or, refl, sym, ap, ◌∙◌, arith}
-use Rattle.std.specs.Prelude.{not}
+use Rattle.std.proofs.Common.{⊎_elim, ◌+◌, subst, ◌≡◌, ℕ, zero, suc, ◌<◌, ◌≤◌, Bool, true, false, ◌||◌, ◌&&◌, eqb, cond, List, [], ◌∷◌, length, get_or, refl, sym, ap, ◌∙◌, arith}
+use Rattle.std.specs.Prelude.{not, ◌-◌, drop, take, Result}
 use Rattle.std.specs.Ordering.{nat_cmp}
 use Rattle.std.specs.declared.cmp.Ordering.TheVariants.{Less, Equal, Greater}
 use Rattle.std.specs.List.{insert, remove, AllByRecursion}
 use Rattle.std.specs.Prelude.{Ok, Err}
 use Rattle.std.specs.List.Sorted.{IsStrictlySortedBy, IsBinarySearchResult}
+use Rattle.std.proofs.lemmas.List.{get_or-drop, length-drop}
 use Rattle.std.proofs.lemmas.List.Sorted.{searched}
 use Rattle.std.proofs.lemmas.Map.Keys.{non_decreasing_from_sorted}
 use Rattle.std.proofs.lemmas.Bool.{cases_lt, lt-ltb, eq-eqb, ne_eqb, eqb-true}
 use Rattle.std.proofs.lemmas.Map.Keys.{below_from_sorted, sorted_tail}
-use Rattle.file_index.specs.Places.{has_id}
+use Rattle.file_index.specs.Places.{IsPlaceOf, has_id}
 
 -- one id rises, and none do
 pub one_rises : (id : ℕ) → IsStrictlySortedBy nat_cmp (id ∷ [])
@@ -102,25 +103,68 @@ has_id-remove (x ∷ xs) (suc at) j rises inside = ap (λ b. eqb j x || b) (has_
 rising : (ids : List ℕ) → IsStrictlySortedBy nat_cmp ids → (i j : ℕ) → i ≤ j → j < length ids → get_or ids i 0 ≤ get_or ids j 0
 rising ids rises i j before inside = non_decreasing_from_sorted ids rises i j 0 before inside
 
-module _ (slice ids new : List ℕ) (at id : ℕ) (same : slice ≡ ids) (rises : IsStrictlySortedBy nat_cmp ids) where
-  found_at : IsBinarySearchResult (λ y. nat_cmp y id) slice (Ok at) → (at < length ids) × (get_or ids at 0 ≡ id)
-  found_at place = searched ids id (Ok at) (subst (λ l. IsBinarySearchResult (λ y. nat_cmp y id) l (Ok at)) same place) (rising ids rises)
+-- what a search answers is the place
+pub searched_place : (ids : List ℕ) (id : ℕ) (found : Result ℕ ℕ) → IsStrictlySortedBy nat_cmp ids → IsBinarySearchResult (λ y. nat_cmp y id) ids found → IsPlaceOf id ids found
+searched_place ids id (Ok at) rises place = searched ids id (Ok at) place (rising ids rises)
+searched_place ids id (Err at) rises place = searched ids id (Err at) place (rising ids rises)
 
-  -- ids rise after one was put in where a search ended
-  pub added_rises : IsBinarySearchResult (λ y. nat_cmp y id) slice (Err at) → new ≡ insert ids at id → IsStrictlySortedBy nat_cmp new
-  added_rises place is =
-      let gap = searched ids id (Err at) (subst (λ l. IsBinarySearchResult (λ y. nat_cmp y id) l (Err at)) same place) (rising ids rises) in
-      subst (IsStrictlySortedBy nat_cmp) (sym is) (insert_rises ids at id rises gap.1 gap.2 gap.0)
+all_taken : (P : ℕ → Type 0) (n : ℕ) (ids : List ℕ) → AllByRecursion P ids → AllByRecursion P (take n ids)
+all_taken P zero ids all = tt
+all_taken P (suc n) [] all = tt
+all_taken P (suc n) (x ∷ xs) all = (all.0, all_taken P n xs all.1)
 
-  -- what is among the ids after one was taken out that a search found
-  pub taken_has : IsBinarySearchResult (λ y. nat_cmp y id) slice (Ok at) → new ≡ remove ids at → (j : ℕ) → has_id j new ≡ (has_id j ids && not (eqb j id))
-  taken_has place is j =
-      let found = found_at place in
-      ap (has_id j) is ∙ has_id-remove ids at j rises found.0 ∙ ap (λ i. has_id j ids && not (eqb j i)) found.1
+-- the first of rising ids rise, and the last do
+pub front_rises : (n : ℕ) (ids : List ℕ) → IsStrictlySortedBy nat_cmp ids → IsStrictlySortedBy nat_cmp (take n ids)
+unfolding IsStrictlySortedBy
+front_rises zero ids rises = tt
+front_rises (suc n) [] rises = tt
+front_rises (suc n) (x ∷ xs) rises = (all_taken (λ y. nat_cmp x y ≡ Less) n xs rises.0, front_rises n xs rises.1)
 
-  -- an id that a search found is among them already
-  pub found_has : IsBinarySearchResult (λ y. nat_cmp y id) slice (Ok at) → (j : ℕ) → has_id j ids ≡ (has_id j ids || eqb j id)
-  found_has place j = let found = found_at place in by (eqb j id) refl
+pub tail_rises : (n : ℕ) (ids : List ℕ) → IsStrictlySortedBy nat_cmp ids → IsStrictlySortedBy nat_cmp (drop n ids)
+unfolding IsStrictlySortedBy
+tail_rises zero ids rises = rises
+tail_rises (suc n) [] rises = tt
+tail_rises (suc n) (x ∷ xs) rises = tail_rises n xs rises.1
+
+module _ (ids : List ℕ) (near id : ℕ) (rises : IsStrictlySortedBy nat_cmp ids) (inside : near ≤ length ids) where
+  tail_at : (k : ℕ) → near ≤ k → get_or (drop near ids) (k - near) 0 ≡ get_or ids k 0
+  tail_at k from = get_or-drop near ids (k - near) 0 ∙ ap (λ i. get_or ids i 0) (omega (arith, from))
+
+  whole : length (drop near ids) ≡ length ids - near
+  whole = length-drop near ids
+
+  -- one that would go into the tail, behind the first there
+  pub goes_into_tail : (at : ℕ) → 0 < at → IsPlaceOf id (drop near ids) (Err at) → IsPlaceOf id ids (Err (near + at))
+  goes_into_tail at some gap = (omega (arith, gap.0, whole, inside), below, above)
+    where
+      in_tail : (k : ℕ) → near ≤ k → k < near + at → get_or ids k 0 < id
+      in_tail k from before = let m = gap.1 (k - near) (omega (arith, from, before)) in omega (arith, m, tail_at k from)
+
+      below : (k : ℕ) → k < near + at → get_or ids k 0 < id
+      below k before = ⊎_elim
+          (λ front. let m = rising ids rises k near (omega (arith, front)) (omega (arith, some, gap.0, whole, inside)) in
+          let first = in_tail near (omega arith) (omega (arith, some)) in omega (arith, m, first))
+          (λ from. in_tail k from before)
+          (cases_lt k near)
+
+      above : (k : ℕ) → near + at ≤ k → k < length ids → id < get_or ids k 0
+      above k from within =
+          let m = gap.2 (k - near) (omega (arith, from)) (omega (arith, from, within, whole)) in
+          omega (arith, m, tail_at k (omega (arith, from)))
+
+module _ (ids new : List ℕ) (at id : ℕ) (rises : IsStrictlySortedBy nat_cmp ids) where
+  -- ids rise after one was put in at its place
+  pub added_rises : IsPlaceOf id ids (Err at) → new ≡ insert ids at id → IsStrictlySortedBy nat_cmp new
+  added_rises gap is = subst (IsStrictlySortedBy nat_cmp) (sym is) (insert_rises ids at id rises gap.1 gap.2 gap.0)
+
+  -- what is among the ids after one was taken out of its place
+  pub taken_has : IsPlaceOf id ids (Ok at) → new ≡ remove ids at → (j : ℕ) → has_id j new ≡ (has_id j ids && not (eqb j id))
+  taken_has found is j = ap (has_id j) is ∙ has_id-remove ids at j rises found.0 ∙ ap (λ i. has_id j ids && not (eqb j i)) found.1
+
+module _ (ids : List ℕ) (at id : ℕ) where
+  -- an id that has a place is among them already
+  pub found_has : IsPlaceOf id ids (Ok at) → (j : ℕ) → has_id j ids ≡ (has_id j ids || eqb j id)
+  found_has found j = by (eqb j id) refl
     where
       there : (l : List ℕ) (i : ℕ) → i < length l → get_or l i 0 ≡ j → has_id j l ≡ true
       there [] i inside is = absurd (omega arith)
@@ -128,16 +172,13 @@ module _ (slice ids new : List ℕ) (at id : ℕ) (same : slice ≡ ids) (rises 
       there (x ∷ xs) (suc i) inside is = ap (λ b. eqb j x || b) (there xs i (omega arith) is) ∙ or_last (eqb j x) true
 
       by : (b : Bool) → eqb j id ≡ b → has_id j ids ≡ (has_id j ids || b)
-      by true e = let found = found_at place in there ids at found.0 (found.1 ∙ sym (eqb-true j id e)) ∙ sym (or_last (has_id j ids) true)
+      by true e = there ids at found.0 (found.1 ∙ sym (eqb-true j id e)) ∙ sym (or_last (has_id j ids) true)
       by false e = sym (or_last (has_id j ids) false)
 
-  -- an id that a search didn't find isn't among them
-  pub missed_has : IsBinarySearchResult (λ y. nat_cmp y id) slice (Err at) → (j : ℕ) → has_id j ids ≡ (has_id j ids && not (eqb j id))
-  missed_has place j = by (eqb j id) refl
+  -- an id that has none isn't among them
+  pub missed_has : IsPlaceOf id ids (Err at) → (j : ℕ) → has_id j ids ≡ (has_id j ids && not (eqb j id))
+  missed_has gap j = by (eqb j id) refl
     where
-      gap : (at ≤ length ids) × ((k : ℕ) → k < at → get_or ids k 0 < id) × ((k : ℕ) → at ≤ k → k < length ids → id < get_or ids k 0)
-      gap = searched ids id (Err at) (subst (λ l. IsBinarySearchResult (λ y. nat_cmp y id) l (Err at)) same place) (rising ids rises)
-
       absent : (l : List ℕ) → ((k : ℕ) → k < length l → get_or l k 0 ≡ j → ⊥) → has_id j l ≡ false
       absent [] away = refl
       absent (x ∷ xs) away = ap (λ b. b || has_id j xs) (ne_eqb j x (λ e. away 0 (omega arith) (sym e))) ∙ absent xs (λ k l. away (suc k) (omega arith))

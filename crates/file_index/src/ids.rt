@@ -2,10 +2,13 @@
 ghost use Rattle.std.specs.Prelude.{◌≡◌, ℕ, [], ◌∷◌, ◌||◌, ◌&&◌, not, ◌==◌, length, OnErr, OnOk, IfOk};
 ghost use Rattle.std.specs.Ordering.{nat_cmp};
 ghost use Rattle.std.specs.List.Sorted.{IsStrictlySortedBy};
-ghost use Rattle.file_index.specs.Places.{has_id};
+ghost use Rattle.file_index.specs.Places.{IsPlaceOf, has_id};
 
 use std::alloc::{AllocError, Global};
 use std::marker::Model;
+
+/// How many of the last ids are searched first: they lie in a cache line or two.
+const NEAR: usize = 16;
 
 /// The ids of files, each once, which rise.
 #[derive(Drop)]
@@ -55,7 +58,7 @@ impl Ids {
         ensures added { OnOk result ((j : ℕ) → has_id j self.new ≡ (has_id j self.old || j == id)) }
         ensures unchanged { OnErr result (self.new ≡ self.old) }
     {
-        if let Err(at) = self.ids.binary_search(&id) {
+        if let Err(at) = self.place_of(id) {
             self.ids.insert(at, id)?;
         }
         Ok(())
@@ -65,8 +68,20 @@ impl Ids {
     pub(crate) fn take(&mut self, id: u32)
         ensures { (j : ℕ) → has_id j self.new ≡ (has_id j self.old && not (j == id)) }
     {
-        if let Ok(at) = self.ids.binary_search(&id) {
+        if let Ok(at) = self.place_of(id) {
             self.ids.remove(at);
+        }
+    }
+
+    /// Where an id is, or where it would go. Most come nearly in order, so the last few are searched first.
+    fn place_of(&self, id: u32) -> Result<usize, usize>
+        ensures { IsPlaceOf id self.now result }
+    {
+        let (front, tail) = self.ids.split_at(self.ids.len().saturating_sub(NEAR));
+        match place_among(tail, id) {
+            Ok(at) => Ok(front.len() + at),
+            Err(0) => place_among(front, id),
+            Err(at) => Err(front.len() + at),
         }
     }
 
@@ -78,4 +93,12 @@ impl Ids {
             ids: self.ids.clone()?,
         })
     }
+}
+
+/// Where an id is among rising ones, or where it would go.
+fn place_among(ids: &[u32], id: u32) -> Result<usize, usize>
+    requires { IsStrictlySortedBy nat_cmp ids.now }
+    ensures { IsPlaceOf id ids.now result }
+{
+    ids.binary_search(&id)
 }

@@ -1,10 +1,11 @@
-use Rattle.std.proofs.Common.{◌≡◌, ◌||◌, eqb, ap, subst, ◌∙◌}
-use Rattle.file_index.specs.Places.{has_id}
+use Rattle.std.proofs.Common.{◌||◌, eqb, sym, ap, subst, ◌∙◌}
+use Rattle.std.specs.Prelude.{Err}
+use Rattle.file_index.specs.Places.{IsPlaceOf, has_id}
 use Rattle.file_index.proofs.IdLemmas.{added_rises, found_has, has_id-insert}
 use Rattle.file_index.proofs.ids.Ids.add.Goals as goal
 
 pub invariant_of-self : goal.invariant_of-self
-invariant_of-self c = added_rises c.deref.result.now c.self.inside.ids.items c.insert.new.self.items c.in-Err.at c.args.id c.deref.ensures.value c.self.invariant c.in-Err.ensures.position c.in_ok-insert.ensures.items
+invariant_of-self c = added_rises c.self.inside.ids.items c.insert.new.self.items c.in-Err.at c.args.id c.self.invariant (subst (λ l. IsPlaceOf c.args.id l (Err c.in-Err.at)) (sym c.self.view_is) c.in-Err.ensures) c.in_ok-insert.ensures.items
 
 pub returns-in_ok-insert-clause-added : goal.returns-in_ok-insert-clause-added
 returns-in_ok-insert-clause-added c = λ j.
@@ -13,6 +14,4 @@ returns-in_ok-insert-clause-added c = λ j.
     ∙ ap (λ l. has_id j l || eqb j c.args.id) c.self.view_is
 
 pub returns-in_default-clause-added : goal.returns-in_default-clause-added
-returns-in_default-clause-added c = λ j.
-    subst (λ l. has_id j l ≡ (has_id j l || eqb j c.args.id)) c.self.view_is
-    (found_has c.deref.result.now c.self.inside.ids.items c.self.inside.ids.items c.in_default.field-0 c.args.id c.deref.ensures.value c.self.invariant c.in_default.ensures.position j)
+returns-in_default-clause-added c = λ j. found_has c.args.self.now c.in_default.field-0 c.args.id c.in_default.ensures j

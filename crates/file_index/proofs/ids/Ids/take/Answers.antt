@@ -1,8 +1,8 @@
-use Rattle.std.proofs.Common.{◌≡◌, ◌&&◌, eqb, sym, ap, subst, ◌∙◌}
-use Rattle.std.specs.Prelude.{not}
+use Rattle.std.proofs.Common.{◌&&◌, eqb, sym, ap, subst, ◌∙◌}
+use Rattle.std.specs.Prelude.{Ok, not}
 use Rattle.std.specs.Ordering.{nat_cmp}
 use Rattle.std.specs.List.Sorted.{IsStrictlySortedBy}
-use Rattle.file_index.specs.Places.{has_id}
+use Rattle.file_index.specs.Places.{IsPlaceOf, has_id}
 use Rattle.file_index.proofs.IdLemmas.{remove_rises, taken_has, missed_has}
 use Rattle.file_index.proofs.ids.Ids.take.Goals as goal
 
@@ -11,10 +11,8 @@ invariant_of-self c = subst (IsStrictlySortedBy nat_cmp) (sym c.remove.ensures.i
 
 pub returns-in-Ok : goal.returns-in-Ok
 returns-in-Ok c = λ j.
-    taken_has c.deref.result.now c.self.inside.ids.items c.remove.new.self.items c.in-Ok.at c.args.id c.deref.ensures.value c.self.invariant c.in-Ok.ensures.position c.remove.ensures.items j
+    taken_has c.self.inside.ids.items c.remove.new.self.items c.in-Ok.at c.args.id c.self.invariant (subst (λ l. IsPlaceOf c.args.id l (Ok c.in-Ok.at)) (sym c.self.view_is) c.in-Ok.ensures) c.remove.ensures.items j
     ∙ ap (λ l. has_id j l && not (eqb j c.args.id)) c.self.view_is
 
 pub returns-in_default : goal.returns-in_default
-returns-in_default c = λ j.
-    subst (λ l. has_id j l ≡ (has_id j l && not (eqb j c.args.id))) c.self.view_is
-    (missed_has c.deref.result.now c.self.inside.ids.items c.self.inside.ids.items c.in_default.field-0 c.args.id c.deref.ensures.value c.self.invariant c.in_default.ensures.position j)
+returns-in_default c = λ j. missed_has c.args.self.now c.in_default.field-0 c.args.id c.in_default.ensures j
