@@ -12,14 +12,24 @@ use crate::pass::Pass;
 use crate::plays::{Back, Enter, Exit, Hold, Look};
 use crate::refusal::ReadRefusal;
 use crate::slot::Slot;
-use crate::words::{PENDING, READER, TURN, has_pending, has_turn, sights_after, word_at};
+use crate::words::{INTENT, PENDING, READER, TURN, has_pending, has_turn, sights_after, word_at};
 use std::alloc::{AllocError, Global};
 use std::hint::spin_loop;
 use std::sync::Wait;
 use std::thread;
+use std::time::Duration;
 
 /// How often a waiting call looks at a word before it lets other threads run.
 const SPINS: u32 = 100;
+
+/// How often a pass that waits for the intent looks for a while before it sleeps.
+const BUSY_TURNS: u32 = 200;
+
+/// By how much each sleep is longer than the one before, in microseconds.
+const NAP_STEP: u32 = 20;
+
+/// The longest sleep, in microseconds.
+const MOST_NAP: u32 = 1_000;
 
 impl<H: Home> ActionLock<H> {
     /// The one step that decides a read.
@@ -203,5 +213,18 @@ impl<H: Home> ActionLock<H> {
             spin_loop();
         }
         thread::yield_now();
+    }
+
+    /// Waits for the intent, which another pass has, and answers with how often it has waited. The first few times it looks at the
+    /// word and lets other threads run; then it sleeps, a little longer each time, so that a long wait keeps no processor busy.
+    pub(crate) fn wait_for_intent<R: Wait>(&self, rt: &R, turns: u32) -> u32 {
+        if turns < BUSY_TURNS {
+            self.linger(INTENT, u64::MAX, 0);
+        } else {
+            let nap = (turns - BUSY_TURNS + 1).min(MOST_NAP / NAP_STEP) * NAP_STEP;
+            let nap = Duration::from_micros(nap as u64);
+            self.table.shared.park_timeout(rt, INTENT, 1, nap);
+        }
+        turns.saturating_add(1)
     }
 }

@@ -13,7 +13,6 @@ use crate::lock::ActionLock;
 use crate::pass::Pass;
 use crate::refusal::IntentRefusal;
 use crate::slot::Slot;
-use crate::words::INTENT;
 use std::sync::Wait;
 
 impl<H: Home> Pass<H> {
@@ -40,10 +39,11 @@ impl<H: Home> Pass<H> {
         ensures view { HasIntended (view_of self.old) (view_of self.new) }
         ensures advances { Advances (view_of self.old) (view_of self.new) }
     {
+        let mut turns = 0;
         for _ in rt.forever() {
             match self.try_intent(lock) {
                 Ok(()) => return,
-                Err(IntentRefusal::Held) => lock.linger(INTENT, u64::MAX, 0),
+                Err(IntentRefusal::Held) => turns = lock.wait_for_intent(rt, turns),
             }
         }
         unreachable!()
