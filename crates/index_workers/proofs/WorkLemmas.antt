@@ -22,7 +22,7 @@ use Rattle.ide_calls.specs.declared.step.Step.TheVariants.{Idle, Gone, Stale, Re
 use Rattle.ide_calls.specs.Step.{HasStepped, HasTried}
 use Rattle.index_workers.specs.declared.worked.End.{End}
 use Rattle.index_workers.specs.declared.worked.End.TheVariants as end
-use Rattle.index_workers.specs.Hints.{HasTaken, file_of_hint}
+use Rattle.index_workers.specs.Hints.{HasTaken, IsFirstTried}
 use Rattle.index_workers.specs.declared.worked.Worked.{Worked}
 use Rattle.index_workers.specs.Work.{Done, Leads, taken_by, Sayings, any_answer, GoesOn, IsEndOf, WentOn, EndsWith, EndsBy, IsAtEnd, IsIntakeBy}
 use Rattle.index_workers.specs.Work.{StandsIn, HasGone, HasGoneOn, HasWorked, HasWorkedSo, HasWorkedInPart, max_turns}
@@ -42,13 +42,14 @@ all_stand : (earlier later : List Entry) (es : List Entry) → IsFront earlier l
 all_stand earlier later es front all = All-weaken (StandsIn earlier) (StandsIn later) es (λ e at. stands_on earlier later e front at) all
 
 leads_more : (v w : View Entry) (q r : QueueView) (steps : List Done) (d : Done) → Leads v q steps w r → HasTaken d.hint r d.queue
-    → HasStepped (file_of_hint d.hint) w d.after d.answer → Leads v q (steps ++ d ∷ []) d.after d.queue
-leads_more v w q r [] d same takes stepped = (
+    → IsFirstTried d.hint d.file → HasStepped (Some d.file) w d.after d.answer → Leads v q (steps ++ d ∷ []) d.after d.queue
+leads_more v w q r [] d same takes first stepped = (
   subst (λ (x : QueueView). HasTaken d.hint x d.queue) same.1 takes,
-  subst (λ (x : View Entry). HasStepped (file_of_hint d.hint) x d.after d.answer) same.0 stepped,
+  first,
+  subst (λ (x : View Entry). HasStepped (Some d.file) x d.after d.answer) same.0 stepped,
   (refl, refl),
 )
-leads_more v w q r (c ∷ cs) d leads takes stepped = (leads.0, leads.1, leads_more c.after w c.queue r cs d leads.2 takes stepped)
+leads_more v w q r (c ∷ cs) d leads takes first stepped = (leads.0, leads.1, leads.2, leads_more c.after w c.queue r cs d leads.3 takes first stepped)
 
 -- ---- one step
 
@@ -112,18 +113,18 @@ record GoneFurther (seat : ℕ) (v u : View Entry) (q s : QueueView) (steps : Li
   count : length all ≡ length own + taken
   gone : HasGone seat v u q s steps all
 
-gone_further : (seat : ℕ) (v w u : View Entry) (q r s : QueueView) (steps : List Done) (own : List Entry) (hint : Option Hint) (answer : Step)
-    → HasGone seat v w q r steps own → HasTaken hint r s → HasStepped (file_of_hint hint) w u answer
-    → GoneFurther seat v u q s (steps ++ record { hint = hint; answer = answer; after = u; queue = s } ∷ []) own (taken_by answer)
-gone_further seat v w u q r s steps own hint answer gone takes stepped =
-    let d : Done = record { hint = hint; answer = answer; after = u; queue = s } in
+gone_further : (seat : ℕ) (v w u : View Entry) (q r s : QueueView) (steps : List Done) (own : List Entry) (hint : Option Hint) (file : ℕ) (answer : Step)
+    → HasGone seat v w q r steps own → HasTaken hint r s → IsFirstTried hint file → HasStepped (Some file) w u answer
+    → GoneFurther seat v u q s (steps ++ record { hint = hint; file = file; answer = answer; after = u; queue = s } ∷ []) own (taken_by answer)
+gone_further seat v w u q r s steps own hint file answer gone takes first stepped =
+    let d : Done = record { hint = hint; file = file; answer = answer; after = u; queue = s } in
     let number : w.number ≡ Some seat = gone.advances.number ∙ gone.number in
     ⊎_elim
     (λ (made : MadeNone w u answer). record {
       all = own;
       count = let c = made.count in omega arith;
       gone = record {
-        leads = leads_more v w q r steps d gone.leads takes stepped;
+        leads = leads_more v w q r steps d gone.leads takes first stepped;
         number = gone.number;
         advances = advances_on v w u gone.advances made.advances;
         mine = made.mine ∙ gone.mine;
@@ -136,7 +137,7 @@ gone_further seat v w u q r s steps own hint answer gone takes stepped =
       all = own ++ made.entry ∷ [];
       count = let c = made.count in omega (arith, length-append own (made.entry ∷ []));
       gone = record {
-        leads = leads_more v w q r steps d gone.leads takes stepped;
+        leads = leads_more v w q r steps d gone.leads takes first stepped;
         number = gone.number;
         advances = advances_on v w u gone.advances made.advances;
         mine = made.mine ∙ ap (λ (l : List Entry). l ++ made.entry ∷ []) gone.mine ∙ append_assoc v.mine own (made.entry ∷ []);
@@ -148,7 +149,7 @@ gone_further seat v w u q r s steps own hint answer gone takes stepped =
             (λ k e l same. made.new (get_or own k e) (gone.stand k e l) (sym same));
       };
     })
-    (made_by seat w u (file_of_hint hint) answer number stepped)
+    (made_by seat w u (Some file) answer number stepped)
 
 -- before the first step
 pub not_yet : (said : Sayings) (seat : ℕ) (v : View Entry) (q : QueueView) → v.number ≡ Some seat → HasGoneOn said seat 0 0 v v q q
@@ -178,12 +179,12 @@ taken_few (Refused len) = omega arith
 taken_few (Taken place) = omega arith
 
 -- after a step with which the worker goes on
-pub goes_on : (said : Sayings) (seat turns taken : ℕ) (v w u : View Entry) (q r s : QueueView) (hint : Option Hint) (answer : Step)
-    → HasGoneOn said seat turns taken v w q r → HasTaken hint r s → HasStepped (file_of_hint hint) w u answer → GoesOn said seat answer
+pub goes_on : (said : Sayings) (seat turns taken : ℕ) (v w u : View Entry) (q r s : QueueView) (hint : Option Hint) (file : ℕ) (answer : Step)
+    → HasGoneOn said seat turns taken v w q r → HasTaken hint r s → IsFirstTried hint file → HasStepped (Some file) w u answer → GoesOn said seat answer
     → HasGoneOn said seat (turns + 1) (taken + taken_by answer) v u q s
-goes_on said seat turns taken v w u q r s hint answer on takes stepped going =
-    let d : Done = record { hint = hint; answer = answer; after = u; queue = s } in
-    let further = gone_further seat v w u q r s on.steps on.own hint answer on.gone takes stepped in
+goes_on said seat turns taken v w u q r s hint file answer on takes first stepped going =
+    let d : Done = record { hint = hint; file = file; answer = answer; after = u; queue = s } in
+    let further = gone_further seat v w u q r s on.steps on.own hint file answer on.gone takes first stepped in
     let Going : Done → Type 0 = λ e. GoesOn said seat e.answer in
     record {
       steps = on.steps ++ d ∷ [];
@@ -212,12 +213,12 @@ at_end said seat v w hint answer (end.Refused len) stepped is =
 at_end said seat v w hint answer end.Turns stepped is = absurd is
 
 -- after a step with which the worker ends
-pub ends : (said : Sayings) (seat turns taken : ℕ) (v w u : View Entry) (q r s : QueueView) (hint : Option Hint) (answer : Step) (why : End)
-    → HasGoneOn said seat turns taken v w q r → HasTaken hint r s → HasStepped (file_of_hint hint) w u answer → IsEndOf said seat answer why
+pub ends : (said : Sayings) (seat turns taken : ℕ) (v w u : View Entry) (q r s : QueueView) (hint : Option Hint) (file : ℕ) (answer : Step) (why : End)
+    → HasGoneOn said seat turns taken v w q r → HasTaken hint r s → IsFirstTried hint file → HasStepped (Some file) w u answer → IsEndOf said seat answer why
     → HasWorked said v u q s (record { seat = seat; turns = turns + 1; taken = taken + taken_by answer; end = why })
-ends said seat turns taken v w u q r s hint answer why on takes stepped is =
-    let d : Done = record { hint = hint; answer = answer; after = u; queue = s } in
-    let further = gone_further seat v w u q r s on.steps on.own hint answer on.gone takes stepped in
+ends said seat turns taken v w u q r s hint file answer why on takes first stepped is =
+    let d : Done = record { hint = hint; file = file; answer = answer; after = u; queue = s } in
+    let further = gone_further seat v w u q r s on.steps on.own hint file answer on.gone takes first stepped in
     record {
       steps = on.steps ++ d ∷ [];
       own = further.all;
@@ -225,7 +226,7 @@ ends said seat turns taken v w u q r s hint answer why on takes stepped is =
       turns = omega (arith, length-append on.steps (d ∷ []), on.turns_are);
       taken = omega (arith, further.count, on.taken_are);
       ends = ends_by said seat why (on.steps ++ d ∷ []) (record { before = on.steps; last = d; are = refl; ends = is; going = on.going }) answer is;
-      at_end = at_end said seat w u (file_of_hint hint) answer why stepped is;
+      at_end = at_end said seat w u (Some file) answer why stepped is;
     }
 
 -- after all steps

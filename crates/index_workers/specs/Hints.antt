@@ -1,5 +1,5 @@
 -- What calls make of the hints that a pass put and took.
-use Rattle.std.specs.Prelude.{ℕ, ◌≡◌, ◌⊎◌, List, ◌∷◌, Option, Some, None, option_map}
+use Rattle.std.specs.Prelude.{ℕ, ◌≡◌, ◌⊎◌, List, ◌∷◌, Option, Some, None, ⊤}
 use Rattle.job_queue.specs.Fifo.{Held}
 use Rattle.list_laws.specs.Fronts.{IsFront}
 use Rattle.job_queue.specs.declared.hint.Hint.{Hint}
@@ -7,9 +7,10 @@ use Rattle.job_queue.specs.declared.view.QueueView.{QueueView}
 use Rattle.job_queue.specs.Rule.{Stood}
 use Rattle.job_queue.specs.Views.{next_hint, putting, taking}
 
--- the file of a hint, if there is one
-abbrev pub file_of_hint : Option Hint → Option ℕ
-file_of_hint hint = option_map (λ (h : Hint). h.file) hint
+-- the file that a step tries first: that of its hint; without one any may be tried
+abbrev pub IsFirstTried : Option Hint → ℕ → Type 0
+IsFirstTried (Some hint) file = file ≡ hint.file
+IsFirstTried None file = ⊤
 
 -- the oldest hint was taken; or none was, since the queue was empty at a moment of the call
 abbrev pub HasTaken : Option Hint → QueueView → QueueView → Type 0

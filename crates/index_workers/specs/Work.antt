@@ -15,7 +15,7 @@ use Rattle.ide_calls.specs.declared.step.Step.TheVariants as step
 use Rattle.ide_calls.specs.Step.{HasStepped}
 use Rattle.job_queue.specs.declared.hint.Hint.{Hint}
 use Rattle.job_queue.specs.declared.view.QueueView.{QueueView}
-use Rattle.index_workers.specs.Hints.{HasTaken, file_of_hint}
+use Rattle.index_workers.specs.Hints.{HasTaken, IsFirstTried}
 use Rattle.index_workers.specs.declared.worked.End.{End}
 use Rattle.index_workers.specs.declared.worked.End.TheVariants.{Idle, Refused, Turns}
 use Rattle.index_workers.specs.declared.worked.Worked.{Worked}
@@ -24,19 +24,21 @@ use Rattle.index_workers.specs.declared.worked.Worked.{Worked}
 abbrev pub max_turns : ℕ
 max_turns = 131072
 
--- one step: the hint that it took, the answer, and what the pass's views are after it
+-- one step: the hint that it took, the file that it tried first, the answer, and what the pass's views are after it
 pub record Done : Type 0 where
   pub hint : Option Hint
+  pub file : ℕ
   pub answer : Step
   pub after : View Entry
   pub queue : QueueView
 
--- these steps lead from one view to another, and of the queue too: each took a hint, if one was there, and looked at that file first
+-- these steps lead from one view to another, and of the queue too: each took a hint, if one was there, and tried that file first
 abbrev pub Leads : View Entry → QueueView → List Done → View Entry → QueueView → Type 0
 Leads v q [] w r = (w ≡ v) × (r ≡ q)
 Leads v q (d ∷ ds) w r =
     HasTaken d.hint q d.queue
-    × HasStepped (file_of_hint d.hint) v d.after d.answer
+    × IsFirstTried d.hint d.file
+    × HasStepped (Some d.file) v d.after d.answer
     × Leads d.after d.queue ds w r
 
 -- how many entries a step made

@@ -1,6 +1,7 @@
 //! Workers that index a shared workspace: a pass of the lock and of the queue of hints, one step of indexing, and a worker's run.
 #![tactic(auto)]
 
+mod cursor;
 mod ending;
 mod hinting;
 mod pass;
@@ -9,6 +10,7 @@ mod stepping;
 mod worked;
 mod working;
 
+pub use cursor::Cursor;
 pub use hinting::hint;
 pub use ide_calls::{Sighted, Store, laws, make_stored};
 pub use pass::IdePass;

@@ -1,26 +1,28 @@
 //! One step of a worker.
-ghost use Rattle.std.specs.Prelude.{◌≡◌, IfOk, OnErr, Option};
+ghost use Rattle.std.specs.Prelude.{◌≡◌, ℕ, IfOk, OnErr, Option, Some};
 ghost use Rattle.action_lock.specs.Advances.{Advances};
 ghost use Rattle.job_queue.specs.declared.hint.Hint.{Hint};
 ghost use Rattle.job_queue.specs.Passes.{queue_view};
 ghost use Rattle.ide_calls.specs.Step.{HasStepped};
-ghost use Rattle.index_workers.specs.Hints.{HasTaken, file_of_hint};
+ghost use Rattle.index_workers.specs.Hints.{HasTaken, IsFirstTried};
 ghost use Rattle.index_workers.specs.Passes.{ide_view, IsIdePassOf, IsSameIdePass};
 
+use crate::cursor::Cursor;
 use crate::pass::IdePass;
 use action_lock::{ActionLock, Gate};
 use ide_calls::{IdeHome, Step, Store};
-use job_queue::JobQueue;
+use job_queue::{Hint, JobQueue};
 use std::alloc::{AllocError, Global};
 use std::sync::Wait;
 
-/// Takes a hint, if there is one, and does a step of indexing: of the hinted file if it is unready, else of the first unready one
-/// from a place of its own on. Its index data are the store's, where it has them.
+/// Takes a hint, if there is one, and does a step of indexing: of the hinted file, or without a hint of the next of the walk, if that is
+/// unready, else of the first unready one from a place of its own on. Its index data are the store's, where it has them.
 pub fn index_step<R: Wait, G: Gate>(
     rt: &R,
     alloc: Global,
     lock: &ActionLock<IdeHome>,
     queue: &JobQueue,
+    cursor: &Cursor,
     store: &Store,
     pass: &mut IdePass,
     gate: &G,
@@ -28,12 +30,28 @@ pub fn index_step<R: Wait, G: Gate>(
     requires { IsIdePassOf lock.now queue.now pass.old }
     ensures pass { IsIdePassOf lock.now queue.now pass.new × IsSameIdePass pass.old pass.new }
     ensures advances { Advances (ide_view pass.old) (ide_view pass.new) }
-    ensures step { (hint : Option Hint)
+    ensures step { (hint : Option Hint) × (file : ℕ)
         × HasTaken hint (queue_view pass.old.queue) (queue_view pass.new.queue)
-        × IfOk result (HasStepped (file_of_hint hint) (ide_view pass.old) (ide_view pass.new)) }
+        × IsFirstTried hint file
+        × IfOk result (HasStepped (Some file) (ide_view pass.old) (ide_view pass.new)) }
     ensures err { OnErr result ((ide_view pass.new).mine ≡ (ide_view pass.old).mine) }
 {
     let hint = queue.take(rt, &mut pass.queue);
-    let file = hint.map(|hint| hint.file);
-    ide_calls::index_step(rt, alloc, lock, store, &mut pass.lock, file, gate)
+    let file = first_tried(cursor, hint);
+    let step = ide_calls::index_step(rt, alloc, lock, store, &mut pass.lock, Some(file), gate);
+    cursor.end_with(&step);
+    step
+}
+
+/// The file of a hint, behind which the walk goes on, or the next of the walk.
+fn first_tried(cursor: &Cursor, hint: Option<Hint>) -> u32
+    ensures { IsFirstTried hint result }
+{
+    match hint {
+        Some(hint) => {
+            cursor.pass(hint.file);
+            hint.file
+        }
+        None => cursor.step(),
+    }
 }

@@ -6,6 +6,7 @@ ghost use Rattle.index_workers.specs.Hints.{HasOnlyTaken};
 ghost use Rattle.index_workers.specs.Passes.{ide_view, IsIdePassOf, IsSameIdePass};
 ghost use Rattle.index_workers.specs.Work.{HasWorked, HasWorkedInPart};
 
+use crate::cursor::Cursor;
 use crate::ending::{end_of, taken};
 use crate::pass::IdePass;
 use crate::stepping::index_step;
@@ -26,6 +27,7 @@ pub fn worker<R: Wait, G: Gate>(
     alloc: Global,
     lock: &ActionLock<IdeHome>,
     queue: &JobQueue,
+    cursor: &Cursor,
     store: &Store,
     pass: &mut IdePass,
     gate: &G,
@@ -42,7 +44,7 @@ pub fn worker<R: Wait, G: Gate>(
     let seat = pass.number();
     let mut entries = 0;
     for turn in 0..TURNS {
-        let step = index_step(rt, alloc, lock, queue, store, pass, gate)?;
+        let step = index_step(rt, alloc, lock, queue, cursor, store, pass, gate)?;
         entries += taken(&step);
         if let Some(end) = end_of(gate, seat, &step) {
             return Ok(Worked {

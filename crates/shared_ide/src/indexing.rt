@@ -1,11 +1,11 @@
 //! Indexing of the shared workspace.
-ghost use Rattle.std.specs.Prelude.{◌≡◌, IfOk, IfErr, OnErr, Option};
+ghost use Rattle.std.specs.Prelude.{◌≡◌, ℕ, IfOk, IfErr, OnErr, Option, Some};
 ghost use Rattle.action_lock.specs.Advances.{Advances};
 ghost use Rattle.job_queue.specs.declared.hint.Hint.{Hint};
 ghost use Rattle.job_queue.specs.Passes.{queue_view};
 ghost use Rattle.ide_calls.specs.Settling.{IsSettled, HasStopped};
 ghost use Rattle.ide_calls.specs.Step.{HasStepped};
-ghost use Rattle.index_workers.specs.Hints.{HasTaken, file_of_hint, HasOnlyTaken};
+ghost use Rattle.index_workers.specs.Hints.{HasTaken, IsFirstTried, HasOnlyTaken};
 ghost use Rattle.index_workers.specs.Passes.{ide_view, IsSameIdePass};
 ghost use Rattle.index_workers.specs.Work.{HasWorked, HasWorkedInPart};
 ghost use Rattle.shared_ide.specs.Passes.{IsIdePassOf};
@@ -39,8 +39,8 @@ impl SharedIde {
         ide_calls::settle(rt, alloc, &self.lock, &self.store, &mut pass.lock, line)
     }
 
-    /// Takes a hint, if there is one, and does a step of indexing: of the hinted file if it is unready, else of the first
-    /// unready one from a place of its own on. May block.
+    /// Takes a hint, if there is one, and does a step of indexing: of the hinted file, or without a hint of the next in a walk that
+    /// all workers share, if that is unready, else of the first unready one from a place of its own on. May block.
     pub fn index_step<R: Wait, G: Gate>(
         &self,
         rt: &R,
@@ -51,12 +51,22 @@ impl SharedIde {
         requires { IsIdePassOf self.now pass.old }
         ensures pass { IsIdePassOf self.now pass.new × IsSameIdePass pass.old pass.new }
         ensures advances { Advances (ide_view pass.old) (ide_view pass.new) }
-        ensures step { (hint : Option Hint)
+        ensures step { (hint : Option Hint) × (file : ℕ)
             × HasTaken hint (queue_view pass.old.queue) (queue_view pass.new.queue)
-            × IfOk result (HasStepped (file_of_hint hint) (ide_view pass.old) (ide_view pass.new)) }
+            × IsFirstTried hint file
+            × IfOk result (HasStepped (Some file) (ide_view pass.old) (ide_view pass.new)) }
         ensures err { OnErr result ((ide_view pass.new).mine ≡ (ide_view pass.old).mine) }
     {
-        index_workers::index_step(rt, alloc, &self.lock, &self.queue, &self.store, pass, gate)
+        index_workers::index_step(
+            rt,
+            alloc,
+            &self.lock,
+            &self.queue,
+            &self.cursor,
+            &self.store,
+            pass,
+            gate,
+        )
     }
 
     /// Makes steps until nothing is to be done and the gate tells it to end, or the history is full, or it has made
@@ -77,6 +87,15 @@ impl SharedIde {
         ensures err { OnErr result (HasWorkedInPart (G.may_say gate.now)
             (ide_view pass.old) (ide_view pass.new) (queue_view pass.old.queue) (queue_view pass.new.queue)) }
     {
-        index_workers::worker(rt, alloc, &self.lock, &self.queue, &self.store, pass, gate)
+        index_workers::worker(
+            rt,
+            alloc,
+            &self.lock,
+            &self.queue,
+            &self.cursor,
+            &self.store,
+            pass,
+            gate,
+        )
     }
 }

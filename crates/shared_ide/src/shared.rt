@@ -17,7 +17,7 @@ ghost use Rattle.shared_ide.specs.Passes.{IsIdePassOf};
 
 use action_lock::{ActionLock, SplitRefusal};
 use ide_calls::{IdeHome, Store};
-use index_workers::{IdePass, close, first, is_last, meet, split};
+use index_workers::{Cursor, IdePass, close, first, is_last, meet, split};
 use job_queue::JobQueue;
 use std::alloc::{AllocError, Global};
 
@@ -26,6 +26,7 @@ use std::alloc::{AllocError, Global};
 pub struct SharedIde {
     pub(crate) lock: ActionLock<IdeHome>,
     pub(crate) queue: JobQueue,
+    pub(crate) cursor: Cursor,
     pub(crate) store: Store,
 }
 
@@ -42,7 +43,13 @@ impl SharedIde {
         let (queue, of_queue) = JobQueue::new(alloc)?;
         match ActionLock::new(alloc, home, places) {
             Ok((lock, of_lock)) => {
-                let ide = SharedIde { lock, queue, store };
+                let cursor = Cursor::new();
+                let ide = SharedIde {
+                    lock,
+                    queue,
+                    cursor,
+                    store,
+                };
                 Ok((ide, first(of_lock, of_queue)))
             }
             Err(_) => {
@@ -103,6 +110,7 @@ impl SharedIde {
         let SharedIde {
             lock,
             queue,
+            cursor: _,
             store: _,
         } = self;
         close(lock, queue, pass)
