@@ -5,9 +5,9 @@
                                                          --cpus 0,1 binds it to these processors
     bench/gate.py --table FILE                           prints the table of an earlier run
 
-A kit that keeps what passed proves only what changed: `--anew` counts all. While it runs, the processes of the prover are looked
-at twice a second, and the most that was seen of each check is written to FILE, so each may have used a little more. What `rt ci`
-used with all that it started is exact. Run it on a quiet machine, without another `rt` beside it.
+A kit that keeps what passed proves only what changed: `--anew` counts all. While it runs, the prover's processes below it are
+looked at twice a second, and the most that was seen of each check is written to FILE, so each may have used a little more. What
+`rt ci` used with all that it started is exact. Run it on a quiet machine: what runs beside it isn't counted, but makes it slower.
 """
 import argparse
 import collections
@@ -40,10 +40,21 @@ def process(pid):
         return None
 
 
-def checks_now():
-    """The checks that run now: crate, kind, and processor seconds so far with all processes below each."""
+def is_below(pid, top, every):
+    """Whether a process is another one, or was started by it or below it."""
+    while pid != top and every.get(pid):
+        pid = every[pid][0]
+    return pid == top
+
+
+def checks_now(run):
+    """The checks of a run that go on now: crate, kind, and processor seconds so far with all processes below each."""
     every = {int(it): process(it) for it in os.listdir("/proc") if it.isdigit()}
-    prover = {pid: it for pid, it in every.items() if it and it[3][0].endswith("/rattle") and "--crate-name" in it[3]}
+    prover = {
+        pid: it
+        for pid, it in every.items()
+        if it and it[3][0].endswith("/rattle") and "--crate-name" in it[3] and is_below(pid, run.pid, every)
+    }
     used = collections.Counter()
     for pid, (parent, _, seconds, _) in prover.items():
         while parent in prover:
@@ -61,7 +72,7 @@ def watch(run, log):
     """Looks at the checks until the run has ended, and writes the most that was seen of each."""
     seen = {}
     while run.poll() is None:
-        for key, name, kind, used in checks_now():
+        for key, name, kind, used in checks_now(run):
             seen[key] = max(seen.get(key, (name, kind, 0.0)), (name, kind, used))
         time.sleep(0.5)
     log.write_text("".join(f"{name} {kind} {used:.2f}\n" for name, kind, used in seen.values()))
