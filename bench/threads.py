@@ -3,7 +3,8 @@
 
     bench/threads.py                  lanes that edit and ask, lanes that ask, alone and beside one that edits, and
                                       demos with 0 and 4 workers
-    bench/threads.py FOLDER           also the Java files of a folder loaded and indexed, with 0, 1 and 3 workers
+    bench/threads.py FOLDER           also the Java files of a folder loaded and indexed, by 0, 1 and 3 workers, and by a lane that
+                                      settles with 0 and 1 worker beside it (`taskset -c 0,1` before the command: on two processors)
 
 For FOLDER see bench/real.py. The least time of three runs counts, and the processor seconds of that run: where they are
 more than the seconds, threads ran beside each other; a thread that waits and keeps a processor busy would show there.
@@ -36,10 +37,12 @@ def row(name, found, rest=""):
 def loaded(folder):
     """The files of a folder, loaded by the prelude and indexed by the workers or by the settle of the last section."""
     paths = sorted(str(path.relative_to(folder)) for path in folder.rglob("*.java"))
-    script = "".join(f"load {path}\n" for path in paths if " " not in path) + "finally\nsettle\nstatus\n"
+    loads = "".join(f"load {path}\n" for path in paths if " " not in path)
     print(f"{len(paths)} files of {folder} loaded and indexed")
     for workers in (0, 1, 3):
-        row(f"{workers} workers", measure(["play", "--workers", str(workers)], script, folder))
+        row(f"{workers} workers", measure(["play", "--workers", str(workers)], loads + "finally\nsettle\nstatus\n", folder))
+    for workers in (0, 1):
+        row(f"a lane settles, {workers} workers", measure(["play", "--workers", str(workers)], loads + "lane\nsettle\nstatus\n", folder))
 
 
 def lane(number, commands):
