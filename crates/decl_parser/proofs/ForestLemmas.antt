@@ -1,6 +1,6 @@
 -- The forest of groups: nodes that are changed in place.
 use Rattle.std.proofs.Common.{◌≡◌, ℕ, zero, suc, ◌<◌, ◌≤◌, List, [], ◌∷◌, length, get_or, set, refl, ap, arith}
-use Rattle.decl_parser.specs.declared.node.Node.{Node}
+use Rattle.decl_parser.specs.Node.{Node}
 use Rattle.decl_parser.specs.Forest.{changed}
 
 -- a node that is written over is changed

@@ -8,16 +8,33 @@ use Rattle.java_tokens.specs.declared.kind.Kind.TheVariants.{Word, Punct}
 use Rattle.java_tokens.specs.Chars.{is_white_space}
 use Rattle.java_tokens.specs.Kind.{code_of as kind_code}
 use Rattle.java_tokens.specs.Tokens.{IsInside, AreTokensFrom, characters_of, tokens_of}
+use Rattle.java_tokens.proofs.TokenLemmas.{are_tokens_of, inside_tokens_of}
 use Rattle.java_tokens.specs.Identifier.{is_reserved}
 use Rattle.java_tokens.specs.Words.{is_comment, is_identifier_token}
 use Rattle.decl_parser.specs.declared.bracket.Bracket.{Bracket}
 use Rattle.decl_parser.specs.declared.role.Role.{Role}
 use Rattle.decl_parser.specs.declared.role.Role.TheVariants.{Identifier, Record, Permits, Comment, Lone}
-use Rattle.decl_parser.specs.declared.node.Node.{Node}
+use Rattle.decl_parser.specs.Node.{Node, node_of, sized, in_role}
 use Rattle.decl_parser.specs.declared.open_brackets.Open.{Open}
 use Rattle.decl_parser.specs.Role.{same_role, same_bracket, opened_by, closed_by, is_among, modifiers, primitive_types, common_word_role, word_role, mark_role, mark_role_at, role_of}
 use Rattle.decl_parser.specs.Forest.{is, finds, with_size, without_bracket, Scan, close, close_rest, stepped, step, scan_of, forest_of}
-use Rattle.decl_parser.proofs.Rising.{cond_keeps, cond_picks, IsNodeOf, Rises, rises-higher, rises-append, rises-one, rises-changed}
+use Rattle.decl_parser.proofs.Rising.{cond_keeps, cond_picks, IsNodeOf, node-again, Rises, rises-higher, rises-append, rises-one, rises-changed}
+
+-- no more tokens than characters
+tokens-few : (text : List ℕ) (at : ℕ) (ts : List Token) → AreTokensFrom at text ts → All (IsInside text) ts → at ≤ length text
+    → at + length ts ≤ length text
+tokens-few text at [] cut inside le = omega arith
+tokens-few text at (t ∷ ts) cut inside le =
+    let start = at + prefix_len is_white_space (drop at text) in
+    let begins : t.at ≡ start = ap (λ (t : Token). t.at) cut.1 in
+    let first = inside 0 t (omega arith) in
+    let some : 0 < t.len = first.0 in
+    let ends : t.at + t.len ≤ length text = first.1 in
+    let others = tokens-few text (start + t.len) ts cut.2 (λ k d l. inside (suc k) d (omega arith)) (omega arith) in
+    omega arith
+
+pub tokens_of-few : (text : List ℕ) → length (tokens_of text) ≤ length text
+tokens_of-few text = let few = tokens-few text 0 (tokens_of text) (are_tokens_of text) (inside_tokens_of text) (omega arith) in omega arith
 
 -- the role is one of identifiers
 abbrev names : Role → Bool
@@ -88,11 +105,11 @@ role-identifier text t =
     (λ other. cond_keeps P (t.kind == kind_code Punct) _ _ (λ e. absurd (let quiet = mark_at-quiet (slice_get text t.at) in cc)) (λ e. absurd (cc))))
 
 module _ (text : List ℕ) where
-  sized-node : (size : ℕ) (n : Node) → IsNodeOf text n → IsNodeOf text (record { token = n.token; role = n.role; size = size })
-  sized-node size n is = record { inside = is.inside; token_of = is.token_of; identifier = is.identifier }
+  sized-node : (size : ℕ) (n : Node) → IsNodeOf text n → IsNodeOf text (sized size n)
+  sized-node size n is = node-again text n (sized size n) refl refl is (λ e. e)
 
-  lone-node : (n : Node) → IsNodeOf text n → IsNodeOf text (record { token = n.token; role = Lone; size = n.size })
-  lone-node n is = record { inside = is.inside; token_of = is.token_of; identifier = λ e. absurd (cc) }
+  lone-node : (n : Node) → IsNodeOf text n → IsNodeOf text (in_role Lone n)
+  lone-node n is = node-again text n (in_role Lone n) refl refl is (λ e. absurd (cc))
 
   with_size-rises : (place lo hi : ℕ) (nodes : List Node) → Rises text lo hi nodes → Rises text lo hi (with_size place nodes)
   with_size-rises place lo hi nodes r = rises-changed text _ (λ n. refl) (λ n is. sized-node _ n is) place lo hi nodes r
@@ -113,7 +130,7 @@ module _ (text : List ℕ) where
   close_rest-rises lo hi nodes [] r = r
   close_rest-rises lo hi nodes (o ∷ os) r = close_rest-rises lo hi (with_size o.place nodes) os (with_size-rises o.place lo hi nodes r)
 
-  stepped-rises : (lo mid hi : ℕ) (s : Scan) (n : Node) (opened closed : Option Bracket) → mid ≤ n.token.at → n.token.at < hi → IsNodeOf text n
+  stepped-rises : (lo mid hi : ℕ) (s : Scan) (n : Node) (opened closed : Option Bracket) → mid ≤ n.at → n.at < hi → IsNodeOf text n
       → Rises text lo mid s.nodes → Rises text lo hi (stepped s n opened closed).nodes
   stepped-rises lo mid hi s n (Some kind) closed above below is r = rises-append text lo mid hi s.nodes (n ∷ []) r (rises-one text mid hi n above below is)
   stepped-rises lo mid hi s n None (Some kind) above below is r =
@@ -136,8 +153,15 @@ module _ (text : List ℕ) where
       let first = all 0 t (omega arith) in
       let some : 0 < t.len = first.0.0 in
       let ends : t.at + t.len ≤ length text = first.0.1 in
-      let n : Node = record { token = t; role = role_of text t; size = 0 } in
-      let is : IsNodeOf text n = record { inside = first.0; token_of = first.1; identifier = role-identifier text t } in
+      let n = node_of t (role_of text t) in
+      let is : IsNodeOf text n = record {
+        token = t;
+        place = refl;
+        width = refl;
+        inside = first.0;
+        token_of = first.1;
+        identifier = role-identifier text t;
+      } in
       scan-rises ts (start + t.len) (stepped s n (opened_by n.role) (closed_by n.role)) cut.2 (λ k d l. all (suc k) d (omega arith)) (omega arith)
       (stepped-rises 0 at (start + t.len) s n (opened_by n.role) (closed_by n.role) (omega arith) (omega arith) is r)
 

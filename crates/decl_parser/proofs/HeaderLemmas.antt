@@ -2,7 +2,7 @@
 use Rattle.std.proofs.Common.{◌≡◌, ◌≢◌, ℕ, zero, suc, Bool, true, false, ◌||◌, ◌==◌, List, [], ◌∷◌, drop, refl, sym, ap, ◌∙◌, arith}
 use Rattle.std.specs.List.{list_any}
 use Rattle.std.proofs.lemmas.Bool.Decides.{nat_tests}
-use Rattle.decl_parser.specs.declared.node.Node.{Node}
+use Rattle.decl_parser.specs.Node.{Node}
 use Rattle.decl_parser.specs.declared.role.Role.TheVariants.{At, ParenGroup, Dot}
 use Rattle.decl_parser.specs.Forest.{is, is_identifier}
 use Rattle.decl_parser.specs.Header.{annotation_rest, annotation_len, plain_past, without_annotations}

@@ -1,15 +1,15 @@
 -- Each stub of a listing is named by an identifier of the text, and so is each of its supers.
-use Rattle.std.proofs.Common.{◌≡◌, ℕ, zero, suc, Bool, true, false, cond, ◌&&◌, ◌||◌, List, [], ◌∷◌, ◌++◌, length, map, refl, arith, inr}
+use Rattle.std.proofs.Common.{◌≡◌, ℕ, zero, suc, Bool, true, false, cond, ◌&&◌, ◌||◌, List, [], ◌∷◌, ◌++◌, length, take, drop, map, refl, ap, ◌∙◌, arith, inr}
 use Rattle.std.specs.Option.{option_to_list}
 use Rattle.std.specs.Prelude.{Option, None, Some, IfSome, All}
 use Rattle.std.specs.List.{flat_map, AllByRecursion}
 use Rattle.std.proofs.lemmas.List.Elements.{All-from_recursion}
-use Rattle.java_tokens.specs.Tokens.{tokens_of}
+use Rattle.java_tokens.specs.Tokens.{characters_of, tokens_of}
 use Rattle.java_tokens.proofs.TokenLemmas.{are_tokens_of, inside_tokens_of}
 use Rattle.stub_tree.specs.declared.stub.Stub.{Stub}
 use Rattle.stub_tree.specs.Stub.{is_type}
 use Rattle.stub_tree.specs.Lawful.{max_depth}
-use Rattle.decl_parser.specs.declared.node.Node.{Node}
+use Rattle.decl_parser.specs.Node.{Node, name_of}
 use Rattle.decl_parser.specs.declared.declaration.Holder.{Holder}
 use Rattle.decl_parser.specs.declared.role.Role.TheVariants.{Extends, Implements, Permits, Comma}
 use Rattle.stub_tree.specs.declared.stub_kind.StubKind.TheVariants.{Constant}
@@ -17,7 +17,7 @@ use Rattle.decl_parser.specs.Forest.{forest_of, is as is_role, is_identifier}
 use Rattle.decl_parser.specs.Unit.{Unit as UnitOf, Item, units_of, items_of, behind_semicolon}
 use Rattle.decl_parser.specs.Header.{header_of}
 use Rattle.decl_parser.specs.Rule.{Declaration, declaration_of, constants_after, supers_after}
-use Rattle.decl_parser.specs.Listing.{stub_of, constant_stub, is_enum, declared_stubs, item_stubs, level_stubs, listing_of, name_of, IsIdentifierOf, IsNamedIn}
+use Rattle.decl_parser.specs.Listing.{stub_of, constant_stub, is_enum, declared_stubs, item_stubs, level_stubs, listing_of, IsIdentifierOf, IsNamedIn}
 use Rattle.decl_parser.proofs.Rising.{cond_keeps, cond_picks, IsNodeOf, Rises, UnitsRise, ItemsRise, rises-header, rises-units, items_from-rise}
 use Rattle.decl_parser.proofs.Sound.{IsNameIn, IsSound, NamesRise, declaration-sound}
 use Rattle.decl_parser.proofs.ListingLawful.{constants-rise}
@@ -40,7 +40,7 @@ module _ (text : List ℕ) (Has : Stub → Type 0) (has : (depth lo hi : ℕ) (d
 
   constants-have : (depth lo hi : ℕ) (names : List Node) → NamesRise text lo hi names → AllHave (map (constant_stub text depth) names)
   constants-have depth lo hi [] r = tt
-  constants-have depth lo hi (n ∷ ns) r = (constant-has depth lo hi n r.0, constants-have depth (suc n.token.at) hi ns r.1)
+  constants-have depth lo hi (n ∷ ns) r = (constant-has depth lo hi n r.0, constants-have depth (suc n.at) hi ns r.1)
 
   abbrev MembersHave : (Option Holder → List UnitOf → List Stub) → Type 0
   MembersHave members = (holder : Option Holder) (lo hi : ℕ) (us : List UnitOf) → UnitsRise text lo hi us → AllHave (members holder us)
@@ -96,9 +96,18 @@ listing-has text Has has =
     let rise = forest-rises text (are_tokens_of text) (inside_tokens_of text) in
     All-from_recursion Has _ (level-has text Has has (suc max_depth) 0 0 (length text) None (units_of nodes) (rises-units text 0 (length text) nodes rise))
 
+-- the characters of a node are those of its token
+name-of_token : (text : List ℕ) (n : Node) (is : IsNodeOf text n) → name_of text n ≡ characters_of text is.token
+name-of_token text n is = ap (λ len. take len (drop n.at text)) is.width ∙ ap (λ at. take is.token.len (drop at text)) is.place
+
 -- a node that is an identifier, as a name
 identifier-of : (text : List ℕ) (n : Node) → IsNodeOf text n → is_identifier n ≡ true → IsIdentifierOf text (name_of text n)
-identifier-of text n node named = record { token = n.token; token_of = node.token_of; identifier = node.identifier named; is = refl }
+identifier-of text n node named = record {
+  token = node.token;
+  token_of = node.token_of;
+  identifier = node.identifier named;
+  is = name-of_token text n node;
+}
 
 -- the last identifier of a piece, if there is one
 last-of : (text : List ℕ) (last : Option Node) → IfSome last (λ n. IsIdentifierOf text (name_of text n))
@@ -113,7 +122,7 @@ unfolding supers_after
 supers-of text in_clause last lo hi [] r is = last-of text last is
 supers-of text in_clause last lo hi (n ∷ ns) r is =
     let P : List Node → Type 0 = λ nodes. AllByRecursion (IsIdentifierOf text) (map (name_of text) nodes) in
-    let next = suc n.token.at in
+    let next = suc n.at in
     cond_keeps P (is_role Extends n || is_role Implements n) _ _ (joined (supers_after true None ns) (supers-of text true None next hi ns r.2 tt))
     (cond_keeps P (is_role Permits n) _ _ (joined (supers_after false None ns) (supers-of text false None next hi ns r.2 tt))
     (cond_keeps P (is_role Comma n) _ _ (joined (supers_after in_clause None ns) (supers-of text in_clause None next hi ns r.2 tt))
@@ -138,11 +147,11 @@ supers-of text in_clause last lo hi (n ∷ ns) r is =
 pub listing-named : (text : List ℕ) → All (IsNamedIn text) (listing_of text)
 unfolding stub_of
 listing-named text = listing-has text (IsNamedIn text) (λ depth lo hi d sound. record {
-  token = d.name.token;
+  token = sound.name.is_node.token;
   token_of = sound.name.is_node.token_of;
   identifier = sound.name.is_node.identifier sound.name.named;
-  place = refl;
-  name = refl;
+  place = sound.name.is_node.place;
+  name = name-of_token text d.name sound.name.is_node;
 })
 
 -- each super of a stub of the listing of a text is an identifier of it

@@ -7,7 +7,7 @@ use Rattle.stub_tree.specs.declared.stub.Stub.{Stub}
 use Rattle.stub_tree.specs.declared.stub_kind.StubKind.TheVariants.{Constant}
 use Rattle.stub_tree.specs.Stub.{is_type}
 use Rattle.stub_tree.specs.Lawful.{max_depth, IsLawfulStub, IsLawfulList}
-use Rattle.decl_parser.specs.declared.node.Node.{Node}
+use Rattle.decl_parser.specs.Node.{Node}
 use Rattle.decl_parser.specs.declared.declaration.Holder.{Holder}
 use Rattle.decl_parser.specs.declared.role.Role.TheVariants.{Comma, Semicolon}
 use Rattle.decl_parser.specs.Forest.{is, is_identifier}
@@ -24,7 +24,7 @@ module _ (text : List ℕ) where
   first_identifier-rise : (lo hi : ℕ) (ns : List Node) → Rises text lo hi ns → NamesRise text lo hi (first_identifier ns)
   first_identifier-rise lo hi [] r = r
   first_identifier-rise lo hi (n ∷ ns) r =
-      let rest = rises-bounds text (suc n.token.at) hi ns r.2 in
+      let rest = rises-bounds text (suc n.at) hi ns r.2 in
       let above = r.0 in
       cond_picks (NamesRise text lo hi) (is_identifier n) (n ∷ []) []
       (λ named. (first-name text lo hi n ns r named, (omega arith)))
@@ -40,7 +40,7 @@ module _ (text : List ℕ) where
   names-append lo mid hi [] ys le r s = names-lower lo mid hi ys r s
   names-append lo mid hi (x ∷ xs) ys le r s =
       let below = r.0.below in
-      (record { above = r.0.above; below = omega arith; is_node = r.0.is_node; named = r.0.named }, names-append (suc x.token.at) mid hi xs ys le r.1 s)
+      (record { above = r.0.above; below = omega arith; is_node = r.0.is_node; named = r.0.named }, names-append (suc x.at) mid hi xs ys le r.1 s)
 
   names-bounds : (lo hi : ℕ) (ns : List Node) → NamesRise text lo hi ns → lo ≤ hi
   names-bounds lo hi [] r = r
@@ -61,7 +61,7 @@ module _ (text : List ℕ) where
   constants-rise lo mid hi piece (u ∷ us) r s =
       let constant = first_identifier-rise lo mid (without_annotations piece) (rises-plain text lo mid piece r) in
       let above = s.1 in
-      let inside = rises-bounds text (suc u.node.token.at) s.0 u.inside s.3 in
+      let inside = rises-bounds text (suc u.node.at) s.0 u.inside s.3 in
       let next : mid ≤ s.0 = omega arith in
       let P : List Node → Type 0 = λ names. EnumRises lo hi names (behind_semicolon us) in
       both_picks lo hi (is Semicolon u.node) _ _ _ _
@@ -84,9 +84,9 @@ module _ (text : List ℕ) (P : Stub → Type 0)
       let below = r.0.below in
       let above = r.0.above in
       let sound : IsSound text lo hi d = record { name = r.0; behind = omega arith; of_type = inr refl } in
-      continues-append P depth lo (suc n.token.at) hi (constant_stub text depth n ∷ []) (map (constant_stub text depth) ns)
-      (continues-one P depth lo (suc n.token.at) (constant_stub text depth n) (each depth lo hi d shallow inside sound) refl above (omega arith))
-      (constant_stubs-continue depth (suc n.token.at) hi ns shallow inside r.1)
+      continues-append P depth lo (suc n.at) hi (constant_stub text depth n ∷ []) (map (constant_stub text depth) ns)
+      (continues-one P depth lo (suc n.at) (constant_stub text depth n) (each depth lo hi d shallow inside sound) refl above (omega arith))
+      (constant_stubs-continue depth (suc n.at) hi ns shallow inside r.1)
 
   -- what is listed of the members of a type
   abbrev pub MembersContinue : ℕ → (Option Holder → List UnitOf → List Stub) → Type 0

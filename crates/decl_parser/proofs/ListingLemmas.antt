@@ -5,7 +5,7 @@ use Rattle.std.specs.List.{flat_map}
 use Rattle.stub_tree.specs.declared.stub.Stub.{Stub}
 use Rattle.stub_tree.specs.Stub.{is_type}
 use Rattle.stub_tree.specs.Lawful.{max_depth}
-use Rattle.decl_parser.specs.declared.node.Node.{Node}
+use Rattle.decl_parser.specs.Node.{Node}
 use Rattle.decl_parser.specs.declared.declaration.Holder.{Holder}
 use Rattle.decl_parser.specs.Unit.{Unit, Item, units_of, items_of}
 use Rattle.decl_parser.specs.Header.{header_of}

@@ -9,7 +9,7 @@ use Rattle.stub_tree.specs.declared.stub_kind.StubKind.{StubKind}
 use Rattle.stub_tree.specs.declared.stub_kind.StubKind.TheVariants.{Constructor, Method}
 use Rattle.stub_tree.specs.Stub.{is_type}
 use Rattle.stub_tree.specs.Lawful.{max_depth}
-use Rattle.decl_parser.specs.declared.node.Node.{Node}
+use Rattle.decl_parser.specs.Node.{Node}
 use Rattle.decl_parser.specs.declared.declaration.Holder.{Holder}
 use Rattle.decl_parser.specs.declared.role.Role.{Role}
 use Rattle.decl_parser.specs.declared.role.Role.TheVariants.{Dot, Less, Greater, Semicolon, BraceGroup, Equals, Other}

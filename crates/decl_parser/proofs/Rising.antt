@@ -1,9 +1,10 @@
 -- Nodes of a text in its order: what the rules keep of it, from the tokens to the items.
-use Rattle.std.proofs.Common.{◌≡◌, ℕ, zero, suc, ◌+◌, ◌-◌, ◌<◌, ◌≤◌, Bool, true, false, cond, ◌==◌, List, [], ◌∷◌, ◌++◌, length, take, drop, refl, subst, arith}
+use Rattle.std.proofs.Common.{◌≡◌, ℕ, zero, suc, ◌+◌, ◌-◌, ◌<◌, ◌≤◌, Bool, true, false, cond, ◌==◌, List, [], ◌∷◌, ◌++◌, length, take, drop, refl, sym, ◌∙◌, subst, arith}
 use Rattle.std.specs.Prelude.{Contains}
-use Rattle.java_tokens.specs.Tokens.{IsInside, tokens_of}
+use Rattle.java_tokens.specs.declared.token.Token.{Token}
+use Rattle.java_tokens.specs.Tokens.{tokens_of}
 use Rattle.java_tokens.specs.Words.{is_identifier_token}
-use Rattle.decl_parser.specs.declared.node.Node.{Node}
+use Rattle.decl_parser.specs.Node.{Node}
 use Rattle.decl_parser.specs.declared.role.Role.TheVariants.{Lone, Less, Greater, Semicolon, BraceGroup, Equals}
 use Rattle.decl_parser.specs.Forest.{is, is_identifier, changed}
 use Rattle.decl_parser.specs.Unit.{Unit, Item, units_past, units_of, items_from, items_behind_value, last_item}
@@ -19,21 +20,37 @@ pub cond_picks : {A : Type 0} (P : A → Type 0) (b : Bool) (x y : A) → (b ≡
 cond_picks P true x y p q = p refl
 cond_picks P false x y p q = q refl
 
--- a node is one of a text: its token is one of the text's and, where the node is an identifier, an identifier
+-- a node is one of a text: it stands where a token of the text does, has as many characters and, where it is an
+-- identifier, is one by that token
 pub record IsNodeOf (text : List ℕ) (n : Node) : Type 0 where
-  pub inside : IsInside text n.token
-  pub token_of : Contains (tokens_of text) n.token
-  pub identifier : is_identifier n ≡ true → is_identifier_token text n.token ≡ true
+  pub token : Token
+  pub place : n.at ≡ token.at
+  pub width : n.len ≡ token.len
+  pub inside : (0 < n.len) × (n.at + n.len ≤ length text)
+  pub token_of : Contains (tokens_of text) token
+  pub identifier : is_identifier n ≡ true → is_identifier_token text token ≡ true
+
+-- a node that stands where another of the text does, and is no identifier but where that one is
+pub node-again : (text : List ℕ) (n m : Node) → m.at ≡ n.at → m.len ≡ n.len → IsNodeOf text n
+    → (is_identifier m ≡ true → is_identifier n ≡ true) → IsNodeOf text m
+node-again text n m at len is named = record {
+  token = is.token;
+  place = at ∙ is.place;
+  width = len ∙ is.width;
+  inside = let some = is.inside.0 in let ends = is.inside.1 in ((omega arith), (omega arith));
+  token_of = is.token_of;
+  identifier = λ e. is.identifier (named e);
+}
 
 -- the nodes are of the text, and their offsets rise from one bound up to below another
 abbrev pub Rises : List ℕ → ℕ → ℕ → List Node → Type 0
 Rises text lo hi [] = lo ≤ hi
-Rises text lo hi (n ∷ ns) = (lo ≤ n.token.at) × IsNodeOf text n × Rises text (suc n.token.at) hi ns
+Rises text lo hi (n ∷ ns) = (lo ≤ n.at) × IsNodeOf text n × Rises text (suc n.at) hi ns
 
 module _ (text : List ℕ) where
   pub rises-bounds : (lo hi : ℕ) (ns : List Node) → Rises text lo hi ns → lo ≤ hi
   rises-bounds lo hi [] r = r
-  rises-bounds lo hi (n ∷ ns) r = let below = rises-bounds (suc n.token.at) hi ns r.2 in let above = r.0 in omega arith
+  rises-bounds lo hi (n ∷ ns) r = let below = rises-bounds (suc n.at) hi ns r.2 in let above = r.0 in omega arith
 
   pub rises-lower : (low lo hi : ℕ) (ns : List Node) → low ≤ lo → Rises text lo hi ns → Rises text low hi ns
   rises-lower low lo hi [] le r = omega arith
@@ -41,13 +58,13 @@ module _ (text : List ℕ) where
 
   pub rises-higher : (lo hi high : ℕ) (ns : List Node) → hi ≤ high → Rises text lo hi ns → Rises text lo high ns
   rises-higher lo hi high [] le r = omega arith
-  rises-higher lo hi high (n ∷ ns) le r = (r.0, r.1, rises-higher (suc n.token.at) hi high ns le r.2)
+  rises-higher lo hi high (n ∷ ns) le r = (r.0, r.1, rises-higher (suc n.at) hi high ns le r.2)
 
   pub rises-append : (lo mid hi : ℕ) (xs ys : List Node) → Rises text lo mid xs → Rises text mid hi ys → Rises text lo hi (xs ++ ys)
   rises-append lo mid hi [] ys r s = rises-lower lo mid hi ys r s
-  rises-append lo mid hi (x ∷ xs) ys r s = (r.0, r.1, rises-append (suc x.token.at) mid hi xs ys r.2 s)
+  rises-append lo mid hi (x ∷ xs) ys r s = (r.0, r.1, rises-append (suc x.at) mid hi xs ys r.2 s)
 
-  pub rises-one : (lo hi : ℕ) (n : Node) → lo ≤ n.token.at → n.token.at < hi → IsNodeOf text n → Rises text lo hi (n ∷ [])
+  pub rises-one : (lo hi : ℕ) (n : Node) → lo ≤ n.at → n.at < hi → IsNodeOf text n → Rises text lo hi (n ∷ [])
   rises-one lo hi n above below is = (above, is, (omega arith))
 
   -- a list that rises, cut in two
@@ -55,7 +72,7 @@ module _ (text : List ℕ) where
   rises-cut zero lo hi ns r = (lo, (omega arith), r)
   rises-cut (suc k) lo hi [] r = (lo, (omega arith), r)
   rises-cut (suc k) lo hi (n ∷ ns) r =
-      let rest = rises-cut k (suc n.token.at) hi ns r.2 in
+      let rest = rises-cut k (suc n.at) hi ns r.2 in
       (rest.0, (r.0, r.1, rest.1), rest.2)
 
   pub rises-drop : (k lo hi : ℕ) (ns : List Node) → Rises text lo hi ns → Rises text lo hi (drop k ns)
@@ -67,10 +84,10 @@ module _ (text : List ℕ) where
   pub rises-few : (lo hi : ℕ) (ns : List Node) → Rises text lo hi ns → lo + length ns ≤ hi
   rises-few lo hi [] r = let le : lo ≤ hi = r in omega arith
   rises-few lo hi (n ∷ ns) r =
-      let rest = rises-few (suc n.token.at) hi ns r.2 in let above = r.0 in omega arith
+      let rest = rises-few (suc n.at) hi ns r.2 in let above = r.0 in omega arith
 
-  -- nodes that are changed but keep their tokens
-  pub rises-changed : (f : Node → Node) → ((n : Node) → (f n).token ≡ n.token) → ((n : Node) → IsNodeOf text n → IsNodeOf text (f n))
+  -- nodes that are changed but stand where they stood
+  pub rises-changed : (f : Node → Node) → ((n : Node) → (f n).at ≡ n.at) → ((n : Node) → IsNodeOf text n → IsNodeOf text (f n))
       → (place lo hi : ℕ) (ns : List Node) → Rises text lo hi ns → Rises text lo hi (changed f place ns)
   rises-changed f same keeps place lo hi [] r = at place
     where
@@ -79,9 +96,8 @@ module _ (text : List ℕ) where
       at (suc place) = r
   rises-changed f same keeps zero lo hi (n ∷ ns) r =
       let P : ℕ → Type 0 = λ k. (lo ≤ k) × IsNodeOf text (f n) × Rises text (suc k) hi ns in
-      let e : n.token.at ≡ (f n).token.at = let t = same n in cc in
-      subst P e (r.0, keeps n r.1, r.2)
-  rises-changed f same keeps (suc place) lo hi (n ∷ ns) r = (r.0, r.1, rises-changed f same keeps place (suc n.token.at) hi ns r.2)
+      subst P (sym (same n)) (r.0, keeps n r.1, r.2)
+  rises-changed f same keeps (suc place) lo hi (n ∷ ns) r = (r.0, r.1, rises-changed f same keeps place (suc n.at) hi ns r.2)
 
   -- nodes without annotations
   plain_rises : (skip lo hi : ℕ) (ns : List Node) → Rises text lo hi (drop skip ns) → Rises text lo hi (plain_past skip ns)
@@ -93,28 +109,28 @@ module _ (text : List ℕ) where
       let len = annotation_len n ns in
       let above = r.0 in
       cond_keeps (Rises text lo hi) (len == 0) (n ∷ plain_past 0 ns) (plain_past len ns)
-      (r.0, r.1, plain_rises 0 (suc n.token.at) hi ns r.2)
-      (plain_rises len lo hi ns (rises-lower lo (suc n.token.at) hi (drop len ns) (omega arith) (rises-drop len (suc n.token.at) hi ns r.2)))
+      (r.0, r.1, plain_rises 0 (suc n.at) hi ns r.2)
+      (plain_rises len lo hi ns (rises-lower lo (suc n.at) hi (drop len ns) (omega arith) (rises-drop len (suc n.at) hi ns r.2)))
 
   pub rises-plain : (lo hi : ℕ) (ns : List Node) → Rises text lo hi ns → Rises text lo hi (without_annotations ns)
   rises-plain lo hi ns r = plain_rises 0 lo hi ns r
 
   -- a node within angles is no identifier
   angled_node : (n : Node) → IsNodeOf text n → IsNodeOf text (as_angled n)
-  angled_node n is = record { inside = is.inside; token_of = is.token_of; identifier = λ e. absurd (cc) }
+  angled_node n is = node-again text n (as_angled n) refl refl is (λ e. absurd (cc))
 
   rises-angled : (depth lo hi : ℕ) (ns : List Node) → Rises text lo hi ns → Rises text lo hi (angled_after depth ns)
   unfolding angled_after
   rises-angled depth lo hi [] r = r
   rises-angled depth lo hi (n ∷ ns) r =
       cond_keeps (Rises text lo hi) (is Less n) _ _
-      (r.0, r.1, rises-angled (suc depth) (suc n.token.at) hi ns r.2)
+      (r.0, r.1, rises-angled (suc depth) (suc n.at) hi ns r.2)
       (cond_keeps (Rises text lo hi) (is Greater n) _ _
-      (r.0, r.1, rises-angled (depth - 1) (suc n.token.at) hi ns r.2)
+      (r.0, r.1, rises-angled (depth - 1) (suc n.at) hi ns r.2)
       (let P : Node → Type 0 = λ m. Rises text lo hi (m ∷ angled_after depth ns) in
       cond_keeps P (depth == 0) n (as_angled n)
-      (r.0, r.1, rises-angled depth (suc n.token.at) hi ns r.2)
-      (r.0, angled_node n r.1, rises-angled depth (suc n.token.at) hi ns r.2)))
+      (r.0, r.1, rises-angled depth (suc n.at) hi ns r.2)
+      (r.0, angled_node n r.1, rises-angled depth (suc n.at) hi ns r.2)))
 
   pub rises-header : (lo hi : ℕ) (ns : List Node) → Rises text lo hi ns → Rises text lo hi (header_of ns)
   rises-header lo hi ns r = rises-angled 0 lo hi (without_annotations ns) (rises-plain lo hi ns r)
@@ -123,7 +139,7 @@ module _ (text : List ℕ) where
 abbrev pub UnitsRise : List ℕ → ℕ → ℕ → List Unit → Type 0
 UnitsRise text lo hi [] = lo ≤ hi
 UnitsRise text lo hi (u ∷ us) =
-    (mid : ℕ) × (lo ≤ u.node.token.at) × IsNodeOf text u.node × Rises text (suc u.node.token.at) mid u.inside × UnitsRise text mid hi us
+    (mid : ℕ) × (lo ≤ u.node.at) × IsNodeOf text u.node × Rises text (suc u.node.at) mid u.inside × UnitsRise text mid hi us
 
 -- the items rise, each with its body behind its header
 abbrev pub ItemsRise : List ℕ → ℕ → ℕ → List Item → Type 0
@@ -139,9 +155,9 @@ module _ (text : List ℕ) where
   units_rise (suc skip) lo hi (n ∷ ns) r = units_rise skip lo hi ns r
   units_rise zero lo hi (n ∷ ns) r =
       let above = r.0 in
-      let cut = rises-cut text n.size (suc n.token.at) hi ns r.2 in
+      let cut = rises-cut text n.size (suc n.at) hi ns r.2 in
       cond_keeps (UnitsRise text lo hi) (is Lone n) _ _
-      (units_rise 0 lo hi ns (rises-lower text lo (suc n.token.at) hi ns (omega arith) r.2))
+      (units_rise 0 lo hi ns (rises-lower text lo (suc n.at) hi ns (omega arith) r.2))
       (cut.0, r.0, r.1, cut.1, units_rise n.size cut.0 hi ns cut.2)
 
   pub rises-units : (lo hi : ℕ) (ns : List Node) → Rises text lo hi ns → UnitsRise text lo hi (units_of ns)
@@ -151,7 +167,7 @@ module _ (text : List ℕ) where
   units-bounds lo hi [] r = r
   units-bounds lo hi (u ∷ us) r =
       let rest = units-bounds r.0 hi us r.4 in
-      let inside = rises-bounds text (suc u.node.token.at) r.0 u.inside r.3 in
+      let inside = rises-bounds text (suc u.node.at) r.0 u.inside r.3 in
       let above = r.1 in omega arith
 
   items_last : (lo hi : ℕ) (header : List Node) → Rises text lo hi header → ItemsRise text lo hi (last_item header)
@@ -171,8 +187,8 @@ module _ (text : List ℕ) where
     items_from-rise lo mid hi header (u ∷ us) r s =
         let next = s.0 in
         let above = s.1 in
-        let inside = rises-bounds text (suc u.node.token.at) next u.inside s.3 in
-        let body : Rises text mid next u.inside = rises-lower text mid (suc u.node.token.at) next u.inside (omega arith) s.3 in
+        let inside = rises-bounds text (suc u.node.at) next u.inside s.3 in
+        let body : Rises text mid next u.inside = rises-lower text mid (suc u.node.at) next u.inside (omega arith) s.3 in
         let wider : Rises text lo next header = rises-higher text lo mid next header (omega arith) r in
         let others = items_from-rise next next hi [] us (omega arith) s.4 in
         cond_keeps (ItemsRise text lo hi) (is Semicolon u.node) _ _
@@ -189,7 +205,7 @@ module _ (text : List ℕ) where
     items_behind_value-rise lo hi (u ∷ us) s =
         let next = s.0 in
         let above = s.1 in
-        let inside = rises-bounds text (suc u.node.token.at) next u.inside s.3 in
+        let inside = rises-bounds text (suc u.node.at) next u.inside s.3 in
         let lower = units-lower lo next hi us (omega arith) s.4 in
         cond_keeps (ItemsRise text lo hi) (is Semicolon u.node) _ _
         (items_from-rise lo lo hi [] us (omega arith) lower)

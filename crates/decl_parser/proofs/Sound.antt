@@ -4,7 +4,7 @@ use Rattle.std.specs.Prelude.{Option, None, Some, IfSome}
 use Rattle.std.specs.Option.{option_or, option_map}
 use Rattle.stub_tree.specs.declared.stub_kind.StubKind.{StubKind}
 use Rattle.stub_tree.specs.declared.stub_kind.StubKind.TheVariants.{Class as ClassKind, Interface as InterfaceKind, Enum as EnumKind, Record as RecordKind, Annotation}
-use Rattle.decl_parser.specs.declared.node.Node.{Node}
+use Rattle.decl_parser.specs.Node.{Node}
 use Rattle.decl_parser.specs.declared.declaration.Holder.{Holder}
 use Rattle.decl_parser.specs.declared.role.Role.{Role}
 use Rattle.decl_parser.specs.declared.role.Role.TheVariants.{Class, Interface, Enum, Record, Comma, At, Dot, ParenGroup, Other}
@@ -24,8 +24,8 @@ IsTypeKind _ = ⊥
 
 -- an identifier of the text between two bounds
 pub record IsNameIn (text : List ℕ) (lo hi : ℕ) (n : Node) : Type 0 where
-  pub above : lo ≤ n.token.at
-  pub below : n.token.at < hi
+  pub above : lo ≤ n.at
+  pub below : n.at < hi
   pub is_node : IsNodeOf text n
   pub named : is_identifier n ≡ true
 
@@ -69,14 +69,14 @@ module _ (text : List ℕ) where
   type_after-found before lo hi [] r = tt
   type_after-found before lo hi (n ∷ ns) r =
       let above = r.0 in
-      let le : lo ≤ suc n.token.at = omega arith in
-      first_found lo hi ns (type_kind before n ns) (type_after n.role ns) (type_kind-is before n ns) (rises-lower text lo (suc n.token.at) hi ns le r.2)
-      (found-wider lo (suc n.token.at) hi (type_after n.role ns) le (type_after-found n.role (suc n.token.at) hi ns r.2))
+      let le : lo ≤ suc n.at = omega arith in
+      first_found lo hi ns (type_kind before n ns) (type_after n.role ns) (type_kind-is before n ns) (rises-lower text lo (suc n.at) hi ns le r.2)
+      (found-wider lo (suc n.at) hi (type_after n.role ns) le (type_after-found n.role (suc n.at) hi ns r.2))
 
   -- the first node of some that rise
   pub first-name : (lo hi : ℕ) (n : Node) (ns : List Node) → Rises text lo hi (n ∷ ns) → is_identifier n ≡ true → IsNameIn text lo hi n
   first-name lo hi n ns r named =
-      let rest = rises-bounds text (suc n.token.at) hi ns r.2 in
+      let rest = rises-bounds text (suc n.at) hi ns r.2 in
       record { above = r.0; below = omega arith; is_node = r.1; named = named }
 
   named_type-sound : (lo hi : ℕ) (kind : StubKind) (ns : List Node) → IsTypeKind kind → Rises text lo hi ns → IfSome (named_type kind ns) (IsSound text lo hi)
@@ -85,7 +85,7 @@ module _ (text : List ℕ) where
       let above = r.0 in
       let P : Option Declaration → Type 0 = λ o. IfSome o (IsSound text lo hi) in
       cond_picks P (is_identifier n) _ _
-      (λ named. record { name = first-name lo hi n ns r named; behind = rises-lower text lo (suc n.token.at) hi ns (omega arith) r.2; of_type = inl is })
+      (λ named. record { name = first-name lo hi n ns r named; behind = rises-lower text lo (suc n.at) hi ns (omega arith) r.2; of_type = inl is })
       (λ other. tt)
 
   -- what the rule of methods finds
@@ -97,15 +97,15 @@ module _ (text : List ℕ) where
       let P : Option (Node × Bool) → Type 0 = λ o. IfSome o (λ m. IsNameIn text lo hi m.0) in
       cond_picks P (is_identifier n && first_is ParenGroup ns) _ _
       (λ both. first-name lo hi n ns r (left_true (is_identifier n) (first_is ParenGroup ns) both))
-      (λ other. wider (method_after (only && may_precede_constructor n) ns) (method_after-found (only && may_precede_constructor n) (suc n.token.at) hi ns r.2))
+      (λ other. wider (method_after (only && may_precede_constructor n) ns) (method_after-found (only && may_precede_constructor n) (suc n.at) hi ns r.2))
     where
       left_true : (a b : Bool) → (a && b) ≡ true → a ≡ true
       left_true true b e = refl
       left_true false b e = absurd (cc)
 
-      wider : (o : Option (Node × Bool)) → IfSome o (λ m. IsNameIn text (suc n.token.at) hi m.0) → IfSome o (λ m. IsNameIn text lo hi m.0)
+      wider : (o : Option (Node × Bool)) → IfSome o (λ m. IsNameIn text (suc n.at) hi m.0) → IfSome o (λ m. IsNameIn text lo hi m.0)
       wider None found = tt
-      wider (Some m) found = let above = r.0 in name-wider lo (suc n.token.at) hi m.0 (omega arith) found
+      wider (Some m) found = let above = r.0 in name-wider lo (suc n.at) hi m.0 (omega arith) found
 
   -- what the rule of fields finds
   pub field_after-found : (before : Role) (name : Option Node) (low lo hi : ℕ) (ns : List Node) → low ≤ lo → IfSome name (IsNameIn text low hi)
@@ -114,13 +114,13 @@ module _ (text : List ℕ) where
   field_after-found before name low lo hi [] le so_far r = so_far
   field_after-found before name low lo hi (n ∷ ns) le so_far r =
       let above = r.0 in
-      let next : low ≤ suc n.token.at = omega arith in
+      let next : low ≤ suc n.at = omega arith in
       let P : Option Node → Type 0 = λ o. IfSome o (IsNameIn text low hi) in
       cond_keeps P (is Comma n) _ _ so_far
       (cond_picks P (is_identifier n) _ _
-      (λ named. field_after-found n.role (cond (ends_type before) (Some n) None) low (suc n.token.at) hi ns next
+      (λ named. field_after-found n.role (cond (ends_type before) (Some n) None) low (suc n.at) hi ns next
       (cond_keeps P (ends_type before) (Some n) None (name-wider low lo hi n le (first-name lo hi n ns r named)) tt) r.2)
-      (λ other. field_after-found n.role name low (suc n.token.at) hi ns next so_far r.2))
+      (λ other. field_after-found n.role name low (suc n.at) hi ns next so_far r.2))
 
   member-sound : (holder : Option Holder) (lo hi : ℕ) (m : Option (Node × Bool)) (f : Option Node) → lo ≤ hi
       → IfSome m (λ m. IsNameIn text lo hi m.0) → IfSome f (IsNameIn text lo hi) → IfSome (member_of text holder m f) (IsSound text lo hi)
@@ -147,4 +147,4 @@ module _ (text : List ℕ) where
   -- names that rise
   abbrev pub NamesRise : ℕ → ℕ → List Node → Type 0
   NamesRise lo hi [] = lo ≤ hi
-  NamesRise lo hi (n ∷ ns) = IsNameIn text lo hi n × NamesRise (suc n.token.at) hi ns
+  NamesRise lo hi (n ∷ ns) = IsNameIn text lo hi n × NamesRise (suc n.at) hi ns

@@ -11,11 +11,11 @@ use Rattle.stub_tree.specs.declared.stub_kind.StubKind.{StubKind}
 use Rattle.stub_tree.specs.declared.stub_kind.StubKind.TheVariants.{Class as ClassKind, Interface as InterfaceKind, Enum as EnumKind, Record as RecordKind, Annotation, Method, Constructor, Field, Constant}
 use Rattle.stub_tree.specs.Stub.{code_of}
 use Rattle.stub_tree.specs.Lawful.{max_depth, IsLawfulName, IsLawfulStub}
-use Rattle.decl_parser.specs.declared.node.Node.{Node}
+use Rattle.decl_parser.specs.Node.{Node, name_of}
 use Rattle.decl_parser.specs.declared.role.Role.TheVariants.{Extends, Implements, Permits, Comma}
 use Rattle.decl_parser.specs.Forest.{is, is_identifier}
 use Rattle.decl_parser.specs.Rule.{Declaration, supers_after, supers_of}
-use Rattle.decl_parser.specs.Listing.{name_of, stub_of}
+use Rattle.decl_parser.specs.Listing.{stub_of}
 use Rattle.decl_parser.proofs.Rising.{cond_keeps, IsNodeOf, Rises, rises-few}
 use Rattle.decl_parser.proofs.Sound.{IsTypeKind, IsSound}
 
@@ -43,9 +43,9 @@ module _ (text : List ℕ) (few : length text ≤ max_chars) where
   name-lawful : (n : Node) → IsNodeOf text n → IsLawfulName (name_of text n)
   name-lawful n is =
       let cs = name_of text n in
-      let some : 0 < n.token.len = is.inside.0 in
-      let ends : n.token.at + n.token.len ≤ length text = is.inside.1 in
-      let width : length cs ≡ n.token.len = omega (arith, length-take n.token.len (drop n.token.at text), length-drop n.token.at text) in
+      let some : 0 < n.len = is.inside.0 in
+      let ends : n.at + n.len ≤ length text = is.inside.1 in
+      let width : length cs ≡ n.len = omega (arith, length-take n.len (drop n.at text), length-drop n.at text) in
       let bytes = bytes-few cs in
       record {
         some = λ none. absurd (let e : length cs ≡ 0 = ap length none in omega arith);
@@ -65,7 +65,7 @@ module _ (text : List ℕ) (few : length text ≤ max_chars) where
   supers-nodes in_clause (Some n) lo hi [] found r = (found, tt)
   supers-nodes in_clause last lo hi (n ∷ ns) found r =
       let All : List Node → Type 0 = AllByRecursion (IsNodeOf text) in
-      let low = suc n.token.at in
+      let low = suc n.at in
       cond_keeps All (is Extends n || is Implements n) _ _
       (found_nodes last (supers_after true None ns) found (supers-nodes true None low hi ns tt r.2))
       (cond_keeps All (is Permits n) _ _

@@ -1,6 +1,6 @@
 -- The units of some nodes, and the items that they make.
 use Rattle.std.proofs.Common.{◌≡◌, ◌≢◌, ℕ, zero, suc, false, List, [], ◌∷◌, length, take, drop, min, refl, ap, arith}
-use Rattle.decl_parser.specs.declared.node.Node.{Node}
+use Rattle.decl_parser.specs.Node.{Node}
 use Rattle.decl_parser.specs.declared.role.Role.TheVariants.{Lone}
 use Rattle.decl_parser.specs.Forest.{is}
 use Rattle.decl_parser.specs.Unit.{Unit, units_past, units_of, items_from, items_of}

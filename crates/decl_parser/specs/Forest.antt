@@ -8,7 +8,7 @@ use Rattle.decl_parser.specs.declared.bracket.Bracket.{Bracket}
 use Rattle.decl_parser.specs.declared.bracket.Bracket.TheVariants.{Brace}
 use Rattle.decl_parser.specs.declared.role.Role.{Role}
 use Rattle.decl_parser.specs.declared.role.Role.TheVariants.{Identifier, Record, Permits, Comment, Lone}
-use Rattle.decl_parser.specs.declared.node.Node.{Node}
+use Rattle.decl_parser.specs.Node.{Node, node_of, sized, in_role}
 use Rattle.decl_parser.specs.declared.open_brackets.Open.{Open}
 use Rattle.decl_parser.specs.Role.{same_bracket, same_role, opened_by, closed_by, role_of}
 
@@ -34,11 +34,11 @@ changed f (suc place) (n ∷ ns) = n ∷ changed f place ns
 
 -- the group at a place reaches to the last node
 abbrev pub with_size : ℕ → List Node → List Node
-with_size place nodes = changed (λ n. record { token = n.token; role = n.role; size = length nodes - place - 1 }) place nodes
+with_size place nodes = changed (sized (length nodes - place - 1)) place nodes
 
 -- the bracket at a place has no partner, and counts no more
 abbrev pub without_bracket : ℕ → List Node → List Node
-without_bracket place nodes = changed (λ n. record { token = n.token; role = Lone; size = n.size }) place nodes
+without_bracket place nodes = changed (in_role Lone) place nodes
 
 -- how far the tokens were read: the nodes so far, and the brackets that are open, the innermost first
 pub record Scan : Type 0 where
@@ -68,7 +68,7 @@ stepped s n None None = if is Comment n then s else record { nodes = s.nodes ++ 
 -- it has none; a comment is passed over.
 unfoldable pub step : List ℕ → Scan → Token → Scan
 step text s t =
-    let n : Node = record { token = t; role = role_of text t; size = 0 } in
+    let n = node_of t (role_of text t) in
     stepped s n (opened_by n.role) (closed_by n.role)
 
 -- all tokens were read

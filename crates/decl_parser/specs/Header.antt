@@ -1,6 +1,6 @@
 -- The header of an item: annotations are taken out, and what stands within angles is set aside.
 use Rattle.std.specs.Prelude.{ℕ, zero, suc, ◌-◌, ◌&&◌, ◌==◌, if◌then◌else◌, List, [], ◌∷◌}
-use Rattle.decl_parser.specs.declared.node.Node.{Node}
+use Rattle.decl_parser.specs.Node.{Node, in_role}
 use Rattle.decl_parser.specs.declared.role.Role.TheVariants.{At, Dot, Less, Greater, ParenGroup, Angled}
 use Rattle.decl_parser.specs.Forest.{is, is_identifier}
 
@@ -35,7 +35,7 @@ without_annotations nodes = plain_past 0 nodes
 
 -- the node as one that stands within angles
 abbrev pub as_angled : Node → Node
-as_angled n = record { token = n.token; role = Angled; size = n.size }
+as_angled n = in_role Angled n
 
 -- Nodes within angles are set aside, so many angles being open before. A `>` with no open `<` isn't counted.
 unfoldable pub angled_after : ℕ → List Node → List Node

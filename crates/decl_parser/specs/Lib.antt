@@ -1,5 +1,6 @@
 -- From the text to the listing
 pub mod Role
+pub mod Node
 pub mod Forest
 pub mod Unit
 pub mod Header

@@ -8,23 +8,19 @@ use Rattle.stub_tree.specs.declared.stub.Stub.{Stub}
 use Rattle.stub_tree.specs.declared.stub_kind.StubKind.TheVariants.{Enum, Constant}
 use Rattle.stub_tree.specs.Stub.{code_of, is_type}
 use Rattle.stub_tree.specs.Lawful.{max_depth}
-use Rattle.decl_parser.specs.declared.node.Node.{Node}
+use Rattle.decl_parser.specs.Node.{Node, name_of}
 use Rattle.decl_parser.specs.declared.declaration.Holder.{Holder}
 use Rattle.decl_parser.specs.Forest.{forest_of}
 use Rattle.decl_parser.specs.Unit.{Unit, Item, units_of, items_of, behind_semicolon}
 use Rattle.decl_parser.specs.Header.{header_of}
 use Rattle.decl_parser.specs.Rule.{Declaration, declaration_of, supers_of, constants_after}
 
--- the characters of a node
-abbrev pub name_of : List ℕ → Node → List ℕ
-name_of text n = characters_of text n.token
-
 -- the stub of a declaration
 unfoldable pub stub_of : List ℕ → ℕ → Declaration → Stub
 stub_of text depth d = record {
   kind = code_of d.kind;
   depth = depth;
-  at = d.name.token.at;
+  at = d.name.at;
   name = name_of text d.name;
   supers = map (name_of text) (supers_of d.behind);
 }

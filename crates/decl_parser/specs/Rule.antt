@@ -1,10 +1,9 @@
 -- The rules of the listing: what the header of an item declares.
 use Rattle.std.specs.Prelude.{◌≡◌, Bool, true, false, ◌&&◌, ◌||◌, if◌then◌else◌, ℕ, List, [], ◌∷◌, ◌++◌, Option, None, Some, bytes_eq}
 use Rattle.std.specs.Option.{option_or, option_map, option_to_list}
-use Rattle.java_tokens.specs.Tokens.{characters_of}
 use Rattle.stub_tree.specs.declared.stub_kind.StubKind.{StubKind}
 use Rattle.stub_tree.specs.declared.stub_kind.StubKind.TheVariants.{Class as ClassKind, Interface as InterfaceKind, Enum as EnumKind, Record as RecordKind, Annotation, Method, Constructor, Field}
-use Rattle.decl_parser.specs.declared.node.Node.{Node}
+use Rattle.decl_parser.specs.Node.{Node, name_of}
 use Rattle.decl_parser.specs.declared.declaration.Holder.{Holder}
 use Rattle.decl_parser.specs.declared.role.Role.{Role}
 use Rattle.decl_parser.specs.declared.role.Role.TheVariants.{Identifier, Record, Permits, Class, Interface, Enum, Extends, Implements, Modifier, Primitive, At, Dot, Comma, Semicolon, Less, Greater, ParenGroup, SquareGroup, Angled, Other}
@@ -101,7 +100,7 @@ pub record Declaration : Type 0 where
 -- the type has the name of the node
 abbrev pub is_named : List ℕ → Option Holder → Node → Bool
 is_named text None n = false
-is_named text (Some holder) n = bytes_eq (characters_of text holder.name.token) (characters_of text n.token)
+is_named text (Some holder) n = bytes_eq (name_of text holder.name) (name_of text n)
 
 -- A method is a constructor where it has the name of the type whose body holds it, and only modifiers before it.
 abbrev pub method_kind : List ℕ → Option Holder → Node → Bool → StubKind

@@ -1,6 +1,6 @@
 -- The units of a level and the items that they make.
 use Rattle.std.specs.Prelude.{ℕ, zero, suc, if◌then◌else◌, List, [], ◌∷◌, ◌++◌, take}
-use Rattle.decl_parser.specs.declared.node.Node.{Node}
+use Rattle.decl_parser.specs.Node.{Node}
 use Rattle.decl_parser.specs.declared.role.Role.TheVariants.{Semicolon, Equals, BraceGroup, Lone}
 use Rattle.decl_parser.specs.Forest.{is}
 

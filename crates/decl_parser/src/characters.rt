@@ -1,8 +1,7 @@
 //! The characters of a node in its text.
 ghost use Rattle.std.specs.Prelude.{◌≡◌, ◌+◌, ◌-◌, ◌<◌, ◌≤◌, suc, [], ◌∷◌, IfOk, IfNone, IfSome, OnSome, length, take, drop, map, bytes_eq};
 ghost use Rattle.ide_text.specs.Text.{max_chars};
-ghost use Rattle.java_tokens.specs.Tokens.{characters_of};
-ghost use Rattle.decl_parser.specs.Listing.{name_of};
+ghost use Rattle.decl_parser.specs.Node.{name_of};
 
 use crate::node::Node;
 use ide_text::{Name, Text};
@@ -23,8 +22,8 @@ fn part_of(text: &Text, node: &Node) -> Part
     ensures few { length text.now ≤ max_chars }
     ensures characters { take (result.to - result.from) (drop result.from text.now) ≡ name_of text.now node.now }
 {
-    let from = node.token.at.min(text.len());
-    let len = node.token.len.min(text.len() - from);
+    let from = node.at().min(text.len());
+    let len = node.len().min(text.len() - from);
     Part {
         from,
         to: from + len,

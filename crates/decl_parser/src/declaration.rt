@@ -11,7 +11,7 @@ use ide_text::Text;
 use stub_tree::StubKind;
 
 /// The type whose body a level is.
-#[derive(Clone, Copy)]
+#[derive(Drop)]
 pub(crate) struct Holder {
     /// The kind of the type.
     pub(crate) kind: StubKind,
@@ -34,11 +34,11 @@ pub(crate) struct Found<'a> {
 #[tactic(auto, unfolding(crate::specs::Rule::declaration_of))]
 pub(crate) fn declaration_of<'a>(
     text: &Text,
-    holder: Option<Holder>,
+    holder: &Option<Holder>,
     header: &'a [Node],
 ) -> Option<Found<'a>>
-    ensures { MatchOption result (declaration_of text.now holder header.now ≡ None) (λ d.
-        declaration_of text.now holder header.now ≡ Some (record { kind = d.kind; name = d.name; behind = d.behind.now })) }
+    ensures { MatchOption result (declaration_of text.now holder.now header.now ≡ None) (λ d.
+        declaration_of text.now holder.now header.now ≡ Some (record { kind = d.kind; name = d.name; behind = d.behind.now })) }
 {
     if let Some(head) = type_head(header) {
         return named_type(head.kind, head.behind);
@@ -74,8 +74,8 @@ fn named_type<'a>(kind: StubKind, behind: &'a [Node]) -> Option<Found<'a>>
 }
 
 /// A constructor, or else a method.
-fn method_kind(text: &Text, holder: Option<Holder>, name: &Node, only: bool) -> StubKind
-    ensures { result ≡ method_kind text.now holder name.now only }
+fn method_kind(text: &Text, holder: &Option<Holder>, name: &Node, only: bool) -> StubKind
+    ensures { result ≡ method_kind text.now holder.now name.now only }
 {
     match holder {
         Some(holder) if only && same_characters(text, &holder.name, name) => StubKind::Constructor,

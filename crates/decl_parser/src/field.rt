@@ -20,7 +20,7 @@ pub(crate) fn field_name(header: &[Node]) -> Option<Node>
         if node.is_identifier() {
             name = if ends_type(before) { Some(*node) } else { None };
         }
-        before = node.role;
+        before = node.role();
     }
     name
 }

@@ -29,10 +29,7 @@ fn set_angled(nodes: &mut Vec<Node>)
         } else if node.is(Role::Greater) {
             depth = depth.saturating_sub(1);
         } else if depth > 0 {
-            nodes[place] = Node {
-                role: Role::Angled,
-                ..node
-            };
+            nodes[place] = node.with_role(Role::Angled);
         }
     }
 }

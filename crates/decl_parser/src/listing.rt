@@ -18,16 +18,17 @@ use java_tokens::Token;
 use std::alloc::{AllocError, Global};
 use stub_tree::{MAX_DEPTH, Stub, StubKind, StubList};
 
-/// The declarations that a text lists, in its order, from its tokens. Linear in them; types in types are the only
-/// recursion, and go no deeper than the greatest depth.
-pub fn stubs(alloc: Global, text: &Text, tokens: &[Token]) -> Result<StubList, AllocError>
-    requires { tokens.now ≡ tokens_of text.now }
+/// The declarations that a text lists, in its order, from its tokens, which are let go once the forest is made. Linear
+/// in them; types in types are the only recursion, and go no deeper than the greatest depth.
+pub fn stubs(alloc: Global, text: &Text, tokens: Vec<Token>) -> Result<StubList, AllocError>
+    requires { tokens.items ≡ tokens_of text.now }
     ensures { IfOk result (λ list. list ≡ listing_of text.now) }
 {
     prove!(text.len() as usize <= MAX_CHARS);
-    let forest = forest(alloc, text, tokens)?;
+    let forest = forest(alloc, text, &tokens)?;
+    drop(tokens);
     let mut stubs = Vec::new(alloc);
-    add_level(alloc, text, &forest, 0, None, &mut stubs)?;
+    add_level(alloc, text, &forest, 0, &None, &mut stubs)?;
     Ok(StubList::from_vec(stubs))
 }
 
@@ -38,11 +39,11 @@ fn add_level(
     text: &Text,
     level: &[Node],
     depth: u8,
-    holder: Option<Holder>,
+    holder: &Option<Holder>,
     stubs: &mut Vec<Stub>,
 ) -> Result<(), AllocError>
     requires { depth ≤ max_depth + 1 }
-    ensures { OnOk result (stubs.new.items ≡ stubs.old.items ++ stubs_at text.now depth holder (units_of level.now)) }
+    ensures { OnOk result (stubs.new.items ≡ stubs.old.items ++ stubs_at text.now depth holder.now (units_of level.now)) }
 {
     if depth > MAX_DEPTH {
         return Ok(());
@@ -63,12 +64,12 @@ fn add_item(
     header: Vec<Node>,
     body: &[Node],
     depth: u8,
-    holder: Option<Holder>,
+    holder: &Option<Holder>,
     stubs: &mut Vec<Stub>,
 ) -> Result<(), AllocError>
     requires { depth ≤ max_depth }
     ensures { OnOk result (stubs.new.items ≡ stubs.old.items
-        ++ item_stubs text.now depth (stubs_at text.now (depth + 1)) holder (record { header = header.items; body = body.now })) }
+        ++ item_stubs text.now depth (stubs_at text.now (depth + 1)) holder.now (record { header = header.items; body = body.now })) }
 {
     let header = header_of(alloc, header)?;
     let Some(found) = declaration_of(text, holder, &header) else {
@@ -78,11 +79,11 @@ fn add_item(
     let is_type = stub.is_type();
     stubs.push(stub)?;
     if is_type {
-        let holder = Holder {
+        let holder = Some(Holder {
             kind: found.kind,
             name: found.name,
-        };
-        add_level(alloc, text, body, depth + 1, Some(holder), stubs)?;
+        });
+        add_level(alloc, text, body, depth + 1, &holder, stubs)?;
     }
     Ok(())
 }
@@ -94,11 +95,11 @@ fn add_constants<'a>(
     text: &Text,
     level: &'a [Node],
     depth: u8,
-    holder: Option<Holder>,
+    holder: &Option<Holder>,
     stubs: &mut Vec<Stub>,
 ) -> Result<&'a [Node], AllocError>
-    ensures added { OnOk result (stubs.new.items ≡ stubs.old.items ++ constants_at text.now depth holder (units_of level.now)) }
-    ensures items { IfOk result (λ rest. units_of rest.now ≡ units_of_items holder (units_of level.now)) }
+    ensures added { OnOk result (stubs.new.items ≡ stubs.old.items ++ constants_at text.now depth holder.now (units_of level.now)) }
+    ensures items { IfOk result (λ rest. units_of rest.now ≡ units_of_items holder.now (units_of level.now)) }
 {
     let Some(holder) = holder else {
         return Ok(level);
@@ -142,7 +143,7 @@ fn stub_of(alloc: Global, text: &Text, depth: u8, found: &Found) -> Result<Stub,
     Ok(Stub {
         kind: found.kind.code(),
         depth,
-        at: found.name.token.at,
+        at: found.name.at(),
         name: name_of(alloc, text, &found.name)?,
         supers: names_of(alloc, text, &supers)?,
     })

@@ -10,7 +10,7 @@ use std::marker::Model;
 #[derive(Clone, Copy)]
 pub(crate) struct Open {
     /// Its place among the nodes.
-    pub(crate) place: usize,
+    pub(crate) place: u32,
     /// Its kind.
     pub(crate) bracket: Bracket,
 }

@@ -26,7 +26,7 @@ pub(crate) fn type_head<'a>(header: &'a [Node]) -> Option<TypeHead<'a>>
         if let Some(kind) = type_kind(before, node, behind) {
             return Some(TypeHead { kind, behind });
         }
-        before = node.role;
+        before = node.role();
         rest = behind;
     }
     None

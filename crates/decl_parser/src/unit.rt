@@ -27,7 +27,7 @@ pub(crate) fn first_unit<'a>(level: &'a [Node]) -> Option<FirstUnit<'a>>
     let mut rest = level;
     while let Some((node, others)) = rest.split_first() {
         if !node.is(Role::Lone) {
-            let (inside, behind) = others.split_at(node.size.min(others.len()));
+            let (inside, behind) = others.split_at((node.size() as usize).min(others.len()));
             return Some(FirstUnit {
                 node: *node,
                 inside,

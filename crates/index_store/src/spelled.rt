@@ -32,7 +32,7 @@ pub(crate) fn spelled_data(
     }
 }
 
-/// The bytes of the declarations and the words of a text.
+/// The bytes of the declarations and the words of a text. The words come first, since the declarations take the tokens.
 #[tactic(auto, unfolding(crate::specs::Data::data_of, crate::specs::Spelling::data_bytes))]
 fn java_data(alloc: Global, text: &Text) -> Result<Vec<u8>, AllocError>
     ensures spelled { IfOk result (λ bytes. bytes.items ≡ data_bytes Java (data_of Java text.now)) }
@@ -40,8 +40,8 @@ fn java_data(alloc: Global, text: &Text) -> Result<Vec<u8>, AllocError>
 {
     names_are_identifiers();
     let tokens = tokens(alloc, text)?;
-    let listed = encode(alloc, &stubs(alloc, text, &tokens)?)?;
     let words = words(alloc, text, &tokens)?;
+    let listed = encode(alloc, &stubs(alloc, text, tokens)?)?;
     let mut out = Vec::new(alloc);
     put_count(&mut out, listed.len())?;
     out.extend_from_slice(&listed)?;

@@ -198,8 +198,7 @@ fn shown(alloc: Global, text: &Text, list: &StubList) -> Result<String, Fail> {
 
 /// The declarations of a text, from its tokens.
 fn listed(alloc: Global, text: &Text) -> Result<StubList, AllocError> {
-    let tokens = tokens(alloc, text)?;
-    stubs(alloc, text, &tokens)
+    stubs(alloc, text, tokens(alloc, text)?)
 }
 
 /// What a text lists, as the table shows it.

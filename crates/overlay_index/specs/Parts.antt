@@ -20,14 +20,19 @@ pub record Parts : Type 0 where
 abbrev pub no_parts : Parts
 no_parts = record { types = []; supers = []; methods = []; words = []; keys = [] }
 
--- the rows of a text by the kind of its file: of a Java text its types under their names and under their supers, its methods,
--- and its words with their masks; of properties the keys with their offsets
-unfoldable pub parts_of : FileKind → List ℕ → Parts
-parts_of Java text = record {
-  types = rows_by_name type_names (listing_of text);
-  supers = rows_by_name super_names (listing_of text);
-  methods = rows_by_name method_names (listing_of text);
-  words = words_of text;
+-- the rows of a Java text by its declarations and its words with their masks: its types under their names and under their
+-- supers, its methods, and the words
+abbrev pub java_parts : List Stub → List (List ℕ × ℕ) → Parts
+java_parts stubs words = record {
+  types = rows_by_name type_names stubs;
+  supers = rows_by_name super_names stubs;
+  methods = rows_by_name method_names stubs;
+  words = words;
   keys = [];
 }
+
+-- the rows of a text by the kind of its file: of a Java text those of its declarations and words; of properties the keys
+-- with their offsets
+unfoldable pub parts_of : FileKind → List ℕ → Parts
+parts_of Java text = java_parts (listing_of text) (words_of text)
 parts_of Properties text = record { types = []; supers = []; methods = []; words = []; keys = key_rows text }

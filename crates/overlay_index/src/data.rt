@@ -1,17 +1,14 @@
 //! The rows of one text.
 ghost use Rattle.std.specs.Prelude.{◌≡◌, IfOk};
-ghost use Rattle.java_tokens.specs.Tokens.{tokens_of};
-ghost use Rattle.java_tokens.specs.Words.{words_of};
-ghost use Rattle.decl_parser.specs.Listing.{listing_of};
 ghost use Rattle.dumb_mode.specs.declared.kind.FileKind.TheVariants.{Java, Properties};
-ghost use Rattle.overlay_index.specs.Parts.{no_parts, parts_of};
+ghost use Rattle.overlay_index.specs.Parts.{java_parts, no_parts, parts_of};
 
 use crate::word_masks::{WordMasks, rows_of_words};
 use decl_parser::stubs;
 use dumb_mode::FileKind;
 use file_index::{Indexer, KeyRows, copy_rows};
 use ide_text::{Name, Text};
-use java_tokens::{Token, tokens, words};
+use java_tokens::{tokens, words};
 use property_index::PropertyKeys;
 use std::alloc::{AllocError, Global};
 use std::marker::Model;
@@ -89,47 +86,29 @@ fn property_data(alloc: Global, text: &Text) -> Result<FileData, AllocError>
     })
 }
 
-/// The rows of a Java text.
+/// The rows of a Java text. Its words come first, since its declarations take the tokens.
 fn java_data(alloc: Global, text: &Text) -> Result<FileData, AllocError>
     ensures { IfOk result (λ made. made ≡ parts_of Java text.now) }
 {
     let tokens = tokens(alloc, text)?;
-    data_by(alloc, text, &tokens)
-}
-
-/// The rows of a Java text that is cut into these tokens.
-fn data_by(alloc: Global, text: &Text, tokens: &[Token]) -> Result<FileData, AllocError>
-    requires { tokens.now ≡ tokens_of text.now }
-    ensures { IfOk result (λ made. made ≡ parts_of Java text.now) }
-{
+    let words = rows_of_words(words(alloc, text, &tokens)?);
     let stubs = SharedStubs::of(alloc, stubs(alloc, text, tokens)?)?;
-    rows_of(alloc, text, tokens, &stubs)
+    rows_of(alloc, &stubs, words)
 }
 
-/// The rows of a Java text that is cut into these tokens and lists these stubs.
+/// The rows of a Java text that lists these stubs and has these words.
 fn rows_of(
     alloc: Global,
-    text: &Text,
-    tokens: &[Token],
     stubs: &SharedStubs,
+    words: KeyRows<Name, u8>,
 ) -> Result<FileData, AllocError>
-    requires tokens { tokens.now ≡ tokens_of text.now }
-    requires stubs { stubs.now ≡ listing_of text.now }
-    ensures { IfOk result (λ made. made ≡ parts_of Java text.now) }
+    ensures { IfOk result (λ made. made ≡ java_parts stubs.now words) }
 {
     Ok(FileData {
         types: TypeNames.rows(alloc, stubs)?,
         supers: SuperNames.rows(alloc, stubs)?,
         methods: MethodNames.rows(alloc, stubs)?,
-        words: word_rows(alloc, text, tokens)?,
+        words,
         keys: KeyRows::new(alloc),
     })
-}
-
-/// The words of a text that is cut into these tokens, as rows.
-fn word_rows(alloc: Global, text: &Text, tokens: &[Token]) -> Result<KeyRows<Name, u8>, AllocError>
-    requires { tokens.now ≡ tokens_of text.now }
-    ensures { IfOk result (λ rows. rows ≡ words_of text.now) }
-{
-    Ok(rows_of_words(words(alloc, text, tokens)?))
 }

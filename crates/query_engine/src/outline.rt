@@ -38,7 +38,7 @@ pub(crate) fn outline<W: Watch>(
     let Some(text) = shown(state, id) else {
         unreachable!()
     };
-    let stubs = stubs(alloc, text, &tokens(alloc, text)?)?;
+    let stubs = stubs(alloc, text, tokens(alloc, text)?)?;
     let rows = file_rows(alloc, state, id, stubs.as_slice(), watch)?;
     Ok(Answer::Outline { rows })
 }

@@ -1,5 +1,6 @@
 use Rattle.std.proofs.Common.{◌≡◌, ◌+◌, ◌≤◌, drop, length}
 use Rattle.std.specs.Prelude.{fold, vec_len, vec_capacity}
+use Rattle.ide_text.specs.Text.{max_chars}
 use Rattle.decl_parser.specs.Forest.{step, scan_of}
 use Rattle.decl_parser.proofs.forest.forest.Given as goal
 
@@ -9,4 +10,5 @@ invariant-loop-token l = record {
   whole :
       fold (step l.text) (record { nodes = l.nodes.items; unclosed = l.unclosed }) (drop l.token-index l.tokens) ≡ scan_of l.text l.tokens;
   room : vec_len l.nodes + length (drop l.token-index l.tokens) ≤ vec_capacity l.nodes;
+  few : vec_len l.nodes + length (drop l.token-index l.tokens) ≤ max_chars;
 }

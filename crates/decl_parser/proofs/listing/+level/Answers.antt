@@ -17,8 +17,8 @@ add_item-returns-in_default t c =
     let stubs = c.args.stubs.now.items in
     let text = c.args.text.now in
     let read : c.deref.result.now ≡ header_of c.args.header.items = c.deref.ensures.value ∙ c.in_ok-header.ensures in
-    let is : declaration_of text c.args.holder (header_of c.args.header.items) ≡ None = ap (declaration_of text c.args.holder) (sym read) ∙ c.in_default.ensures in
-    sym (ap (λ l. stubs ++ l) (item_stubs-none text c.args.depth (stubs_at text (c.args.depth + 1)) c.args.holder c.args.header.items c.args.body.now is)
+    let is : declaration_of text c.args.holder.now (header_of c.args.header.items) ≡ None = ap (declaration_of text c.args.holder.now) (sym read) ∙ c.in_default.ensures in
+    sym (ap (λ l. stubs ++ l) (item_stubs-none text c.args.depth (stubs_at text (c.args.depth + 1)) c.args.holder.now c.args.header.items c.args.body.now is)
     ∙ append-nil stubs)
 
 -- the item declares a type with its members, or something else
@@ -30,7 +30,7 @@ add_item-returns t c =
     let d : Declaration = record { kind = c.in-Some.found.kind; name = c.in-Some.found.name; behind = c.in-Some.found.behind.now } in
     let stub = c.in_ok-stub.stub in
     let read : c.deref.result.now ≡ header_of c.args.header.items = c.deref.ensures.value ∙ c.in_ok-header.ensures in
-    let is : declaration_of text c.args.holder (header_of c.args.header.items) ≡ Some d = ap (declaration_of text c.args.holder) (sym read) ∙ c.in-Some.ensures in
+    let is : declaration_of text c.args.holder.now (header_of c.args.header.items) ≡ Some d = ap (declaration_of text c.args.holder.now) (sym read) ∙ c.in-Some.ensures in
     elim c.if-is_type.branch [
       | add_item-then-is_type+in_ok-add_level w ↦
           let type : is_type stub ≡ true = sym c.is_type-is_type.ensures ∙ w.if-is_type.true in
@@ -39,12 +39,12 @@ add_item-returns t c =
           ∙ w.in_ok-add_level.ensures
           ∙ ap (λ l. l ++ below) c.in_ok-push.ensures.items
           ∙ append_assoc stubs (stub ∷ []) below
-          ∙ sym (ap (λ l. stubs ++ l) (item_stubs-type text c.args.depth members c.args.holder c.args.header.items c.args.body.now d stub is c.in_ok-stub.ensures type))
+          ∙ sym (ap (λ l. stubs ++ l) (item_stubs-type text c.args.depth members c.args.holder.now c.args.header.items c.args.body.now d stub is c.in_ok-stub.ensures type))
       | add_item-else-is_type w ↦
           let other : is_type stub ≡ false = sym c.is_type-is_type.ensures ∙ w.if-is_type.false in
           ap (λ v. v.items) w.stubs-is
           ∙ c.in_ok-push.ensures.items
-          ∙ sym (ap (λ l. stubs ++ l) (item_stubs-member text c.args.depth members c.args.holder c.args.header.items c.args.body.now d stub is c.in_ok-stub.ensures other))
+          ∙ sym (ap (λ l. stubs ++ l) (item_stubs-member text c.args.depth members c.args.holder.now c.args.header.items c.args.body.now d stub is c.in_ok-stub.ensures other))
     ]
 
 -- the level is too deep
@@ -52,7 +52,7 @@ pub add_level-returns-then-depth-gt-MAX_DEPTH : goal.add_level-returns-then-dept
 add_level-returns-then-depth-gt-MAX_DEPTH t c =
     let stubs = c.args.stubs.now.items in
     let deep : max_depth < c.args.depth = omega arith in
-    sym (ap (λ l. stubs ++ l) (stubs_at-deep c.args.text.now c.args.depth c.args.holder (units_of c.args.level.now) deep) ∙ append-nil stubs)
+    sym (ap (λ l. stubs ++ l) (stubs_at-deep c.args.text.now c.args.depth c.args.holder.now (units_of c.args.level.now) deep) ∙ append-nil stubs)
 
 -- the constants were added, and all items are left
 pub add_level-loop-item-init : goal.add_level-loop-item-init
@@ -60,11 +60,11 @@ add_level-loop-item-init t c =
     let stubs = c.args.stubs.now.items in
     let text = c.args.text.now in
     let us = units_of c.args.level.now in
-    let constants = constants_at text c.args.depth c.args.holder us in
-    let F = item_stubs text c.args.depth (stubs_at text (c.args.depth + 1)) c.args.holder in
+    let constants = constants_at text c.args.depth c.args.holder.now us in
+    let F = item_stubs text c.args.depth (stubs_at text (c.args.depth + 1)) c.args.holder.now in
     let shallow : c.args.depth ≤ max_depth = omega arith in
     let next : c.args.depth + 1 ≡ suc c.args.depth = omega arith in
     ap (λ l. l ++ flat_map F (items_of (units_of c.in_ok-rest.rest.now))) c.in_ok-rest.ensures.added
     ∙ append_assoc stubs constants (flat_map F (items_of (units_of c.in_ok-rest.rest.now)))
     ∙ ap (λ l. stubs ++ (constants ++ flat_map F (items_of l))) c.in_ok-rest.ensures.items
-    ∙ sym (ap (λ l. stubs ++ l) (stubs_at-level text c.args.depth (c.args.depth + 1) c.args.holder us shallow next))
+    ∙ sym (ap (λ l. stubs ++ l) (stubs_at-level text c.args.depth (c.args.depth + 1) c.args.holder.now us shallow next))

@@ -1,15 +1,16 @@
-use Rattle.std.proofs.Common.{◌≡◌, ℕ, List, [], ◌++◌, ap, ◌∙◌, sym, subst}
+use Rattle.std.proofs.Common.{◌≡◌, ◌≤◌, ℕ, List, [], ◌++◌, length, ap, ◌∙◌, sym, subst, arith}
 use Rattle.std.specs.Prelude.{None, All}
+use Rattle.ide_text.specs.Text.{max_chars}
 use Rattle.java_tokens.specs.declared.token.Token.{Token}
 use Rattle.java_tokens.specs.Tokens.{IsInside, tokens_of}
 use Rattle.java_tokens.proofs.TokenLemmas.{are_tokens_of, inside_tokens_of}
 use Rattle.stub_tree.specs.declared.stub.Stub.{Stub}
 use Rattle.stub_tree.specs.Lawful.{IsLawfulList}
-use Rattle.decl_parser.specs.declared.node.Node.{Node}
+use Rattle.decl_parser.specs.Node.{Node}
 use Rattle.decl_parser.specs.Forest.{forest_of}
 use Rattle.decl_parser.specs.Unit.{units_of}
 use Rattle.decl_parser.specs.Listing.{stubs_at, listing_of}
-use Rattle.decl_parser.proofs.ForestRising.{forest-rises}
+use Rattle.decl_parser.proofs.ForestRising.{forest-rises, tokens_of-few}
 use Rattle.decl_parser.proofs.ListingLawful.{listing-lawful}
 use Rattle.decl_parser.proofs.listing.stubs.Goals as goal
 
@@ -21,14 +22,22 @@ listed text added start nodes read tokens is none reads forest all =
     is ∙ ap (λ l. l ++ stubs_at text 0 None (units_of read)) none
     ∙ ap (λ ns. stubs_at text 0 None (units_of ns)) (reads ∙ forest ∙ ap (forest_of text) all)
 
--- the tokens of a text are inside
+-- the tokens of a text are inside, and no more than its characters
 pub forest-requires : goal.forest-requires
-forest-requires c = subst (All (IsInside c.args.text.now)) (sym c.requires) (inside_tokens_of c.args.text.now)
+forest-requires c =
+    let text = c.args.text.now in
+    let tokens = c.deref.ensures.value ∙ c.requires in
+    let short = c.len.ensures.text.few in
+    record {
+      inside = subst (All (IsInside text)) (sym tokens) (inside_tokens_of text);
+      few = subst (λ (ts : List Token). length ts ≤ max_chars) (sym tokens) (let few = tokens_of-few text in omega arith);
+      short = short;
+    }
 
 pub from_vec-requires : goal.from_vec-requires
 from_vec-requires c =
     let text = c.args.text.now in
-    let is = listed text _ _ _ _ _ c.in_ok-add_level.ensures c.new-stubs.ensures.items c.deref.ensures.value c.in_ok-forest.ensures c.requires in
+    let is = listed text _ _ _ _ _ c.in_ok-add_level.ensures c.new-stubs.ensures.items c.deref-2.ensures.value c.in_ok-forest.ensures (c.deref.ensures.value ∙ c.requires) in
     subst IsLawfulList (sym is)
     (listing-lawful text c.len.ensures.text.few (forest_of text (tokens_of text)) (forest-rises text (are_tokens_of text) (inside_tokens_of text)))
 
@@ -36,4 +45,4 @@ pub returns : goal.returns
 unfolding listing_of
 returns c =
     c.from_vec.ensures
-    ∙ listed c.args.text.now _ _ _ _ _ c.in_ok-add_level.ensures c.new-stubs.ensures.items c.deref.ensures.value c.in_ok-forest.ensures c.requires
+    ∙ listed c.args.text.now _ _ _ _ _ c.in_ok-add_level.ensures c.new-stubs.ensures.items c.deref-2.ensures.value c.in_ok-forest.ensures (c.deref.ensures.value ∙ c.requires)

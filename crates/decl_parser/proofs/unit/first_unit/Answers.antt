@@ -1,4 +1,4 @@
-use Rattle.std.proofs.Common.{◌≡◌, sym, ◌∙◌, false}
+use Rattle.std.proofs.Common.{◌≡◌, sym, ap, ◌∙◌, length, min, false}
 use Rattle.decl_parser.specs.declared.role.Role.TheVariants.{Lone}
 use Rattle.decl_parser.specs.Forest.{is}
 use Rattle.decl_parser.proofs.UnitLemmas.{units_of-unit}
@@ -8,5 +8,6 @@ use Rattle.decl_parser.proofs.unit.first_unit.Goals as goal
 pub returns-then-not-is-clause-some : goal.returns-then-not-is-clause-some
 returns-then-not-is-clause-some c =
     let stands : is Lone c.in-Some.node.now ≡ false = sym c.is.ensures ∙ c.if-not-is.true in
+    let cut = c.min.ensures ∙ ap (λ size. min size (length c.in-Some.others.now)) c.size.ensures in
     sym c.loop-node.invariant.same
-    ∙ units_of-unit c.in-Some.node.now c.in-Some.others.now c.min.result _ _ _ c.in-Some.ensures.cases.0 stands c.min.ensures c.split_at.ensures.front c.split_at.ensures.back
+    ∙ units_of-unit c.in-Some.node.now c.in-Some.others.now c.min.result _ _ _ c.in-Some.ensures.cases.0 stands cut c.split_at.ensures.front c.split_at.ensures.back
