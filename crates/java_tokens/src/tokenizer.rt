@@ -14,7 +14,7 @@ use crate::token::Token;
 use ide_text::Text;
 use std::alloc::{AllocError, Global};
 
-/// The tokens of a text, in order. Linear in the text.
+/// The tokens of a text, in order, with room for no more. Linear in the text.
 pub fn tokens(alloc: Global, text: &Text) -> Result<Vec<Token>, AllocError>
     ensures value { IfOk result (λ list. list.items ≡ tokens_of text.now) }
 
@@ -29,6 +29,7 @@ pub fn tokens(alloc: Global, text: &Text) -> Result<Vec<Token>, AllocError>
         list.push(token)?;
         at = token.at + token.len;
     }
+    list.shrink_to_fit();
     Ok(list)
 }
 
