@@ -87,6 +87,7 @@ fn property_data(alloc: Global, text: &Text) -> Result<FileData, AllocError>
 }
 
 /// The rows of a Java text. Its words come first, since its declarations take the tokens.
+#[tactic(auto, unfolding(crate::specs::Parts::parts_of))]
 fn java_data(alloc: Global, text: &Text) -> Result<FileData, AllocError>
     ensures { IfOk result (λ made. made ≡ parts_of Java text.now) }
 {
