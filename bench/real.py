@@ -27,6 +27,7 @@ import collections
 import os
 import pathlib
 import re
+import shutil
 import subprocess
 import sys
 import tempfile
@@ -86,15 +87,23 @@ def make(folder, scratch):
 
 
 def used(command, script, folder=None, written=os.devnull):
-    """Seconds, processor seconds and megabytes that a command takes on a script, in a folder; it writes to a file."""
-    with open(script, "rb") as source, open(written, "wb") as sink:
+    """Seconds, processor seconds and megabytes that a command takes on a script, in a folder; it writes to a file. The memory is
+    what GNU time tells where it is installed: a process's peak begins with that of the one that starts it, and this one has 14 MB."""
+    with open(script, "rb") as source, open(written, "wb") as sink, tempfile.NamedTemporaryFile("r") as peak:
         start = time.perf_counter()
-        child = subprocess.Popen(command, stdin=source, stdout=sink, stderr=subprocess.PIPE, cwd=folder)
+        child = subprocess.Popen([*watched(peak.name), *command], stdin=source, stdout=sink, stderr=subprocess.PIPE, cwd=folder)
         _, status, usage = os.wait4(child.pid, 0)
         took = time.perf_counter() - start
+        kilobytes = int(peak.read() or usage.ru_maxrss)
     if status != 0:
         sys.exit(f"{command} ended with {status}: {child.stderr.read().decode()}")
-    return took, usage.ru_utime + usage.ru_stime, usage.ru_maxrss / 1000
+    return took, usage.ru_utime + usage.ru_stime, kilobytes / 1000
+
+
+def watched(peak):
+    """The words before a command by which GNU time writes its peak memory to a file; none where it isn't installed."""
+    timer = shutil.which("time")
+    return [timer, "--quiet", "--format=%M", f"--output={peak}"] if timer else []
 
 
 def run(program, script, folder=None):
