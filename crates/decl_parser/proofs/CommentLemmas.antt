@@ -1,7 +1,7 @@
 -- Comments count for nothing.
 use Rattle.std.proofs.Common.{◌≡◌, ℕ, Bool, true, false, not, List, [], ◌∷◌, refl, sym, ap, ◌∙◌}
 use Rattle.std.specs.Prelude.{fold, filter}
-use Rattle.java_tokens.specs.declared.token.Token.{Token}
+use Rattle.java_tokens.specs.Token.{Token}
 use Rattle.java_tokens.specs.Words.{is_comment}
 use Rattle.decl_parser.specs.Forest.{Scan, step, close_rest, forest_of}
 

@@ -3,7 +3,7 @@ use Rattle.std.proofs.Common.{◌≡◌, ℕ, zero, suc, ◌+◌, ◌<◌, ◌�
 use Rattle.std.specs.Prelude.{Option, None, Some, All, Contains, codes, bytes_eq, fold, slice_get}
 use Rattle.std.specs.List.{prefix_len}
 use Rattle.std.proofs.lemmas.Slice.Eq.{bytes_eq-Decides}
-use Rattle.java_tokens.specs.declared.token.Token.{Token}
+use Rattle.java_tokens.specs.Token.{Token}
 use Rattle.java_tokens.specs.declared.kind.Kind.TheVariants.{Word, Punct}
 use Rattle.java_tokens.specs.Chars.{is_white_space}
 use Rattle.java_tokens.specs.Kind.{code_of as kind_code}

@@ -1,7 +1,7 @@
 -- Nodes of a text in its order: what the rules keep of it, from the tokens to the items.
 use Rattle.std.proofs.Common.{◌≡◌, ℕ, zero, suc, ◌+◌, ◌-◌, ◌<◌, ◌≤◌, Bool, true, false, cond, ◌==◌, List, [], ◌∷◌, ◌++◌, length, take, drop, refl, sym, ◌∙◌, subst, arith}
 use Rattle.std.specs.Prelude.{Contains}
-use Rattle.java_tokens.specs.declared.token.Token.{Token}
+use Rattle.java_tokens.specs.Token.{Token}
 use Rattle.java_tokens.specs.Tokens.{tokens_of}
 use Rattle.java_tokens.specs.Words.{is_identifier_token}
 use Rattle.decl_parser.specs.Node.{Node}

@@ -4,7 +4,7 @@ use Rattle.std.specs.Prelude.{Some, codes, slice_get}
 use Rattle.std.specs.List.{list_any, list_all}
 use Rattle.std.specs.Str.{bytes_eq}
 use Rattle.std.proofs.lemmas.Slice.Eq.{bytes_eq-Decides}
-use Rattle.java_tokens.specs.declared.token.Token.{Token}
+use Rattle.java_tokens.specs.Token.{Token}
 use Rattle.java_tokens.specs.Tokens.{characters_of}
 use Rattle.java_tokens.specs.Identifier.{reserved_words, literal_words, is_reserved}
 use Rattle.java_tokens.proofs.Pieces.{drop-part}

@@ -3,7 +3,7 @@
 -- The forest lies flat: its nodes are the tokens but for comments and closing brackets, in order, and each opening
 -- bracket tells how many of the nodes behind it stand in its group.
 use Rattle.std.specs.Prelude.{ℕ, zero, suc, ◌-◌, Bool, false, not, ◌&&◌, ◌||◌, if◌then◌else◌, List, [], ◌∷◌, ◌++◌, length, fold, Option, Some, None}
-use Rattle.java_tokens.specs.declared.token.Token.{Token}
+use Rattle.java_tokens.specs.Token.{Token}
 use Rattle.decl_parser.specs.declared.bracket.Bracket.{Bracket}
 use Rattle.decl_parser.specs.declared.bracket.Bracket.TheVariants.{Brace}
 use Rattle.decl_parser.specs.declared.role.Role.{Role}

@@ -1,7 +1,7 @@
 -- The listing of a text: what its items declare, and the members of its types.
 use Rattle.std.specs.Prelude.{◌≡◌, true, Contains, ℕ, zero, suc, ◌-◌, ◌==◌, Bool, false, if◌then◌else◌, List, [], ◌∷◌, ◌++◌, map, Option, None, Some}
 use Rattle.std.specs.List.{flat_map}
-use Rattle.java_tokens.specs.declared.token.Token.{Token}
+use Rattle.java_tokens.specs.Token.{Token}
 use Rattle.java_tokens.specs.Words.{is_identifier_token}
 use Rattle.java_tokens.specs.Tokens.{characters_of, tokens_of}
 use Rattle.stub_tree.specs.declared.stub.Stub.{Stub}

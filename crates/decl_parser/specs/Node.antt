@@ -1,6 +1,6 @@
 -- The nodes of the forest of groups, as the rules see them.
 use Rattle.std.specs.Prelude.{ℕ, List, take, drop}
-use Rattle.java_tokens.specs.declared.token.Token.{Token}
+use Rattle.java_tokens.specs.Token.{Token}
 use Rattle.decl_parser.specs.declared.role.Role.{Role}
 
 -- a node: where its token stands and how many characters it has, what it is to the rules, and how many of the nodes

@@ -2,7 +2,7 @@
 ghost use Rattle.std.specs.Prelude.{◌≡◌, ◌≤◌, ◌<◌, ℕ, List, All, false, not, filter, length};
 ghost use Rattle.std.specs.List.{AllPairs};
 ghost use Rattle.ide_text.specs.Text.{max_chars};
-ghost use Rattle.java_tokens.specs.declared.token.Token.{Token};
+ghost use Rattle.java_tokens.specs.Token.{Token};
 ghost use Rattle.java_tokens.specs.Tokens.{tokens_of};
 ghost use Rattle.java_tokens.specs.Words.{is_comment};
 ghost use Rattle.stub_tree.specs.Lawful.{IsLawfulList};

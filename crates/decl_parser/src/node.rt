@@ -39,10 +39,10 @@ impl Node {
         ensures { result ≡ node_of token.now role }
     {
         Node {
-            at: token.at,
+            at: token.at(),
             size: 0,
-            len_low: (token.len % 65536) as u16,
-            len_high: (token.len / 65536) as u8,
+            len_low: (token.len() % 65536) as u16,
+            len_high: (token.len() / 65536) as u8,
             role,
         }
     }

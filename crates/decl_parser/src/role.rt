@@ -111,8 +111,8 @@ pub(crate) fn role_of(text: &Text, token: &Token) -> Role
         Role::Comment
     } else if token.is(Kind::Word) {
         word_role(text, token)
-    } else if token.is(Kind::Punct) && token.at < text.len() {
-        mark_role(text.char_at(token.at))
+    } else if token.is(Kind::Punct) && token.at() < text.len() {
+        mark_role(text.char_at(token.at()))
     } else {
         Role::Other
     }

@@ -14,10 +14,10 @@ pub(crate) fn word_role(text: &Text, token: &Token) -> Role
     requires { token.now.at + token.now.len ≤ length text.now }
     ensures { result ≡ word_role (characters_of text.now token.now) }
 {
-    if token.len == 0 {
+    if token.len() == 0 {
         return Role::Identifier;
     }
-    role_among(text, token, words_from(text.char_at(token.at)))
+    role_among(text, token, words_from(text.char_at(token.at())))
 }
 
 /// What the first of these words that a token spells is to the rules; an identifier, if it spells none.
@@ -27,8 +27,8 @@ fn role_among(text: &Text, token: &Token, words: &[(&str, Role)]) -> Role
 {
     match text.ascii() {
         Some(ascii) => {
-            let from = token.at as usize;
-            role_of_bytes(&ascii.as_bytes()[from..from + token.len as usize], words)
+            let from = token.at() as usize;
+            role_of_bytes(&ascii.as_bytes()[from..from + token.len() as usize], words)
         }
         None => role_of_token(text, token, words),
     }

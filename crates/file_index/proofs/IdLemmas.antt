@@ -35,11 +35,28 @@ all_inserted P [] (suc at) id one all = (one, tt)
 all_inserted P (x ∷ xs) zero id one all = (one, all)
 all_inserted P (x ∷ xs) (suc at) id one all = (all.0, all_inserted P xs at id one all.1)
 
-all_removed : (P : ℕ → Type 0) (ids : List ℕ) (at : ℕ) → AllByRecursion P ids → AllByRecursion P (remove ids at)
+pub all_removed : (P : ℕ → Type 0) (ids : List ℕ) (at : ℕ) → AllByRecursion P ids → AllByRecursion P (remove ids at)
 all_removed P [] zero all = tt
 all_removed P [] (suc at) all = tt
 all_removed P (x ∷ xs) zero all = all.1
 all_removed P (x ∷ xs) (suc at) all = (all.0, all_removed P xs at all.1)
+
+-- an id above the bound of others goes behind them
+pub goes_behind : (bound id : ℕ) (ids : List ℕ) → AllByRecursion (λ other. other ≤ bound) ids → bound < id → IsPlaceOf id ids (Err (length ids))
+goes_behind bound id ids all above = (omega arith, (λ k inside. let below = at_most ids all k inside in omega (arith, below, above)), (λ k from inside. absurd (omega (arith, from, inside))))
+  where
+    at_most : (l : List ℕ) → AllByRecursion (λ other. other ≤ bound) l → (k : ℕ) → k < length l → get_or l k 0 ≤ bound
+    at_most [] each k inside = absurd (omega arith)
+    at_most (x ∷ xs) each zero inside = each.0
+    at_most (x ∷ xs) each (suc k) inside = at_most xs each.1 k (omega arith)
+
+-- the greater of a bound and of an id that is put in bounds them all
+pub bounded-insert : (bound wide at id : ℕ) (ids : List ℕ) → bound ≤ wide → id ≤ wide → AllByRecursion (λ other. other ≤ bound) ids → AllByRecursion (λ other. other ≤ wide) (insert ids at id)
+bounded-insert bound wide at id ids more fits all = all_inserted (λ other. other ≤ wide) ids at id fits (widened ids all)
+  where
+    widened : (l : List ℕ) → AllByRecursion (λ other. other ≤ bound) l → AllByRecursion (λ other. other ≤ wide) l
+    widened [] each = tt
+    widened (x ∷ xs) each = (omega (arith, each.0, more), widened xs each.1)
 
 -- ids still rise with one more at its place
 pub insert_rises : (ids : List ℕ) (at id : ℕ) → IsStrictlySortedBy nat_cmp ids → ((k : ℕ) → k < at → get_or ids k 0 < id) → ((k : ℕ) → at ≤ k → k < length ids → id < get_or ids k 0) → at ≤ length ids → IsStrictlySortedBy nat_cmp (insert ids at id)

@@ -14,18 +14,21 @@ const NEAR: usize = 16;
 #[derive(Drop)]
 pub(crate) struct Ids {
     ids: Vec<u32>,
+    /// No id is greater. So one that comes behind all is put there, and those that stand are not read.
+    bound: u32,
 }
 
 impl Model for Ids {
-    ghost use Rattle.std.specs.Prelude.{List, ℕ};
+    ghost use Rattle.std.specs.Prelude.{List, ℕ, ◌≤◌};
     ghost use Rattle.std.specs.Ordering.{nat_cmp};
+    ghost use Rattle.std.specs.List.{AllByRecursion};
     ghost use Rattle.std.specs.List.Sorted.{IsStrictlySortedBy};
 
     ghost Value = { List ℕ };
 
     ghost view = { λ l. l.ids.items };
 
-    ghost invariant = { λ l. IsStrictlySortedBy nat_cmp l.ids.items };
+    ghost invariant = { λ l. IsStrictlySortedBy nat_cmp l.ids.items × AllByRecursion (λ id. id ≤ l.bound) l.ids.items };
 }
 
 impl Ids {
@@ -35,7 +38,7 @@ impl Ids {
     {
         let mut ids = Vec::new(alloc);
         ids.push(id)?;
-        Ok(Ids { ids })
+        Ok(Ids { ids, bound: id })
     }
 
     /// The ids.
@@ -60,6 +63,7 @@ impl Ids {
     {
         if let Err(at) = self.place_of(id) {
             self.ids.insert(at, id)?;
+            self.bound = self.bound.max(id);
         }
         Ok(())
     }
@@ -73,10 +77,14 @@ impl Ids {
         }
     }
 
-    /// Where an id is, or where it would go. Most come nearly in order, so the last few are searched first.
+    /// Where an id is, or where it would go. Most come in order or nearly so: behind all, or among the last few, which are
+    /// searched first.
     fn place_of(&self, id: u32) -> Result<usize, usize>
         ensures { IsPlaceOf id self.now result }
     {
+        if self.bound < id {
+            return Err(self.ids.len());
+        }
         let (front, tail) = self.ids.split_at(self.ids.len().saturating_sub(NEAR));
         match place_among(tail, id) {
             Ok(at) => Ok(front.len() + at),
@@ -91,6 +99,7 @@ impl Ids {
     {
         Ok(Ids {
             ids: self.ids.clone()?,
+            bound: self.bound,
         })
     }
 }

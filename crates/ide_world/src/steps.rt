@@ -1,5 +1,5 @@
 //! A list of steps.
-ghost use Rattle.std.specs.Prelude.{◌≡◌, ◌≤◌, [], ◌∷◌, ◌++◌, IfOk, OnOk, OnErr, length};
+ghost use Rattle.std.specs.Prelude.{◌≡◌, ◌<◌, ◌≤◌, [], ◌∷◌, ◌++◌, IfOk, OnOk, OnErr, length, vec_len, vec_capacity};
 ghost use Rattle.ide_world.specs.Room.{room_before, room_needed};
 ghost use Rattle.ide_world.specs.DocEdits.{IsWide};
 ghost use Rattle.ide_world.specs.Lawful.{AreWide};
@@ -48,8 +48,9 @@ impl Steps {
         ensures ok { OnOk result (self.new ≡ self.old ++ step ∷ []) }
         ensures err { OnErr result (self.new ≡ self.old) }
     {
-        self.gone.reserve(self.steps.len() + 1)?;
-        self.steps.push(step)?;
+        make_room(&mut self.steps)?;
+        self.gone.reserve_exact(self.steps.capacity())?;
+        self.steps.push_reserved(step);
         Ok(())
     }
 
@@ -80,6 +81,19 @@ impl Steps {
             widen_document(&mut self.steps[at], count)?;
         }
         Ok(())
+    }
+}
+
+/// Makes room for one step more: at first for no other, since most lists have one.
+fn make_room(steps: &mut Vec<Step>) -> Result<(), AllocError>
+    ensures items { steps.new.items ≡ steps.old.items }
+    ensures len { vec_len steps.new ≡ vec_len steps.old }
+    ensures room { OnOk result (vec_len steps.new < vec_capacity steps.new) }
+{
+    if steps.is_empty() {
+        steps.reserve_exact(1)
+    } else {
+        steps.reserve(1)
     }
 }
 

@@ -16,7 +16,7 @@ use Rattle.stub_tree.specs.declared.stub.Stub.{Stub}
 use Rattle.stub_tree.specs.Lawful.{IsLawfulName}
 use Rattle.java_tokens.specs.declared.place.Place.{Place}
 use Rattle.java_tokens.specs.declared.place.Place.TheVariants.{Code, Comment, String}
-use Rattle.java_tokens.specs.declared.token.Token.{Token}
+use Rattle.java_tokens.specs.Token.{Token}
 use Rattle.java_tokens.specs.Chars.{begins_word, first_passes}
 use Rattle.java_tokens.specs.Tokens.{characters_of, tokens_of}
 use Rattle.java_tokens.specs.Identifier.{is_word}

@@ -210,9 +210,9 @@ fn shown_tokens(alloc: Global, text: &str) -> Result<String, Fail> {
     let text = Text::from_utf8(alloc, text.as_bytes())?;
     let mut shown = String::new(alloc);
     for token in &tokens(alloc, &text)? {
-        let kind = token.kind;
-        let at = token.at;
-        let len = token.len;
+        let kind = token.kind();
+        let at = token.at();
+        let len = token.len();
         write!(shown, "{kind} {at} {len}; ")?;
     }
     Ok(shown)

@@ -13,7 +13,7 @@ use Rattle.std.proofs.lemmas.List.Folds.{list_any-append}
 use Rattle.std.proofs.lemmas.List.Elements.{filter-append}
 use Rattle.java_tokens.specs.declared.place.Place.{Place}
 use Rattle.java_tokens.specs.declared.place.Place.TheVariants.{Code, Comment, String}
-use Rattle.java_tokens.specs.declared.token.Token.{Token}
+use Rattle.java_tokens.specs.Token.{Token}
 use Rattle.java_tokens.specs.Chars.{is_white_space}
 use Rattle.java_tokens.specs.Tokens.{characters_of, token_at, token_len, tokens_past, tokens_of}
 use Rattle.java_tokens.specs.Words.{WordRow, bit_of, has_bit, marked, words_in, words_at, shown_at, is_comment, is_string, is_identifier_token, occurrences_at, occurrences_of, words_of, mask_in, bits_of, union_of}

@@ -7,7 +7,7 @@ use Rattle.std.proofs.lemmas.List.Elements.{All-from_recursion}
 use Rattle.std.proofs.lemmas.Slice.Eq.{bytes_eq-Decides}
 use Rattle.unicode_ident.proofs.IdentLemmas.{is_xid_continue-ascii}
 use Rattle.java_tokens.specs.declared.kind.Kind.TheVariants.{Word}
-use Rattle.java_tokens.specs.declared.token.Token.{Token}
+use Rattle.java_tokens.specs.Token.{Token}
 use Rattle.java_tokens.specs.Chars.{line_feed, is_white_space, is_in_line, begins_word, continues_word, first_passes}
 use Rattle.java_tokens.specs.Identifier.{is_word}
 use Rattle.java_tokens.specs.Kind.{code_of, kind_at, length_of}

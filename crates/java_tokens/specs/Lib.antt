@@ -1,6 +1,7 @@
 -- What callers may rest on: the classes of characters, the kinds of tokens, tokens, identifiers, words, and where a name stands.
 pub mod Chars
 pub mod Kind
+pub mod Token
 pub mod Tokens
 pub mod Identifier
 pub mod Words

@@ -11,7 +11,7 @@ use Rattle.std.specs.BTreeMap.{is_at, insert_entry}
 use Rattle.java_tokens.specs.declared.kind.Kind.TheVariants.{Word, Str, TextBlock, LineComment, BlockComment}
 use Rattle.java_tokens.specs.declared.place.Place.{Place}
 use Rattle.java_tokens.specs.declared.place.Place.TheVariants.{Code, Comment, String}
-use Rattle.java_tokens.specs.declared.token.Token.{Token}
+use Rattle.java_tokens.specs.Token.{Token}
 use Rattle.java_tokens.specs.Chars.{space, backslash, begins_word, continues_word, first_passes}
 use Rattle.java_tokens.specs.Kind.{code_of}
 use Rattle.java_tokens.specs.Tokens.{characters_of, tokens_of}

@@ -21,7 +21,7 @@ use ide_text::Text;
 use std::alloc::{AllocError, Global};
 
 /// The most words for which room is made before any is met; for more, room is made as they come.
-const FIRST_ROOM: usize = 256;
+const FIRST_ROOM: usize = 2048;
 
 /// The words of a text, of which the tokens are at hand: its identifiers, and the words in its comments and strings.
 /// Each occurrence is looked up by hash, and the distinct words are sorted at the end.
@@ -42,8 +42,8 @@ fn masks_of(alloc: Global, text: &Text, tokens: &[Token]) -> Result<Masks, Alloc
     requires { tokens.now ≡ tokens_of text.now }
     ensures { IfOk result (λ masks. masks ≡ words_of text.now) }
 {
-    // Of eight tokens about one is a word that wasn't met before.
-    let mut masks = Masks::with_room(alloc, (tokens.len() / 8).min(FIRST_ROOM))?;
+    // Sources have about one word that wasn't met before in 32 characters.
+    let mut masks = Masks::with_room(alloc, (text.len() as usize / 32).min(FIRST_ROOM))?;
     for token in tokens {
         add_token(&mut masks, text, token)?;
     }
@@ -58,17 +58,17 @@ fn add_token(masks: &mut Masks, text: &Text, token: &Token) -> Result<(), AllocE
         ≡ fold with_occurrence masks.old (occurrences_at text.now token.now)) }
 {
     if token.is(Kind::Word) {
-        add_identifier(masks, &Piece::part(text, token.at, token.len))?;
+        add_identifier(masks, &Piece::part(text, token.at(), token.len()))?;
     } else if token.is(Kind::LineComment) || token.is(Kind::BlockComment) {
         add_words(
             masks,
-            &Piece::part(text, token.at, token.len),
+            &Piece::part(text, token.at(), token.len()),
             Place::Comment,
         )?;
     } else if token.is(Kind::Str) || token.is(Kind::TextBlock) {
         add_words(
             masks,
-            &Piece::part(text, token.at, token.len),
+            &Piece::part(text, token.at(), token.len()),
             Place::String,
         )?;
     }

@@ -33,7 +33,7 @@ pub fn is_identifier_at(text: &Text, token: &Token) -> bool
     requires { token.now.at + token.now.len ≤ length text.now }
     ensures { result ≡ is_identifier_token text.now token.now }
 {
-    token.is(Kind::Word) && !is_reserved(&Piece::part(text, token.at, token.len))
+    token.is(Kind::Word) && !is_reserved(&Piece::part(text, token.at(), token.len()))
 }
 
 /// Whether a token of a text has the characters of an ASCII word.
@@ -41,7 +41,7 @@ pub fn spells(text: &Text, token: &Token, word: &str) -> bool
     requires { token.now.at + token.now.len ≤ length text.now }
     ensures { result ≡ bytes_eq word.now (characters_of text.now token.now) }
 {
-    reserved::spells(&Piece::part(text, token.at, token.len), word)
+    reserved::spells(&Piece::part(text, token.at(), token.len()), word)
 }
 
 /// Whether the first character of a text may begin a word.

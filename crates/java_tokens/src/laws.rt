@@ -1,7 +1,7 @@
 //! Laws of words and places: functions that do nothing, whose contracts are the laws.
 ghost use Rattle.std.specs.Prelude.{◌≡◌, ◌≢◌, List, ℕ, true, false, [], Contains};
 ghost use Rattle.std.specs.List.{list_all};
-ghost use Rattle.java_tokens.specs.declared.token.Token.{Token};
+ghost use Rattle.java_tokens.specs.Token.{Token};
 ghost use Rattle.java_tokens.specs.Chars.{is_in_line};
 ghost use Rattle.java_tokens.specs.Identifier.{is_word};
 ghost use Rattle.java_tokens.specs.Places.{is_in_code, places_of};

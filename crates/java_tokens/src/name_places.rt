@@ -23,9 +23,9 @@ pub fn places(alloc: Global, text: &Text, name: &Name) -> Result<Vec<u32>, Alloc
     let mut at = 0;
     while let Some(token) = next_token(&piece, at) {
         if is_use(text, &token, name) {
-            list.push(token.at)?;
+            list.push(token.at())?;
         }
-        at = token.at + token.len;
+        at = token.at() + token.len();
     }
     Ok(list)
 }
@@ -35,7 +35,7 @@ fn is_use(text: &Text, token: &Token, name: &Name) -> bool
     requires { token.now.at + token.now.len ≤ length text.now }
     ensures { result ≡ is_use_of name.now text.now token.now }
 {
-    is_spelled(&Piece::part(text, token.at, token.len), name) && is_identifier_at(text, token)
+    is_spelled(&Piece::part(text, token.at(), token.len()), name) && is_identifier_at(text, token)
 }
 
 /// Whether the characters are those of a name. It ends at the first that differs.

@@ -27,7 +27,7 @@ pub fn tokens(alloc: Global, text: &Text) -> Result<Vec<Token>, AllocError>
     let mut at = 0;
     while let Some(token) = next_token(&piece, at) {
         list.push(token)?;
-        at = token.at + token.len;
+        at = token.at() + token.len();
     }
     list.shrink_to_fit();
     Ok(list)
@@ -48,11 +48,7 @@ pub fn next_token(piece: &Piece, from: u32) -> Option<Token>
     }
     let kind = kind_at(piece, at);
     let end = token_end(piece, at, kind);
-    Some(Token {
-        kind: kind.code(),
-        at,
-        len: end - at,
-    })
+    Some(Token::of(kind, at, end - at))
 }
 
 /// The kind of the token that begins at a place.

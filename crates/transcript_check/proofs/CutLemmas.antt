@@ -3,7 +3,7 @@ use Rattle.std.proofs.Common.{◌≡◌, ◌≢◌, ℕ, true, List, [], ◌∷�
 use Rattle.std.specs.Prelude.{All, Contains, Option}
 use Rattle.std.specs.List.{list_all, AllByRecursion}
 use Rattle.std.proofs.lemmas.List.Elements.{recursion_from_All}
-use Rattle.java_tokens.specs.declared.token.Token.{Token}
+use Rattle.java_tokens.specs.Token.{Token}
 use Rattle.java_tokens.specs.Chars.{is_in_line}
 use Rattle.java_tokens.specs.Identifier.{is_word}
 use Rattle.java_tokens.specs.Tokens.{characters_of, tokens_of}

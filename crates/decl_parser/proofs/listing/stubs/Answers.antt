@@ -1,7 +1,7 @@
 use Rattle.std.proofs.Common.{◌≡◌, ◌≤◌, ℕ, List, [], ◌++◌, length, ap, ◌∙◌, sym, subst, arith}
 use Rattle.std.specs.Prelude.{None, All}
 use Rattle.ide_text.specs.Text.{max_chars}
-use Rattle.java_tokens.specs.declared.token.Token.{Token}
+use Rattle.java_tokens.specs.Token.{Token}
 use Rattle.java_tokens.specs.Tokens.{IsInside, tokens_of}
 use Rattle.java_tokens.proofs.TokenLemmas.{are_tokens_of, inside_tokens_of}
 use Rattle.stub_tree.specs.declared.stub.Stub.{Stub}
