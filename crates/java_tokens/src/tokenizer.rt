@@ -23,7 +23,8 @@ pub fn tokens(alloc: Global, text: &Text) -> Result<Vec<Token>, AllocError>
     ensures inside { IfOk result (λ list. All (IsInside text.now) list.items) }
 {
     let piece = Piece::whole(text);
-    let mut list = Vec::new(alloc);
+    // Even dense code has fewer than a token in two characters.
+    let mut list = Vec::with_capacity(alloc, text.len() as usize / 2)?;
     let mut at = 0;
     while let Some(token) = next_token(&piece, at) {
         list.push(token)?;

@@ -5,6 +5,7 @@ ghost use Rattle.transcripts.specs.Transcript.{found_text, count_line, counts_li
 use crate::rows::{push_keys, push_levels, push_outline, push_rows, push_usages, push_words};
 use query_engine::Answer;
 use std::alloc::AllocError;
+use write_history::push_numbered;
 
 /// Adds what a question found: a line that says how much, and one for each row.
 pub(crate) fn push_found(out: &mut String, found: &Answer) -> Result<(), AllocError>
@@ -47,14 +48,16 @@ pub(crate) fn push_found(out: &mut String, found: &Answer) -> Result<(), AllocEr
 fn push_counts(out: &mut String, files: u32, docs: u32, unready: u32) -> Result<(), AllocError>
     ensures { OnOk result (string_bytes out.new ≡ string_bytes out.old ++ counts_line files docs unready) }
 {
-    write!(out, "status files {files}")?;
-    write!(out, " open {docs}")?;
-    write!(out, " unready {unready}\n")
+    push_numbered(out, "status files ", files as u64)?;
+    push_numbered(out, " open ", docs as u64)?;
+    push_numbered(out, " unready ", unready as u64)?;
+    out.push_str("\n")
 }
 
 /// Adds how many rows there are, in a line.
 fn push_count(out: &mut String, count: usize) -> Result<(), AllocError>
     ensures { OnOk result (string_bytes out.new ≡ string_bytes out.old ++ count_line count) }
 {
-    write!(out, "rows {count}\n")
+    push_numbered(out, "rows ", count as u64)?;
+    out.push_str("\n")
 }

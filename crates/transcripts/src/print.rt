@@ -9,7 +9,7 @@ ghost use Rattle.transcripts.specs.Transcript.{transcript_of, summary_of, histor
 use crate::found::push_found;
 use crate::{Answer, Played, Record};
 use std::alloc::{AllocError, Global};
-use write_history::{History, Refusal, push_line};
+use write_history::{History, Refusal, push_line, push_numbered};
 
 /// The transcript: the history, then one record for each command, in UTF-8.
 pub fn transcript(alloc: Global, played: &Played) -> Result<Vec<u8>, AllocError>
@@ -86,8 +86,8 @@ fn push_answers(out: &mut String, replies: &[Record]) -> Result<(), AllocError>
 fn push_record(out: &mut String, reply: &Record) -> Result<(), AllocError>
     ensures { OnOk result (string_bytes out.new ≡ string_bytes out.old ++ record_text reply.now) }
 {
-    let line = reply.line;
-    write!(out, "{line} ")?;
+    push_numbered(out, "", reply.line as u64)?;
+    out.push_str(" ")?;
     push_prefix(out, &reply.answer)?;
     push_answer(out, &reply.answer)
 }
@@ -99,7 +99,8 @@ fn push_prefix(out: &mut String, answer: &Answer) -> Result<(), AllocError>
     let Some(at) = prefix(answer) else {
         return Ok(());
     };
-    write!(out, "at {at} ")
+    push_numbered(out, "at ", at)?;
+    out.push_str(" ")
 }
 
 /// The prefix at which an answer holds, where it has one.

@@ -6,6 +6,7 @@ ghost use Rattle.transcripts.specs.Transcript.{word_line, mask_text, found_line,
 use ide_text::Name;
 use query_engine::{LevelRow, PlaceRow, Row, WordRow};
 use std::alloc::AllocError;
+use write_history::{push_named, push_numbered};
 
 /// Adds the lines of declarations that a question found.
 pub(crate) fn push_rows(out: &mut String, rows: &[Row]) -> Result<(), AllocError>
@@ -45,7 +46,8 @@ fn push_usage(out: &mut String, name: &Name, row: &PlaceRow) -> Result<(), Alloc
     ensures { OnOk result (string_bytes out.new ≡ string_bytes out.old ++ usage_line name.now row.now) }
 {
     push_place(out, &row.path, row.line, row.column)?;
-    write!(out, " usage {name}\n")
+    push_named(out, " usage ", name)?;
+    out.push_str("\n")
 }
 
 /// Adds the lines of places where a property key stands.
@@ -81,10 +83,10 @@ fn push_level(out: &mut String, found: &LevelRow) -> Result<(), AllocError>
     ensures { OnOk result (string_bytes out.new ≡ string_bytes out.old ++ level_line found.now) }
 {
     let row = &found.row;
-    let level = found.level;
     push_place(out, &row.path, row.line, row.column)?;
     push_declared(out, row)?;
-    write!(out, " level {level}\n")
+    push_numbered(out, " level ", found.level as u64)?;
+    out.push_str("\n")
 }
 
 /// Adds the lines of files that have a word.
@@ -101,9 +103,10 @@ pub(crate) fn push_words(out: &mut String, rows: &[WordRow]) -> Result<(), Alloc
 fn push_word(out: &mut String, row: &WordRow) -> Result<(), AllocError>
     ensures { OnOk result (string_bytes out.new ≡ string_bytes out.old ++ word_line row.now) }
 {
-    let path = &row.path;
-    let places = places(row.mask);
-    write!(out, "  {path} {places}\n")
+    push_named(out, "  ", &row.path)?;
+    out.push_str(" ")?;
+    out.push_str(places(row.mask))?;
+    out.push_str("\n")
 }
 
 /// Adds the lines of a file's declarations.
@@ -132,16 +135,18 @@ fn push_declaration(out: &mut String, row: &Row) -> Result<(), AllocError>
 fn push_place(out: &mut String, path: &Name, line: u32, column: u32) -> Result<(), AllocError>
     ensures { OnOk result (string_bytes out.new ≡ string_bytes out.old ++ place_text path.now line column) }
 {
-    write!(out, "  {path}:{line}:{column}")
+    push_named(out, "  ", path)?;
+    push_numbered(out, ":", line as u64)?;
+    push_numbered(out, ":", column as u64)
 }
 
 /// Adds the kind and the name of a declaration.
 fn push_declared(out: &mut String, row: &Row) -> Result<(), AllocError>
     ensures { OnOk result (string_bytes out.new ≡ string_bytes out.old ++ declared_text row.now) }
 {
-    let kind = kind_name(row.kind);
-    let name = &row.name;
-    write!(out, " {kind} {name}")
+    out.push_str(" ")?;
+    out.push_str(kind_name(row.kind))?;
+    push_named(out, " ", &row.name)
 }
 
 /// Adds two spaces for each depth.
@@ -179,7 +184,7 @@ fn push_names(out: &mut String, names: &[Name]) -> Result<(), AllocError>
 fn push_name(out: &mut String, name: &Name) -> Result<(), AllocError>
     ensures { OnOk result (string_bytes out.new ≡ string_bytes out.old ++ super_text name.now) }
 {
-    write!(out, " {name}")
+    push_named(out, " ", name)
 }
 
 /// The word for a kind of declaration.

@@ -7,6 +7,7 @@ mod entry;
 mod history;
 pub mod laws;
 mod path;
+mod pieces;
 mod print;
 mod refusal;
 
@@ -15,5 +16,6 @@ pub use changes::{Changes, MAX_CHANGES};
 pub use entry::Entry;
 pub use history::{History, MAX_ENTRIES};
 pub use path::is_lawful_path;
+pub use pieces::{push_named, push_numbered};
 pub use print::{line_of, push_line};
 pub use refusal::Refusal;

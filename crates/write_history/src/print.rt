@@ -1,33 +1,11 @@
 //! How the transcript prints an entry of the history, and why a change was refused.
 ghost use Rattle.std.specs.Prelude.{◌≡◌, ◌++◌, IfOk, OnOk, string_bytes};
-ghost use Rattle.write_history.specs.Print.{entry_line, changes_text, group_text};
+ghost use Rattle.write_history.specs.Print.{entry_line, change_text, changes_text, group_line, group_text};
 
+use crate::pieces::{push_named, push_numbered};
 use crate::{Change, Entry, Refusal};
 use std::alloc::{AllocError, Global};
 use std::fmt;
-
-impl fmt::Display for Change {
-    ghost use Rattle.std.specs.Prelude.{Some};
-    ghost use Rattle.write_history.specs.Print.{change_text};
-
-    ghost output = { λ change. Some (change_text change) };
-
-    fn fmt<W: fmt::Write>(&self, f: &mut fmt::Formatter<W>) -> fmt::Result {
-        match self {
-            Change::Create { path, text } => write!(f, "create {path} {}", text.len()),
-            Change::Write { path, text } => write!(f, "write {path} {}", text.len()),
-            Change::Delete { path } => write!(f, "delete {path}"),
-            Change::OpenDoc { path } => write!(f, "open {path}"),
-            Change::Insert { path, at, text } => write!(f, "insert {path} {at} {}", text.len()),
-            Change::Erase { path, from, to } => write!(f, "erase {path} {from} {to}"),
-            Change::Commit { path } => write!(f, "commit {path}"),
-            Change::Save { path } => write!(f, "save {path}"),
-            Change::CloseDoc { path } => write!(f, "close {path}"),
-            Change::Intake { file, stamp } => write!(f, "intake {file} {stamp}"),
-            Change::Move { path, to } => write!(f, "move {path} {to}"),
-        }
-    }
-}
 
 /// The line of the entry at a position, in UTF-8, with its line end; a group has a line more for each change.
 pub fn line_of(alloc: Global, position: u64, entry: &Entry) -> Result<Vec<u8>, AllocError>
@@ -42,9 +20,10 @@ pub fn line_of(alloc: Global, position: u64, entry: &Entry) -> Result<Vec<u8>, A
 pub fn push_line(out: &mut String, position: u64, entry: &Entry) -> Result<(), AllocError>
     ensures { OnOk result (string_bytes out.new ≡ string_bytes out.old ++ entry_line position entry.now) }
 {
-    let seat = entry.seat;
-    let line = entry.line;
-    write!(out, "{position} {seat} {line} ")?;
+    push_numbered(out, "", position)?;
+    push_numbered(out, " ", entry.seat as u64)?;
+    push_numbered(out, " ", entry.line as u64)?;
+    out.push_str(" ")?;
     push_changes(out, entry.changes.as_slice())
 }
 
@@ -53,7 +32,10 @@ fn push_changes(out: &mut String, changes: &[Change]) -> Result<(), AllocError>
     ensures { OnOk result (string_bytes out.new ≡ string_bytes out.old ++ changes_text changes.now) }
 {
     match changes {
-        [change] => write!(out, "{change}\n"),
+        [change] => {
+            push_change(out, change)?;
+            out.push_str("\n")
+        }
         _ => push_group(out, changes),
     }
 }
@@ -62,11 +44,60 @@ fn push_changes(out: &mut String, changes: &[Change]) -> Result<(), AllocError>
 fn push_group(out: &mut String, changes: &[Change]) -> Result<(), AllocError>
     ensures { OnOk result (string_bytes out.new ≡ string_bytes out.old ++ group_text changes.now) }
 {
-    write!(out, "group {}\n", changes.len())?;
+    push_numbered(out, "group ", changes.len() as u64)?;
+    out.push_str("\n")?;
     for change in changes {
-        write!(out, "  {change}\n")?;
+        push_group_line(out, change)?;
     }
     Ok(())
+}
+
+/// Adds the line of a change of a group.
+fn push_group_line(out: &mut String, change: &Change) -> Result<(), AllocError>
+    ensures { OnOk result (string_bytes out.new ≡ string_bytes out.old ++ group_line change.now) }
+{
+    out.push_str("  ")?;
+    push_change(out, change)?;
+    out.push_str("\n")
+}
+
+/// Adds the kind and the fields of a change; of a text its number of characters.
+fn push_change(out: &mut String, change: &Change) -> Result<(), AllocError>
+    ensures { OnOk result (string_bytes out.new ≡ string_bytes out.old ++ change_text change.now) }
+{
+    match change {
+        Change::Create { path, text } => {
+            push_named(out, "create ", path)?;
+            push_numbered(out, " ", text.len() as u64)
+        }
+        Change::Write { path, text } => {
+            push_named(out, "write ", path)?;
+            push_numbered(out, " ", text.len() as u64)
+        }
+        Change::Delete { path } => push_named(out, "delete ", path),
+        Change::OpenDoc { path } => push_named(out, "open ", path),
+        Change::Insert { path, at, text } => {
+            push_named(out, "insert ", path)?;
+            push_numbered(out, " ", *at as u64)?;
+            push_numbered(out, " ", text.len() as u64)
+        }
+        Change::Erase { path, from, to } => {
+            push_named(out, "erase ", path)?;
+            push_numbered(out, " ", *from as u64)?;
+            push_numbered(out, " ", *to as u64)
+        }
+        Change::Commit { path } => push_named(out, "commit ", path),
+        Change::Save { path } => push_named(out, "save ", path),
+        Change::CloseDoc { path } => push_named(out, "close ", path),
+        Change::Intake { file, stamp } => {
+            push_numbered(out, "intake ", *file as u64)?;
+            push_numbered(out, " ", *stamp)
+        }
+        Change::Move { path, to } => {
+            push_named(out, "move ", path)?;
+            push_named(out, " ", to)
+        }
+    }
 }
 
 impl fmt::Display for Refusal {
