@@ -32,6 +32,8 @@ impl Model for Node {
     ghost inverse = { λ n. record { at = n.at; size = n.size; len_low = n.len % 65536; len_high = n.len / 65536; role = n.role } };
 }
 
+const _: () = prove!(size_of::<Node>() == 12);
+
 impl Node {
     /// The node of a token. There is nothing in its group yet.
     pub(crate) fn of(token: &Token, role: Role) -> Node

@@ -5,7 +5,7 @@ use std::alloc::AllocError;
 use std::sync::atomic::{AtomicU64, Ordering};
 
 /// How far the workers of a workspace have come in a walk over its files, which they share: without a hint each tries the next one, so
-/// that they go in order of ids, and no two make the same file's data. Nothing that is answered depends on it.
+/// that they go in order of ids, and two seldom make the same file's data. Nothing that is answered depends on it.
 #[derive(Drop)]
 pub struct Cursor {
     next: AtomicU64,

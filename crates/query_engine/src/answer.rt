@@ -92,11 +92,15 @@ impl<T: Drop> RowList<T> {
         RowList { rows }
     }
 
-    /// Puts a row at the end. On an error the list is as before.
+    /// Puts a row at the end. On an error the list is as before. Many answers have one row, and stay till the run ends, so
+    /// there is room for no more than one at first.
     pub(crate) fn push(&mut self, row: T) -> Result<(), AllocError>
         ensures ok { OnOk result (self.new ≡ self.old ++ row ∷ []) }
         ensures err { OnErr result (self.new ≡ self.old) }
     {
+        if self.rows.is_empty() {
+            self.rows.reserve_exact(1)?;
+        }
         self.rows.push(row)?;
         Ok(())
     }
