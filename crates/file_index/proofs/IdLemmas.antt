@@ -41,15 +41,6 @@ all_removed P [] (suc at) all = tt
 all_removed P (x ∷ xs) zero all = all.1
 all_removed P (x ∷ xs) (suc at) all = (all.0, all_removed P xs at all.1)
 
--- an id above the bound of others goes behind them
-pub goes_behind : (bound id : ℕ) (ids : List ℕ) → AllByRecursion (λ other. other ≤ bound) ids → bound < id → IsPlaceOf id ids (Err (length ids))
-goes_behind bound id ids all above = (omega arith, (λ k inside. let below = at_most ids all k inside in omega (arith, below, above)), (λ k from inside. absurd (omega (arith, from, inside))))
-  where
-    at_most : (l : List ℕ) → AllByRecursion (λ other. other ≤ bound) l → (k : ℕ) → k < length l → get_or l k 0 ≤ bound
-    at_most [] each k inside = absurd (omega arith)
-    at_most (x ∷ xs) each zero inside = each.0
-    at_most (x ∷ xs) each (suc k) inside = at_most xs each.1 k (omega arith)
-
 -- the greater of a bound and of an id that is put in bounds them all
 pub bounded-insert : (bound wide at id : ℕ) (ids : List ℕ) → bound ≤ wide → id ≤ wide → AllByRecursion (λ other. other ≤ bound) ids → AllByRecursion (λ other. other ≤ wide) (insert ids at id)
 bounded-insert bound wide at id ids more fits all = all_inserted (λ other. other ≤ wide) ids at id fits (widened ids all)

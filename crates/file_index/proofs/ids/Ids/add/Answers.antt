@@ -14,11 +14,10 @@ invariant_of-self c = subst (λ l. IsStrictlySortedBy nat_cmp l × AllByRecursio
 pub invariant_of-self-in-Err : goal.invariant_of-self-in-Err
 invariant_of-self-in-Err c =
     let ids = c.self.inside.ids.items in
-    let gap = subst (λ l. IsPlaceOf c.args.id l (Err c.in-Err.at)) (sym c.self.view_is) c.in-Err.ensures in
-    (
+    let gap = subst (λ l. IsPlaceOf c.args.id l (Err c.in-Err.at)) (sym c.self.view_is) c.in-Err.ensures in (
       added_rises ids c.insert.new.self.items c.in-Err.at c.args.id c.self.invariant.0 gap c.in_ok-insert.ensures.items,
       subst (AllByRecursion (λ other. other ≤ c.max-self-inside.result)) (sym c.in_ok-insert.ensures.items)
-      (bounded-insert c.self.inside.bound c.max-self-inside.result c.in-Err.at c.args.id ids (omega (arith, c.max-self-inside.ensures)) (omega (arith, c.max-self-inside.ensures)) c.self.invariant.1),
+          (bounded-insert c.self.inside.bound c.max-self-inside.result c.in-Err.at c.args.id ids (omega (arith, c.max-self-inside.ensures)) (omega (arith, c.max-self-inside.ensures)) c.self.invariant.1),
     )
 
 pub returns-in_ok-insert-clause-added : goal.returns-in_ok-insert-clause-added

@@ -4,7 +4,7 @@ use Rattle.std.specs.Prelude.{Err, drop, take}
 use Rattle.std.specs.Ordering.{nat_cmp}
 use Rattle.std.specs.List.Sorted.{IsStrictlySortedBy}
 use Rattle.file_index.specs.Places.{IsPlaceOf}
-use Rattle.file_index.proofs.IdLemmas.{front_rises, tail_rises, goes_behind, goes_into_tail}
+use Rattle.file_index.proofs.IdLemmas.{front_rises, tail_rises, goes_into_tail}
 use Rattle.file_index.proofs.ids.Ids.place_of.Goals as goal
 
 pub place_among-requires : goal.place_among-requires

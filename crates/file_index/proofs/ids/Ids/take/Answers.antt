@@ -9,8 +9,7 @@ use Rattle.file_index.proofs.ids.Ids.take.Goals as goal
 
 pub invariant_of-self : goal.invariant_of-self
 invariant_of-self c =
-    let ids = c.self.inside.ids.items in
-    (
+    let ids = c.self.inside.ids.items in (
       subst (IsStrictlySortedBy nat_cmp) (sym c.remove.ensures.items) (remove_rises ids c.in-Ok.at c.self.invariant.0),
       subst (AllByRecursion (λ id. id ≤ c.self.inside.bound)) (sym c.remove.ensures.items) (all_removed (λ id. id ≤ c.self.inside.bound) ids c.in-Ok.at c.self.invariant.1),
     )
