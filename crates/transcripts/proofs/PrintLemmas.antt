@@ -28,3 +28,8 @@ indent-more depth = ap indent (one_more depth)
   where
     one_more : (n : ℕ) → n + 1 ≡ suc n
     one_more n = omega arith
+
+-- three pieces, one after another
+pub three_pieces : (out a b c out1 out2 out3 : List ℕ) → out1 ≡ out ++ a → out2 ≡ out1 ++ b → out3 ≡ out2 ++ c → out3 ≡ out ++ (a ++ b ++ c)
+three_pieces out a b c out1 out2 out3 e1 e2 e3 =
+    e3 ∙ ap (λ o. o ++ c) (e2 ∙ ap (λ o. o ++ b) e1 ∙ append_assoc out a b) ∙ append_assoc out (a ++ b) c

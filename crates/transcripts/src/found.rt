@@ -48,10 +48,9 @@ pub(crate) fn push_found(out: &mut String, found: &Answer) -> Result<(), AllocEr
 fn push_counts(out: &mut String, files: u32, docs: u32, unready: u32) -> Result<(), AllocError>
     ensures { OnOk result (string_bytes out.new ≡ string_bytes out.old ++ counts_line files docs unready) }
 {
-    push_numbered(out, "status files ", files as u64)?;
-    push_numbered(out, " open ", docs as u64)?;
-    push_numbered(out, " unready ", unready as u64)?;
-    out.push_str("\n")
+    write!(out, "status files {files}")?;
+    write!(out, " open {docs}")?;
+    write!(out, " unready {unready}\n")
 }
 
 /// Adds how many rows there are, in a line.
