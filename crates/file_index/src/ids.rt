@@ -4,16 +4,20 @@ ghost use Rattle.std.specs.Ordering.{nat_cmp};
 ghost use Rattle.std.specs.List.Sorted.{IsStrictlySortedBy};
 ghost use Rattle.file_index.specs.Places.{IsPlaceOf, has_id};
 
+use smallvec::SmallVec;
 use std::alloc::{AllocError, Global};
 use std::marker::Model;
 
 /// How many of the last ids are searched first: they lie in a cache line or two.
 const NEAR: usize = 16;
 
+/// How many ids lie in place: most keys have no more files.
+const FEW: usize = 4;
+
 /// The ids of files, each once, which rise.
 #[derive(Drop)]
 pub(crate) struct Ids {
-    ids: Vec<u32>,
+    ids: SmallVec<u32, FEW>,
     /// No id is greater. So one that comes behind all is put there, and those that stand are not read.
     bound: u32,
 }
@@ -36,7 +40,7 @@ impl Ids {
     pub(crate) fn of(alloc: Global, id: u32) -> Result<Ids, AllocError>
         ensures { IfOk result (λ ids. ids ≡ id ∷ []) }
     {
-        let mut ids = Vec::new(alloc);
+        let mut ids = SmallVec::new(alloc);
         ids.push(id)?;
         Ok(Ids { ids, bound: id })
     }
@@ -46,7 +50,7 @@ impl Ids {
         ensures ids { result.now ≡ self.now }
         ensures rises { IsStrictlySortedBy nat_cmp self.now }
     {
-        &self.ids
+        self.ids.as_slice()
     }
 
     /// Whether there is no id.
@@ -85,7 +89,10 @@ impl Ids {
         if self.bound < id {
             return Err(self.ids.len());
         }
-        let (front, tail) = self.ids.split_at(self.ids.len().saturating_sub(NEAR));
+        let (front, tail) = self
+            .ids
+            .as_slice()
+            .split_at(self.ids.len().saturating_sub(NEAR));
         match place_among(tail, id) {
             Ok(at) => Ok(front.len() + at),
             Err(0) => place_among(front, id),

@@ -7,5 +7,5 @@ use Rattle.file_index.proofs.ids.Ids.of.Goals as goal
 
 pub invariant_of-result : goal.invariant_of-result
 invariant_of-result c =
-    let one = sym (c.in_ok-push.ensures.items ∙ ap (λ l. l ++ c.args.id ∷ []) c.new-ids.ensures.items) in
+    let one = sym (c.in_ok-push.ensures.ok ∙ ap (λ l. l ++ c.args.id ∷ []) c.new-ids.ensures.items) in
     (subst (IsStrictlySortedBy nat_cmp) one (one_rises c.args.id), subst (AllByRecursion (λ id. id ≤ c.args.id)) one (omega arith, tt))
