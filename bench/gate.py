@@ -8,6 +8,8 @@
 A kit that keeps what passed proves only what changed: `--anew` counts all. While it runs, the prover's processes below it are
 looked at twice a second, and the most that was seen of each check is written to FILE, so each may have used a little more. What
 `rt ci` used with all that it started is exact. Run it on a quiet machine: what runs beside it isn't counted, but makes it slower.
+How fast the machine was is told by a loop in Python, timed before the run and behind it: on machines that take twice as long for
+the loop a gate costs twice as much.
 """
 import argparse
 import collections
@@ -21,6 +23,7 @@ import time
 TOP = pathlib.Path(__file__).resolve().parent.parent
 KINDS = ("proof", "tests", "compiled", "edits")
 TICKS = os.sysconf("SC_CLK_TCK")
+LOOP = "import time; began = time.process_time(); sum(i * i for i in range(3_000_000)); print(time.process_time() - began)"
 
 
 def kind_of(words, folder):
@@ -94,6 +97,17 @@ def print_table(log):
     print(f"\nsum of the checks: {sum(total.values()) / 60:.1f} processor minutes")
 
 
+def used_below():
+    """Processor seconds of all processes that this one started and waited for, with those below them."""
+    used = resource.getrusage(resource.RUSAGE_CHILDREN)
+    return used.ru_utime + used.ru_stime
+
+
+def loop_seconds(bound):
+    """Processor seconds of a fixed loop in Python, the least of five runs on the same processors."""
+    return min(float(subprocess.check_output([*bound, sys.executable, "-c", LOOP])) for _ in range(5))
+
+
 def main():
     parser = argparse.ArgumentParser()
     parser.add_argument("--cpus", help="processors to run on, as 0,1")
@@ -102,15 +116,17 @@ def main():
     given, words = parser.parse_known_args()
     if given.table:
         return print_table(given.table)
-    words = [*(["taskset", "-c", given.cpus] if given.cpus else []), "rt", "ci", *words]
-    began = time.time()
+    bound = ["taskset", "-c", given.cpus] if given.cpus else []
+    loop = loop_seconds(bound)
+    began, before = time.time(), used_below()
     with open(f"{given.log}.out", "w") as out:
-        run = subprocess.Popen(words, cwd=TOP, stdin=subprocess.DEVNULL, stdout=out, stderr=subprocess.STDOUT)
+        run = subprocess.Popen([*bound, "rt", "ci", *words], cwd=TOP, stdin=subprocess.DEVNULL, stdout=out, stderr=subprocess.STDOUT)
         watch(run, given.log)
-    used = resource.getrusage(resource.RUSAGE_CHILDREN)
+    ended, used = time.time(), used_below() - before
     print_table(given.log)
-    print(f"rt ci: status {run.returncode}, {(time.time() - began) / 60:.1f} minutes by the clock, "
-          f"{(used.ru_utime + used.ru_stime) / 60:.1f} processor minutes with all that it started")
+    print(f"rt ci: status {run.returncode}, {(ended - began) / 60:.1f} minutes by the clock, "
+          f"{used / 60:.1f} processor minutes with all that it started")
+    print(f"the loop in Python: {loop:.3f} s before, {loop_seconds(bound):.3f} s behind")
     last = pathlib.Path(f"{given.log}.out").read_text().rstrip().splitlines()
     print(last[-1] if last else "it printed nothing")
     sys.exit(run.returncode)
