@@ -2,6 +2,7 @@ pub mod Pieces
 pub mod KindLemmas
 pub mod SkipLemmas
 pub mod TokenLemmas
+pub mod WideLemmas
 pub mod WordLemmas
 pub mod WordListLemmas
 pub mod MaskLemmas

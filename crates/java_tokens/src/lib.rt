@@ -15,6 +15,7 @@ mod reserved;
 mod scan;
 mod token;
 mod tokenizer;
+mod wide;
 mod word_list;
 
 pub use gather::words;

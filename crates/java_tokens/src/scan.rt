@@ -8,6 +8,7 @@ ghost use Rattle.java_tokens.specs.Kind.{comment_end, text_block_mark, comment_r
 
 use crate::chars::Class;
 use crate::piece::Piece;
+use crate::wide::word_front;
 
 /// Where the longest run of a class that begins at a place ends.
 #[inline]
@@ -20,13 +21,16 @@ pub fn run_end(piece: &Piece, from: u32, class: Class) -> u32
     }
 }
 
-/// The same over ASCII, in a loop that only reads its bytes.
+/// The same over ASCII, in a loop that only reads its bytes; those of a word sixteen at a time.
 #[inline(always)]
 fn run_end_in_bytes(bytes: &[u8], from: u32, class: Class) -> u32
     requires { length bytes.now ≤ max_chars }
     ensures { result ≡ from + prefix_len (is_in class) (drop from bytes.now) }
 {
-    let mut at = from;
+    let mut at = match class {
+        Class::Word => word_front(bytes, from),
+        _ => from,
+    };
     while let Some(byte) = bytes.get(at as usize) {
         if !class.contains(*byte as char) {
             break;
