@@ -7,8 +7,8 @@
     bench/pairs.py --cpus 0 --pairs 15 ..            on these processors, so many pairs (9)
 
 It prints the lower quartile, the median and the upper quartile of the ratios of NEW to OLD, of seconds, processor seconds and
-peak memory, and the least that each took. On a shared machine, whose speed may change twofold within a second, the median came out
-within a few in a hundred each time where the least of each program did not.
+peak memory, and the least that each took. On shared machines, whose speed changed twofold within a second, medians of eleven pairs
+lay within a tenth of each other, and the least of each program's times did not.
 """
 import argparse
 import os

@@ -6,9 +6,9 @@
     bench/turns.py PROGRAM BASE SCRIPT COUNT --code WORD  their machine instructions, with how often a turn runs each
     bench/turns.py PROGRAM SCRIPT                         the whole script's, in a hundred of all
 
-It wants `valgrind` (apt-get install -y valgrind), and takes fifty times what the program takes. Counts are the same to a part in a
-thousand on any machine; caches, branches that go wrong, page faults and atomic instructions are left out. A list's rare moves to
-more room weigh too much behind a short script. PROGRAM may be one of bench/unproved.py.
+It wants `valgrind` (apt-get install -y valgrind), and takes some fifty times what the program takes. Counts are the same to a part
+in a thousand whatever else the machine does; what caches, branches that go wrong, page faults and atomic instructions cost is left
+out. A list's rare moves to more room weigh too much behind a short script. PROGRAM may be one of bench/unproved.py.
 """
 import argparse
 import collections
@@ -62,6 +62,7 @@ class Counts:
 
 
 def counted(program, script):
+    """What callgrind counts of a program that reads a script."""
     with tempfile.NamedTemporaryFile("r") as file, open(script, "rb") as source:
         words = ["valgrind", "--tool=callgrind", "--dump-instr=yes", f"--callgrind-out-file={file.name}", program]
         run = subprocess.run(words, stdin=source, stdout=subprocess.DEVNULL, stderr=subprocess.PIPE, check=False)
