@@ -1,5 +1,5 @@
 //! The token by which one thread uses a lock.
-ghost use Rattle.std.specs.Prelude.{◌≡◌, ◌<◌, ◌≤◌, Some, None, length};
+ghost use Rattle.std.specs.Prelude.{◌≡◌, ◌<◌, ◌≤◌, ◌%◌, Some, None, length};
 ghost use Rattle.std.proofs.Props.{props};
 
 use crate::home::Home;
@@ -13,6 +13,8 @@ pub struct Pass<H: Home> {
     pub(crate) number: u32,
     // How many places the lock has.
     pub(crate) places: u32,
+    // Its own place, which a read asks for at each of its steps.
+    pub(crate) place: u32,
     // How many numbers it has given, if it is number 0.
     pub(crate) drawn: u32,
     // How many passes were met into it.
@@ -26,6 +28,7 @@ pub struct Pass<H: Home> {
     ghost few: { drawn ≤ 65536 },
     ghost sees: { seat.me.0.sights ≡ sights },
     ghost spread: { seat.me.0.places ≡ places },
+    ghost placed: { place ≡ number % places },
     ghost some_place: { 0 < places },
     ghost few_places: { places ≤ 32 },
 }
@@ -53,7 +56,7 @@ impl<H: Home> Pass<H> {
         ensures own { result ≡ own_place (view_of self.now).places (view_of self.now).number }
         ensures within { result < 32 }
     {
-        (self.number % self.places) as usize
+        self.place as usize
     }
 
     /// How many places its lock has.

@@ -7,7 +7,7 @@ ghost use Rattle.decl_parser.specs.Role.{is_marked, role_among, word_role};
 
 use crate::role::Role;
 use ide_text::Text;
-use java_tokens::{Token, has_bytes, spells};
+use java_tokens::{Token, spells};
 
 /// What a word is to the rules. Only words that begin with its first character are looked at.
 pub(crate) fn word_role(text: &Text, token: &Token) -> Role
@@ -44,6 +44,14 @@ fn role_of_bytes(bytes: &[u8], words: &[(&str, Role)]) -> Role
         }
     }
     Role::Identifier
+}
+
+/// Whether a word has just these bytes. Lengths are compared first, which differ for most words.
+#[inline]
+fn has_bytes(word: &str, bytes: &[u8]) -> bool
+    ensures { result ≡ bytes_eq word.now bytes.now }
+{
+    word.len() == bytes.len() && word.as_bytes() == bytes
 }
 
 /// The same of a token in any text.

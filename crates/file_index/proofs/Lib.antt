@@ -4,3 +4,5 @@ pub mod TableLemmas
 pub mod WalkLemmas
 pub mod SortLemmas
 pub mod PlaceLemmas
+pub mod SlotLemmas
+pub mod FileLemmas

@@ -4,3 +4,4 @@ pub mod Rows
 -- Internal: where the files stand that may have rows under a key.
 pub mod Places
 pub mod Walk
+pub mod Slots

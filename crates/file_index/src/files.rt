@@ -1,24 +1,25 @@
-//! The rows of each file.
-ghost use Rattle.std.specs.Prelude.{◌≡◌, ℕ, List, [], Bool, true, if◌then◌else◌, is_some, unwrap_or, OnOk, IfOk, ◌==◌, false, length, Some};
+//! The rows of each file, at the place of its id.
+ghost use Rattle.std.specs.Prelude.{◌≡◌, ◌<◌, ℕ, List, [], Bool, true, if◌then◌else◌, is_some, unwrap_or, OnOk, IfOk, ◌==◌, false, length, Some, None, slice_set, slice_index_or};
+ghost use Rattle.std.specs.Option.{option_copied};
 ghost use Rattle.std.specs.Ordering.{nat_cmp};
 ghost use Rattle.std.specs.List.Sorted.{IsStrictlySortedBy};
-ghost use Rattle.std.specs.BTreeMap.{get, is_at};
-ghost use Rattle.std.specs.Map.{keys_of};
+ghost use Rattle.std.specs.BTreeMap.{is_at};
+ghost use Rattle.std.specs.Map.{lookup};
 ghost use Rattle.file_index.specs.KeyRows.{has_key, rows_with};
-ghost use Rattle.file_index.specs.Places.{has_id};
+ghost use Rattle.file_index.specs.Slots.{standing};
 ghost use Rattle.file_index.specs.Walk.{HasAllFiles, walked};
 ghost use Rattle.file_index.specs.Rows.{is_known, rows_of, rows_at, rows_in_file, with_rows, without_file, IsKnownByRows};
 
 use crate::key_rows::copy_rows;
 use crate::{Indexer, KeyRows, Place, RowWalk};
 use std::alloc::{AllocError, Global};
-use std::collections::BTreeMap;
 use std::marker::Model;
+use std::mem;
 
-/// The files that are known, by rising ids, with their rows.
+/// The files that are known, each with its rows at the place of its id. Seen as a list of them, by rising ids.
 #[derive(Drop)]
 pub(crate) struct Files<K: Ord, V: Place> {
-    rows: BTreeMap<u32, KeyRows<K, V>>,
+    slots: Vec<Option<KeyRows<K, V>>>,
 }
 
 impl<K: Ord, V: Place> Model for Files<K, V> {
@@ -26,13 +27,9 @@ impl<K: Ord, V: Place> Model for Files<K, V> {
 
     ghost Value = { List (ℕ × List (K × V)) };
 
-    ghost use Rattle.std.specs.Ordering.{nat_cmp};
-    ghost use Rattle.std.specs.Map.{keys_of};
-    ghost use Rattle.std.specs.List.Sorted.{IsStrictlySortedBy};
+    ghost use Rattle.file_index.specs.Slots.{standing};
 
-    ghost view = { λ f. f.rows.entries };
-
-    ghost invariant = { λ f. IsStrictlySortedBy nat_cmp (keys_of f.rows.entries) };
+    ghost view = { λ f. standing f.slots.items };
 }
 
 impl<K: Ord, V: Place> Files<K, V> {
@@ -41,7 +38,7 @@ impl<K: Ord, V: Place> Files<K, V> {
         ensures { result ≡ [] }
     {
         Files {
-            rows: BTreeMap::new(alloc),
+            slots: Vec::new(alloc),
         }
     }
 
@@ -49,17 +46,24 @@ impl<K: Ord, V: Place> Files<K, V> {
     pub(crate) fn at(&self, file: u32, key: &K) -> &[(K, V)]
         ensures { result.now ≡ rows_with K.eq key.now (rows_in_file file self.now) }
     {
-        match self.rows.get(&file) {
+        match self.rows(file) {
             Some(rows) => rows.at(key),
             None => &[],
         }
+    }
+
+    /// The rows of a file, if it is known.
+    fn rows(&self, file: u32) -> Option<&KeyRows<K, V>>
+        ensures { option_copied result ≡ lookup (is_at (nat_cmp file)) self.now }
+    {
+        standing_at(&self.slots, file)
     }
 
     /// Whether a row of a file has a key.
     pub(crate) fn has_key(&self, file: u32, key: &K) -> bool
         ensures { result ≡ has_key K.eq key.now (rows_in_file file self.now) }
     {
-        match self.rows.get(&file) {
+        match self.rows(file) {
             Some(rows) => rows.has_key(key),
             None => false,
         }
@@ -73,7 +77,7 @@ impl<K: Ord, V: Place> Files<K, V> {
         ensures by_files { (others : List ℕ) → IsStrictlySortedBy nat_cmp others → HasAllFiles K.eq key.now self.now others
             → result ≡ walked K.eq key.now self.now others }
     {
-        let _ = &self.rows;
+        let _ = &self.slots;
         RowWalk::new(self, ids, key)
     }
 
@@ -87,8 +91,9 @@ impl<K: Ord, V: Place> Files<K, V> {
         ensures known { OnOk result (is_known file self.new ≡ true) }
         ensures stays { (j : ℕ) → is_known j self.old ≡ true → is_known j self.new ≡ true }
     {
-        if !self.rows.contains_key(&file) {
-            self.rows.insert(file, KeyRows::new(alloc))?;
+        make_place(&mut self.slots, file)?;
+        if self.rows(file).is_none() {
+            fill(&mut self.slots, file, KeyRows::new(alloc));
         }
         Ok(())
     }
@@ -104,10 +109,9 @@ impl<K: Ord, V: Place> Files<K, V> {
         ensures each { (j : ℕ) → rows_in_file j self.new ≡ (if j == file then new else rows_in_file j self.old) }
         ensures stays { (j : ℕ) → is_known j self.old ≡ true → is_known j self.new ≡ true }
     {
-        match self.rows.insert(file, new) {
-            Ok(Some(old)) => old,
-            Ok(None) => unreachable!(),
-            Err(_) => unreachable!(),
+        match write(&mut self.slots, file, new) {
+            Some(old) => old,
+            None => unreachable!(),
         }
     }
 
@@ -121,7 +125,8 @@ impl<K: Ord, V: Place> Files<K, V> {
         ensures each { (j : ℕ) → rows_in_file j self.new ≡ (if j == file then [] else rows_in_file j self.old) }
         ensures stays { (j : ℕ) → is_known j self.old ≡ true → is_known j self.new ≡ true }
     {
-        if !self.rows.contains_key(&file) {
+        let _ = &self.slots;
+        if self.rows(file).is_none() {
             return KeyRows::new(alloc);
         }
         self.put(file, KeyRows::new(alloc))
@@ -137,7 +142,7 @@ impl<K: Ord, V: Place> Files<K, V> {
         ensures stays { (j : ℕ) → (j == file) ≡ false → is_known j self.old ≡ true → is_known j self.new ≡ true }
         ensures forgotten { IsKnownByRows file self.new }
     {
-        let _ = &self.rows;
+        let _ = &self.slots;
         if self.has_none(file) {
             self.take(file);
         }
@@ -147,7 +152,7 @@ impl<K: Ord, V: Place> Files<K, V> {
     fn has_none(&self, file: u32) -> bool
         ensures { result ≡ (length (rows_in_file file self.now) == 0) }
     {
-        match self.rows.get(&file) {
+        match self.rows(file) {
             Some(rows) => rows.is_empty(),
             None => true,
         }
@@ -161,8 +166,74 @@ impl<K: Ord, V: Place> Files<K, V> {
         ensures stays { (j : ℕ) → (j == file) ≡ false → is_known j self.old ≡ true → is_known j self.new ≡ true }
         ensures forgotten { is_known file self.new ≡ false }
     {
-        self.rows.remove(&file)
+        empty(&mut self.slots, file)
     }
+}
+
+/// Makes a place for a file.
+fn make_place<K: Ord + Drop, V: Place + Drop>(
+    slots: &mut Vec<Option<KeyRows<K, V>>>,
+    file: u32,
+) -> Result<(), AllocError>
+    ensures same { standing slots.new.items ≡ standing slots.old.items }
+    ensures place { OnOk result (file < length slots.new.items) }
+{
+    for _ in slots.len()..file as usize + 1 {
+        slots.push(None)?;
+    }
+    Ok(())
+}
+
+/// What stands at the place of a file.
+fn standing_at<K: Ord, V: Place>(
+    slots: &[Option<KeyRows<K, V>>],
+    file: u32,
+) -> Option<&KeyRows<K, V>>
+    ensures { option_copied result ≡ slice_index_or slots.now file None }
+{
+    match slots.get(file as usize) {
+        Some(Some(rows)) => Some(rows),
+        _ => None,
+    }
+}
+
+/// Writes rows at the place of a file, and gives back what stood there.
+fn write<K: Ord, V: Place>(
+    slots: &mut Vec<Option<KeyRows<K, V>>>,
+    file: u32,
+    rows: KeyRows<K, V>,
+) -> Option<KeyRows<K, V>>
+    requires { file < length slots.old.items }
+    ensures old { result ≡ slice_index_or slots.old.items file None }
+    ensures slots { slots.new.items ≡ slice_set slots.old.items file (Some rows) }
+{
+    mem::replace(&mut slots[file as usize], Some(rows))
+}
+
+/// Writes rows at the place of a file.
+fn fill<K: Ord + Drop, V: Place + Drop>(
+    slots: &mut Vec<Option<KeyRows<K, V>>>,
+    file: u32,
+    rows: KeyRows<K, V>,
+)
+    requires { file < length slots.old.items }
+    ensures { slots.new.items ≡ slice_set slots.old.items file (Some rows) }
+{
+    slots[file as usize] = Some(rows);
+}
+
+/// Empties the place of a file, if it has one, and gives back what stood there.
+fn empty<K: Ord, V: Place>(
+    slots: &mut Vec<Option<KeyRows<K, V>>>,
+    file: u32,
+) -> Option<KeyRows<K, V>>
+    ensures old { result ≡ slice_index_or slots.old.items file None }
+    ensures slots { slots.new.items ≡ slice_set slots.old.items file None }
+{
+    if (file as usize) < slots.len() {
+        return mem::replace(&mut slots[file as usize], None);
+    }
+    None
 }
 
 /// The same files once more.
@@ -173,25 +244,36 @@ pub(crate) fn copy_files<I: Indexer>(
 ) -> Result<Files<I::Key, I::Value>, AllocError>
     ensures { IfOk result (λ copy. copy ≡ files.now) }
 {
-    let mut rows = BTreeMap::new(alloc);
-    for (file, own) in &files.rows {
-        copy_file(alloc, indexer, &mut rows, *file, own)?;
-    }
-    Ok(Files { rows })
+    Ok(Files {
+        slots: copy_slots(alloc, indexer, &files.slots)?,
+    })
 }
 
-/// Puts a copy of a file's rows in.
-fn copy_file<I: Indexer>(
+/// What stands at all places once more.
+fn copy_slots<I: Indexer>(
     alloc: Global,
     indexer: &I,
-    rows: &mut BTreeMap<u32, KeyRows<I::Key, I::Value>>,
-    file: u32,
-    own: &KeyRows<I::Key, I::Value>,
-) -> Result<(), AllocError>
-    ensures rows { OnOk result ((j : ℕ) → get nat_cmp rows.new j ≡ (if is_at (nat_cmp file) j then Some own.now else get nat_cmp rows.old j)) }
-    ensures ordered { OnOk result (IsStrictlySortedBy nat_cmp (keys_of rows.new.entries)) }
+    slots: &[Option<KeyRows<I::Key, I::Value>>],
+) -> Result<Vec<Option<KeyRows<I::Key, I::Value>>>, AllocError>
+    ensures { IfOk result (λ copy. copy.items ≡ slots.now) }
 {
-    let copy = copy_rows(alloc, indexer, own)?;
-    rows.insert(file, copy)?;
-    Ok(())
+    let mut copy = Vec::with_capacity(alloc, slots.len())?;
+    for slot in slots {
+        copy.push(copy_slot(alloc, indexer, slot)?)?;
+    }
+    Ok(copy)
+}
+
+/// What stands at a place once more.
+fn copy_slot<I: Indexer>(
+    alloc: Global,
+    indexer: &I,
+    slot: &Option<KeyRows<I::Key, I::Value>>,
+) -> Result<Option<KeyRows<I::Key, I::Value>>, AllocError>
+    ensures { IfOk result (λ copy. copy ≡ slot.now) }
+{
+    match slot {
+        Some(rows) => Ok(Some(copy_rows(alloc, indexer, rows)?)),
+        None => Ok(None),
+    }
 }

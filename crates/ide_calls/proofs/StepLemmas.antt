@@ -27,10 +27,24 @@ use Rattle.ide_calls.specs.declared.step.Step.TheVariants.{Idle, Gone, Stale, Re
 use Rattle.ide_calls.specs.declared.judge.Judged.TheVariants.{Prepared}
 use Rattle.ide_calls.specs.declared.first_look.Look.{Look}
 use Rattle.ide_calls.specs.Choice.{file_to_index, IsWork, IsChoice, task_of_job}
-use Rattle.ide_calls.specs.Step.{HasTried, HasStepped}
+use Rattle.ide_calls.specs.Step.{IsIdle, IsAnswer, HasTried, HasStepped}
 use Rattle.ide_calls.specs.Reads.{HasReadOnce}
 use Rattle.ide_calls.specs.Intake.{HasLooked, HasJudged, HasAnswered, IsAnsweredBy}
-use Rattle.ide_calls.proofs.MadeLemmas.{made_behind_read, made_later, made_within, reads_within}
+use Rattle.ide_calls.proofs.MadeLemmas.{found_by_read, made_behind_read, made_later, made_within, reads_within}
+
+-- where the first read found no unready file
+pub idle : (seat : ℕ) (hint : Option ℕ) (v w : View Entry) (look : Look) → HasLooked seat hint v w look → look.job ≡ None → IsIdle v w look.at
+idle seat hint v w look looked none = record {
+  found = found_by_read v w looked.read;
+  whole = looked.whole;
+  reads = looked.read.reads ∙ ap (λ n. v.reads ++ n ∷ []) (sym looked.whole);
+  smart = subst (IsChoice (fold w.seen) seat hint) none looked.choice;
+}
+
+-- an answer that makes nothing is of what its one read found
+pub answered_by_read : (seat file stamp : ℕ) (v w : View Entry) (step : Answer) → HasReadOnce v w → IsAnswer seat file stamp w.seen [] step
+    → HasAnswered seat file stamp v w step
+answered_by_read seat file stamp v w step read is = record { last = w.seen; own = []; reads = read.reads; made = found_by_read v w read; answer = is }
 
 -- data that were judged to fit went in
 pub taken_in : (seat file stamp len : ℕ) (steps : List Step) (changes : List Change) (v u w : View Entry)

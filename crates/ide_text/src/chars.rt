@@ -1,5 +1,7 @@
 //! How the characters of a text lie in memory: a byte each where all of them are ASCII, as in most sources.
 ghost use Rattle.std.specs.Prelude.{◌≡◌, ◌≤◌, ◌<◌, ◌+◌, ◌-◌, ◌++◌, IsTrue, IfOk, IfSome, OnOk, Some, length, slice_get, take, drop, vec_len, vec_capacity, encode_utf8_all};
+ghost use Rattle.std.specs.Char.{is_ascii};
+ghost use Rattle.std.specs.List.{list_all};
 ghost use Rattle.std.specs.Str.{chars, all_scalars, IsAscii};
 ghost use Rattle.std.specs.String.{string_bytes};
 ghost use Rattle.ide_text.specs.Chars.{chars_of, IsKept};
@@ -176,8 +178,10 @@ pub(crate) fn joined(alloc: Global, front: &[char], back: &[char]) -> Result<Cha
     ensures kept { IfOk result IsKept }
 {
     let len = front.len() + back.len();
-    let mut bytes = Vec::with_capacity(alloc, len)?;
-    if add_ascii(&mut bytes, front) && add_ascii(&mut bytes, back) {
+    if are_ascii(front) && are_ascii(back) {
+        let mut bytes = Vec::with_capacity(alloc, len)?;
+        add_ascii(&mut bytes, front);
+        add_ascii(&mut bytes, back);
         return Ok(Chars::Ascii(unsafe { String::from_utf8_unchecked(bytes) }));
     }
     let mut chars = Vec::with_capacity(alloc, len)?;
@@ -186,21 +190,29 @@ pub(crate) fn joined(alloc: Global, front: &[char], back: &[char]) -> Result<Cha
     Ok(Chars::Any(chars))
 }
 
-/// Adds a byte for each character up to the first that isn't ASCII, and answers whether there is none. There is room for all.
-fn add_ascii(bytes: &mut Vec<u8>, chars: &[char]) -> bool
-    requires { vec_len bytes.old + length chars.now ≤ vec_capacity bytes.old }
-    ensures all { IsTrue result → bytes.new.items ≡ bytes.old.items ++ chars.now }
+/// Whether all characters are ASCII. It stops at none, so that several are looked at at once.
+fn are_ascii(chars: &[char]) -> bool
+    ensures { result ≡ list_all is_ascii chars.now }
+{
+    let mut all = true;
+    for c in chars {
+        all &= c.is_ascii();
+    }
+    all
+}
+
+/// Adds a byte for each character. There is room for all.
+fn add_ascii(bytes: &mut Vec<u8>, chars: &[char])
+    requires ascii { IsTrue (list_all is_ascii chars.now) }
+    requires room { vec_len bytes.old + length chars.now ≤ vec_capacity bytes.old }
+    ensures all { bytes.new.items ≡ bytes.old.items ++ chars.now }
     ensures ascii { IsAscii bytes.old.items → IsAscii bytes.new.items }
     ensures room { vec_capacity bytes.new ≡ vec_capacity bytes.old }
-    ensures len { IsTrue result → vec_len bytes.new ≡ vec_len bytes.old + length chars.now }
+    ensures len { vec_len bytes.new ≡ vec_len bytes.old + length chars.now }
 {
     for c in chars {
-        if !c.is_ascii() {
-            return false;
-        }
         bytes.push_reserved(*c as u8);
     }
-    true
 }
 
 /// How some characters are spelt.

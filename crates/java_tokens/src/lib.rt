@@ -23,7 +23,6 @@ pub use identifier::{is_identifier, is_identifier_at, is_word, spells};
 pub use kind::Kind;
 pub use name_places::places;
 pub use place::Place;
-pub use reserved::has_bytes;
 pub use token::Token;
 pub use tokenizer::tokens;
 pub use word_list::WordList;

@@ -8,6 +8,7 @@ ghost use Rattle.java_tokens.specs.Identifier.{is_reserved};
 use crate::piece::Piece;
 
 /// Whether the characters are those of a word that is no identifier.
+#[inline(always)]
 #[tactic(auto, unfolding(crate::specs::Identifier::is_reserved))]
 pub fn is_reserved(piece: &Piece) -> bool
     ensures { result ≡ is_reserved piece.now }
@@ -61,6 +62,7 @@ fn reserved_from(first: char) -> &'static [&'static str]
 }
 
 /// Whether the characters are those of one of these ASCII words.
+#[inline(always)]
 fn spells_any(piece: &Piece, words: &[&str]) -> bool
     ensures { result ≡ list_any (λ word. bytes_eq word.now piece.now) words.now }
 {
@@ -71,23 +73,18 @@ fn spells_any(piece: &Piece, words: &[&str]) -> bool
 }
 
 /// Whether these bytes are those of one of these words.
+#[inline(always)]
 fn is_any_of(bytes: &[u8], words: &[&str]) -> bool
     ensures { result ≡ list_any (λ word. bytes_eq word.now bytes.now) words.now }
 {
     for word in words {
-        if has_bytes(word, bytes) {
-            return true;
+        if word.len() == bytes.len() {
+            if word.as_bytes() == bytes {
+                return true;
+            }
         }
     }
     false
-}
-
-/// Whether a word has just these bytes. Lengths are compared first, which differ for most words.
-#[inline]
-pub fn has_bytes(word: &str, bytes: &[u8]) -> bool
-    ensures { result ≡ bytes_eq word.now bytes.now }
-{
-    word.len() == bytes.len() && word.as_bytes() == bytes
 }
 
 /// Whether the characters of any text are those of one of these ASCII words.

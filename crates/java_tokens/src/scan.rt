@@ -11,7 +11,7 @@ use crate::piece::Piece;
 use crate::wide::word_front;
 
 /// Where the longest run of a class that begins at a place ends.
-#[inline]
+#[inline(always)]
 pub fn run_end(piece: &Piece, from: u32, class: Class) -> u32
     ensures { result ≡ from + prefix_len (is_in class) (drop from piece.now) }
 {

@@ -14,7 +14,7 @@ use crate::token::Token;
 use ide_text::Text;
 use std::alloc::{AllocError, Global};
 
-/// The tokens of a text, in order, with room for no more. Linear in the text.
+/// The tokens of a text, in order. Linear in the text.
 pub fn tokens(alloc: Global, text: &Text) -> Result<Vec<Token>, AllocError>
     ensures value { IfOk result (λ list. list.items ≡ tokens_of text.now) }
 
@@ -30,11 +30,11 @@ pub fn tokens(alloc: Global, text: &Text) -> Result<Vec<Token>, AllocError>
         list.push(token)?;
         at = token.at() + token.len();
     }
-    list.shrink_to_fit();
     Ok(list)
 }
 
 /// The first token that begins at a place or after it, if there is one.
+#[inline(always)]
 pub fn next_token(piece: &Piece, from: u32) -> Option<Token>
     requires { from ≤ length piece.now }
     ensures some { IfSome result (λ t. tokens_past 0 from (drop from piece.now)
@@ -53,6 +53,7 @@ pub fn next_token(piece: &Piece, from: u32) -> Option<Token>
 }
 
 /// The kind of the token that begins at a place.
+#[inline(always)]
 #[tactic(auto, unfolding(crate::specs::Kind::kind_at))]
 fn kind_at(piece: &Piece, at: u32) -> Kind
     ensures { result ≡ kind_at (drop at piece.now) }
@@ -64,7 +65,7 @@ fn kind_at(piece: &Piece, at: u32) -> Kind
 }
 
 /// The kind of a token, by its first character and the place behind that.
-#[inline]
+#[inline(always)]
 #[tactic(auto, unfolding(crate::specs::Kind::kind_at))]
 fn kind_from(first: char, piece: &Piece, behind: u32) -> Kind
     requires { behind ≤ max_chars }
@@ -134,6 +135,7 @@ fn digit_at(piece: &Piece, at: u32) -> bool
 }
 
 /// Where the token of a kind that begins at a place ends.
+#[inline(always)]
 #[tactic(auto, unfolding(crate::specs::Kind::length_of))]
 fn token_end(piece: &Piece, at: u32, kind: Kind) -> u32
     requires { at ≤ max_chars }

@@ -1,6 +1,9 @@
 use Rattle.action_lock.proofs.AdvanceLemmas.{advances_on}
-use Rattle.ide_calls.proofs.StepLemmas.{stepped}
+use Rattle.ide_calls.proofs.StepLemmas.{idle, stepped}
 use Rattle.ide_calls.proofs.stepping.index_step.Goals as goal
+
+pub returns-in_default-clause-ok : goal.returns-in_default-clause-ok
+returns-in_default-clause-ok g c = idle c.number-seat.result c.args.hint _ _ _ c.in_ok-at.ensures.ok c.in_default.is
 
 pub returns-clause-ok : goal.returns-clause-ok
 returns-clause-ok g c =

@@ -1,12 +1,25 @@
-use Rattle.std.proofs.Common.{◌≡◌, rules}
+use Rattle.std.proofs.Common.{◌≡◌, rules, ap, sym, subst, ◌∙◌}
+use Rattle.write_history.specs.Fold.{IsLegal}
 use Rattle.action_lock.specs.Passes.{view_of}
 use Rattle.action_lock.specs.Steps.{finished}
 use Rattle.ide_calls.proofs.AcceptedLemmas.{few_own}
+use Rattle.ide_calls.proofs.writing.write_entry.Given.{Over}
 use Rattle.ide_calls.proofs.writing.write_entry.Goals as goal
+
+entered : (g : Over) (c : goal.After-finish g) → view_of c.finish.new.self ≡ finished c.args.entry (view_of c.args.pass.now)
+entered g c = c.finish.ensures.view c.accept.new.self c.args.entry (search rules) (search rules) ∙ search rules
+
+pub returns-in-Ok-clause-ok : goal.returns-in-Ok-clause-ok
+returns-in-Ok-clause-ok g c = entered g c
+
+pub returns-in-Ok-clause-current : goal.returns-in-Ok-clause-current
+returns-in-Ok-clause-current g c = ap (λ v. v.current) (entered g c) ∙ c.requires.current
+
+pub returns-in-Ok-clause-legal : goal.returns-in-Ok-clause-legal
+returns-in-Ok-clause-legal g c = subst IsLegal (sym (ap (λ v. v.seen) (entered g c))) (search rules)
 
 pub returns-in-Ok-clause-few : goal.returns-in-Ok-clause-few
 returns-in-Ok-clause-few g c =
     let learns = c.write.ensures.claimed.learns in
-    let is : view_of c.finish.new.self ≡ finished c.args.entry (view_of c.args.pass.now) = search rules in
     few_own c.histories_go_on.ensures.entries (view_of c.args.pass.now) _ c.args.entry _ (learns.mine c.args.entry.seat c.requires.own)
-    (learns.current c.requires.current) c.requires.ready.entries is
+    (learns.current c.requires.current) c.requires.ready.entries (entered g c)

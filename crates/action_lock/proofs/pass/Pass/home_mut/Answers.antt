@@ -13,6 +13,6 @@ slot_mut-requires g c = let home = c.requires.home in
 pub returns : goal.returns
 returns g c = let now = c.args.self.now in
     rw c.in-Home.is (
-      (refl, λ w. one_pass now.seat _ _ (Home w) now.number now.places now.drawn now.met now.sights now.share (ap (λ n. n - 1) c.places-last.ensures.is) _ _ _ _ _ _ _ _ _ _ _ _ _ _ _ _),
+      (refl, λ w. one_pass now.seat _ _ (Home w) now.number now.places now.place now.drawn now.met now.sights now.share (ap (λ n. n - 1) c.places-last.ensures.is) _ _ _ _ _ _ _ _ _ _ _ _ _ _ _ _ _ _),
       record { writes_back = tt; value = in_hand _ _ _ _ c.requires.hand (c.slot_mut.ensures.value ∙ (λ k. (c.places-last.ensures.is k - 1, c.in-Home.is k) ∷ rest c.args.self.now.seat.me.1)) },
     )
