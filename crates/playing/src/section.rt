@@ -18,10 +18,10 @@ use std::sync::Wait;
 use std::thread::Threads;
 use transcripts::{Loaded, Records};
 
-/// Does the commands of a section in order, and adds a record for each. `loads` is what was read for its lines, nothing
-/// where there is no more. `seat` is the pass's number; that of a lane has the gate told `Start` before each command.
-/// `beside` says whether another section runs beside this one: only then may a soft question be given up. When memory
-/// runs out, what was made so far stays. May block.
+/// Does the commands of a section in order, and adds a record for each, for all of which room is made first. `loads` is what
+/// was read for its lines, nothing where there is no more. `seat` is the pass's number; that of a lane has the gate told
+/// `Start` before each command. `beside` says whether another section runs beside this one: only then may a soft question be
+/// given up. When memory runs out, what was made so far stays. May block.
 pub fn do_section<R: Threads + Wait, G: Gate>(
     rt: &R,
     alloc: Global,
@@ -41,6 +41,7 @@ pub fn do_section<R: Threads + Wait, G: Gate>(
     ensures advances { Advances (ide_view pass.old) (ide_view pass.new) }
     ensures done { OnOk result (HasAdded beside seat lines.now loads.now (ide_view pass.old) (ide_view pass.new) records.old records.new) }
 {
+    records.reserve(lines.len())?;
     let nothing = Loaded::Nothing;
     let mut left = loads;
     for line in lines {

@@ -29,6 +29,7 @@ pub fn read_loads<T: Tree>(
     ensures quiet { result ≢ Err LoadRefusal.TreeFault → T.faults tree.new ≡ T.faults tree.old }
 {
     let mut loads = Vec::new(alloc);
+    loads.reserve_exact(lines.len())?;
     for line in lines {
         let load = read_load(alloc, &line.command, tree)?;
         loads.push(load)?;

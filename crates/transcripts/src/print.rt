@@ -11,16 +11,29 @@ use crate::{Answer, Played, Record};
 use std::alloc::{AllocError, Global};
 use write_history::{History, Refusal, push_line, push_numbered};
 
+/// The bytes that a line of a transcript seldom goes past.
+const USUAL_LINE: usize = 32;
+
 /// The transcript: the history, then one record for each command, in UTF-8.
 pub fn transcript(alloc: Global, played: &Played) -> Result<Vec<u8>, AllocError>
     ensures { IfOk result (λ bytes. bytes.items
         ≡ transcript_of (record { history = played.now.history.entries; records = played.now.records; last = played.now.last })) }
 {
     let mut out = String::new(alloc);
+    out.reserve(usual_len(played))?;
     push_history(&mut out, &played.history)?;
     push_records(&mut out, played.records.as_slice())?;
     push_records(&mut out, played.last.as_slice())?;
     Ok(out.into_bytes())
+}
+
+/// The bytes for which a transcript makes room at first, so that most never have to be moved: a line for each entry and record.
+fn usual_len(played: &Played) -> usize {
+    let entries = played.history.len() as usize;
+    let before = played.records.as_slice().len();
+    let last = played.last.as_slice().len();
+    let lines = entries.saturating_add(before).saturating_add(last);
+    lines.saturating_mul(USUAL_LINE)
 }
 
 /// The summary: what the commands of the last section were answered, without the numbers of lines and prefixes.

@@ -83,6 +83,13 @@ impl Records {
         }
     }
 
+    /// Makes room for so many records more, or for none where there is no memory.
+    pub fn reserve(&mut self, more: usize) -> Result<(), AllocError>
+        ensures { self.new ≡ self.old }
+    {
+        self.records.reserve_exact(more)
+    }
+
     /// Adds a record, or changes nothing where there is no memory.
     pub fn push(&mut self, record: Record) -> Result<(), AllocError>
         ensures ok { OnOk result (self.new ≡ self.old ++ «record» ∷ []) }

@@ -1,8 +1,8 @@
-use Rattle.std.proofs.Common.{rules, arith, refl}
+use Rattle.std.proofs.Common.{rules, arith, refl, sym, subst}
 use Rattle.action_lock.proofs.AdvanceLemmas.{advances_not, advances_on}
 use Rattle.index_workers.proofs.PassLemmas.{same_on}
 use Rattle.index_workers.specs.Passes.{ide_view}
-use Rattle.playing.proofs.SectionLemmas.{section_begins, section_turn, section_over}
+use Rattle.playing.proofs.SectionLemmas.{IsUnderWay, section_begins, section_turn, section_over}
 use Rattle.playing.proofs.section.do_section.Goals as goal
 
 pub loop-line-init : goal.loop-line-init
@@ -11,7 +11,10 @@ loop-line-init g c = record {
   same = search rules;
   advances = advances_not (ide_view c.args.pass.now);
   nothing = refl;
-  under_way = section_begins c.args.beside c.args.seat c.args.lines.now c.args.loads.now (ide_view c.args.pass.now) c.args.records.now;
+  under_way = subst (λ records. IsUnderWay c.args.beside c.args.seat c.args.lines.now c.args.loads.now
+      (ide_view c.args.pass.now) (ide_view c.args.pass.now) c.args.records.now records c.args.lines.now c.args.loads.now)
+      (sym c.reserve.ensures)
+      (section_begins c.args.beside c.args.seat c.args.lines.now c.args.loads.now (ide_view c.args.pass.now) c.args.records.now);
 }
 
 pub loop-line-preserved : goal.loop-line-preserved
