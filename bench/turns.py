@@ -14,6 +14,7 @@ import argparse
 import collections
 import pathlib
 import re
+import signal
 import subprocess
 import sys
 import tempfile
@@ -105,6 +106,7 @@ def main():
     words.add_argument("--calls", metavar="WORD")
     words.add_argument("--code", metavar="WORD")
     given = words.parse_args()
+    signal.signal(signal.SIGPIPE, signal.SIG_DFL)  # so that `| head` ends it quietly
     base, script, turns = given.scripts if len(given.scripts) == 3 else (None, given.scripts[0], 1)
     counts = counted(given.program, script)
     if base:
