@@ -4,6 +4,7 @@
 mod command;
 mod commands;
 mod draws;
+pub mod laws;
 mod script;
 
 pub use script::demo_script;

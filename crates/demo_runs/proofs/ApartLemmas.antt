@@ -9,11 +9,10 @@ use Rattle.script_lang.specs.declared.command.Command.TheVariants as script
 use Rattle.std.proofs.lemmas.Fmt.{decimal_injective}
 use Rattle.write_history.specs.Path.{is_part, max_path, onto_first, parts_of}
 use Rattle.demo.specs.Draws.{state_after}
-use Rattle.demo.specs.Commands.{create_of, is_of_first_lane, is_of_second_lane}
+use Rattle.demo.specs.Commands.{create_of, edits, is_of_first_lane, is_of_second_lane}
 use Rattle.demo.specs.Script.{edits_of}
-use Rattle.demo.proofs.FileLemmas.{IsOneOf, creates_are, edits_are, lanes_length}
-use Rattle.demo.proofs.LengthLemmas.{length-creates, length-edits}
-use Rattle.demo.proofs.TextLemmas.{weaker, path_text}
+use Rattle.demo_runs.proofs.FileLemmas.{IsOneOf, creates_are, edits_are, lanes_length}
+use Rattle.demo_runs.proofs.TextLemmas.{weaker, path_text}
 use Rattle.demo_runs.proofs.ListLemmas.{all_weaker, all_filter}
 use Rattle.demo_runs.specs.Parts.{demo_parts, change_by, lines_from}
 use Rattle.demo_runs.specs.Parts.{first_lane, second_lane, first_lane_begins, second_lane_begins, last_begins}
@@ -96,7 +95,8 @@ created_path seed (suc before) file from to = among 1 (creates seed before) (cre
 
 -- ---- the script
 
-module _ (seed files edited : ℕ) (some : 0 < files) (few : files ≤ 10000) (short : edited ≤ 50000) where
+module _ (created : (seed files : ℕ) → length (creates seed files) ≡ files) (drawn : (state files edited : ℕ) → length (edits state files edited) ≡ edited)
+    (seed files edited : ℕ) (some : 0 < files) (few : files ≤ 10000) (short : edited ≤ 50000) where
   -- a write of one of the files, in this lane
   abbrev IsIn : (Command → Bool) → Command → Type 0
   IsIn lane command = IsOneOf verb.Write files command × (lane command ≡ true)
@@ -153,13 +153,13 @@ module _ (seed files edited : ℕ) (some : 0 < files) (few : files ≤ 10000) (s
         apart = all_at (IsIn is_of_first_lane) (λ path. AllByRecursion (λ (other : Edit). path ≢ other.path) (edits_at second_at second))
             (λ command is. all_at (IsIn is_of_second_lane) (λ path. path_of command.file ≢ path) (λ other also. apart command other is also) second_at second
             (in_lane is_of_second_lane)) first_at first (in_lane is_of_first_lane);
-        few_files = omega (arith, length_at 1 (creates seed files), length-creates seed files);
+        few_files = omega (arith, length_at 1 (creates seed files), created seed files);
         few_edits = omega (
           arith,
           length_at first_at first,
           length_at second_at second,
           lanes_length (edits_of seed files edited),
-          length-edits (state_after seed files) files edited,
+          drawn (state_after seed files) files edited,
         );
         of_all = (tt, (tt, (tt, tt)));
       }

@@ -1,4 +1,6 @@
 pub mod Words
+pub mod TextLemmas
+pub mod FileLemmas
 pub mod LineLemmas
 pub mod LawLemmas
 pub mod ListLemmas

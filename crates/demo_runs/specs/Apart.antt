@@ -44,14 +44,7 @@ IsAmong (edit ∷ edits) path = (edit.path ≡ path) ⊎ IsAmong edits path
 -- a question about the workspace, and not about one path
 abbrev pub IsOfAll : Query → Type 0
 IsOfAll (query.Outline path) = ⊥
-IsOfAll (query.Class name) = Unit {0}
-IsOfAll (query.Supers name) = Unit {0}
-IsOfAll (query.Method name) = Unit {0}
-IsOfAll (query.Word name) = Unit {0}
-IsOfAll (query.Usages name) = Unit {0}
-IsOfAll (query.Inheritors name) = Unit {0}
-IsOfAll (query.Key key) = Unit {0}
-IsOfAll query.Status = Unit {0}
+IsOfAll other = Unit {0}
 
 -- The prelude makes at most 10,000 files at lawful paths, two lanes write some of them at most 50,000 times, no file in both, and the last
 -- section settles and then asks about the workspace

@@ -8,6 +8,7 @@ ghost use Rattle.transcripts.specs.Transcript.{summary_of};
 ghost use Rattle.demo_runs.specs.Apart.{WritesApart};
 ghost use Rattle.demo_runs.specs.Parts.{demo_parts};
 
+use demo::laws::demos_have_their_commands;
 use transcripts::laws::{a_section_alone_is_serial, a_settle_readies_all};
 use write_history::laws::{
     histories_go_on, ids_are_places, live_files_have_paths_of_their_own, puts_change_one_file,
@@ -36,5 +37,6 @@ pub fn demo_runs_agree()
         → length told ≤ 8 → RunFits [] (demo_parts seed files edits) told ended
         → summary_of ended ≡ summary_of (run_of [] (demo_parts seed files edits)) }
 {
+    demos_have_their_commands();
     runs_with_lanes_apart_agree();
 }

@@ -1,14 +1,15 @@
 -- Characters of a text, one after another, and where a space stands among them.
-use Rattle.std.proofs.Common.{◌≡◌, ◌≢◌, ℕ, true, ◌+◌, ◌<◌, List, [], ◌∷◌, ◌++◌, length, get_or, take, Option, Some, None, option_map, refl, ap, sym, ◌∙◌, arith, Bor, subst, lit<, ◌≤◌}
-use Rattle.std.specs.List.{All}
-use Rattle.std.proofs.lemmas.List.Elements.{All-nil, All-cons, All-head, All-tail}
+use Rattle.std.proofs.Common.{◌≡◌, ◌≢◌, ℕ, zero, suc, Bool, true, false, ◌+◌, ◌<◌, IsAscii, List, [], ◌∷◌, ◌++◌, length, get_or, take, Option, Some, None, option_map, refl, ap, sym, ◌∙◌, arith, Bor, subst, lit<, ◌≤◌}
+use Rattle.std.specs.List.{All, list_all}
+use Rattle.std.proofs.lemmas.List.Elements.{All-nil, All-cons, All-head, All-tail, All-weaker}
+use Rattle.std.proofs.lemmas.List.Sums.{AllPass-from_list_all}
 use Rattle.std.specs.Str.{chars, IsUtf8, IsCharBoundary, bytes_eq}
-use lib.Utf8.{encodes, encode, scalars}
-use Rattle.std.proofs.lemmas.Bool.{ne_eqb}
+use lib.Utf8.{encodes, encode}
+use Rattle.std.proofs.lemmas.Bool.{ne_eqb, and_parts}
 use Rattle.std.proofs.lemmas.Bool.Decides.{same_from_decides}
 use Rattle.std.proofs.lemmas.List.{get_or-append-add, length-append, take_at, get_or_at, append-nil, drop_at}
 use Rattle.std.proofs.lemmas.Slice.Eq.{bytes_eq-Decides}
-use Rattle.std.proofs.lemmas.Str.{chars-append, chars-encodes, encodes-chars, IsUtf8-take, IsCharBoundary-before_ascii, encode_ascii, IsUtf8-drop, IsCharBoundary-from_take, chars_past_char, chars-nil}
+use Rattle.std.proofs.lemmas.Str.{chars-append, chars-IsAscii, IsUtf8-from_ascii, encodes-chars, IsUtf8-take, IsCharBoundary-before_ascii, encode_ascii, IsUtf8-drop, IsCharBoundary-from_take, chars_past_char, chars-nil}
 use Rattle.std.proofs.lemmas.Str.Pattern.{IsSplitOnceResult, split_parts}
 use Rattle.script_lang.specs.Fields.{space, parts_at_space}
 
@@ -76,13 +77,29 @@ parts_from_split bs (Some p) text h =
     let parts = split_parts 32 bs (Some p) h (lit< tt) in
     sym (parts_at_space-chars bs p.0.now p.1.now text parts.0 parts.1)
 
+-- what passes a test is no character that fails it
+pub differs : (test : ℕ → Bool) (c mark : ℕ) → test c ≡ true → test mark ≡ false → c ≢ mark
+differs test c mark passes fails e = let f : true ≡ false = sym passes ∙ ap test e ∙ fails in cc
+
+pub none_of : (test : ℕ → Bool) (mark : ℕ) → test mark ≡ false → (cs : List ℕ) → list_all test cs ≡ true → All (λ c. c ≢ mark) cs
+none_of test mark fails cs all =
+    All-weaker (λ c. test c ≡ true) (λ c. c ≢ mark) (λ c passes. differs test c mark passes fails) cs (AllPass-from_list_all test cs all)
+
+-- characters that pass a test of ASCII
+pub ascii_of : (test : ℕ → Bool) → ((c : ℕ) → test c ≡ true → c < 128) → (cs : List ℕ) → list_all test cs ≡ true → IsAscii cs
+ascii_of test low [] all i = omega arith
+ascii_of test low (c ∷ cs) all zero = low c (and_parts (test c) (list_all test cs) all).0
+ascii_of test low (c ∷ cs) all (suc i) = ascii_of test low cs (and_parts (test c) (list_all test cs) all).1 i
+
 -- a text is compared with ASCII by its characters as by its bytes
-pub bytes_eq-chars : (w k : List ℕ) → IsUtf8 w → encodes k ≡ k → scalars k ≡ true → bytes_eq (chars w) k ≡ bytes_eq w k
-bytes_eq-chars w k text ascii fits =
+pub bytes_eq-chars : (w k : List ℕ) → IsUtf8 w → IsAscii k → bytes_eq (chars w) k ≡ bytes_eq w k
+bytes_eq-chars w k text ascii =
     let by_bytes = bytes_eq-Decides w k in
     let by_chars = bytes_eq-Decides (chars w) k in
-    let to : w ≡ k → chars w ≡ k = λ e. ap chars (e ∙ sym ascii) ∙ chars-encodes k fits in
-    let from : chars w ≡ k → w ≡ k = λ e. sym (encodes-chars w text) ∙ ap encodes e ∙ ascii in
+    let same : chars k ≡ k = chars-IsAscii k ascii in
+    let to : w ≡ k → chars w ≡ k = λ e. ap chars e ∙ same in
+    let from : chars w ≡ k → w ≡ k
+    = λ e. sym (encodes-chars w text) ∙ ap encodes (e ∙ sym same) ∙ encodes-chars k (IsUtf8-from_ascii k ascii) in
     same_from_decides (bytes_eq (chars w) k) (bytes_eq w k) by_chars (λ e. to (by_bytes.0 e), λ e. by_bytes.1 (from e))
 
 -- what follows a text in a text is a text

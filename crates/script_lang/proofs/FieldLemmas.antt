@@ -13,19 +13,19 @@ use Rattle.std.proofs.lemmas.Option.{none-some, same_Some}
 use Rattle.std.proofs.lemmas.Slice.Eq.{bytes_eq-Decides}
 use Rattle.std.proofs.lemmas.Str.{chars-nil, encodes-chars, chars-IsAscii, IsUtf8-from_ascii}
 use Rattle.std.proofs.lemmas.Str.Parse.{IsNumeralModel, numerals_by_value, tells_digits, parse_plain}
-use Rattle.script_lang.specs.Fields.{path_of, number_of, number_if, max_number, is_plain}
+use Rattle.script_lang.specs.Fields.{filled, number_of, number_if, max_number, is_plain}
 
 -- a field with no byte is no path, and any other is one
-pub path_of-empty : (field : List ℕ) → eqb (length field) 0 ≡ true → None ≡ path_of (chars field)
-path_of-empty field empty = rw (nil_from_length field (eqb-true (length field) 0 empty), chars-nil) refl
+pub filled-empty : (field : List ℕ) → eqb (length field) 0 ≡ true → None ≡ filled (chars field)
+filled-empty field empty = rw (nil_from_length field (eqb-true (length field) 0 empty), chars-nil) refl
 
-path_of-filled : (cs : List ℕ) → cs ≢ [] → Some cs ≡ path_of cs
-path_of-filled [] some = absurd (some refl)
-path_of-filled (c ∷ cs) some = refl
+filled-some : (cs : List ℕ) → cs ≢ [] → Some cs ≡ filled cs
+filled-some [] some = absurd (some refl)
+filled-some (c ∷ cs) some = refl
 
-pub path_of-chars : (field : List ℕ) → IsUtf8 field → eqb (length field) 0 ≡ false → Some (chars field) ≡ path_of (chars field)
-path_of-chars field text filled =
-    path_of-filled (chars field) (λ e. eqb-false (length field) 0 filled (ap length (sym (encodes-chars field text) ∙ ap encodes e)))
+pub filled-chars : (field : List ℕ) → IsUtf8 field → eqb (length field) 0 ≡ false → Some (chars field) ≡ filled (chars field)
+filled-chars field text filled =
+    filled-some (chars field) (λ e. eqb-false (length field) 0 filled (ap length (sym (encodes-chars field text) ∙ ap encodes e)))
 
 -- a number is read from its digits alone
 number_if-some : (m : ℕ) (field : List ℕ) (n : ℕ) → number_if m field ≡ Some n → (field ≡ decimal n) × (n ≤ max_number)

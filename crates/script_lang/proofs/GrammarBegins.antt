@@ -1,5 +1,5 @@
 -- Lines that are read begin a script: what is open may be ended.
-use Rattle.std.proofs.Common.{◌≡◌, ◌≢◌, ℕ, zero, suc, ◌+◌, ◌<◌, List, [], ◌∷◌, ◌++◌, length, Option, Some, None, Ok, refl, ap, sym, ◌∙◌, subst, arith, append_assoc, codes}
+use Rattle.std.proofs.Common.{◌≡◌, ◌≢◌, inl, inr, ℕ, zero, suc, ◌+◌, ◌<◌, List, [], ◌∷◌, ◌++◌, length, Option, Some, None, Ok, refl, ap, sym, ◌∙◌, subst, arith, append_assoc, codes}
 use Rattle.std.specs.Str.{chars, IsUtf8}
 use lib.Utf8.{encode}
 use Rattle.std.proofs.lemmas.Bool.{ne_eqb, lt-ltb}
@@ -11,7 +11,8 @@ use Rattle.write_history.specs.declared.change.Change.{Change}
 use Rattle.write_history.specs.declared.change.Change.TheVariants as change
 use Rattle.script_lang.specs.Contents.{content_of}
 use Rattle.script_lang.specs.Fields.{space}
-use Rattle.script_lang.specs.Grammar.{IsPath, IsCommandLine, BeginScript}
+use Rattle.script_lang.specs.Forms.{IsPath}
+use Rattle.script_lang.specs.Grammar.{IsCommandLine, BeginScript}
 use Rattle.script_lang.specs.Parts.{Parts}
 use Rattle.script_lang.specs.Reading.{OpenGroup, State, start, with_line, after_open, after, parts_at, read_from, finished_read}
 use Rattle.script_lang.specs.declared.command.Command.TheVariants as command
@@ -36,7 +37,8 @@ change_line =
     let text : IsUtf8 line = (line, (refl, refl)) in
     let all : chars line ≡ line = chars-encodes line refl in
     let path : IsPath (codes "a") = record { not_empty = λ e. cc; no_space = All-cons (λ c. c ≢ space) 97 [] (λ e. omega arith) (All-nil (λ c. c ≢ space)) } in
-    let is : IsCommandLine line (command.Change some_change) = (refl, path) in
+    let is : IsCommandLine line (command.Change some_change)
+    = inr (inr (inl (some_change, refl, inr (inr (inl (codes " a", refl, (codes "a", [], codes "a", refl, (refl, path), (refl, refl)))))))) in
     content_of-kept line (content.Holds (command.Change some_change)) refl (text, subst (λ (l : List ℕ). IsCommandLine l (command.Change some_change)) (sym all) is)
 
 -- some further lines that end what is open

@@ -1,19 +1,20 @@
 -- What the fields of a line are.
-use Rattle.std.proofs.Common.{◌≡◌, ◌≢◌, ◌⊎◌, inl, inr, ℕ, ◌<◌, ◌^◌, ◌≤◌, true, false, eqb, cond, List, [], ◌∷◌, ◌++◌, Option, Some, None, option_map, refl, ap, sym, ◌∙◌, subst, arith}
+use Rattle.std.proofs.Common.{◌≡◌, ◌≢◌, ◌⊎◌, inl, inr, ℕ, ◌<◌, ◌^◌, ◌≤◌, Bool, true, false, eqb, cond, List, [], ◌∷◌, ◌++◌, Option, Some, None, option_map, refl, ap, sym, ◌∙◌, subst, arith}
 use Rattle.std.specs.Fmt.{decimal}
 use Rattle.std.specs.List.{All}
 use Rattle.std.specs.Option.{option_zip}
-use Rattle.std.specs.Str.{bytes_eq}
 use Rattle.std.specs.Str.Parse.{AllDigits}
-use Rattle.std.proofs.lemmas.Bool.{cases_Bool, eqb-true, eqb-false}
+use Rattle.std.proofs.lemmas.Bool.{cases_Bool, eqb-true, eqb-false, false≢true}
 use Rattle.std.proofs.lemmas.Fmt.{decimal_is_IsNumeral}
 use Rattle.std.proofs.lemmas.List.Elements.{All-nil, All-cons}
-use Rattle.std.proofs.lemmas.Option.{none-some, same_Some}
-use Rattle.std.proofs.lemmas.Slice.Eq.{bytes_eq-Decides}
+use Rattle.std.proofs.lemmas.Option.{none-some, same_Some, cond_some}
 use Rattle.std.proofs.lemmas.Str.Parse.{digit_from_value}
-use Rattle.script_lang.specs.Fields.{space, max_number, parts_at_space, before_first_part, two_fields, path_of, path_unless_parts, last_path}
-use Rattle.script_lang.specs.Grammar.{IsPath}
-use Rattle.script_lang.specs.Keywords.{look_up}
+use Rattle.java_tokens.specs.Identifier.{is_word}
+use Rattle.script_lang.specs.Fields.{space, max_number, parts_at_space, before_first_part, two_fields, filled, path_without_parts, path_of, number_of}
+use Rattle.script_lang.specs.Forms.{Kind, Path, Word, Number, Text, Value, IsPath, IsField}
+use Rattle.script_lang.specs.Readers.{value_of}
+use Rattle.script_lang.proofs.FieldLemmas.{number_of-some, number_of-decimal}
+use Rattle.script_lang.proofs.GrammarQuotes.{IsQuoted-text_of_field, text_of_field-IsQuoted}
 use Rattle.script_lang.proofs.OptionLemmas.{option_map-some, option_and_then-some}
 use Rattle.script_lang.proofs.CharLemmas.{parts_at_space-none, parts_at_space-found}
 
@@ -54,36 +55,31 @@ no_space-step c cs more e (inl is_space) = absurd (none-some ([], cs) (sym (rw i
 no_space-step c cs more e (inr other) =
     All-cons (λ d. d ≢ space) c cs (eqb-false c space other) (more (option_map-none (before_first_part c) (parts_at_space cs) (rw other at e)))
 
-no_space-parts_at_space : (cs : List ℕ) → parts_at_space cs ≡ None → All (λ c. c ≢ space) cs
+pub no_space-parts_at_space : (cs : List ℕ) → parts_at_space cs ≡ None → All (λ c. c ≢ space) cs
 no_space-parts_at_space [] e = All-nil (λ c. c ≢ space)
 no_space-parts_at_space (c ∷ cs) e = no_space-step c cs (no_space-parts_at_space cs) e (cases_Bool _)
 
 -- what a path is
-path_of-some : (field path : List ℕ) → path_of field ≡ Some path → (field ≡ path) × (path ≢ [])
-path_of-some [] path e = absurd (none-some path e)
-path_of-some (c ∷ cs) path e =
+filled-path : (field path : List ℕ) → All (λ c. c ≢ space) field → filled field ≡ Some path → (field ≡ path) × IsPath path
+filled-path [] path none e = absurd (none-some path e)
+filled-path (c ∷ cs) path none e =
     let same = same_Some (c ∷ cs) path e in
-    (same, λ f. (let g = same ∙ f in cc))
+    (same, record { not_empty = λ f. (let g = same ∙ f in cc); no_space = subst (λ (p : List ℕ). All (λ d. d ≢ space) p) same none })
 
-IsPath-of : (field path : List ℕ) → All (λ c. c ≢ space) field → path_of field ≡ Some path → (field ≡ path) × IsPath path
-IsPath-of field path none e =
-    let is = path_of-some field path e in
-    (is.0, record { not_empty = is.1; no_space = subst (λ (p : List ℕ). All (λ c. c ≢ space) p) is.0 none })
+filled-IsPath : (path : List ℕ) → IsPath path → filled path ≡ Some path
+filled-IsPath [] is = absurd (is.not_empty refl)
+filled-IsPath (c ∷ cs) is = refl
 
-pub path_of-IsPath : (path : List ℕ) → IsPath path → path_of path ≡ Some path
-path_of-IsPath [] is = absurd (is.not_empty refl)
-path_of-IsPath (c ∷ cs) is = refl
-
-pub last_path-some : (field path : List ℕ) → last_path field ≡ Some path → (field ≡ path) × IsPath path
-last_path-some field path read = by_parts (parts_at_space field) refl read
+path_of-some : (field path : List ℕ) → path_of field ≡ Some path → (field ≡ path) × IsPath path
+path_of-some field path read = by_parts (parts_at_space field) refl read
   where
-    by_parts : (parts : Option (List ℕ × List ℕ)) → parts_at_space field ≡ parts → path_unless_parts parts field ≡ Some path
+    by_parts : (parts : Option (List ℕ × List ℕ)) → parts_at_space field ≡ parts → path_without_parts parts field ≡ Some path
         → (field ≡ path) × IsPath path
-    by_parts None e r = IsPath-of field path (no_space-parts_at_space field e) r
+    by_parts None e r = filled-path field path (no_space-parts_at_space field e) r
     by_parts (Some p) e r = absurd (none-some path r)
 
-pub last_path-IsPath : (path : List ℕ) → IsPath path → last_path path ≡ Some path
-last_path-IsPath path is = rw (parts_at_space-none path is.no_space) (path_of-IsPath path is)
+path_of-IsPath : (path : List ℕ) → IsPath path → path_of path ≡ Some path
+path_of-IsPath path is = rw (parts_at_space-none path is.no_space) (filled-IsPath path is)
 
 -- the digits of a number have no space
 no_space-digits : (ds : List ℕ) → AllDigits 10 ds → All (λ c. c ≢ space) ds
@@ -120,32 +116,33 @@ pub two_fields-found : {A B : Type 0} (first : List ℕ → Option A) (rest : Li
     → first field ≡ Some x → rest fields ≡ Some y → two_fields first rest (field ++ space ∷ fields) ≡ Some (x, y)
 two_fields-found first rest field fields x y none a b = rw (parts_at_space-found field fields none, a, b) refl
 
--- a path and what follows it
-pub path_and-some : {B : Type 0} (rest : List ℕ → Option B) (fields : List ℕ) (q : List ℕ × B) → two_fields path_of rest fields ≡ Some q
-    → (after : List ℕ) × (fields ≡ q.0 ++ space ∷ after) × IsPath q.0 × (rest after ≡ Some q.1)
-path_and-some rest fields q e =
-    let found = two_fields-some path_of rest fields q e in
-    let path = IsPath-of found.0.0 q.0 found.2 found.3 in
-    (found.0.1, found.1 ∙ ap (λ p. p ++ space ∷ found.0.1) path.0, path.1, found.4)
+-- ---- a field of a kind
 
-pub path_and-found : {B : Type 0} (rest : List ℕ → Option B) (path after : List ℕ) (y : B) → IsPath path → rest after ≡ Some y
-    → two_fields path_of rest (path ++ space ∷ after) ≡ Some (path, y)
-path_and-found rest path after y is e = two_fields-found path_of rest path after path y is.no_space (path_of-IsPath path is) e
+-- it is read as what it stands for
+pub IsField-value_of : (kind : Kind) (field : List ℕ) (value : Value kind) → value_of kind field ≡ Some value → IsField kind field value
+IsField-value_of Path field path e = path_of-some field path e
+IsField-value_of Word field word e =
+    let is = cond_some (is_word field) field word e in
+    (is.1, subst (λ (w : List ℕ). is_word w ≡ true) is.1 is.0)
+IsField-value_of Number field n e = number_of-some field n e
+IsField-value_of Text field text e = IsQuoted-text_of_field field text e
 
--- what is looked up is in a row, with its word
-abbrev pub HoldOfRows : {A : Type 0} → (List ℕ → A → Type 0) → List (List ℕ × A) → Type 0
-HoldOfRows P [] = Unit {0}
-HoldOfRows P (row ∷ rows) = P row.0 row.1 × HoldOfRows P rows
+pub value_of-IsField : (kind : Kind) (field : List ℕ) (value : Value kind) → IsField kind field value → value_of kind field ≡ Some value
+value_of-IsField Path field path (e, is) = ap path_of e ∙ path_of-IsPath path is
+value_of-IsField Word field word (e, is) = ap (value_of Word) e ∙ (rw is refl)
+value_of-IsField Number field n (e, fits) = ap number_of e ∙ number_of-decimal n fits
+value_of-IsField Text field text is = text_of_field-IsQuoted field text is
 
-look_up-step : {A : Type 0} (P : List ℕ → A → Type 0) (word key : List ℕ) (one a : A) (other : Option A) → P key one → (other ≡ Some a → P word a)
-    → cond (bytes_eq word key) (Some one) other ≡ Some a → (bytes_eq word key ≡ true) ⊎ (bytes_eq word key ≡ false) → P word a
-look_up-step P word key one a other here more e (inl same) =
-    let e' = rw same at e in
-    subst (λ w. P w a) (sym ((bytes_eq-Decides word key).0 same)) (subst (P key) (same_Some one a e') here)
-look_up-step P word key one a other here more e (inr differs) = more (rw differs at e)
+-- whether no field of the kind has a space, so that others may follow it
+abbrev pub ends_at_space : Kind → Bool
+ends_at_space Path = true
+ends_at_space Word = false
+ends_at_space Number = true
+ends_at_space Text = false
 
-pub look_up-some : {A : Type 0} (P : List ℕ → A → Type 0) (rows : List (List ℕ × A)) (word : List ℕ) (a : A) → HoldOfRows P rows
-    → look_up rows word ≡ Some a → P word a
-look_up-some P [] word a hold e = absurd (none-some a e)
-look_up-some P (row ∷ rows) word a hold e =
-    look_up-step P word row.0 row.1 a (look_up rows word) hold.0 (look_up-some P rows word a hold.1) e (cases_Bool _)
+pub no_space-IsField : (kind : Kind) (field : List ℕ) (value : Value kind) → ends_at_space kind ≡ true → IsField kind field value
+    → All (λ c. c ≢ space) field
+no_space-IsField Path field path ends (e, is) = subst (λ (f : List ℕ). All (λ c. c ≢ space) f) (sym e) is.no_space
+no_space-IsField Word field word ends is = absurd (false≢true ends)
+no_space-IsField Number field n ends (e, fits) = subst (λ (f : List ℕ). All (λ c. c ≢ space) f) (sym e) (no_space-decimal n fits)
+no_space-IsField Text field text ends is = absurd (false≢true ends)

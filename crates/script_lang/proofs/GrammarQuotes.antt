@@ -5,7 +5,7 @@ use Rattle.std.proofs.lemmas.Bool.{cases_Bool, eqb-true, eqb-false, ne_eqb, leb-
 use Rattle.std.proofs.lemmas.Option.{none-some, same_Some, cond_some}
 use Rattle.ide_text.specs.Text.{repaired, max_chars}
 use Rattle.script_lang.specs.Quotes.{quote, backslash, escape_of, step_of, unquoted_from, fitting_text, text_of_field}
-use Rattle.script_lang.specs.Grammar.{IsSpelling, AreSpelled, IsQuoted}
+use Rattle.script_lang.specs.Forms.{IsSpelling, AreSpelled, IsQuoted}
 use Rattle.script_lang.specs.declared.quoted.Place.{Place}
 use Rattle.script_lang.specs.declared.quoted.Place.TheVariants.{Outside, Inside, Escaping, Behind}
 use Rattle.script_lang.proofs.OptionLemmas.{option_map-some, option_and_then-some}

@@ -1,5 +1,5 @@
 -- What the commands of a script are.
-use Rattle.std.proofs.Common.{◌≡◌, ℕ, ◌+◌, ◌≤◌, true, ltb, List, [], ◌∷◌, ◌++◌, length, Option, Some, None, refl, sym, subst, arith}
+use Rattle.std.proofs.Common.{rules, ◌≡◌, inl, inr, ℕ, ◌+◌, ◌≤◌, true, ltb, List, [], ◌∷◌, ◌++◌, length, Option, Some, None, refl, sym, subst, arith}
 use Rattle.std.specs.List.{All}
 use Rattle.std.specs.Str.{chars}
 use Rattle.std.proofs.lemmas.Bool.{false≢true, ltb-true}
@@ -7,7 +7,7 @@ use Rattle.std.proofs.lemmas.List.Elements.{All-nil, All-cons, All-append}
 use Rattle.std.proofs.lemmas.Option.{none-some, same_Some, cond_some}
 use Rattle.write_history.specs.declared.change.Change.{Change}
 use Rattle.write_history.specs.declared.change.Change.TheVariants as change
-use Rattle.script_lang.specs.Grammar.{IsLine, AreContents, IsChangeLine, IsCommandLine, Rest, nothing, first_comes, lane_comes, last_comes, HoldRest, HoldScript, whole}
+use Rattle.script_lang.specs.Grammar.{IsLine, AreContents, IsCommandLine, Rest, nothing, first_comes, lane_comes, last_comes, HoldRest, HoldScript, whole}
 use Rattle.script_lang.specs.Held.{IsNoIntake, IsOfLine, IsNoLoad, AreOfPrelude, AreOfSection, AreOfScript}
 use Rattle.script_lang.specs.Parts.{Parts}
 use Rattle.script_lang.specs.Reading.{OpenGroup, max_lanes, may_stand, next_lane}
@@ -18,29 +18,20 @@ use Rattle.script_lang.specs.declared.content.Content.TheVariants as content
 use Rattle.script_lang.specs.declared.line.Line.{Line}
 use Rattle.script_lang.specs.declared.line.Section.{Section}
 use Rattle.script_lang.specs.declared.line.Section.TheVariants.{Prelude, Lane, Finally}
+use Rattle.script_lang.specs.Tables.{load_forms, change_forms}
+use Rattle.script_lang.proofs.GrammarForms.{AllMake, all_make}
 use Rattle.script_lang.proofs.RiseLemmas.{RiseFrom-HoldScript}
 
 -- a line's command
-IsNoIntake-IsChangeLine : (line : List ℕ) (c : Change) → IsChangeLine line c → IsNoIntake c
-IsNoIntake-IsChangeLine line (change.Create path text) is = tt
-IsNoIntake-IsChangeLine line (change.Write path text) is = tt
-IsNoIntake-IsChangeLine line (change.Delete path) is = tt
-IsNoIntake-IsChangeLine line (change.OpenDoc path) is = tt
-IsNoIntake-IsChangeLine line (change.Insert path at text) is = tt
-IsNoIntake-IsChangeLine line (change.Erase path from to) is = tt
-IsNoIntake-IsChangeLine line (change.Commit path) is = tt
-IsNoIntake-IsChangeLine line (change.Save path) is = tt
-IsNoIntake-IsChangeLine line (change.CloseDoc path) is = tt
-IsNoIntake-IsChangeLine line (change.Intake file stamp) is = is
-IsNoIntake-IsChangeLine line (change.Move path to) is = tt
-
 IsOfLine-IsCommandLine : (line : List ℕ) (made : Command) → IsCommandLine line made → IsOfLine made
-IsOfLine-IsCommandLine line (command.Change c) is = IsNoIntake-IsChangeLine line c is
-IsOfLine-IsCommandLine line (command.Group changes) is = absurd is
-IsOfLine-IsCommandLine line (command.Load path) is = tt
-IsOfLine-IsCommandLine line command.Settle is = tt
-IsOfLine-IsCommandLine line (command.Ask q) is = tt
-IsOfLine-IsCommandLine line (command.Soft attempts q) (rest, e, some, few, asked) = (some, few)
+IsOfLine-IsCommandLine line made (inl (e, is)) = subst IsOfLine (sym is) tt
+IsOfLine-IsCommandLine line made (inr (inl has)) = all_make IsOfLine load_forms line made (λ path. tt, tt) has
+IsOfLine-IsCommandLine line made (inr (inr (inl (change, e, has)))) = subst IsOfLine (sym e) (all_make IsNoIntake change_forms line change all has)
+  where
+    all : AllMake IsNoIntake change_forms
+    all = search rules
+IsOfLine-IsCommandLine line made (inr (inr (inr (inl (q, e, is))))) = subst IsOfLine (sym e) tt
+IsOfLine-IsCommandLine line made (inr (inr (inr (inr soft)))) = subst IsOfLine (sym soft.is) (soft.some, soft.few)
 
 IsOfLine-IsLine : (line : List ℕ) (made : Command) → IsLine line (content.Holds made) → IsOfLine made
 IsOfLine-IsLine line made (kept, drops, (text, is)) = IsOfLine-IsCommandLine (chars kept) made is

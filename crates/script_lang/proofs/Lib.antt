@@ -2,15 +2,15 @@ pub mod LineLemmas
 pub mod CharLemmas
 pub mod QuoteLemmas
 pub mod OptionLemmas
-pub mod KeywordLemmas
 pub mod FieldLemmas
 pub mod ContentLemmas
 pub mod ReadingLemmas
 pub mod GrammarLines
 pub mod GrammarQuotes
 pub mod GrammarFields
-pub mod GrammarQueries
+pub mod GrammarForms
 pub mod GrammarCommands
+pub mod WordLemmas
 pub mod GrammarContents
 pub mod JoinedLemmas
 pub mod GrammarTurns

@@ -6,10 +6,11 @@ use Rattle.std.specs.List.{All}
 use Rattle.std.proofs.lemmas.List.Elements.{All-head, All-tail}
 use Rattle.script_lang.specs.Parts.{Parts}
 use Rattle.write_history.specs.Changes.{max_changes}
-use Rattle.script_lang.specs.Contents.{content_of, content_of_bytes, content_from, alone_or, lone_content}
+use Rattle.script_lang.specs.Contents.{content_of, content_of_bytes, or_bad, lone_content}
 use Rattle.script_lang.specs.Reading.{OpenGroup, State, start, after, after_open, read_from, finished_read}
 use Rattle.script_lang.specs.Grammar.{AreLines, HoldScript, IsScript, IsInGroup, IsOpenAtEnd, IsRefused, whole}
 use Rattle.script_lang.specs.declared.command.Command.TheVariants as command
+use Rattle.script_lang.specs.declared.content.Content.TheVariants as content
 use Rattle.script_lang.specs.declared.refusal.ScriptRefusal.TheVariants.{BadLine}
 use Rattle.script_lang.proofs.GrammarContents.{content_of-IsLine}
 use Rattle.script_lang.proofs.GrammarLines.{lines_of-AreLines}
@@ -64,7 +65,7 @@ open_ends (line ∷ lines) s group number all =
     by_form (inr (change, is)) more =
         let grown : OpenGroup = record { number = group.number; changes = group.changes ++ change ∷ [] } in
         goes_on (with_open s group) number line lines (cond (ltb (length group.changes) max_changes) (Some (with_open s grown)) None)
-        (ap (after (with_open s group) number) (content_of-IsLine line (content_from (Some (command.Change change))) is))
+        (ap (after (with_open s group) number) (content_of-IsLine line (content.Holds (command.Change change)) is))
         (λ later. by_room grown (ltb (length group.changes) max_changes) later (more grown))
 
 never_open : (bytes : List ℕ) (script : Parts) (number : ℕ) → IsScript bytes script → IsOpenAtEnd bytes number → ⊥
@@ -73,7 +74,7 @@ never_open bytes script number is opens =
     let end : State = read.0 in
     let place : ℕ = length opens.front + 1 in
     let next : State = with_open end (record { number = place; changes = [] }) in
-    let content = alone_or (lone_content (codes "group")) (content_from None) in
+    let content = or_bad (lone_content (codes "group")) in
     let step : after end place (content_of opens.line) ≡ Some next
     = ap (after end place) (content_of-IsLine opens.line content opens.begins) ∙ ap (λ o. after_open o (no_group end) place content) read.2 in
     let through : read_from start 1 is.lines ≡ read_from end place (opens.line ∷ opens.rest)

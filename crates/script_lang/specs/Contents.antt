@@ -1,36 +1,38 @@
 -- What a line is, from its bytes.
-use Rattle.std.specs.Prelude.{ℕ, List, [], ◌∷◌, Option, Some, None, if◌then◌else◌, codes}
+use Rattle.std.specs.Prelude.{ℕ, List, [], ◌∷◌, Option, Some, None, if◌then◌else◌, option_map, codes}
 use Rattle.std.specs.Str.{chars, is_utf8}
 use Rattle.script_lang.specs.Lines.{without_return, is_passed_by}
-use Rattle.script_lang.specs.Keywords.{look_up}
-use Rattle.script_lang.specs.Commands.{command_of}
+use Rattle.script_lang.specs.Fields.{parts_at_space}
+use Rattle.script_lang.specs.Readers.{look_up}
+use Rattle.script_lang.specs.Commands.{lone_query, command_with}
 use Rattle.script_lang.specs.declared.command.Command.{Command}
-use Rattle.script_lang.specs.declared.command.Command.TheVariants.{Settle}
+use Rattle.script_lang.specs.declared.command.Command.TheVariants.{Settle, Ask}
 use Rattle.script_lang.specs.declared.content.Content.{Content}
 use Rattle.script_lang.specs.declared.content.Content.TheVariants.{PassedBy, Holds, Lane, Finally, Group, End, Bad}
 
--- what the words are that stand alone on their lines
-abbrev pub lone_contents : List (List ℕ × Content)
+-- what the words are that stand alone on their lines, but for questions
+abbrev pub lone_contents : List (List ℕ × Option Content)
 lone_contents =
-    (codes "settle", Holds Settle) ∷ (codes "lane", Lane) ∷ (codes "finally", Finally) ∷ (codes "group", Group) ∷ (codes "end", End) ∷ []
+    (codes "settle", Some (Holds Settle)) ∷ (codes "lane", Some Lane) ∷ (codes "finally", Some Finally) ∷ (codes "group", Some Group)
+    ∷ (codes "end", Some End) ∷ []
 
--- what a line of one word is, unless it is a question
+-- what a line of one word is
 abbrev pub lone_content : List ℕ → Option Content
-lone_content text = look_up lone_contents text
+lone_content word = look_up lone_contents word (option_map (λ query. Holds (Ask query)) (lone_query word))
 
--- a command, or a line that is bad
-abbrev pub content_from : Option Command → Content
-content_from None = Bad
-content_from (Some command) = Holds command
+-- something, or a line that is bad
+abbrev pub or_bad : Option Content → Content
+or_bad None = Bad
+or_bad (Some content) = content
 
--- what stands alone, or else a command
-abbrev pub alone_or : Option Content → Content → Content
-alone_or (Some content) other = content
-alone_or None other = other
+-- what a line is, from the line and its parts at the first space
+abbrev pub content_of_parts : List ℕ → Option (List ℕ × List ℕ) → Content
+content_of_parts line None = or_bad (lone_content line)
+content_of_parts line (Some p) = or_bad (option_map Holds (command_with p.0 p.1))
 
 -- what a line with these characters is
 unfoldable pub content_of_text : List ℕ → Content
-content_of_text text = alone_or (lone_content text) (content_from (command_of text))
+content_of_text text = content_of_parts text (parts_at_space text)
 
 -- what a line is, its carriage return dropped
 abbrev pub content_of_bytes : List ℕ → Content

@@ -25,19 +25,19 @@ parts_at_space (c ∷ cs) = if c == space then Some ([], cs) else option_map (be
 abbrev pub two_fields : {A B : Type 0} → (List ℕ → Option A) → (List ℕ → Option B) → List ℕ → Option (A × B)
 two_fields first rest fields = option_and_then (λ p. option_zip (first p.0) (rest p.1)) (parts_at_space fields)
 
--- the path that a field is: any characters, and at least one
+-- a field that isn't empty
+abbrev pub filled : List ℕ → Option (List ℕ)
+filled [] = None
+filled (c ∷ cs) = Some (c ∷ cs)
+
+-- the path that a field is, by its parts: it has none
+abbrev pub path_without_parts : Option (List ℕ × List ℕ) → List ℕ → Option (List ℕ)
+path_without_parts None field = filled field
+path_without_parts (Some parts) field = None
+
+-- the path that a field is: at least one character, and no space
 abbrev pub path_of : List ℕ → Option (List ℕ)
-path_of [] = None
-path_of (c ∷ cs) = Some (c ∷ cs)
-
--- the path that a field is, unless it has parts
-abbrev pub path_unless_parts : Option (List ℕ × List ℕ) → List ℕ → Option (List ℕ)
-path_unless_parts None field = path_of field
-path_unless_parts (Some parts) field = None
-
--- the path that the last field of a line is: no field follows
-abbrev pub last_path : List ℕ → Option (List ℕ)
-last_path field = path_unless_parts (parts_at_space field) field
+path_of field = path_without_parts (parts_at_space field) field
 
 -- a number, where the field is its digits and it isn't too great
 abbrev pub number_if : ℕ → List ℕ → Option ℕ

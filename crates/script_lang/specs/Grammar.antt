@@ -3,16 +3,14 @@ use Rattle.std.specs.Prelude.{ℕ, ◌≡◌, ◌≢◌, ◌<◌, ◌≤◌, ◌
 use Rattle.std.specs.Fmt.{decimal}
 use Rattle.std.specs.List.{All}
 use Rattle.std.specs.Str.{chars, IsUtf8}
-use Rattle.ide_text.specs.Text.{repaired, max_chars}
-use Rattle.java_tokens.specs.Identifier.{is_word}
 use Rattle.write_history.specs.Changes.{max_changes, AreFew}
 use Rattle.write_history.specs.declared.change.Change.{Change}
-use Rattle.write_history.specs.declared.change.Change.TheVariants as change
 use Rattle.script_lang.specs.Commands.{max_attempts}
-use Rattle.script_lang.specs.Fields.{space, max_number}
+use Rattle.script_lang.specs.Fields.{space}
+use Rattle.script_lang.specs.Forms.{HasOneOf}
 use Rattle.script_lang.specs.Lines.{max_bytes, line_feed, carriage_return, number_sign}
 use Rattle.script_lang.specs.Parts.{Parts}
-use Rattle.script_lang.specs.Quotes.{quote, backslash, escape_of}
+use Rattle.script_lang.specs.Tables.{query_forms, load_forms, change_forms}
 use Rattle.script_lang.specs.Reading.{OpenGroup, may_stand, next_lane, may_end}
 use Rattle.script_lang.specs.declared.command.Command.{Command}
 use Rattle.script_lang.specs.declared.command.Command.TheVariants as command
@@ -26,92 +24,32 @@ use Rattle.queries.specs.declared.query.Query.TheVariants as query
 use Rattle.script_lang.specs.declared.refusal.ScriptRefusal.{ScriptRefusal}
 use Rattle.script_lang.specs.declared.refusal.ScriptRefusal.TheVariants.{BadLine, OutOfMemory}
 
--- between quotes a character stands for itself, unless it is a quote or a backslash, or an escape stands for it
-abbrev pub IsSpelling : ℕ → List ℕ → Type 0
-IsSpelling c [] = ⊥
-IsSpelling c (d ∷ []) = (c ≡ d) × (d ≢ quote) × (d ≢ backslash)
-IsSpelling c (d ∷ letter ∷ []) = (d ≡ backslash) × (escape_of letter ≡ Some c)
-IsSpelling c (d ∷ letter ∷ e ∷ rest) = ⊥
-
--- the characters are spelled one after another
-abbrev pub AreSpelled : List ℕ → List ℕ → Type 0
-AreSpelled [] spelling = spelling ≡ []
-AreSpelled (c ∷ cs) spelling = (first : List ℕ) × (rest : List ℕ) × (spelling ≡ first ++ rest) × IsSpelling c first × AreSpelled cs rest
-
--- a field is a text in quotes: the text is its characters with their line breaks repaired, and isn't too long
-pub record IsQuoted (field text : List ℕ) : Type 0 where
-  pub characters : List ℕ
-  pub spelling : List ℕ
-  pub in_quotes : field ≡ quote ∷ (spelling ++ quote ∷ [])
-  pub spelled : AreSpelled characters spelling
-  pub breaks : text ≡ repaired characters
-  pub fits : length text ≤ max_chars
-
--- a path is one character or more, none of which is a space
-pub record IsPath (path : List ℕ) : Type 0 where
-  pub not_empty : path ≢ []
-  pub no_space : All (λ c. c ≢ space) path
-
 -- fields, parted by exactly one space
 abbrev pub spaced : List (List ℕ) → List ℕ
 spaced [] = []
 spaced (field ∷ []) = field
 spaced (field ∷ next ∷ fields) = field ++ space ∷ spaced (next ∷ fields)
 
--- a line is a keyword and a path
-abbrev pub HasPath : List ℕ → List ℕ → List ℕ → Type 0
-HasPath keyword line path = (line ≡ spaced (keyword ∷ path ∷ [])) × IsPath path
-
--- a line is a keyword, a path and a text in quotes
-abbrev pub HasPathAndText : List ℕ → List ℕ → List ℕ → List ℕ → Type 0
-HasPathAndText keyword line path text =
-    (field : List ℕ) × (line ≡ spaced (keyword ∷ path ∷ field ∷ [])) × IsPath path × IsQuoted field text
-
--- a line is a keyword and a name, which is one whole word
-abbrev pub HasName : List ℕ → List ℕ → List ℕ → Type 0
-HasName keyword line name = (line ≡ spaced (keyword ∷ name ∷ [])) × IsTrue (is_word name)
-
--- a line is a keyword and a text in quotes
-abbrev pub HasText : List ℕ → List ℕ → List ℕ → Type 0
-HasText keyword line text = (field : List ℕ) × (line ≡ spaced (keyword ∷ field ∷ [])) × IsQuoted field text
-
--- a line's characters are the form of a change; an intake has no form, since index data go in by a settle alone
-abbrev pub IsChangeLine : List ℕ → Change → Type 0
-IsChangeLine line (change.Create path text) = HasPathAndText (codes "create") line path text
-IsChangeLine line (change.Write path text) = HasPathAndText (codes "write") line path text
-IsChangeLine line (change.Delete path) = HasPath (codes "delete") line path
-IsChangeLine line (change.OpenDoc path) = HasPath (codes "open") line path
-IsChangeLine line (change.Insert path at text) =
-    (field : List ℕ) × (line ≡ spaced (codes "insert" ∷ path ∷ decimal at ∷ field ∷ [])) × IsPath path × (at ≤ max_number) × IsQuoted field text
-IsChangeLine line (change.Erase path from to) =
-    (line ≡ spaced (codes "erase" ∷ path ∷ decimal from ∷ decimal to ∷ [])) × IsPath path × (from ≤ max_number) × (to ≤ max_number)
-IsChangeLine line (change.Commit path) = HasPath (codes "commit") line path
-IsChangeLine line (change.Save path) = HasPath (codes "save") line path
-IsChangeLine line (change.CloseDoc path) = HasPath (codes "close") line path
-IsChangeLine line (change.Intake file stamp) = ⊥
-IsChangeLine line (change.Move path to) = (line ≡ spaced (codes "move" ∷ path ∷ to ∷ [])) × IsPath path × IsPath to
-
 -- a line's characters are the form of a question
 abbrev pub IsQueryLine : List ℕ → Query → Type 0
-IsQueryLine line (query.Class name) = HasName (codes "class") line name
-IsQueryLine line (query.Supers name) = HasName (codes "supers") line name
-IsQueryLine line (query.Method name) = HasName (codes "method") line name
-IsQueryLine line (query.Word name) = HasName (codes "word") line name
-IsQueryLine line (query.Usages name) = HasName (codes "usages") line name
-IsQueryLine line (query.Inheritors name) = HasName (codes "inheritors") line name
-IsQueryLine line (query.Key key) = HasText (codes "key") line key
-IsQueryLine line (query.Outline path) = HasPath (codes "outline") line path
-IsQueryLine line query.Status = line ≡ codes "status"
+IsQueryLine line asked = ((line ≡ codes "status") × (asked ≡ query.Status)) ⊎ HasOneOf query_forms line asked
+
+-- or that of a soft read: a number of attempts, and the line of a question
+pub record IsSoftLine (line : List ℕ) (made : Command) : Type 0 where
+  pub attempts : ℕ
+  pub query : Query
+  pub asked : List ℕ
+  pub is : made ≡ command.Soft attempts query
+  pub fields : line ≡ spaced (codes "soft" ∷ decimal attempts ∷ asked ∷ [])
+  pub some : 1 ≤ attempts
+  pub few : attempts ≤ max_attempts
+  pub asks : IsQueryLine asked query
 
 -- a line's characters are the form of a command; no line by itself holds a group
 abbrev pub IsCommandLine : List ℕ → Command → Type 0
-IsCommandLine line (command.Change change) = IsChangeLine line change
-IsCommandLine line (command.Group changes) = ⊥
-IsCommandLine line (command.Load path) = HasPath (codes "load") line path
-IsCommandLine line command.Settle = line ≡ codes "settle"
-IsCommandLine line (command.Ask query) = IsQueryLine line query
-IsCommandLine line (command.Soft attempts query) =
-    (rest : List ℕ) × (line ≡ spaced (codes "soft" ∷ decimal attempts ∷ rest ∷ [])) × (1 ≤ attempts) × (attempts ≤ max_attempts) × IsQueryLine rest query
+IsCommandLine line made = ((line ≡ codes "settle") × (made ≡ command.Settle)) ⊎ HasOneOf load_forms line made
+    ⊎ ((change : Change) × (made ≡ command.Change change) × HasOneOf change_forms line change)
+    ⊎ ((query : Query) × (made ≡ command.Ask query) × IsQueryLine line query) ⊎ IsSoftLine line made
 
 -- an empty line and a line that begins with `#`, whatever bytes follow
 abbrev pub IsPassedBy : List ℕ → Type 0

@@ -2,95 +2,82 @@
 ghost use Rattle.std.specs.Prelude.{◌≡◌, IfOk, option_map};
 ghost use Rattle.std.specs.Option.{option_and_then};
 ghost use Rattle.std.specs.Str.{chars};
-ghost use Rattle.script_lang.specs.Fields.{two_fields, path_of, last_path, number_of};
+ghost use Rattle.script_lang.specs.Fields.{two_fields, path_of, number_of};
 ghost use Rattle.script_lang.specs.Quotes.{text_of_field};
-ghost use Rattle.script_lang.specs.Commands.{command_of, change_of, command_with, path_command, text_change, soft_command, attempts_of};
+ghost use Rattle.script_lang.specs.Commands.{command_with, change_with, request_with, soft_command, attempts_of};
 
 use crate::Command;
 use crate::command::MAX_ATTEMPTS;
-use crate::field::{last_path, number_of, parts_at_space, path_of};
-use crate::keyword::{Keyword, PathKeyword, TextKeyword, keyword_of};
-use crate::query_line::query_of;
+use crate::field::{number_of, parts_at_space, path_of};
+use crate::query_line::{query_of, query_of_word};
 use crate::quoted::text_of_field;
 use ide_text::{Name, SharedText};
 use std::alloc::{AllocError, Global};
 use write_history::Change;
 
-/// The command of a line's text, where the line has one of the forms.
-#[tactic(auto, unfolding(crate::specs::Commands::command_of))]
-pub(crate) fn command_of(alloc: Global, line: &str) -> Result<Option<Command>, AllocError>
-    ensures { IfOk result (λ command. command ≡ command_of (chars line.now)) }
+/// The command of a word and of the text behind the space after it, where they have one of the forms.
+pub(crate) fn command_with(
+    alloc: Global,
+    word: &str,
+    rest: &str,
+) -> Result<Option<Command>, AllocError>
+    ensures { IfOk result (λ command. command ≡ command_with (chars word.now) (chars rest.now)) }
 {
-    match query_of(alloc, line)? {
-        Some(query) => Ok(Some(Command::Ask(query))),
-        None => change_of(alloc, line),
+    command_of_word(alloc, word, rest)
+}
+
+/// The command of a word's bytes.
+fn command_of_word(alloc: Global, word: &str, rest: &str) -> Result<Option<Command>, AllocError>
+    ensures { IfOk result (λ command. command ≡ command_with word.now (chars rest.now)) }
+{
+    match change_of_word(alloc, word, rest)? {
+        Some(change) => Ok(Some(Command::Change(change))),
+        None => request_of_word(alloc, word, rest),
     }
 }
 
-/// The change, the load or the soft read of a line's text.
-#[tactic(auto, unfolding(crate::specs::Commands::change_of))]
-fn change_of(alloc: Global, line: &str) -> Result<Option<Command>, AllocError>
-    ensures { IfOk result (λ command. command ≡ change_of (chars line.now)) }
+/// The change of a word's bytes.
+fn change_of_word(alloc: Global, word: &str, rest: &str) -> Result<Option<Change>, AllocError>
+    ensures { IfOk result (λ change. change ≡ change_with word.now (chars rest.now)) }
 {
-    let Some((word, rest)) = parts_at_space(line) else {
-        return Ok(None);
-    };
-    match keyword_of(word) {
-        Some(keyword) => command_with(alloc, keyword, rest),
-        None => Ok(None),
-    }
-}
-
-/// The command of a keyword with what stands behind the space after it.
-fn command_with(alloc: Global, keyword: Keyword, rest: &str) -> Result<Option<Command>, AllocError>
-    ensures { IfOk result (λ command. command ≡ command_with keyword (chars rest.now)) }
-{
-    match keyword {
-        Keyword::OfPath(keyword) => {
-            let path = last_path(alloc, rest)?;
-            Ok(path.map(|path| path_command(keyword, path)))
-        }
-        Keyword::OfText(keyword) => {
+    match word {
+        "create" => {
             let fields = path_and_text(alloc, rest)?;
-            Ok(fields.map(|(path, text)| Command::Change(text_change(keyword, path, text))))
+            Ok(fields.map(|(path, text)| Change::Create { path, text }))
         }
-        Keyword::Insert => {
+        "write" => {
+            let fields = path_and_text(alloc, rest)?;
+            Ok(fields.map(|(path, text)| Change::Write { path, text }))
+        }
+        "delete" => Ok(path_of(alloc, rest)?.map(|path| Change::Delete { path })),
+        "open" => Ok(path_of(alloc, rest)?.map(|path| Change::OpenDoc { path })),
+        "insert" => {
             let fields = path_and_piece(alloc, rest)?;
-            Ok(fields.map(|(path, (at, text))| Command::Change(Change::Insert { path, at, text })))
+            Ok(fields.map(|(path, (at, text))| Change::Insert { path, at, text }))
         }
-        Keyword::Erase => {
+        "erase" => {
             let fields = path_and_range(alloc, rest)?;
-            Ok(fields.map(|(path, (from, to))| Command::Change(Change::Erase { path, from, to })))
+            Ok(fields.map(|(path, (from, to))| Change::Erase { path, from, to }))
         }
-        Keyword::Move => {
+        "commit" => Ok(path_of(alloc, rest)?.map(|path| Change::Commit { path })),
+        "save" => Ok(path_of(alloc, rest)?.map(|path| Change::Save { path })),
+        "close" => Ok(path_of(alloc, rest)?.map(|path| Change::CloseDoc { path })),
+        "move" => {
             let fields = two_paths(alloc, rest)?;
-            Ok(fields.map(|(path, to)| Command::Change(Change::Move { path, to })))
+            Ok(fields.map(|(path, to)| Change::Move { path, to }))
         }
-        Keyword::Soft => soft_command(alloc, rest),
+        _ => Ok(None),
     }
 }
 
-/// The command of a keyword and a path.
-fn path_command(keyword: PathKeyword, path: Name) -> Command
-    ensures { result ≡ path_command keyword path }
+/// The load, the soft read or the question of a word's bytes.
+fn request_of_word(alloc: Global, word: &str, rest: &str) -> Result<Option<Command>, AllocError>
+    ensures { IfOk result (λ command. command ≡ request_with word.now (chars rest.now)) }
 {
-    match keyword {
-        PathKeyword::Load => Command::Load { path },
-        PathKeyword::Delete => Command::Change(Change::Delete { path }),
-        PathKeyword::Open => Command::Change(Change::OpenDoc { path }),
-        PathKeyword::Commit => Command::Change(Change::Commit { path }),
-        PathKeyword::Save => Command::Change(Change::Save { path }),
-        PathKeyword::Close => Command::Change(Change::CloseDoc { path }),
-    }
-}
-
-/// The change of a keyword, a path and a text.
-fn text_change(keyword: TextKeyword, path: Name, text: SharedText) -> Change
-    ensures { result ≡ text_change keyword path text }
-{
-    match keyword {
-        TextKeyword::Create => Change::Create { path, text },
-        TextKeyword::Write => Change::Write { path, text },
+    match word {
+        "load" => Ok(path_of(alloc, rest)?.map(|path| Command::Load { path })),
+        "soft" => soft_command(alloc, rest),
+        _ => Ok(query_of_word(alloc, word, rest)?.map(Command::Ask)),
     }
 }
 
@@ -188,7 +175,7 @@ fn two_places(fields: &str) -> Option<(u32, u32)>
 
 /// Two paths.
 fn two_paths(alloc: Global, fields: &str) -> Result<Option<(Name, Name)>, AllocError>
-    ensures { IfOk result (λ found. found ≡ two_fields path_of last_path (chars fields.now)) }
+    ensures { IfOk result (λ found. found ≡ two_fields path_of path_of (chars fields.now)) }
 {
     let Some((path, to)) = parts_at_space(fields) else {
         return Ok(None);
@@ -196,6 +183,6 @@ fn two_paths(alloc: Global, fields: &str) -> Result<Option<(Name, Name)>, AllocE
     let Some(path) = path_of(alloc, path)? else {
         return Ok(None);
     };
-    let to = last_path(alloc, to)?;
+    let to = path_of(alloc, to)?;
     Ok(to.map(|to| (path, to)))
 }

@@ -2,10 +2,12 @@
 ghost use Rattle.std.specs.Prelude.{◌≡◌, IfOk};
 ghost use Rattle.std.specs.Str.{chars};
 ghost use Rattle.script_lang.specs.Lines.{without_return, is_passed_by};
-ghost use Rattle.script_lang.specs.Contents.{content_of, content_of_text, content_from, lone_content};
+ghost use Rattle.script_lang.specs.Contents.{content_of, content_of_text, lone_content, or_bad};
 
 use crate::Command;
-use crate::command_line::command_of;
+use crate::command_line::command_with;
+use crate::field::parts_at_space;
+use crate::query_line::lone_query_of_bytes;
 use std::alloc::{AllocError, Global};
 
 /// What a line is.
@@ -47,41 +49,39 @@ pub(crate) fn content_of(alloc: Global, line: &[u8]) -> Result<Content, AllocErr
 fn content_of_text(alloc: Global, text: &str) -> Result<Content, AllocError>
     ensures { IfOk result (λ content. content ≡ content_of_text (chars text.now)) }
 {
-    match lone_content(text) {
-        Some(content) => Ok(content),
-        None => Ok(content_from(command_of(alloc, text)?)),
-    }
+    let content = match parts_at_space(text) {
+        Some((word, rest)) => command_with(alloc, word, rest)?.map(Content::Holds),
+        None => lone_content(text),
+    };
+    Ok(or_bad(content))
 }
 
-/// What a line of one word is, unless it is a question.
-fn lone_content(text: &str) -> Option<Content>
-    ensures { result ≡ lone_content (chars text.now) }
+/// What a line of one word is.
+fn lone_content(word: &str) -> Option<Content>
+    ensures { result ≡ lone_content (chars word.now) }
 {
-    lone_content_of_bytes(text)
+    lone_content_of_bytes(word)
 }
 
 /// What a line of one word is, by its bytes.
-fn lone_content_of_bytes(text: &str) -> Option<Content>
-    ensures { result ≡ lone_content text.now }
+fn lone_content_of_bytes(word: &str) -> Option<Content>
+    ensures { result ≡ lone_content word.now }
 {
-    match text {
-        "settle" => Some(Content::Holds(Command::Settle)),
+    match word {
         "lane" => Some(Content::Lane),
         "finally" => Some(Content::Finally),
         "group" => Some(Content::Group),
         "end" => Some(Content::End),
-        _ => None,
+        "settle" => Some(Content::Holds(Command::Settle)),
+        _ => lone_query_of_bytes(word).map(|query| Content::Holds(Command::Ask(query))),
     }
 }
 
-/// What a line with a text is, by its command.
-fn content_from(command: Option<Command>) -> Content
-    ensures { result ≡ content_from command }
+/// What a line is, or a bad line.
+fn or_bad(content: Option<Content>) -> Content
+    ensures { result ≡ or_bad content }
 {
-    match command {
-        Some(command) => Content::Holds(command),
-        None => Content::Bad,
-    }
+    content.unwrap_or(Content::Bad)
 }
 
 /// The line with one carriage return at its end dropped.

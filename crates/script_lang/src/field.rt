@@ -1,7 +1,7 @@
 //! The fields of a line.
 ghost use Rattle.std.specs.Prelude.{◌≡◌, IfOk, option_map};
 ghost use Rattle.std.specs.Str.{chars};
-ghost use Rattle.script_lang.specs.Fields.{parts_at_space, path_of, last_path, number_of, is_plain};
+ghost use Rattle.script_lang.specs.Fields.{parts_at_space, path_of, filled, number_of, is_plain};
 
 use ide_text::Name;
 use std::alloc::{AllocError, Global};
@@ -13,24 +13,24 @@ pub(crate) fn parts_at_space(text: &str) -> Option<(&str, &str)>
     text.split_once(' ')
 }
 
-/// The path that a field is, unless the field is empty.
+/// The path that a field is: any characters but spaces, and at least one.
 pub(crate) fn path_of(alloc: Global, field: &str) -> Result<Option<Name>, AllocError>
     ensures { IfOk result (λ path. path ≡ path_of (chars field.now)) }
+{
+    match parts_at_space(field) {
+        Some(_) => Ok(None),
+        None => filled(alloc, field),
+    }
+}
+
+/// A field, unless it is empty.
+fn filled(alloc: Global, field: &str) -> Result<Option<Name>, AllocError>
+    ensures { IfOk result (λ path. path ≡ filled (chars field.now)) }
 {
     if field.is_empty() {
         return Ok(None);
     }
     Ok(Some(Name::of(alloc, field)?))
-}
-
-/// The path that the last field of a line is: no field follows.
-pub(crate) fn last_path(alloc: Global, field: &str) -> Result<Option<Name>, AllocError>
-    ensures { IfOk result (λ path. path ≡ last_path (chars field.now)) }
-{
-    match parts_at_space(field) {
-        Some(_) => Ok(None),
-        None => path_of(alloc, field),
-    }
 }
 
 /// The number whose decimal digits a field is: no sign and no zero stands before them.

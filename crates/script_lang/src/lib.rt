@@ -6,7 +6,7 @@ mod command_line;
 mod content;
 mod field;
 mod group;
-mod keyword;
+pub mod laws;
 mod line;
 mod query_line;
 mod quoted;

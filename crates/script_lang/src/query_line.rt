@@ -1,73 +1,79 @@
 //! The question on a line.
 ghost use Rattle.std.specs.Prelude.{◌≡◌, IfOk};
 ghost use Rattle.std.specs.Str.{chars};
-ghost use Rattle.script_lang.specs.Queries.{query_of, lone_query, query_with, name_query};
+ghost use Rattle.script_lang.specs.Commands.{lone_query, query_with, query_of};
+ghost use Rattle.script_lang.specs.Readers.{value_of};
+ghost use Rattle.script_lang.specs.Forms.{Word};
 
-use crate::field::{last_path, parts_at_space};
-use crate::keyword::{NameKeyword, QueryKeyword, query_keyword_of};
+use crate::field::{parts_at_space, path_of};
 use crate::quoted::key_of_field;
 use ide_text::Name;
 use java_tokens::is_word;
 use queries::Query;
 use std::alloc::{AllocError, Global};
 
-/// The question of a line's text, where the line has one of the nine forms.
-#[tactic(auto, unfolding(crate::specs::Queries::query_of))]
+/// The question of a line's text, where the line has one of the forms.
+#[tactic(auto, unfolding(crate::specs::Commands::query_of))]
 pub(crate) fn query_of(alloc: Global, line: &str) -> Result<Option<Query>, AllocError>
     ensures { IfOk result (λ query. query ≡ query_of (chars line.now)) }
 {
-    let Some((word, rest)) = parts_at_space(line) else {
-        return Ok(lone_query(line));
-    };
-    match query_keyword_of(word) {
-        Some(keyword) => query_with(alloc, keyword, rest),
-        None => Ok(None),
+    match parts_at_space(line) {
+        Some((word, rest)) => query_with(alloc, word, rest),
+        None => Ok(lone_query(line)),
     }
 }
 
-/// The question that stands alone on its line.
-fn lone_query(line: &str) -> Option<Query>
-    ensures { result ≡ lone_query (chars line.now) }
+/// The question of one word.
+fn lone_query(word: &str) -> Option<Query>
+    ensures { result ≡ lone_query (chars word.now) }
 {
-    if line == "status" {
-        Some(Query::Status)
-    } else {
-        None
+    lone_query_of_bytes(word)
+}
+
+/// The question of one word, by its bytes.
+pub(crate) fn lone_query_of_bytes(word: &str) -> Option<Query>
+    ensures { result ≡ lone_query word.now }
+{
+    match word {
+        "status" => Some(Query::Status),
+        _ => None,
     }
 }
 
-/// The question of a keyword with what stands behind the space after it.
-fn query_with(alloc: Global, keyword: QueryKeyword, rest: &str) -> Result<Option<Query>, AllocError>
-    ensures { IfOk result (λ query. query ≡ query_with keyword (chars rest.now)) }
+/// The question of a word and of the text behind the space after it.
+fn query_with(alloc: Global, word: &str, rest: &str) -> Result<Option<Query>, AllocError>
+    ensures { IfOk result (λ query. query ≡ query_with (chars word.now) (chars rest.now)) }
 {
-    match keyword {
-        QueryKeyword::OfName(keyword) => {
-            if !is_word(rest) {
-                return Ok(None);
-            }
-            Ok(Some(name_query(keyword, Name::of(alloc, rest)?)))
-        }
-        QueryKeyword::Key => {
-            let key = key_of_field(alloc, rest)?;
-            Ok(key.map(|key| Query::Key { key }))
-        }
-        QueryKeyword::Outline => {
-            let path = last_path(alloc, rest)?;
-            Ok(path.map(|path| Query::Outline { path }))
-        }
+    query_of_word(alloc, word, rest)
+}
+
+/// The question of a word's bytes.
+pub(crate) fn query_of_word(
+    alloc: Global,
+    word: &str,
+    rest: &str,
+) -> Result<Option<Query>, AllocError>
+    ensures { IfOk result (λ query. query ≡ query_with word.now (chars rest.now)) }
+{
+    match word {
+        "class" => Ok(name_of(alloc, rest)?.map(|name| Query::Class { name })),
+        "supers" => Ok(name_of(alloc, rest)?.map(|name| Query::Supers { name })),
+        "method" => Ok(name_of(alloc, rest)?.map(|name| Query::Method { name })),
+        "word" => Ok(name_of(alloc, rest)?.map(|name| Query::Word { name })),
+        "usages" => Ok(name_of(alloc, rest)?.map(|name| Query::Usages { name })),
+        "inheritors" => Ok(name_of(alloc, rest)?.map(|name| Query::Inheritors { name })),
+        "key" => Ok(key_of_field(alloc, rest)?.map(|key| Query::Key { key })),
+        "outline" => Ok(path_of(alloc, rest)?.map(|path| Query::Outline { path })),
+        _ => Ok(None),
     }
 }
 
-/// The question of a keyword and a name.
-fn name_query(keyword: NameKeyword, name: Name) -> Query
-    ensures { result ≡ name_query keyword name }
+/// The word that a field is.
+fn name_of(alloc: Global, field: &str) -> Result<Option<Name>, AllocError>
+    ensures { IfOk result (λ name. name ≡ value_of Word (chars field.now)) }
 {
-    match keyword {
-        NameKeyword::Class => Query::Class { name },
-        NameKeyword::Supers => Query::Supers { name },
-        NameKeyword::Method => Query::Method { name },
-        NameKeyword::Word => Query::Word { name },
-        NameKeyword::Usages => Query::Usages { name },
-        NameKeyword::Inheritors => Query::Inheritors { name },
+    if !is_word(field) {
+        return Ok(None);
     }
+    Ok(Some(Name::of(alloc, field)?))
 }

@@ -1,5 +1,5 @@
 use Rattle.script_lang.proofs.OnceLemmas.{never_refused}
-use Rattle.demo_runs.proofs.laws.scripts_are_not_refused.Goals as goal
+use Rattle.script_lang.proofs.laws.scripts_are_not_refused.Goals as goal
 
 pub returns : goal.returns
 returns c = never_refused

@@ -1,8 +1,9 @@
 -- The path and the text of a file, whatever the numbers in them are: which characters they have, and how many.
-use Rattle.std.proofs.Common.{ℕ, zero, suc, ◌≡◌, ◌+◌, ◌/◌, ◌%◌, ◌<◌, ◌≤◌, Bool, true, false, not, ◌&&◌, leb, ltb, eqb, List, [], ◌∷◌, ◌++◌}
+use Rattle.std.proofs.Common.{ℕ, zero, suc, ◌≡◌, ◌≢◌, ◌+◌, ◌/◌, ◌%◌, ◌<◌, ◌≤◌, Bool, true, false, not, ◌&&◌, leb, ltb, eqb, List, [], ◌∷◌, ◌++◌}
 use Rattle.std.proofs.Common.{length, map, codes, decimal, refl, ap, sym, ◌∙◌, arith, length-append, mod-lt}
 use Rattle.std.specs.Fmt.{digits, digits_onto, digit_glyph}
-use Rattle.std.specs.List.{list_all, range_with_len}
+use Rattle.std.specs.List.{All, list_all, range_with_len}
+use Rattle.std.proofs.lemmas.List.Elements.{All-weaker}
 use Rattle.std.proofs.lemmas.Bool.{and_parts, cond-true, cond_both, lt-ltb}
 use Rattle.std.proofs.lemmas.List.Folds.{list_all-append}
 use Rattle.std.proofs.lemmas.List.FromFn.{get_or-map-range_with_len}
@@ -10,13 +11,16 @@ use Rattle.std.proofs.lemmas.List.Sums.{AllPass-from_list_all}
 use Rattle.demo.specs.declared.command.Command.{Command}
 use Rattle.demo.specs.declared.command.Verb.{Verb}
 use Rattle.demo.specs.declared.command.Verb.TheVariants as verb
+use Rattle.script_lang.specs.Printed.{is_plain}
 use Rattle.demo.specs.Line.{letter_of, path_of, method_of, class_of}
 
 -- ---- tests of characters
 
--- of ASCII, from the space on, and neither a quote nor a backslash
-abbrev pub is_plain : ℕ → Bool
-is_plain c = (leb 32 c && ltb c 128) && (not (eqb c 34) && not (eqb c 92))
+-- what passes a test is no character that fails it
+pub none_of : (test : ℕ → Bool) (mark : ℕ) → test mark ≡ false → (cs : List ℕ) → list_all test cs ≡ true → All (λ c. c ≢ mark) cs
+none_of test mark fails cs all =
+    All-weaker (λ c. test c ≡ true) (λ c. c ≢ mark) (λ c passes e. let f : true ≡ false = sym passes ∙ ap test e ∙ fails in cc) cs
+    (AllPass-from_list_all test cs all)
 
 pub weaker : (test other : ℕ → Bool) → ((c : ℕ) → test c ≡ true → other c ≡ true) → (cs : List ℕ) → list_all test cs ≡ true → list_all other cs ≡ true
 weaker test other f [] all = refl

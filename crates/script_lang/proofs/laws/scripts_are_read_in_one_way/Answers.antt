@@ -1,5 +1,5 @@
 use Rattle.script_lang.proofs.OnceLemmas.{one_script}
-use Rattle.demo_runs.proofs.laws.scripts_are_read_in_one_way.Goals as goal
+use Rattle.script_lang.proofs.laws.scripts_are_read_in_one_way.Goals as goal
 
 pub returns : goal.returns
 returns c = one_script

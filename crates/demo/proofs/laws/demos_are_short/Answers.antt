@@ -1,0 +1,5 @@
+use Rattle.demo.proofs.LengthLemmas.{demo-short}
+use Rattle.demo.proofs.laws.demos_are_short.Goals as goal
+
+pub returns : goal.returns
+returns c = demo-short

@@ -1,0 +1,5 @@
+use Rattle.demo.proofs.LengthLemmas.{length-creates, length-edits}
+use Rattle.demo.proofs.laws.demos_have_their_commands.Goals as goal
+
+pub returns : goal.returns
+returns c = record { creates = length-creates; edits = length-edits }
