@@ -13,6 +13,7 @@ mod failing;
 mod fault_count;
 mod fault_plan;
 mod folder_tree;
+pub mod laws;
 mod memory_tree;
 mod reader_source;
 mod reading;

@@ -1,8 +1,7 @@
 -- Which files a run asked for.
 use Rattle.std.proofs.Common.{◌≡◌, ℕ, List, [], ◌∷◌, Option, Some, refl, sym, subst, arith}
 use Rattle.std.specs.Prelude.{option_to_list}
-use Rattle.ide_io.specs.Asks.{AsksFront, AsksSome}
-use Rattle.ide_io.proofs.AskLemmas.{AsksFront-append, AsksSome-append}
+use Rattle.ide_io.specs.Asks.{AsksSome}
 
 -- the first of the files that are asked for was
 pub asks_one : {T : Type 0} (asks : T → List ℕ → T → Type 0) (old new : T) (path : List ℕ) (paths : List (List ℕ)) → asks old path new → AsksSome asks old (path ∷ paths) new
@@ -12,13 +11,3 @@ asks_one asks old new path paths asked = record { first = record { front = path 
 pub asks_named : {T : Type 0} (asks : T → List ℕ → T → Type 0) (old new : T) (named : Option (List ℕ)) (path : List ℕ) → named ≡ Some path → asks old path new
     → AsksSome asks old (option_to_list named) new
 asks_named asks old new named path is asked = subst (λ n. AsksSome asks old (option_to_list n) new) (sym is) (asks_one asks old new path [] asked)
-
--- the first file was asked for, and then the first of the others
-pub asks_then : {T : Type 0} (asks : T → List ℕ → T → Type 0) (old mid new : T) (path : List ℕ) (paths : List (List ℕ)) → asks old path mid → AsksFront asks mid paths new
-    → AsksFront asks old (path ∷ paths) new
-asks_then asks old mid new path paths asked more = AsksFront-append asks old mid new (path ∷ []) paths (mid, asked, refl) more
-
--- the same, at least one of the others
-pub asks_then_some : {T : Type 0} (asks : T → List ℕ → T → Type 0) (old mid new : T) (path : List ℕ) (paths : List (List ℕ)) → asks old path mid → AsksSome asks mid paths new
-    → AsksSome asks old (path ∷ paths) new
-asks_then_some asks old mid new path paths asked more = AsksSome-append asks old mid new (path ∷ []) paths (mid, asked, refl) more

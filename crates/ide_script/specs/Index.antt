@@ -12,6 +12,7 @@ use Rattle.write_history.specs.Fold.{fold}
 use Rattle.index_store.specs.Spelling.{rows_of}
 use Rattle.index_store.specs.Lawful.{IsStoreBytes}
 use Rattle.script_store.specs.Indexed.{entries_of}
+use Rattle.ide_script.specs.Outside.{SourceRun, TreeRun, SinkRun}
 use Rattle.ide_script.specs.declared.status.Status.{Status}
 use Rattle.ide_script.specs.Writing.{ScriptEnds}
 
@@ -23,5 +24,5 @@ pub record IsStoreOf (files : Option Files) (script : Parts) (bytes : List ℕ) 
   pub is : IsStoreBytes (rows_of (entries_of (fold (run_of loads script).history))) bytes
 
 -- when each answer to an `index` comes, and what was read, asked for and written then: no file is asked for but those of the loads
-abbrev pub IndexEnds : {S T K : Type 0} → Source.Ghosts S → Tree.Ghosts T → Sink.Ghosts K → S → S → T → T → K → K → Status → Type 0
-IndexEnds s t k source source' tree tree' sink sink' status = ScriptEnds s t k [] (IsStoreOf (t.files tree)) source source' tree tree' sink sink' status
+abbrev pub IndexEnds : {S T K : Type 0} {s : Source.Ghosts S} {t : Tree.Ghosts T} {k : Sink.Ghosts K} → SourceRun s → TreeRun t → SinkRun k → Status → Type 0
+IndexEnds {S} {T} {K} {s} {t} {k} source tree sink status = ScriptEnds source tree sink [] (IsStoreOf (t.files tree.old)) status

@@ -1,5 +1,6 @@
 -- How a run ends
 pub mod Status
+pub mod Outside
 pub mod Reading
 pub mod Writing
 pub mod Store

@@ -16,8 +16,9 @@ use Rattle.transcripts.specs.Serial.{Ended, run_of}
 use Rattle.transcripts.specs.Fits.{RunFits}
 use Rattle.transcripts.specs.Transcript.{summary_of}
 use Rattle.transcripts.specs.Play.{IsTranscript}
+use Rattle.ide_script.specs.Outside.{SourceRun, TreeRun, SinkRun}
 use Rattle.ide_script.specs.declared.status.Status.{Status}
-use Rattle.ide_script.specs.declared.status.Status.TheVariants.{Done, Usage, BadScript, SourceFault, TreeFault, SinkFault, OutOfMemory, ScriptTooLong, Rejected}
+use Rattle.ide_script.specs.declared.status.Status.TheVariants.{Done, Usage, SourceFault, TreeFault, SinkFault, OutOfMemory, Rejected}
 use Rattle.ide_script.specs.Status.{number_of, fault_line}
 use Rattle.ide_script.specs.Writing.{ScriptEnds, Writes, WritesPrefix}
 use Rattle.ide_script.specs.Index.{IndexEnds}
@@ -45,33 +46,30 @@ pub record IsDemoSummary (seed files edits workers : ℕ) (bytes : List ℕ) : T
 
 -- when each answer to a `play` with so many workers and the store at this path, where one is named, comes, and what was read, asked for and written
 -- then: the store's file is asked for before those of the loads, and whatever its bytes are, the sink took a transcript
-abbrev pub PlayEnds : {S T K : Type 0} → Source.Ghosts S → Tree.Ghosts T → Sink.Ghosts K → ℕ → Option (List ℕ) → S → S → T → T → K → K → Status → Type 0
-PlayEnds s t k workers store source source' tree tree' sink sink' status =
-    ScriptEnds s t k (option_to_list store) (λ script bytes. IsTranscript (t.files tree) script workers bytes) source source' tree tree' sink sink' status
+abbrev pub PlayEnds : {S T K : Type 0} {s : Source.Ghosts S} {t : Tree.Ghosts T} {k : Sink.Ghosts K} → SourceRun s → TreeRun t → SinkRun k
+    → ℕ → Option (List ℕ) → Status → Type 0
+PlayEnds {S} {T} {K} {s} {t} {k} source tree sink workers store status =
+    ScriptEnds source tree sink (option_to_list store) (λ script bytes. IsTranscript (t.files tree.old) script workers bytes) status
 
 -- when each answer to a `demo` comes, and what was written then
-abbrev pub DemoEnds : {K : Type 0} → Sink.Ghosts K → ℕ → ℕ → ℕ → ℕ → K → K → Status → Type 0
-DemoEnds k seed files edits workers sink sink' Done = Writes k (IsDemoSummary seed files edits workers) sink sink'
-DemoEnds k seed files edits workers sink sink' SinkFault = WritesPrefix k (IsDemoSummary seed files edits workers) sink sink'
-DemoEnds k seed files edits workers sink sink' OutOfMemory = Unit {0}
-DemoEnds k seed files edits workers sink sink' (BadScript line) = ⊥
-DemoEnds k seed files edits workers sink sink' Usage = ⊥
-DemoEnds k seed files edits workers sink sink' SourceFault = ⊥
-DemoEnds k seed files edits workers sink sink' TreeFault = ⊥
-DemoEnds k seed files edits workers sink sink' ScriptTooLong = ⊥
-DemoEnds k seed files edits workers sink sink' Rejected = ⊥
+abbrev pub DemoEnds : {K : Type 0} {k : Sink.Ghosts K} → SinkRun k → ℕ → ℕ → ℕ → ℕ → Status → Type 0
+DemoEnds sink seed files edits workers Done = Writes sink (IsDemoSummary seed files edits workers)
+DemoEnds sink seed files edits workers SinkFault = WritesPrefix sink (IsDemoSummary seed files edits workers)
+DemoEnds sink seed files edits workers OutOfMemory = Unit {0}
+DemoEnds sink seed files edits workers status = ⊥
 
 -- when each answer to faulty words comes
 abbrev pub WordsEnd : Status → Type 0
 WordsEnd status = (status ≡ Usage) ⊎ (status ≡ OutOfMemory)
 
 -- when each answer comes, by what the words ask for, and what was read, asked for and written then
-abbrev pub RunEnds : {S T K : Type 0} → Source.Ghosts S → Tree.Ghosts T → Sink.Ghosts K → Option Request → S → S → T → T → K → K → Status → Type 0
-RunEnds s t k None source source' tree tree' sink sink' status = WordsEnd status
-RunEnds s t k (Some (Play workers store)) source source' tree tree' sink sink' status = PlayEnds s t k workers store source source' tree tree' sink sink' status
-RunEnds s t k (Some (Demo seed files edits workers)) source source' tree tree' sink sink' status = DemoEnds k seed files edits workers sink sink' status
-RunEnds s t k (Some (Check path workers)) source source' tree tree' sink sink' status = CheckEnds s t k path workers source source' tree tree' sink sink' status
-RunEnds s t k (Some Index) source source' tree tree' sink sink' status = IndexEnds s t k source source' tree tree' sink sink' status
+abbrev pub RunEnds : {S T K : Type 0} {s : Source.Ghosts S} {t : Tree.Ghosts T} {k : Sink.Ghosts K} → SourceRun s → TreeRun t → SinkRun k
+    → Option Request → Status → Type 0
+RunEnds source tree sink None status = WordsEnd status
+RunEnds source tree sink (Some (Play workers store)) status = PlayEnds source tree sink workers store status
+RunEnds source tree sink (Some (Demo seed files edits workers)) status = DemoEnds sink seed files edits workers status
+RunEnds source tree sink (Some (Check path workers)) status = CheckEnds source tree sink path workers status
+RunEnds source tree sink (Some Index) status = IndexEnds source tree sink status
 
 -- words that ask for no script: faulty ones, and those of a demo
 abbrev pub AsksNothing : Option Request → Type 0
@@ -86,25 +84,27 @@ abbrev pub TellsEndOnce : ℕ → ℕ → Type 0
 TellsEndOnce old new = (new ≡ old) ⊎ (new ≡ next_count old)
 
 -- the line of the status was written, unless the stream for errors met a fault
-abbrev pub TellsStatus : {E : Type 0} → Sink.Ghosts E → E → E → Status → Type 0
-TellsStatus e old new status = HasFault (e.faults old) (e.faults new) ⊎ (e.taken new ≡ append_known (e.taken old) (fault_line status))
+abbrev pub TellsStatus : {E : Type 0} {e : Sink.Ghosts E} → SinkRun e → Status → Type 0
+TellsStatus {E} {e} error status =
+    HasFault (e.faults error.old) (e.faults error.new) ⊎ (e.taken error.new ≡ append_known (e.taken error.old) (fault_line status))
 
 -- how the process ends: with the number of a status, whose line was written, and which says how the run on these words ended
-pub record EndsWith {S T K E : Type 0} (s : Source.Ghosts S) (t : Tree.Ghosts T) (k : Sink.Ghosts K) (e : Sink.Ghosts E)
-    (source source' : S) (tree tree' : T) (sink sink' : K) (error error' : E) (words : List (List ℕ)) (number : ℕ) : Type 0 where
+pub record EndsWith {S T K E : Type 0} {s : Source.Ghosts S} {t : Tree.Ghosts T} {k : Sink.Ghosts K} {e : Sink.Ghosts E}
+    (source : SourceRun s) (tree : TreeRun t) (sink : SinkRun k) (error : SinkRun e) (words : List (List ℕ)) (number : ℕ) : Type 0 where
   pub status : Status
   pub numbered : number ≡ number_of status
-  pub line : TellsStatus e error error' status
-  pub run : RunEnds s t k (request_of words) source source' tree tree' sink sink' status
-  pub unread : AsksNothing (request_of words) → (source' ≡ source) × (tree' ≡ tree)
-  pub silent : status ≢ Done → status ≢ Rejected → status ≢ SinkFault → sink' ≡ sink
-  pub source_quiet : status ≢ SourceFault → s.faults source' ≡ s.faults source
-  pub tree_quiet : status ≢ TreeFault → t.faults tree' ≡ t.faults tree
-  pub sink_quiet : status ≢ SinkFault → k.faults sink' ≡ k.faults sink
+  pub line : TellsStatus error status
+  pub run : RunEnds source tree sink (request_of words) status
+  pub unread : AsksNothing (request_of words) → (source.new ≡ source.old) × (tree.new ≡ tree.old)
+  pub silent : status ≢ Done → status ≢ Rejected → status ≢ SinkFault → sink.new ≡ sink.old
+  pub source_quiet : status ≢ SourceFault → s.faults source.new ≡ s.faults source.old
+  pub tree_quiet : status ≢ TreeFault → t.faults tree.new ≡ t.faults tree.old
+  pub sink_quiet : status ≢ SinkFault → k.faults sink.new ≡ k.faults sink.old
 
 -- how the process ends where the system gave no words: with the number of this status, whose line was written, and nothing was read, asked for or written
-pub record EndsUnread {S T K E : Type 0} (e : Sink.Ghosts E) (source source' : S) (tree tree' : T) (sink sink' : K) (error error' : E) (status : Status) (number : ℕ) : Type 0 where
+pub record EndsUnread {S T K E : Type 0} {s : Source.Ghosts S} {t : Tree.Ghosts T} {k : Sink.Ghosts K} {e : Sink.Ghosts E}
+    (source : SourceRun s) (tree : TreeRun t) (sink : SinkRun k) (error : SinkRun e) (status : Status) (number : ℕ) : Type 0 where
   pub numbered : number ≡ number_of status
-  pub line : TellsStatus e error error' status
-  pub unread : (source' ≡ source) × (tree' ≡ tree)
-  pub silent : sink' ≡ sink
+  pub line : TellsStatus error status
+  pub unread : (source.new ≡ source.old) × (tree.new ≡ tree.old)
+  pub silent : sink.new ≡ sink.old

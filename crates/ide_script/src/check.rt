@@ -8,10 +8,12 @@ ghost use Rattle.ide_io.specs.Known.{TakesAtMost, TakesPrefix};
 ghost use Rattle.script_lang.specs.Lines.{max_bytes};
 ghost use Rattle.transcripts.specs.Loads.{paths_of};
 ghost use Rattle.ide_script.specs.Check.{CheckEnds, JudgesFile, VerdictEnds, line_of, status_of};
+ghost use Rattle.ide_script.specs.Outside.{read, asked, written};
 ghost use Rattle.ide_script.specs.Run.{TellsEndOnce};
 
 use crate::Status;
 use crate::reading::read_script;
+use ide_io::laws::trees_are_asked_in_turn;
 use ide_io::{Failed, ReadFileError, Sink, Source, Tree, write_all};
 use ide_text::Name;
 use script_lang::Script;
@@ -28,7 +30,7 @@ pub(crate) fn run_check<S: Source, T: Tree, K: Sink>(
     out: &mut K,
 ) -> Status
     requires { workers ≤ max_workers }
-    ensures ends { CheckEnds S.Source T.Tree K.Sink path.now workers source.old source.new tree.old tree.new out.old out.new result }
+    ensures ends { CheckEnds (read S.Source source.old source.new) (asked T.Tree tree.old tree.new) (written K.Sink out.old out.new) path.now workers result }
     ensures within { result ≢ Status.ScriptTooLong → TakesAtMost max_bytes (S.left source.old) (S.left source.new) }
     ensures end_once { TellsEndOnce (S.ends source.old) (S.ends source.new) }
     ensures silent { result ≢ Status.Done → result ≢ Status.Rejected → result ≢ Status.SinkFault → out.new ≡ out.old }
@@ -65,6 +67,7 @@ fn judge<T: Tree>(
     ensures files { T.files tree.new ≡ T.files tree.old }
     ensures quiet { result ≢ Err VerdictRefusal.TreeFault → T.faults tree.new ≡ T.faults tree.old }
 {
+    trees_are_asked_in_turn::<T>();
     let bytes = match tree.read_file(alloc, path) {
         Ok(bytes) => bytes,
         Err(ReadFileError::Failed) => return Err(VerdictRefusal::TreeFault),
@@ -75,7 +78,7 @@ fn judge<T: Tree>(
 
 /// Tells a verdict.
 fn tell<K: Sink>(verdict: Verdict, out: &mut K) -> Status
-    ensures ends { VerdictEnds K.Sink out.old out.new verdict result }
+    ensures ends { VerdictEnds (written K.Sink out.old out.new) verdict result }
     ensures quiet { result ≢ Status.SinkFault → K.faults out.new ≡ K.faults out.old }
 {
     match write_verdict(verdict, out) {

@@ -7,6 +7,7 @@ ghost use Rattle.ide_io.specs.Fault.{HasFault};
 ghost use Rattle.ide_io.specs.Known.{TakesAtMost};
 ghost use Rattle.script_lang.specs.Lines.{max_bytes};
 ghost use Rattle.ide_script.specs.Status.{number_of, fault_line};
+ghost use Rattle.ide_script.specs.Outside.{read, asked, written};
 ghost use Rattle.ide_script.specs.Run.{AsksNothing, EndsUnread, EndsWith, RunEnds, TellsEndOnce, TellsStatus, given_words};
 
 use crate::{Status, run_ide};
@@ -28,8 +29,8 @@ pub fn run_main<R: Threads + Wait + Sync, S: Source, T: Tree, K: Sink, E: Sink>(
     out: &mut K,
     error: &mut E,
 ) -> u8
-    ensures ends { EndsWith S.Source T.Tree K.Sink E.Sink script.old script.new tree.old tree.new out.old out.new error.old error.new
-        (given_words (map string_bytes words.items)) result }
+    ensures ends { EndsWith (read S.Source script.old script.new) (asked T.Tree tree.old tree.new) (written K.Sink out.old out.new)
+        (written E.Sink error.old error.new) (given_words (map string_bytes words.items)) result }
     ensures within { result ≢ number_of Status.ScriptTooLong → TakesAtMost max_bytes (S.left script.old) (S.left script.new) }
     ensures end_once { TellsEndOnce (S.ends script.old) (S.ends script.new) }
     ensures files { T.files tree.new ≡ T.files tree.old }
@@ -47,8 +48,8 @@ fn run_given<R: Threads + Wait + Sync, S: Source, T: Tree, K: Sink>(
     tree: &mut T,
     out: &mut K,
 ) -> Status
-    ensures ends { RunEnds S.Source T.Tree K.Sink (request_of (given_words (map string_bytes words.items)))
-        script.old script.new tree.old tree.new out.old out.new result }
+    ensures ends { RunEnds (read S.Source script.old script.new) (asked T.Tree tree.old tree.new) (written K.Sink out.old out.new)
+        (request_of (given_words (map string_bytes words.items))) result }
     ensures within { result ≢ Status.ScriptTooLong → TakesAtMost max_bytes (S.left script.old) (S.left script.new) }
     ensures end_once { TellsEndOnce (S.ends script.old) (S.ends script.new) }
     ensures unread { AsksNothing (request_of (given_words (map string_bytes words.items))) → (script.new ≡ script.old) × (tree.new ≡ tree.old) }
@@ -75,9 +76,10 @@ pub fn run_process<R: Threads + Wait + Sync, S: Source, T: Tree, K: Sink, E: Sin
     out: &mut K,
     error: &mut E,
 ) -> ExitCode
-    ensures given { IfOk words (λ words. EndsWith S.Source T.Tree K.Sink E.Sink script.old script.new tree.old tree.new out.old out.new error.old error.new
-        (given_words (map string_bytes words.items)) (exit_status result)) }
-    ensures refused { IfErr words (λ status. EndsUnread E.Sink script.old script.new tree.old tree.new out.old out.new error.old error.new status (exit_status result)) }
+    ensures given { IfOk words (λ words. EndsWith (read S.Source script.old script.new) (asked T.Tree tree.old tree.new)
+        (written K.Sink out.old out.new) (written E.Sink error.old error.new) (given_words (map string_bytes words.items)) (exit_status result)) }
+    ensures refused { IfErr words (λ status. EndsUnread (read S.Source script.old script.new) (asked T.Tree tree.old tree.new)
+        (written K.Sink out.old out.new) (written E.Sink error.old error.new) status (exit_status result)) }
 {
     ExitCode::from(match words {
         Ok(words) => run_main(rt, alloc, words, script, tree, out, error),
@@ -101,7 +103,7 @@ fn with_name(alloc: Global, given: Vec<String>) -> Result<Vec<String>, AllocErro
 /// Writes the line of a status to `error`, and gives the number of the status.
 pub fn finish<E: Sink>(status: Status, error: &mut E) -> u8
     ensures number { result ≡ number_of status }
-    ensures line { TellsStatus E.Sink error.old error.new status }
+    ensures line { TellsStatus (written E.Sink error.old error.new) status }
 {
     let _ = write_line(status, error);
     status.number()

@@ -6,6 +6,7 @@ ghost use Rattle.ide_io.specs.Known.{TakesAtMost};
 ghost use Rattle.script_lang.specs.Lines.{max_bytes};
 ghost use Rattle.transcripts.specs.Loads.{paths_of};
 ghost use Rattle.ide_script.specs.Index.{IndexEnds, IsStoreOf};
+ghost use Rattle.ide_script.specs.Outside.{read, asked, written};
 ghost use Rattle.ide_script.specs.Run.{TellsEndOnce};
 
 use crate::reading::{read_loads_of, read_script};
@@ -23,7 +24,7 @@ pub(crate) fn run_index<S: Source, T: Tree, K: Sink>(
     tree: &mut T,
     out: &mut K,
 ) -> Status
-    ensures ends { IndexEnds S.Source T.Tree K.Sink source.old source.new tree.old tree.new out.old out.new result }
+    ensures ends { IndexEnds (read S.Source source.old source.new) (asked T.Tree tree.old tree.new) (written K.Sink out.old out.new) result }
     ensures within { result ≢ Status.ScriptTooLong → TakesAtMost max_bytes (S.left source.old) (S.left source.new) }
     ensures end_once { TellsEndOnce (S.ends source.old) (S.ends source.new) }
     ensures silent { result ≢ Status.Done → result ≢ Status.SinkFault → out.new ≡ out.old }

@@ -11,6 +11,7 @@ use crate::reading::read_loads_of;
 use crate::store_file::read_store;
 use action_lock::Gate;
 use ide_io::Tree;
+use ide_io::laws::trees_are_asked_in_turn;
 use ide_text::Name;
 use index_store::Store;
 use script_lang::Script;
@@ -70,6 +71,7 @@ pub(crate) fn play_stored<R: Threads + Wait + Sync, T: Tree, G: Gate + Sync>(
     ensures files { T.files tree.new ≡ T.files tree.old }
     ensures quiet { result ≢ Err PlayRefusal.TreeFault → T.faults tree.new ≡ T.faults tree.old }
 {
+    trees_are_asked_in_turn::<T>();
     let store = read_store(alloc, path, tree)?;
     play(rt, alloc, script, workers, store, tree, gate)
 }

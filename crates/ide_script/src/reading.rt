@@ -5,6 +5,7 @@ ghost use Rattle.ide_io.specs.Fault.{HasFault};
 ghost use Rattle.ide_io.specs.Known.{TakesAtMost};
 ghost use Rattle.script_lang.specs.Lines.{max_bytes};
 ghost use Rattle.transcripts.specs.Loads.{AreLoadsOf, paths_of};
+ghost use Rattle.ide_script.specs.Outside.{read};
 ghost use Rattle.ide_script.specs.Reading.{GivesScript, ReadStops};
 ghost use Rattle.ide_script.specs.Run.{TellsEndOnce};
 
@@ -16,8 +17,8 @@ use transcripts::{LoadRefusal, Loaded, read_loads};
 
 /// The script that the source gives.
 pub(crate) fn read_script<S: Source>(alloc: Global, source: &mut S) -> Result<Script, Status>
-    ensures ok { IfOk result (λ script. GivesScript S.Source source.old source.new script) }
-    ensures err { IfErr result (ReadStops S.Source source.old source.new) }
+    ensures ok { IfOk result (λ script. GivesScript (read S.Source source.old source.new) script) }
+    ensures err { IfErr result (ReadStops (read S.Source source.old source.new)) }
     ensures within { result ≢ Err Status.ScriptTooLong → TakesAtMost max_bytes (S.left source.old) (S.left source.new) }
     ensures end_once { TellsEndOnce (S.ends source.old) (S.ends source.new) }
     ensures quiet { result ≢ Err Status.SourceFault → S.faults source.new ≡ S.faults source.old }

@@ -6,6 +6,7 @@ ghost use Rattle.script_lang.specs.Grammar.{IsScript};
 ghost use Rattle.script_lang.specs.Lines.{max_bytes};
 ghost use Rattle.command_line.specs.Request.{request_of, IsInRange, max_workers, max_files, max_edits};
 ghost use Rattle.transcripts.specs.Transcript.{transcript_of, summary_of};
+ghost use Rattle.ide_script.specs.Outside.{read, asked, written};
 ghost use Rattle.ide_script.specs.Run.{RunEnds, PlayEnds, DemoEnds, TellsEndOnce, PlaysDemo, AsksNothing};
 ghost use Rattle.ide_script.specs.Writing.{WriteEnds};
 
@@ -46,8 +47,8 @@ pub fn run_ide<R: Threads + Wait + Sync, S: Source, T: Tree, K: Sink>(
     requires { 0 < length words.now }
 
     // When each answer comes, by what the words ask for, and what was read and written then.
-    ensures ends { RunEnds S.Source T.Tree K.Sink (request_of (map string_bytes words.now))
-        script.old script.new tree.old tree.new out.old out.new result }
+    ensures ends { RunEnds (read S.Source script.old script.new) (asked T.Tree tree.old tree.new) (written K.Sink out.old out.new)
+        (request_of (map string_bytes words.now)) result }
 
     // How much is read: at most one byte past the longest script, and nothing after the end; nothing where the words are faulty or ask for `demo`.
     ensures within { result ≢ Status.ScriptTooLong → TakesAtMost max_bytes (S.left script.old) (S.left script.new) }
@@ -78,7 +79,7 @@ fn run_request<R: Threads + Wait + Sync, S: Source, T: Tree, K: Sink>(
     out: &mut K,
 ) -> Status
     requires { IsInRange request.now }
-    ensures ends { RunEnds S.Source T.Tree K.Sink (Some request.now) script.old script.new tree.old tree.new out.old out.new result }
+    ensures ends { RunEnds (read S.Source script.old script.new) (asked T.Tree tree.old tree.new) (written K.Sink out.old out.new) (Some request.now) result }
     ensures within { result ≢ Status.ScriptTooLong → TakesAtMost max_bytes (S.left script.old) (S.left script.new) }
     ensures end_once { TellsEndOnce (S.ends script.old) (S.ends script.new) }
     ensures unread { AsksNothing (Some request.now) → (script.new ≡ script.old) × (tree.new ≡ tree.old) }
@@ -113,7 +114,7 @@ fn run_play<R: Threads + Wait + Sync, S: Source, T: Tree, K: Sink>(
     out: &mut K,
 ) -> Status
     requires { workers ≤ max_workers }
-    ensures ends { PlayEnds S.Source T.Tree K.Sink workers store.now source.old source.new tree.old tree.new out.old out.new result }
+    ensures ends { PlayEnds (read S.Source source.old source.new) (asked T.Tree tree.old tree.new) (written K.Sink out.old out.new) workers store.now result }
     ensures within { result ≢ Status.ScriptTooLong → TakesAtMost max_bytes (S.left source.old) (S.left source.new) }
     ensures end_once { TellsEndOnce (S.ends source.old) (S.ends source.new) }
     ensures silent { result ≢ Status.Done → result ≢ Status.SinkFault → out.new ≡ out.old }
@@ -136,7 +137,7 @@ fn run_play<R: Threads + Wait + Sync, S: Source, T: Tree, K: Sink>(
 
 /// Writes the transcript of a run.
 fn write_transcript<K: Sink>(alloc: Global, played: &Played, out: &mut K) -> Status
-    ensures ends { WriteEnds K.Sink out.old out.new
+    ensures ends { WriteEnds (written K.Sink out.old out.new)
         (transcript_of (record { history = played.now.history.entries; records = played.now.records; last = played.now.last })) result }
     ensures quiet { result ≢ Status.SinkFault → K.faults out.new ≡ K.faults out.old }
 {
@@ -157,7 +158,7 @@ fn run_demo<R: Threads + Wait + Sync, K: Sink>(
     out: &mut K,
 ) -> Status
     requires { IsInRange (Request.Demo seed files edits workers) }
-    ensures ends { DemoEnds K.Sink seed files edits workers out.old out.new result }
+    ensures ends { DemoEnds (written K.Sink out.old out.new) seed files edits workers result }
     ensures silent { result ≢ Status.Done → result ≢ Status.SinkFault → out.new ≡ out.old }
     ensures quiet { result ≢ Status.SinkFault → K.faults out.new ≡ K.faults out.old }
 {
@@ -206,7 +207,7 @@ fn script_of_demo(alloc: Global, seed: u32, files: u32, edits: u32) -> Result<Sc
 
 /// Writes the summary of a run.
 fn write_summary<K: Sink>(alloc: Global, played: &Played, out: &mut K) -> Status
-    ensures ends { WriteEnds K.Sink out.old out.new
+    ensures ends { WriteEnds (written K.Sink out.old out.new)
         (summary_of (record { history = played.now.history.entries; records = played.now.records; last = played.now.last })) result }
     ensures quiet { result ≢ Status.SinkFault → K.faults out.new ≡ K.faults out.old }
 {

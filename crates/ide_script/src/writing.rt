@@ -1,5 +1,6 @@
 //! Writing bytes.
 ghost use Rattle.std.specs.Prelude.{◌≡◌, ◌≢◌};
+ghost use Rattle.ide_script.specs.Outside.{written};
 ghost use Rattle.ide_script.specs.Writing.{WriteEnds};
 
 use crate::Status;
@@ -7,7 +8,7 @@ use ide_io::{Sink, write_all};
 
 /// Writes some bytes.
 pub(crate) fn write_bytes<K: Sink>(bytes: &[u8], out: &mut K) -> Status
-    ensures ends { WriteEnds K.Sink out.old out.new bytes.now result }
+    ensures ends { WriteEnds (written K.Sink out.old out.new) bytes.now result }
     ensures told { result ≢ Status.OutOfMemory }
     ensures quiet { result ≢ Status.SinkFault → K.faults out.new ≡ K.faults out.old }
 {

@@ -2,8 +2,7 @@
 use Rattle.std.proofs.Common.{◌≡◌, ℕ, ◌+◌, ◌<◌, ◌≤◌, true, List, [], ◌∷◌, ◌++◌, length, drop, get_or, refl, sym, ap, subst, ◌∙◌, append-nil, append_assoc, arith, Option, if◌then◌else◌}
 use Rattle.std.proofs.lemmas.List.{drop_all, drop_more}
 use Rattle.ide_io.specs.Files.{Files}
-use Rattle.ide_io.specs.Asks.{AsksEach, AsksFront, AsksSome}
-use Rattle.ide_io.proofs.AskLemmas.{AsksEach-append, AsksFront-append, AsksFront-more, AsksSome-append, AsksSome-more}
+use Rattle.ide_io.specs.Asks.{AsksEach, AsksFront, AsksSome, IsAskedInTurn}
 use Rattle.write_history.specs.Path.{is_path}
 use Rattle.script_lang.specs.declared.command.Command.{Command}
 use Rattle.script_lang.specs.declared.command.Command.TheVariants.{Load}
@@ -52,33 +51,33 @@ pub has_asked_none : {T : Type 0} (asks : T → List ℕ → T → Type 0) (old 
 has_asked_none asks old lines = record { front = []; paths_are = refl; asked = refl }
 
 -- one line more
-pub has_asked_turn : {T : Type 0} (asks : T → List ℕ → T → Type 0) (old mid new : T) (lines : List Line) (line : Line) (i : ℕ)
+pub has_asked_turn : {T : Type 0} (asks : T → List ℕ → T → Type 0) → IsAskedInTurn asks → (old mid new : T) (lines : List Line) (line : Line) (i : ℕ)
     → i < length lines → line ≡ get_or lines i line → HasAsked asks old lines i mid → AsksEach asks mid (paths_asked line.command) new
     → HasAsked asks old lines (i + 1) new
-has_asked_turn asks old mid new lines line i within is before more = record {
+has_asked_turn asks law old mid new lines line i within is before more = record {
   front = before.front ++ paths_asked line.command;
   paths_are = before.paths_are ∙ ap (λ l. before.front ++ paths_of l) (drop_at lines i line within is)
       ∙ sym (append_assoc before.front (paths_asked line.command) (paths_of (drop (i + 1) lines)));
-  asked = AsksEach-append asks old mid new before.front (paths_asked line.command) before.asked more;
+  asked = law.each old mid new before.front (paths_asked line.command) before.asked more;
 }
 
 -- where the files up to a place and then some of a line's were asked for, some of all were
-pub has_asked_some : {T : Type 0} (asks : T → List ℕ → T → Type 0) (old mid new : T) (lines : List Line) (line : Line) (i : ℕ)
+pub has_asked_some : {T : Type 0} (asks : T → List ℕ → T → Type 0) → IsAskedInTurn asks → (old mid new : T) (lines : List Line) (line : Line) (i : ℕ)
     → i < length lines → line ≡ get_or lines i line → HasAsked asks old lines i mid → AsksSome asks mid (paths_asked line.command) new
     → AsksSome asks old (paths_of lines) new
-has_asked_some asks old mid new lines line i within is before more =
+has_asked_some asks law old mid new lines line i within is before more =
     subst (λ paths. AsksSome asks old paths new) (sym (before.paths_are ∙ ap (λ l. before.front ++ paths_of l) (drop_at lines i line within is)))
-    (AsksSome-append asks old mid new before.front (paths_of (line ∷ drop (i + 1) lines)) before.asked
-    (AsksSome-more asks mid new (paths_asked line.command) (paths_of (drop (i + 1) lines)) more))
+    (law.some old mid new before.front (paths_of (line ∷ drop (i + 1) lines)) before.asked
+    (law.some_more mid new (paths_asked line.command) (paths_of (drop (i + 1) lines)) more))
 
 -- where the files up to a place and then the first of a line's were asked for, the first of all were
-pub has_asked_front : {T : Type 0} (asks : T → List ℕ → T → Type 0) (old mid new : T) (lines : List Line) (line : Line) (i : ℕ)
+pub has_asked_front : {T : Type 0} (asks : T → List ℕ → T → Type 0) → IsAskedInTurn asks → (old mid new : T) (lines : List Line) (line : Line) (i : ℕ)
     → i < length lines → line ≡ get_or lines i line → HasAsked asks old lines i mid → AsksFront asks mid (paths_asked line.command) new
     → AsksFront asks old (paths_of lines) new
-has_asked_front asks old mid new lines line i within is before more =
+has_asked_front asks law old mid new lines line i within is before more =
     subst (λ paths. AsksFront asks old paths new) (sym (before.paths_are ∙ ap (λ l. before.front ++ paths_of l) (drop_at lines i line within is)))
-    (AsksFront-append asks old mid new before.front (paths_of (line ∷ drop (i + 1) lines)) before.asked
-    (AsksFront-more asks mid new (paths_asked line.command) (paths_of (drop (i + 1) lines)) more))
+    (law.front old mid new before.front (paths_of (line ∷ drop (i + 1) lines)) before.asked
+    (law.front_more mid new (paths_asked line.command) (paths_of (drop (i + 1) lines)) more))
 
 -- once no line is left, all files were asked for
 pub has_asked_all : {T : Type 0} (asks : T → List ℕ → T → Type 0) (old new : T) (lines : List Line) (i : ℕ) → length lines ≤ i

@@ -6,6 +6,7 @@ ghost use Rattle.ide_io.specs.Fault.{HasFault};
 ghost use Rattle.transcripts.specs.Loads.{AreLoadsOf, IsLoadOf, loaded_of, paths_asked, paths_of};
 
 use crate::{LoadRefusal, Loaded};
+use ide_io::laws::trees_are_asked_in_turn;
 use ide_io::{ReadFileError, Tree};
 use ide_text::{Name, SharedText, Text, TextRefusal};
 use script_lang::{Command, Line};
@@ -28,6 +29,7 @@ pub fn read_loads<T: Tree>(
     ensures files { T.files tree.new ≡ T.files tree.old }
     ensures quiet { result ≢ Err LoadRefusal.TreeFault → T.faults tree.new ≡ T.faults tree.old }
 {
+    trees_are_asked_in_turn::<T>();
     let mut loads = Vec::new(alloc);
     loads.reserve_exact(lines.len())?;
     for line in lines {

@@ -11,7 +11,7 @@ use crate::{Answer, Played, Record};
 use std::alloc::{AllocError, Global};
 use write_history::{History, Refusal, push_line, push_numbered};
 
-/// The bytes that a line of a transcript seldom goes past.
+/// The bytes of a usual line of a transcript: those of an entry or a record with a short path.
 const USUAL_LINE: usize = 32;
 
 /// The transcript: the history, then one record for each command, in UTF-8.

@@ -87,7 +87,7 @@ impl Records {
     pub fn reserve(&mut self, more: usize) -> Result<(), AllocError>
         ensures { self.new ≡ self.old }
     {
-        self.records.reserve_exact(more)
+        self.records.reserve(more)
     }
 
     /// Adds a record, or changes nothing where there is no memory.

@@ -1,4 +1,5 @@
-use Rattle.ide_script.proofs.AskLemmas.{asks_one, asks_then, asks_then_some}
+use Rattle.std.proofs.Common.{[], ◌∷◌, refl}
+use Rattle.ide_script.proofs.AskLemmas.{asks_one}
 use Rattle.ide_script.proofs.check.judge.Goals as goal
 
 pub returns-in-Err-Failed-clause-asks : goal.returns-in-Err-Failed-clause-asks
@@ -11,7 +12,8 @@ pub returns-in-Err-OutOfMemory-clause-asks : goal.returns-in-Err-OutOfMemory-cla
 returns-in-Err-OutOfMemory-clause-asks g c = (asks_one _ _ _ c.args.path.now _ c.read_file.ensures.asks).first
 
 pub returns-clause-asks : goal.returns-clause-asks
-returns-clause-asks g c = asks_then _ _ _ _ c.args.path.now _ c.read_file.ensures.asks c.verdict.ensures.asks
+returns-clause-asks g c = c.trees_are_asked_in_turn.ensures.front _ _ _ (c.args.path.now ∷ []) _ (_, c.read_file.ensures.asks, refl) c.verdict.ensures.asks
 
 pub returns-clause-asks_some : goal.returns-clause-asks_some
-returns-clause-asks_some g c = λ failed. asks_then_some _ _ _ _ c.args.path.now _ c.read_file.ensures.asks (c.verdict.ensures.asks_some failed)
+returns-clause-asks_some g c = λ failed.
+    c.trees_are_asked_in_turn.ensures.some _ _ _ (c.args.path.now ∷ []) _ (_, c.read_file.ensures.asks, refl) (c.verdict.ensures.asks_some failed)

@@ -3,5 +3,4 @@ use Rattle.ide_script.proofs.check.run_check.Goals as goal
 
 pub returns-in-Ok-judge-clause-ends : goal.returns-in-Ok-judge-clause-ends
 returns-in-Ok-judge-clause-ends g c =
-    check_ends g.S.Source g.T.Tree g.K.Sink _ _ _ _ _ _ _ _ _ c.in-Ok.ensures.ok c.in-Ok-judge.ensures.asks_each _ c.in-Ok-judge.ensures.judges
-    c.tell.result c.tell.ensures.ends
+    check_ends _ _ _ _ _ _ c.in-Ok.ensures.ok c.in-Ok-judge.ensures.asks_each _ c.in-Ok-judge.ensures.judges c.tell.result c.tell.ensures.ends

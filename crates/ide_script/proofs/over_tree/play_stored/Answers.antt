@@ -1,21 +1,20 @@
 use Rattle.std.proofs.Common.{rules}
 use Rattle.std.specs.Prelude.{option_to_list}
 use Rattle.ide_io.specs.Asks.{AsksEach}
-use Rattle.ide_io.proofs.AskLemmas.{AsksFront-append, AsksFront-more, AsksSome-append, AsksSome-more}
 use Rattle.ide_script.proofs.over_tree.play_stored.Goals as goal
 
 pub returns-in_err-store-clause-asks : goal.returns-in_err-store-clause-asks
-returns-in_err-store-clause-asks g c = AsksFront-more _ _ _ _ _ c.read_store.ensures.asks
+returns-in_err-store-clause-asks g c = c.trees_are_asked_in_turn.ensures.front_more _ _ _ _ c.read_store.ensures.asks
 
 pub returns-in_err-store-clause-asks_some : goal.returns-in_err-store-clause-asks_some
-returns-in_err-store-clause-asks_some g c = λ failed. AsksSome-more _ _ _ _ _ (c.read_store.ensures.asks_some (search (rules, failed)))
+returns-in_err-store-clause-asks_some g c = λ failed. c.trees_are_asked_in_turn.ensures.some_more _ _ _ _ (c.read_store.ensures.asks_some (search (rules, failed)))
 
 pub returns-clause-asks : goal.returns-clause-asks
 returns-clause-asks g c =
     let first : AsksEach g.T.Tree.asks c.args.tree.now (option_to_list c.args.path.now) c.read_store.new.tree = search rules in
-    AsksFront-append _ _ _ _ _ _ first c.play.ensures.asks
+    c.trees_are_asked_in_turn.ensures.front _ _ _ _ _ first c.play.ensures.asks
 
 pub returns-clause-asks_some : goal.returns-clause-asks_some
 returns-clause-asks_some g c =
     let first : AsksEach g.T.Tree.asks c.args.tree.now (option_to_list c.args.path.now) c.read_store.new.tree = search rules in
-    λ failed. AsksSome-append _ _ _ _ _ _ first (c.play.ensures.asks_some failed)
+    λ failed. c.trees_are_asked_in_turn.ensures.some _ _ _ _ _ first (c.play.ensures.asks_some failed)

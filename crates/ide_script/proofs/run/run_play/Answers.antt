@@ -3,5 +3,5 @@ use Rattle.ide_script.proofs.run.run_play.Goals as goal
 
 pub returns-in-Ok-play_stored-clause-ends : goal.returns-in-Ok-play_stored-clause-ends
 returns-in-Ok-play_stored-clause-ends g c =
-    play_ends g.S.Source g.T.Tree g.K.Sink _ _ _ _ _ _ _ _ _ _ _ c.in-Ok.ensures.ok c.in-Ok-play_stored.ensures.asks_each c.in-Ok-play_stored.ensures.plays
+    play_ends _ _ _ _ c.in-Ok.ensures.ok _ _ _ _ c.in-Ok-play_stored.ensures.asks_each c.in-Ok-play_stored.ensures.plays
     c.write_transcript.result c.write_transcript.ensures.ends
