@@ -23,6 +23,7 @@ pub struct Party {
 }
 
 impl Party {
+    /// A party with this pass, which is to put so many hints and has taken none.
     pub fn new(alloc: Global, pass: QueuePass, puts: u32) -> Party
         ensures { result.pass ≡ pass }
     {

@@ -22,6 +22,7 @@ pub struct Block {
 }
 
 impl Counter {
+    /// A counter at 0.
     pub fn new(alloc: Global) -> Result<Counter, AllocError>
         ensures { IfOk result (λ counter. arc_value counter.count ≡ 0) }
     {

@@ -3,6 +3,7 @@ use crate::board::{Board, Note};
 use crate::writes::Adds;
 use std::alloc::{AllocError, Global};
 
+/// Adds a note of this text to a board.
 #[derive(Drop)]
 pub struct Append {
     pub alloc: Global,

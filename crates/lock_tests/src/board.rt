@@ -7,18 +7,21 @@ use action_lock::Home;
 use std::alloc::{AllocError, Global};
 use std::sync::Arc;
 
+/// One entry of a board.
 #[derive(Clone, Copy)]
 pub struct Note {
     pub number: u32,
     pub text: u64,
 }
 
+/// A value under the lock: all notes so far, which its shares own too.
 #[derive(Drop)]
 pub struct Board {
     pub notes: Arc<Vec<Note>>,
 }
 
 impl Board {
+    /// A board without notes.
     pub fn empty(alloc: Global) -> Result<Board, AllocError>
         ensures { IfOk result (λ board. (arc_value board.notes).items ≡ []) }
     {

@@ -9,6 +9,7 @@ use nonblocking_read::{Stopped, Work};
 use std::alloc::Global;
 use std::sync::Arc;
 
+/// Counts the notes of a board, and looks so many times more for a pending write.
 #[derive(Drop)]
 pub struct Count<'a> {
     /// Is entered when the work begins.

@@ -1,6 +1,7 @@
 //! A gate that holds nobody.
 use action_lock::{Gate, Point};
 
+/// Lets each thread go on wherever it is.
 pub struct NoGate {}
 
 impl Gate for NoGate {

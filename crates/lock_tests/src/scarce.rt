@@ -17,6 +17,7 @@ pub struct Scarce {
 }
 
 impl Scarce {
+    /// A count of 0, whose calls from this one on are refused, so many of them.
     pub fn new(refused_from: u64, refused: u64) -> Scarce
         ensures { result.count ≡ 0 }
     {

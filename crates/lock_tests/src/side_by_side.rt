@@ -20,6 +20,7 @@ pub struct Room {
 }
 
 impl Room {
+    /// A room that so many readers are to come into.
     pub fn new(awaited: u64) -> Room {
         Room {
             came: AtomicU64::new(0),

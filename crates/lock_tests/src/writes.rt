@@ -91,14 +91,17 @@ pub fn change_planned<R: Wait, H: Home, C: Plans<H>>(
 
 /// A change that is planned on a share, and needs the plan to be about the list that the home value stands for.
 pub trait Plans<H: Home> {
+    /// What is worked out on a share, and carried out on the home value.
     type Plan;
 
     // The plan is about this list.
     ghost is_about: { Self.Plan → List H.Entry → Type 0 };
 
+    /// Works out the change on a share.
     fn plan(&self, share: &H::Share) -> Self::Plan
         ensures { (entries : List H.Entry) → H.share_stands share.now entries → is_about result entries };
 
+    /// Makes the change, which adds one entry of this number.
     fn carry_out(&self, home: &mut H, plan: Self::Plan, number: u32)
         requires { (entries : List H.Entry) × H.stands home.old entries × is_about plan entries }
         ensures { (entries : List H.Entry) → H.stands home.old entries → (entry : H.Entry) × (H.number_of entry ≡ number) × H.stands home.new (entries ++ entry ∷ []) };

@@ -27,6 +27,7 @@ lane
 create notes.txt "x"
 "#;
 
+/// Scripts with lanes or workers, each with the transcripts that it may have, and texts one change apart that are none.
 pub static JUDGED: [Judged; 17] = [
     // A lane that asks has seen any of what another one did, and no less by its next question.
     Judged {

@@ -15,6 +15,7 @@ pub struct Lawful {
 /// How often each script is played.
 const TIMES: usize = 40;
 
+/// Scripts whose lanes run beside one another, each with all transcripts that it may have.
 pub static SCRIPTS: [Lawful; 4] = [
     // The two creates come in either order, and the lane that wrote first asks before or after the other's write.
     Lawful {

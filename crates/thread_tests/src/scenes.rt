@@ -25,6 +25,7 @@ create B.java "class B {}"
 status
 "#;
 
+/// Scripts whose threads are held where they are to meet, each with the transcripts that may come out.
 pub static SCENES: [Scene; 10] = [
     // Two lanes that ask, each held with its read open until the other's is open too.
     Scene {
