@@ -23,4 +23,3 @@ pub mod Hands
 pub mod Taking
 pub mod PassLemmas
 pub mod ReadLemmas
-pub mod AdvanceLemmas

@@ -60,7 +60,7 @@ impl<H: Home> ActionLock<H> {
                     seat,
                     number: 0,
                     places,
-                    place: 0 % places,
+                    place: 0,
                     drawn: 1,
                     met: 0,
                     sights: 0,

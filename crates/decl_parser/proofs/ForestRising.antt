@@ -8,7 +8,6 @@ use Rattle.java_tokens.specs.declared.kind.Kind.TheVariants.{Word, Punct}
 use Rattle.java_tokens.specs.Chars.{is_white_space}
 use Rattle.java_tokens.specs.Kind.{code_of as kind_code}
 use Rattle.java_tokens.specs.Tokens.{IsInside, AreTokensFrom, characters_of, tokens_of}
-use Rattle.java_tokens.proofs.TokenLemmas.{are_tokens_of, inside_tokens_of}
 use Rattle.java_tokens.specs.Identifier.{is_reserved}
 use Rattle.java_tokens.specs.Words.{is_comment, is_identifier_token}
 use Rattle.decl_parser.specs.declared.bracket.Bracket.{Bracket}
@@ -33,8 +32,8 @@ tokens-few text at (t ∷ ts) cut inside le =
     let others = tokens-few text (start + t.len) ts cut.2 (λ k d l. inside (suc k) d (omega arith)) (omega arith) in
     omega arith
 
-pub tokens_of-few : (text : List ℕ) → length (tokens_of text) ≤ length text
-tokens_of-few text = let few = tokens-few text 0 (tokens_of text) (are_tokens_of text) (inside_tokens_of text) (omega arith) in omega arith
+pub tokens_of-few : (text : List ℕ) → AreTokensFrom 0 text (tokens_of text) → All (IsInside text) (tokens_of text) → length (tokens_of text) ≤ length text
+tokens_of-few text follow inside = let few = tokens-few text 0 (tokens_of text) follow inside (omega arith) in omega arith
 
 -- the role is one of identifiers
 abbrev names : Role → Bool

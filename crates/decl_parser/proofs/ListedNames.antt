@@ -4,8 +4,7 @@ use Rattle.std.specs.Option.{option_to_list}
 use Rattle.std.specs.Prelude.{Option, None, Some, IfSome, All}
 use Rattle.std.specs.List.{flat_map, AllByRecursion}
 use Rattle.std.proofs.lemmas.List.Elements.{All-from_recursion}
-use Rattle.java_tokens.specs.Tokens.{characters_of, tokens_of}
-use Rattle.java_tokens.proofs.TokenLemmas.{are_tokens_of, inside_tokens_of}
+use Rattle.java_tokens.specs.Tokens.{characters_of, tokens_of, AreTokensFrom, IsInside}
 use Rattle.stub_tree.specs.declared.stub.Stub.{Stub}
 use Rattle.stub_tree.specs.Stub.{is_type}
 use Rattle.stub_tree.specs.Lawful.{max_depth}
@@ -88,12 +87,12 @@ module _ (text : List ℕ) (Has : Stub → Type 0) (has : (depth lo hi : ℕ) (d
           (items_from-rise text body.0 body.0 hi [] (behind_semicolon us) (omega arith) body.2))
 
 -- what each stub of a sound declaration has, each of a listing has
-listing-has : (text : List ℕ) (Has : Stub → Type 0)
+listing-has : (text : List ℕ) → AreTokensFrom 0 text (tokens_of text) → All (IsInside text) (tokens_of text) → (Has : Stub → Type 0)
     → ((depth lo hi : ℕ) (d : Declaration) → IsSound text lo hi d → Has (stub_of text depth d)) → All Has (listing_of text)
 unfolding listing_of
-listing-has text Has has =
+listing-has text follow inside Has has =
     let nodes = forest_of text (tokens_of text) in
-    let rise = forest-rises text (are_tokens_of text) (inside_tokens_of text) in
+    let rise = forest-rises text follow inside in
     All-from_recursion Has _ (level-has text Has has (suc max_depth) 0 0 (length text) None (units_of nodes) (rises-units text 0 (length text) nodes rise))
 
 -- the characters of a node are those of its token
@@ -144,9 +143,9 @@ supers-of text in_clause last lo hi (n ∷ ns) r is =
     joined rest p = append (option_to_list last) rest (last-of text last is) p
 
 -- each stub of the listing of a text is named by an identifier of it
-pub listing-named : (text : List ℕ) → All (IsNamedIn text) (listing_of text)
+pub listing-named : (text : List ℕ) → AreTokensFrom 0 text (tokens_of text) → All (IsInside text) (tokens_of text) → All (IsNamedIn text) (listing_of text)
 unfolding stub_of
-listing-named text = listing-has text (IsNamedIn text) (λ depth lo hi d sound. record {
+listing-named text follow inside = listing-has text follow inside (IsNamedIn text) (λ depth lo hi d sound. record {
   token = sound.name.is_node.token;
   token_of = sound.name.is_node.token_of;
   identifier = sound.name.is_node.identifier sound.name.named;
@@ -155,7 +154,8 @@ listing-named text = listing-has text (IsNamedIn text) (λ depth lo hi d sound. 
 })
 
 -- each super of a stub of the listing of a text is an identifier of it
-pub listing-supers : (text : List ℕ) → All (λ s. All (IsIdentifierOf text) s.supers) (listing_of text)
+pub listing-supers : (text : List ℕ) → AreTokensFrom 0 text (tokens_of text) → All (IsInside text) (tokens_of text)
+    → All (λ s. All (IsIdentifierOf text) s.supers) (listing_of text)
 unfolding stub_of
-listing-supers text = listing-has text (λ s. All (IsIdentifierOf text) s.supers)
+listing-supers text follow inside = listing-has text follow inside (λ s. All (IsIdentifierOf text) s.supers)
     (λ depth lo hi d sound. All-from_recursion (IsIdentifierOf text) _ (supers-of text false None lo hi d.behind sound.behind tt))

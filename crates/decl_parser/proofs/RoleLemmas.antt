@@ -7,7 +7,7 @@ use Rattle.std.proofs.lemmas.Slice.Eq.{bytes_eq-Decides}
 use Rattle.java_tokens.specs.Token.{Token}
 use Rattle.java_tokens.specs.Tokens.{characters_of}
 use Rattle.java_tokens.specs.Identifier.{reserved_words, literal_words, is_reserved}
-use Rattle.java_tokens.proofs.Pieces.{drop-part}
+use Rattle.list_laws.proofs.PartLemmas.{drop-part}
 use Rattle.decl_parser.specs.declared.role.Role.{Role}
 use Rattle.decl_parser.specs.declared.role.Role.TheVariants.{Identifier}
 use Rattle.decl_parser.specs.Role.{is_among, modifiers, primitive_types, is_marked, role_among, common_word_role, word_role}

@@ -12,26 +12,36 @@ ghost use Rattle.decl_parser.specs.Listing.{listing_of, IsIdentifierOf, IsNamedI
 ghost use Rattle.decl_parser.specs.Rule.{DeclaresNoType};
 ghost use Rattle.decl_parser.specs.Unit.{units_of};
 
+use java_tokens::laws::tokens_cover_their_text;
+
 /// The listing of a text is a lawful list: its offsets rise, and each depth is at most one more than the one before
 /// it, and more only behind a type.
 pub fn listings_are_lawful()
     ensures { (text : List ℕ) → length text ≤ max_chars → IsLawfulList (listing_of text) }
-{}
+{
+    tokens_cover_their_text();
+}
 
 /// The offsets of a listing rise, however long the text is.
 pub fn offsets_rise()
     ensures { (text : List ℕ) → AllPairs (λ a b. a.at < b.at) (listing_of text) }
-{}
+{
+    tokens_cover_their_text();
+}
 
 /// Each declaration of a listing is named by an identifier of the text, which stands at its offset.
 pub fn names_are_identifiers()
     ensures { (text : List ℕ) → All (IsNamedIn text) (listing_of text) }
-{}
+{
+    tokens_cover_their_text();
+}
 
 /// Each super of a declaration of a listing is an identifier of the text.
 pub fn supers_are_identifiers()
     ensures { (text : List ℕ) → All (λ s. All (IsIdentifierOf text) s.supers) (listing_of text) }
-{}
+{
+    tokens_cover_their_text();
+}
 
 /// Comments count for nothing: the forest of groups, from which the listing is made, is that of the other tokens.
 pub fn comments_count_for_nothing()

@@ -15,6 +15,7 @@ use crate::node::Node;
 use crate::supers::supers_of;
 use ide_text::{MAX_CHARS, Text};
 use java_tokens::Token;
+use java_tokens::laws::tokens_cover_their_text;
 use std::alloc::{AllocError, Global};
 use stub_tree::{MAX_DEPTH, Stub, StubKind, StubList};
 
@@ -24,6 +25,7 @@ pub fn stubs(alloc: Global, text: &Text, tokens: Vec<Token>) -> Result<StubList,
     requires { tokens.items ≡ tokens_of text.now }
     ensures { IfOk result (λ list. list ≡ listing_of text.now) }
 {
+    tokens_cover_their_text();
     prove!(text.len() as usize <= MAX_CHARS);
     let forest = forest(alloc, text, &tokens)?;
     drop(tokens);

@@ -1,19 +1,21 @@
 -- The script of a demo has two lanes that write different files, all of which its prelude makes at lawful paths.
 use Rattle.demo_runs.proofs.Words.{ℕ, zero, suc, ◌≡◌, ◌≢◌, ◌⊎◌, inl, inr, ⊎_elim, ◌+◌, ◌%◌, ◌<◌, ◌≤◌, Bool, true, not, List, [], ◌∷◌, ◌++◌, length, map}
-use Rattle.demo_runs.proofs.Words.{filter, codes, decimal, refl, ap, sym, ◌∙◌, arith, length-append, ◌==◌, ◌&&◌, nat_le, nat_lt, if◌then◌else◌}
-use Rattle.demo_runs.proofs.Words.{AllByRecursion, le-leb, cases_lt, append_cancel_left, append_cancel_right, is_path, Line, list_all, and_parts}
-use Rattle.demo_runs.proofs.Words.{not-true, lt-ltb, is_barred, Command, Verb, path_of, class_of, creates, Edit, write_line, IsAmong, WritesApart}
+use Rattle.demo_runs.proofs.Words.{filter, codes, decimal, refl, ap, sym, ◌∙◌, arith, length-append, ◌==◌, ◌&&◌, AllByRecursion, list_all, le-leb, cases_lt}
+use Rattle.demo_runs.proofs.Words.{and_parts, not-true, lt-ltb, append_cancel_left, append_cancel_right, recursion_from_All, All-filter, filter_passes}
+use Rattle.demo_runs.proofs.Words.{length-filter_both, is_path, is_barred, Line, Command, Verb, path_of, class_of, creates, Edit, write_line, IsAmong}
+use Rattle.demo_runs.proofs.Words.{WritesApart}
 use Rattle.demo.specs.declared.command.Verb.TheVariants as verb
 use Rattle.queries.specs.declared.query.Query.TheVariants as query
 use Rattle.script_lang.specs.declared.command.Command.TheVariants as script
+use Rattle.std.specs.Cmp.Derive.{both_true}
 use Rattle.std.proofs.lemmas.Fmt.{decimal_injective}
-use Rattle.write_history.specs.Path.{is_part, max_path, onto_first, parts_of}
+use Rattle.write_history.specs.Path.{is_part, max_path, parts_of}
 use Rattle.demo.specs.Draws.{state_after}
 use Rattle.demo.specs.Commands.{create_of, edits, is_of_first_lane, is_of_second_lane}
 use Rattle.demo.specs.Script.{edits_of}
-use Rattle.demo_runs.proofs.FileLemmas.{IsOneOf, creates_are, edits_are, lanes_length}
+use Rattle.demo_runs.proofs.FileLemmas.{IsOneOf, creates_are, edits_are}
 use Rattle.demo_runs.proofs.TextLemmas.{weaker, path_text}
-use Rattle.demo_runs.proofs.ListLemmas.{all_weaker, all_filter}
+use Rattle.demo_runs.proofs.ListLemmas.{all_weaker}
 use Rattle.demo_runs.specs.Parts.{demo_parts, change_by, lines_from}
 use Rattle.demo_runs.specs.Parts.{first_lane, second_lane, first_lane_begins, second_lane_begins, last_begins}
 
@@ -33,30 +35,24 @@ one_part : (path : List ℕ) → list_all is_name path ≡ true → parts_of pat
 one_part [] all = refl
 one_part (c ∷ path) all =
     let parts = and_parts (is_name c) (list_all is_name path) all in
-    let no_slash = and_parts (not (is_barred c)) (not (c == 47)) parts.0 in
-    ap (λ b. if b then [] ∷ parts_of path else onto_first c (parts_of path)) (not-true (c == 47) no_slash.1) ∙ ap (onto_first c) (one_part path parts.1)
+    rw (not-true (c == 47) (and_parts (not (is_barred c)) (not (c == 47)) parts.0).1, one_part path parts.1) refl
 
 path_lawful : (file : ℕ) → is_path (path_of file) ≡ true
 path_lawful file =
     let path : List ℕ = path_of file in
     let text = path_text is_name refl refl refl file in
     let barred = weaker is_name (λ c. not (is_barred c)) (λ c e. (and_parts (not (is_barred c)) (not (c == 47)) e).0) path text.all in
-    four_true (nat_lt 0 (length path)) (nat_le (length path) max_path) (list_all (λ c. not (is_barred c)) path) (list_all is_part (parts_of path))
-    (lt-ltb 0 (length path) (omega (arith, length-append (codes "G" ++ decimal file) (codes ".java"))))
-    (le-leb (length path) max_path (omega (arith, text.few))) barred (ap (list_all is_part) (one_part path text.all))
-  where
-    four_true : (a b c d : Bool) → a ≡ true → b ≡ true → c ≡ true → d ≡ true → (a && b && c && d) ≡ true
-    four_true a b c d is1 is2 is3 is4 = rw (is1, is2, is3, is4) refl
+    both_true (both_true (both_true (lt-ltb 0 (length path) (omega (arith, length-append (codes "G" ++ decimal file) (codes ".java"))))
+    (le-leb (length path) max_path (omega (arith, text.few)))) barred) (ap (list_all is_part) (one_part path text.all))
 
 -- ---- their lines
 
 -- what the lines of commands do, the first of which has this number
-edits_at : ℕ → List Command → List Edit
+abbrev edits_at : ℕ → List Command → List Edit
 edits_at number [] = []
 edits_at number (command ∷ commands) = record { number = number; path = path_of command.file; text = class_of command } ∷ edits_at (number + 1) commands
 
 length_at : (number : ℕ) (commands : List Command) → length (edits_at number commands) ≡ length commands
-unfolding edits_at
 length_at number [] = refl
 length_at number (command ∷ commands) = ap suc (length_at (number + 1) commands)
 
@@ -66,21 +62,18 @@ line_by v edit = record { number = edit.number; command = script.Change (change_
 
 lines_are : (v : Verb) (most number : ℕ) (commands : List Command) → AllByRecursion (IsOneOf v most) commands
     → lines_from number commands ≡ map (line_by v) (edits_at number commands)
-unfolding edits_at
 lines_are v most number [] all = refl
 lines_are v most number (command ∷ commands) all = rw (all.0.is, lines_are v most (number + 1) commands all.1) refl
 
 -- what is said of the files of commands holds of the paths of what their lines do
 all_at : (P : Command → Type 0) (Q : List ℕ → Type 0) → ((command : Command) → P command → Q (path_of command.file)) → (number : ℕ) (commands : List Command)
     → AllByRecursion P commands → AllByRecursion (λ (edit : Edit). Q edit.path) (edits_at number commands)
-unfolding edits_at
 all_at P Q each number [] all = tt
 all_at P Q each number (command ∷ commands) all = (each command all.0, all_at P Q each (number + 1) commands all.1)
 
 -- the path of each file is made
 among : (number : ℕ) (commands : List Command) (command : Command) (path : List ℕ) → IsAmong (edits_at number commands) path ⊎ (path_of command.file ≡ path)
     → IsAmong (edits_at number (commands ++ command ∷ [])) path
-unfolding edits_at
 among number [] command path (inl is) = absurd is
 among number [] command path (inr last) = inl last
 among number (other ∷ commands) command path (inl (inl is)) = inl is
@@ -105,7 +98,10 @@ module _ (created : (seed files : ℕ) → length (creates seed files) ≡ files
   lane_of lane = filter lane (edits_of seed files edited)
 
   in_lane : (lane : Command → Bool) → AllByRecursion (IsIn lane) (lane_of lane)
-  in_lane lane = all_filter (IsOneOf verb.Write files) lane (edits_of seed files edited) (edits_are (state_after seed files) files edited some)
+  in_lane lane =
+      let all : List Command = edits_of seed files edited in
+      recursion_from_All (IsIn lane) (lane_of lane)
+      (λ k d l. (All-filter lane (IsOneOf verb.Write files) all (edits_are (state_after seed files) files edited some) k d l, filter_passes lane all k d l))
 
   lane_lines : (lane : Command → Bool) (number : ℕ) → lines_from number (lane_of lane) ≡ map write_line (edits_at number (lane_of lane))
   lane_lines lane number = lines_are verb.Write files number (lane_of lane)
@@ -132,7 +128,7 @@ module _ (created : (seed files : ℕ) → length (creates seed files) ≡ files
       let first_at : ℕ = first_lane_begins seed files + 1 in
       let second_at : ℕ = second_lane_begins seed files edited + 1 in
       let last_at : ℕ = last_begins seed files edited + 1 in
-      let all_created = creates_are seed files files (omega arith) in
+      let all_created = recursion_from_All (IsOneOf verb.Create files) (creates seed files) (creates_are seed files files (omega arith)) in
       record {
         creations = edits_at 1 (creates seed files);
         first = edits_at first_at first;
@@ -144,8 +140,7 @@ module _ (created : (seed files : ℕ) → length (creates seed files) ≡ files
             ∷ record { number = last_at + 3; query = query.Supers (codes "G1") }
             ∷ [];
         prelude = lines_are verb.Create files 1 (creates seed files) all_created;
-        lanes = ap (λ l. l ∷ lines_from second_at second ∷ []) (lane_lines is_of_first_lane first_at)
-            ∙ ap (λ l. map write_line (edits_at first_at first) ∷ l ∷ []) (lane_lines is_of_second_lane second_at);
+        lanes = rw (lane_lines is_of_first_lane first_at, lane_lines is_of_second_lane second_at) refl;
         last = refl;
         lawful = all_at (IsOneOf verb.Create files) (λ path. is_path path ≡ true) (λ command is. path_lawful command.file) 1 (creates seed files) all_created;
         first_made = made is_of_first_lane first_at;
@@ -158,7 +153,7 @@ module _ (created : (seed files : ℕ) → length (creates seed files) ≡ files
           arith,
           length_at first_at first,
           length_at second_at second,
-          lanes_length (edits_of seed files edited),
+          length-filter_both is_of_first_lane is_of_second_lane (λ command. refl) (edits_of seed files edited),
           drawn (state_after seed files) files edited,
         );
         of_all = (tt, (tt, (tt, tt)));

@@ -1,36 +1,27 @@
 -- What a lane of writes makes: at most one entry a line, and one for each where all are accepted.
-use Rattle.demo_runs.proofs.Words.{ℕ, ◌≡◌, ◌⊎◌, inl, inr, ◌+◌, ◌<◌, ◌≤◌, Bool, false, List, [], ◌∷◌, ◌++◌, length, map, refl, ap, sym, ◌∙◌, subst, arith}
-use Rattle.demo_runs.proofs.Words.{append_assoc, append-nil, length-append, Some, None, nat_le, if◌then◌else◌, Option, is_none, option_and_then}
-use Rattle.demo_runs.proofs.Words.{AllByRecursion, lt-leb, IsFront, front_trans, Write, Entry, Refusal, World, File, file_of, id_at, document_at}
-use Rattle.demo_runs.proofs.Words.{refusal_of, is_unsaved, max_entries, list_refusal, ListRefusal, refusal_or, fold, IsLegal, entry_of, Nothing, Answer}
-use Rattle.demo_runs.proofs.Words.{Record, Step, step_unless, change_step, done_from, Mark, Fits, SectionFits, Edit, write_line, IsLive, IsEdit, writes}
+use Rattle.demo_runs.proofs.Words.{ℕ, ◌≡◌, ◌⊎◌, inl, inr, ◌+◌, ◌<◌, ◌≤◌, Bool, false, List, [], ◌∷◌, ◌++◌, length, get_or, map, refl, ap, sym, ◌∙◌, subst}
+use Rattle.demo_runs.proofs.Words.{arith, append_assoc, append-nil, length-append, Some, None, nat_le, Option, All, AllByRecursion, lt-leb, All-map, IsFront}
+use Rattle.demo_runs.proofs.Words.{front_trans, Write, Entry, World, file_of, id_at, max_entries, list_refusal, ListRefusal, fold, IsLegal, IsLegal-append}
+use Rattle.demo_runs.proofs.Words.{entries-fold, IsApart-fold, id_at-live, entry_of, Nothing, Answer, Record, Step, step_unless, done_from, Mark, Fits}
+use Rattle.demo_runs.proofs.Words.{SectionFits, Edit, write_line, IsLive, IsEdit, writes}
 use Rattle.script_lang.specs.declared.command.Command.TheVariants as command
-use Rattle.demo_runs.proofs.LawLemmas.{Laws}
+use Rattle.transcripts.specs.declared.record.Answer.TheVariants.{Accepted}
 use Rattle.demo_runs.proofs.ListLemmas.{all_weaker}
 use Rattle.demo_runs.proofs.StepLemmas.{of_bare, live_on}
 
 -- ---- which writes are accepted
 
--- a reason that doesn't stand, before reasons none of which does
-pub passes : (b : Bool) (why : Refusal) (rest : Option Refusal) → b ≡ false → rest ≡ None → (if b then Some why else rest) ≡ None
-passes b why rest fails none = ap (λ (b : Bool). if b then Some why else rest) fails ∙ none
-
-pub not_full : Laws → (history : List Entry) → length history < max_entries → nat_le max_entries (fold history).entries ≡ false
-not_full laws history short = ap (nat_le max_entries) (laws.counts history) ∙ lt-leb max_entries (length history) short
+pub not_full : (history : List Entry) → length history < max_entries → nat_le max_entries (fold history).entries ≡ false
+not_full history short = ap (nat_le max_entries) (entries-fold history) ∙ lt-leb max_entries (length history) short
 
 -- a write of a live path goes in where the history isn't full
-pub write_accepted : Laws → (history : List Entry) → IsLegal history → (path text : List ℕ) → IsLive (fold history) path → length history < max_entries
+pub write_accepted : (history : List Entry) → IsLegal history → (path text : List ℕ) → IsLive (fold history) path → length history < max_entries
     → list_refusal (fold history) (Write path text ∷ []) ≡ None
-write_accepted laws history legal path text live short =
+write_accepted history legal path text live short =
     let world : World = fold history in
     let file = of_bare (file_of world live.0) path live.1 in
-    let there : id_at world path ≡ Some live.0 = ap (id_at world) (sym file.2.0) ∙ laws.id_is history live.0 file.0 legal file.1 in
-    let closed : document_at world path ≡ None
-    = ap (λ o. option_and_then (λ (f : File). f.document) (option_and_then (file_of world) o)) there
-    ∙ ap (option_and_then (λ (f : File). f.document)) file.1 ∙ file.2.1 in
-    let none : refusal_of world (Write path text) ≡ None
-    = passes _ _ _ (ap is_none there) (passes _ _ _ (ap is_unsaved closed) (passes _ _ _ (not_full laws history short) refl)) in
-    ap (λ r. refusal_or r None) none
+    let there : id_at world path ≡ Some live.0 = ap (id_at world) (sym file.2.0) ∙ id_at-live world live.0 file.0 (IsApart-fold history legal) file.1 in
+    rw (there, file.1, file.2.1, not_full history short) refl
 
 -- ---- one line
 
@@ -81,12 +72,12 @@ module _ (history : List Entry) (seat floor : ℕ) where
     pub whole : AllByRecursion IsAccepted edits → own ≡ map (write_entry seat) edits
 
   one_more : (edit : Edit) (edits : List Edit) (made later : List Entry) → MadeBy edit made → IsLane edits later → IsLane (edit ∷ edits) (made ++ later)
-  one_more edit edits made later (inl is) rest = subst (λ (m : List Entry). IsLane (edit ∷ edits) (m ++ later)) (sym is) (record {
+  one_more edit edits made later (inl is) rest = rw is (record {
     are = (record { edit = edit; is = refl }, rest.are);
     few = omega (arith, rest.few);
     whole = λ accepted. ap (λ (l : List Entry). write_entry seat edit ∷ l) (rest.whole accepted.1);
   })
-  one_more edit edits made later (inr none) rest = subst (λ (m : List Entry). IsLane (edit ∷ edits) (m ++ later)) (sym none.0) (record {
+  one_more edit edits made later (inr none) rest = rw none.0 (record {
     are = rest.are;
     few = omega (arith, rest.few);
     whole = λ accepted. absurd (none.1 accepted.0);
@@ -94,39 +85,34 @@ module _ (history : List Entry) (seat floor : ℕ) where
 
   pub section_made : (beside : Bool) (edits : List Edit) (low : Mark) (records : List Record) (own : List Entry) (high : Mark) → floor ≤ low.seen
       → SectionFits beside history seat low (map write_line edits) [] records own high → IsLane edits own
-  section_made beside [] low records own high late fits = subst (IsLane []) (sym fits.1) (record { are = tt; few = omega arith; whole = λ accepted. refl })
+  section_made beside [] low records own high late fits = rw fits.1 (record { are = tt; few = omega arith; whole = λ accepted. refl })
   section_made beside (edit ∷ edits) low records own high late fits =
       let first = line_made beside edit low fits.made fits.answer fits.between late fits.first in
       let rest = section_made beside edits fits.between fits.later fits.made_later high first.1 fits.rest in
-      subst (IsLane (edit ∷ edits)) (sym fits.own_is) (one_more edit edits fits.made fits.made_later first.0 rest)
+      rw fits.own_is (one_more edit edits fits.made fits.made_later first.0 rest)
 
 -- ---- on one thread
 
 -- the entries of writes are one write each
-pub writes_edit : (seat : ℕ) → seat ≤ 2 → (edits : List Edit) → AllByRecursion IsEdit (map (write_entry seat) edits)
-writes_edit seat lane [] = tt
-writes_edit seat lane (edit ∷ edits) = (writes lane edit.path edit.text refl, writes_edit seat lane edits)
+pub writes_edit : (seat : ℕ) → seat ≤ 2 → (edits : List Edit) → All IsEdit (map (write_entry seat) edits)
+writes_edit seat lane edits = All-map IsEdit (write_entry seat) edits (λ k d l. writes lane (get_or edits k d).path (get_or edits k d).text refl)
 
 -- what a lane leaves on one thread
 abbrev pub GoesIn : List Entry → ℕ → List Edit → List Entry → Type 0
 GoesIn history seat edits after = (after ≡ history ++ map (write_entry seat) edits) × IsLegal (history ++ map (write_entry seat) edits)
 
 -- on one thread each write of a lane goes in where the paths are live and there is room
-pub lane_goes_in : Laws → (edits : List Edit) (seat : ℕ) → seat ≤ 2 → (history : List Entry) (records : List Record) → IsLegal history
+pub lane_goes_in : (edits : List Edit) (seat : ℕ) → seat ≤ 2 → (history : List Entry) (records : List Record) → IsLegal history
     → length history + length edits ≤ max_entries → AllByRecursion (λ (edit : Edit). IsLive (fold history) edit.path) edits
     → GoesIn history seat edits (done_from seat (record { history = history; records = records }) (map write_line edits) []).history
-lane_goes_in laws [] seat lane history records legal room live =
-    (sym (append-nil history), subst IsLegal (sym (append-nil history)) legal)
-lane_goes_in laws (edit ∷ edits) seat lane history records legal room live =
+lane_goes_in [] seat lane history records legal room live = (sym (append-nil history), rw (append-nil history) legal)
+lane_goes_in (edit ∷ edits) seat lane history records legal room live =
     let entry : Entry = write_entry seat edit in
-    let accepted = write_accepted laws history legal edit.path edit.text live.0 (omega (arith, room)) in
-    let step : Step = change_step history seat edit.number (Write edit.path edit.text) in
-    let added : step.added ≡ entry ∷ [] = ap (λ (r : Option ListRefusal). (step_unless r (λ place. None) history entry).added) accepted in
-    let told : List Record = records ++ record { seat = seat; line = edit.number; answer = step.answer } ∷ [] in
-    let now : IsLegal (history ++ entry ∷ []) = laws.legal_on history entry legal accepted in
+    let accepted = write_accepted history legal edit.path edit.text live.0 (omega (arith, room)) in
+    let told : List Record = records ++ record { seat = seat; line = edit.number; answer = Accepted (length history + 1) } ∷ [] in
+    let now : IsLegal (history ++ entry ∷ []) = IsLegal-append history entry legal accepted in
     let still = all_weaker (λ (other : Edit). IsLive (fold history) other.path) (λ (other : Edit). IsLive (fold (history ++ entry ∷ [])) other.path)
-    (λ other alive. live_on laws (entry ∷ []) history (writes lane edit.path edit.text refl, tt) now other.path alive) edits live.1 in
-    let rest = lane_goes_in laws edits seat lane (history ++ entry ∷ []) told now (omega (arith, room, length-append history (entry ∷ []))) still in
+    (λ other alive. live_on (entry ∷ []) history (writes lane edit.path edit.text refl, tt) now other.path alive) edits live.1 in
+    let rest = lane_goes_in edits seat lane (history ++ entry ∷ []) told now (omega (arith, room, length-append history (entry ∷ []))) still in
     let regroup = append_assoc history (entry ∷ []) (map (write_entry seat) edits) in
-    let is = ap (λ (a : List Entry). (done_from seat (record { history = history ++ a; records = told }) (map write_line edits) []).history) added in
-    (is ∙ rest.0 ∙ regroup, subst IsLegal regroup rest.1)
+    (rw (done_from, accepted, rest.0) regroup, subst IsLegal regroup rest.1)

@@ -1,6 +1,6 @@
 -- The bytes of a demo spell its script, from its last line up to its first.
-use Rattle.demo_runs.proofs.Words.{ℕ, ◌≡◌, inl, inr, ◌+◌, ◌<◌, ◌≤◌, true, List, [], ◌∷◌, ◌++◌, length, drop, codes, IsTrue, refl, ap, sym, subst, arith, append_assoc, append-nil}
-use Rattle.demo_runs.proofs.Words.{Change, Line, ltb, list_all, and_parts, Command, Verb, path_of, class_of, creates}
+use Rattle.demo_runs.proofs.Words.{ℕ, ◌≡◌, inl, inr, ◌+◌, ◌<◌, ◌≤◌, true, List, [], ◌∷◌, ◌++◌, length, drop, codes, IsTrue, refl, ap, sym, subst, arith}
+use Rattle.demo_runs.proofs.Words.{append_assoc, append-nil, ltb, list_all, and_parts, Change, Line, Command, Verb, path_of, class_of, creates}
 use Rattle.demo.specs.declared.command.Verb.TheVariants as verb
 use Rattle.queries.specs.declared.query.Query.TheVariants as query
 use Rattle.script_lang.specs.declared.command.Command.TheVariants as script

@@ -1,6 +1,7 @@
 -- Lanes that write different files: what a file shows behind them is what the one lane that writes it makes of it.
-use Rattle.demo_runs.proofs.Words.{ℕ, ◌≡◌, ◌≢◌, ◌⊎◌, inl, inr, true, cond, List, [], ◌∷◌, ◌++◌, map, refl, ap, sym, ◌∙◌, ◌==◌, bytes_eq, AllByRecursion}
-use Rattle.demo_runs.proofs.Words.{bytes_decides, eq-eqb, bool_cases, Entry, File, made_by, Edit, IsEdit, acted, acts}
+use Rattle.demo_runs.proofs.Words.{ℕ, ◌≡◌, ◌≢◌, ◌⊎◌, inl, inr, ⊎_elim, List, [], ◌∷◌, map, refl, ap, sym, ◌∙◌, ◌==◌, bytes_eq, AllByRecursion, bytes_decides}
+use Rattle.demo_runs.proofs.Words.{eqb-false, cond_both, not_from_Decides, bool_cases, Entry, File, made_by, Edit, IsEdit, acted, acts}
+use Rattle.demo_runs.proofs.ListLemmas.{all_weaker}
 use Rattle.demo_runs.proofs.StepLemmas.{acted_there, stays_one}
 use Rattle.demo_runs.proofs.LaneLemmas.{write_entry}
 
@@ -16,12 +17,10 @@ OthersLeave seat path entry = entry.seat ≢ seat → Leaves path entry
 pub by_one : (seat : ℕ) (path : List ℕ) (entries : List Entry) → AllByRecursion IsEdit entries → AllByRecursion (OthersLeave seat path) entries
     → (file : File) → file.path ≡ path → acts entries file ≡ acts (made_by seat entries) file
 by_one seat path [] edits others file same = refl
-by_one seat path (entry ∷ entries) edits others file same = bool_cases (entry.seat == seat)
-    (λ b. (entry.seat == seat) ≡ b → acts (entry ∷ entries) file ≡ acts (cond b (entry ∷ made_by seat entries) (made_by seat entries)) file)
-    (λ t e. by_one seat path entries edits.1 others.1 (acted entry.changes file) ((stays_one entry edits.0 file).0 ∙ same))
-    (λ f e. ap (acts entries) (others.0 (λ k. let t : (entry.seat == seat) ≡ true = eq-eqb entry.seat seat k in absurd (cc)) file same)
-    ∙ by_one seat path entries edits.1 others.1 file same)
-    refl
+by_one seat path (entry ∷ entries) edits others file same =
+    cond_both (entry.seat == seat) (entry ∷ made_by seat entries) (made_by seat entries) (λ made. acts (entry ∷ entries) file ≡ acts made file)
+    (λ t. by_one seat path entries edits.1 others.1 (acted entry.changes file) ((stays_one entry edits.0 file).0 ∙ same))
+    (λ f. ap (acts entries) (others.0 (eqb-false entry.seat seat f) file same) ∙ by_one seat path entries edits.1 others.1 file same)
 
 -- the edits write other paths
 abbrev pub WriteOthers : List ℕ → List Edit → Type 0
@@ -42,22 +41,8 @@ pub one_apart : (first second : List Edit) (path : List ℕ)
     → AllByRecursion (λ (edit : Edit). AllByRecursion (λ (other : Edit). edit.path ≢ other.path) second) first
     → WriteOthers path first ⊎ WriteOthers path second
 one_apart [] second path apart = inl tt
-one_apart (edit ∷ first) second path apart = bool_cases (bytes_eq edit.path path)
-    (λ b. bytes_eq edit.path path ≡ b → WriteOthers path (edit ∷ first) ⊎ WriteOthers path second)
-    (λ t e. inr (others second apart.0 ((bytes_decides edit.path path).0 t)))
-    (λ f e. with_first (λ same. let t : bytes_eq edit.path path ≡ true = (bytes_decides edit.path path).1 same in absurd (cc))
-    (one_apart first second path apart.1))
-    refl
-  where
-    others : (edits : List Edit) → AllByRecursion (λ (other : Edit). edit.path ≢ other.path) edits → edit.path ≡ path → WriteOthers path edits
-    others [] all same = tt
-    others (other ∷ edits) all same = ((λ e. all.0 (same ∙ sym e)), others edits all.1 same)
-
-    with_first : edit.path ≢ path → WriteOthers path first ⊎ WriteOthers path second → WriteOthers path (edit ∷ first) ⊎ WriteOthers path second
-    with_first apart (inl all) = inl (apart, all)
-    with_first apart (inr all) = inr all
-
--- one list of entries after another
-pub acts_both : (entries others : List Entry) (file : File) → acts (entries ++ others) file ≡ acts others (acts entries file)
-acts_both [] others file = refl
-acts_both (entry ∷ entries) others file = acts_both entries others (acted entry.changes file)
+one_apart (edit ∷ first) second path apart = bool_cases (bytes_eq edit.path path) (λ b. WriteOthers path (edit ∷ first) ⊎ WriteOthers path second)
+    (λ t. inr (all_weaker (λ (other : Edit). edit.path ≢ other.path) (λ (other : Edit). other.path ≢ path)
+    (λ other differs e. differs ((bytes_decides edit.path path).0 t ∙ sym e)) second apart.0))
+    (λ f. ⊎_elim (λ (all : WriteOthers path first). inl (not_from_Decides (bytes_eq edit.path path) (bytes_decides edit.path path) f, all))
+    (λ (all : WriteOthers path second). inr all) (one_apart first second path apart.1))

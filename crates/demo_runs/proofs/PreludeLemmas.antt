@@ -1,12 +1,11 @@
 -- What the prelude leaves: its paths are live.
-use Rattle.demo_runs.proofs.Words.{ℕ, zero, suc, ◌≡◌, ◌⊎◌, inl, inr, ⊎_elim, ◌+◌, ◌<◌, ◌≤◌, true, false, not, List, [], ◌∷◌, ◌++◌, length, map, refl, ap}
-use Rattle.demo_runs.proofs.Words.{sym, ◌∙◌, subst, arith, append-nil, length-append, Some, None, Option, option_map, is_some, AllByRecursion, lt-leb}
-use Rattle.demo_runs.proofs.Words.{bool_cases, Create, Entry, is_path, World, File, file_of, next_id, id_at, refusal_of, max_files, effect_of}
-use Rattle.demo_runs.proofs.Words.{list_refusal, ListRefusal, refusal_or, counted, fold, IsLegal, entry_of, Record, Step, step_unless, change_step}
-use Rattle.demo_runs.proofs.Words.{done_from, Edit, create_line, IsAmong, bare, IsAt, IsLive}
-use Rattle.demo_runs.proofs.LawLemmas.{Laws}
+use Rattle.demo_runs.proofs.Words.{ℕ, zero, suc, ◌≡◌, ◌⊎◌, inl, inr, ⊎_elim, ◌+◌, ◌<◌, ◌≤◌, true, false, not, List, [], ◌∷◌, ◌++◌, length, map, refl, ap, sym}
+use Rattle.demo_runs.proofs.Words.{◌∙◌, subst, arith, append-nil, length-append, Some, None, Option, option_map, is_some, AllByRecursion, lt-leb}
+use Rattle.demo_runs.proofs.Words.{true_from_ne_false, live_is_made, Create, Entry, is_path, World, File, file_of, next_id, id_at, refusal_of, max_files}
+use Rattle.demo_runs.proofs.Words.{effect_of, list_refusal, ListRefusal, counted, fold, IsLegal, found, IsLegal-append, next_id-effect_of, entry_of, Record}
+use Rattle.demo_runs.proofs.Words.{Step, step_unless, change_step, done_from, Edit, create_line, IsAmong, bare, IsAt, IsLive}
 use Rattle.demo_runs.proofs.StepLemmas.{of_bare, placed, accepted_last}
-use Rattle.demo_runs.proofs.LaneLemmas.{passes, not_full}
+use Rattle.demo_runs.proofs.LaneLemmas.{not_full}
 
 -- a file isn't open, where it is there
 abbrev pub IsClosed : Option File → Type 0
@@ -37,7 +36,7 @@ begun_empty = record { legal = tt; closed = nobody; few = omega arith; ids = ome
     nobody zero = tt
     nobody (suc id) = tt
 
-module _ (laws : Laws) (edit : Edit) (history : List Entry) (count : ℕ) (begun : HasBegun history count) (few : count < 10000)
+module _ (edit : Edit) (history : List Entry) (count : ℕ) (begun : HasBegun history count) (few : count < 10000)
     (lawful : is_path edit.path ≡ true) where
   abbrev world : World
   world = fold history
@@ -49,50 +48,43 @@ module _ (laws : Laws) (edit : Edit) (history : List Entry) (count : ℕ) (begun
   IsHere path = edit.path ≡ path
 
   -- at a taken path
-  taken_one : (o : Option ℕ) → id_at world edit.path ≡ o → is_some o ≡ true → HasMade IsHere history (history ++ []) (suc count)
-  taken_one None is taken = absurd (cc)
-  taken_one (Some id) is taken =
-      let file = laws.at_path world edit.path id is in
-      subst (λ (h : List Entry). HasMade IsHere history h (suc count)) (sym (append-nil history)) (record {
+  taken_one : is_some (id_at world edit.path) ≡ true → HasMade IsHere history (history ++ []) (suc count)
+  taken_one taken =
+      let file = found world edit.path (ap not taken) in
+      rw (append-nil history) (record {
         begun = more history count (suc count) (omega arith) begun;
         live = λ path. ⊎_elim (λ live. live) (λ (same : IsHere path).
-            (id, subst (λ o. IsAt path (option_map bare o)) (sym file.1) (file.2 ∙ same, subst IsClosed file.1 (begun.closed id))));
+            (file.id, rw file.found (file.same ∙ same, subst IsClosed file.found (begun.closed file.id))));
       })
 
   -- at a free one
   free_accepted : is_some (id_at world edit.path) ≡ false → list_refusal world (Create edit.path edit.text ∷ []) ≡ None
   free_accepted free =
-      let none : refusal_of world (Create edit.path edit.text) ≡ None
-      = passes _ _ _ (ap not lawful) (passes _ _ _ free (passes _ _ _ (lt-leb max_files (length world.files) (omega (arith, begun.ids)))
-      (passes _ _ _ (not_full laws history (omega (arith, begun.few))) refl))) in
-      ap (λ r. refusal_or r None) none
+      rw (lawful, free, lt-leb max_files (length world.files) (omega (arith, begun.ids)), not_full history (omega (arith, begun.few))) refl
 
   made_one : list_refusal world (Create edit.path edit.text ∷ []) ≡ None → HasMade IsHere history (history ++ entry ∷ []) (suc count)
   made_one accepted =
-      let now : IsLegal (history ++ entry ∷ []) = laws.legal_on history entry begun.legal accepted in
-      let is = accepted_last laws history entry (Create edit.path edit.text) refl now in
+      let now : IsLegal (history ++ entry ∷ []) = IsLegal-append history entry begun.legal accepted in
+      let is = accepted_last history entry (Create edit.path edit.text) refl now in
       record {
         begun = record {
           legal = now;
-          closed = subst (λ (w : World). (id : ℕ) → IsClosed (file_of w id)) (sym is.1)
-              (λ id. placed laws world (Create edit.path edit.text) is.0 id IsClosed (λ here. refl) (λ other. begun.closed id));
+          closed = λ id. rw is.1 (placed world (Create edit.path edit.text) is.0 id IsClosed (λ here. refl) (λ other. begun.closed id));
           few = omega (arith, length-append history (entry ∷ []), begun.few);
-          ids = omega (arith, ap next_id is.1, laws.made world (Create edit.path edit.text) is.0, begun.ids);
+          ids = omega (arith, ap next_id is.1, next_id-effect_of world (Create edit.path edit.text) is.0, begun.ids);
         };
-        live = subst (λ (w : World). (path : List ℕ) → IsLive world path ⊎ IsHere path → IsLive w path) (sym is.1) (alive is.0);
+        live = λ path before. rw is.1 (alive is.0 path before);
       }
     where
       alive : refusal_of world (Create edit.path edit.text) ≡ None → (path : List ℕ) → IsLive world path ⊎ IsHere path
           → IsLive (counted (effect_of world (Create edit.path edit.text))) path
       alive accepted path (inr same) =
-          let is = placed laws world (Create edit.path edit.text) accepted (next_id world) (λ o. IsAt path (option_map bare o))
-          (λ here. (same, refl)) (λ other. absurd (other refl)) in
-          (next_id world, is)
+          let is = placed world (Create edit.path edit.text) accepted (next_id world) (λ o. IsAt path (option_map bare o))
+          (λ here. (same, refl)) (λ other. absurd (other refl)) in (next_id world, is)
       alive accepted path (inl old) =
           let file = of_bare (file_of world old.0) path old.1 in
-          let is = placed laws world (Create edit.path edit.text) accepted old.0 (λ o. IsAt path (option_map bare o))
-          (λ here. absurd (omega (arith, here, (laws.live world old.0 file.0 file.1).1))) (λ other. old.1) in
-          (old.0, is)
+          let is = placed world (Create edit.path edit.text) accepted old.0 (λ o. IsAt path (option_map bare o))
+          (λ here. absurd (omega (arith, here, (live_is_made world.files old.0 file.0 file.1).1))) (λ other. old.1) in (old.0, is)
 
   one : HasMade IsHere history (history ++ (change_step history 0 edit.number (Create edit.path edit.text)).added) (suc count)
   one = by_refusal (list_refusal world (Create edit.path edit.text ∷ [])) refl
@@ -100,27 +92,23 @@ module _ (laws : Laws) (edit : Edit) (history : List Entry) (count : ℕ) (begun
       by_refusal : (refusal : Option ListRefusal) → list_refusal world (Create edit.path edit.text ∷ []) ≡ refusal
           → HasMade IsHere history (history ++ (step_unless refusal (λ place. None) history entry).added) (suc count)
       by_refusal None is = made_one is
-      by_refusal (Some refusal) is = taken_one (id_at world edit.path) refl (bool_cases (is_some (id_at world edit.path)) (λ b. b ≡ true) (λ taken. refl)
-          (λ free. absurd (let e : Some refusal ≡ None = sym is ∙ free_accepted free in cc)))
+      by_refusal (Some refusal) is = taken_one (true_from_ne_false (is_some (id_at world edit.path))
+          (λ free. let e : Some refusal ≡ None = sym is ∙ free_accepted free in cc))
 
 -- what the lines of creations leave, one after another
-pub prelude_makes : Laws → (edits : List Edit) (history : List Entry) (records : List Record) (count : ℕ) → HasBegun history count
+pub prelude_makes : (edits : List Edit) (history : List Entry) (records : List Record) (count : ℕ) → HasBegun history count
     → count + length edits ≤ 10000 → AllByRecursion (λ (edit : Edit). is_path edit.path ≡ true) edits
     → HasMade (IsAmong edits) history (done_from 0 (record { history = history; records = records }) (map create_line edits) []).history
     (count + length edits)
-prelude_makes laws [] history records count begun few lawful =
+prelude_makes [] history records count begun few lawful =
     record { begun = more history count (count + 0) (omega arith) begun; live = λ path. ⊎_elim (λ live. live) (λ among. absurd among) }
-prelude_makes laws (edit ∷ edits) history records count begun few lawful =
+prelude_makes (edit ∷ edits) history records count begun few lawful =
     let step : Step = change_step history 0 edit.number (Create edit.path edit.text) in
-    let first = one laws edit history count begun (omega (arith, few)) lawful.0 in
-    let rest = prelude_makes laws edits (history ++ step.added) (records ++ record { seat = 0; line = edit.number; answer = step.answer } ∷ [])
+    let first = one edit history count begun (omega (arith, few)) lawful.0 in
+    let rest = prelude_makes edits (history ++ step.added) (records ++ record { seat = 0; line = edit.number; answer = step.answer } ∷ [])
     (suc count) first.begun (omega (arith, few)) lawful.1 in
     record {
       begun = more _ (suc count + length edits) (count + suc (length edits)) (omega arith) rest.begun;
-      live = λ path. joined (first.live path) (rest.live path);
+      live = λ path. ⊎_elim (λ (old : IsLive (fold history) path). rest.live path (inl (first.live path (inl old))))
+          (⊎_elim (λ (here : edit.path ≡ path). rest.live path (inl (first.live path (inr here)))) (λ (later : IsAmong edits path). rest.live path (inr later)));
     }
-  where
-    joined : {Old New Later Between After : Type 0} → (Old ⊎ New → Between) → (Between ⊎ Later → After) → Old ⊎ (New ⊎ Later) → After
-    joined first rest (inl old) = rest (inl (first (inl old)))
-    joined first rest (inr (inl new)) = rest (inl (first (inr new)))
-    joined first rest (inr (inr later)) = rest (inr later)

@@ -1,13 +1,13 @@
 -- The path and the text of a file, whatever the numbers in them are: which characters they have, and how many.
-use Rattle.std.proofs.Common.{ℕ, zero, suc, ◌≡◌, ◌≢◌, ◌+◌, ◌/◌, ◌%◌, ◌<◌, ◌≤◌, Bool, true, false, not, ◌&&◌, leb, ltb, eqb, List, [], ◌∷◌, ◌++◌}
+use Rattle.std.proofs.Common.{ℕ, zero, suc, ◌≡◌, ◌≢◌, ◌+◌, ◌/◌, ◌%◌, ◌<◌, ◌≤◌, Bool, true, false, ltb, eqb, List, [], ◌∷◌, ◌++◌}
 use Rattle.std.proofs.Common.{length, map, codes, decimal, refl, ap, sym, ◌∙◌, arith, length-append, mod-lt}
 use Rattle.std.specs.Fmt.{digits, digits_onto, digit_glyph}
 use Rattle.std.specs.List.{All, list_all, range_with_len}
 use Rattle.std.proofs.lemmas.List.Elements.{All-weaker}
-use Rattle.std.proofs.lemmas.Bool.{and_parts, cond-true, cond_both, lt-ltb}
+use Rattle.std.proofs.lemmas.Bool.{and_from, cond-true, cond_both, lt-ltb}
 use Rattle.std.proofs.lemmas.List.Folds.{list_all-append}
 use Rattle.std.proofs.lemmas.List.FromFn.{get_or-map-range_with_len}
-use Rattle.std.proofs.lemmas.List.Sums.{AllPass-from_list_all}
+use Rattle.std.proofs.lemmas.List.Sums.{AllPass-from_list_all, list_all-from_AllPass}
 use Rattle.demo.specs.declared.command.Command.{Command}
 use Rattle.demo.specs.declared.command.Verb.{Verb}
 use Rattle.demo.specs.declared.command.Verb.TheVariants as verb
@@ -23,15 +23,11 @@ none_of test mark fails cs all =
     (AllPass-from_list_all test cs all)
 
 pub weaker : (test other : ℕ → Bool) → ((c : ℕ) → test c ≡ true → other c ≡ true) → (cs : List ℕ) → list_all test cs ≡ true → list_all other cs ≡ true
-weaker test other f [] all = refl
-weaker test other f (c ∷ cs) all =
-    let parts = and_parts (test c) (list_all test cs) all in rw (f c parts.0, weaker test other f cs parts.1) refl
+weaker test other f cs all =
+    list_all-from_AllPass other cs (All-weaker (λ c. test c ≡ true) (λ c. other c ≡ true) f cs (AllPass-from_list_all test cs all))
 
 pub all_in : (test : ℕ → Bool) (xs ys : List ℕ) → list_all test xs ≡ true → list_all test ys ≡ true → list_all test (xs ++ ys) ≡ true
-all_in test xs ys first second = list_all-append test xs ys ∙ both (list_all test xs) (list_all test ys) first second
-  where
-    both : (a b : Bool) → a ≡ true → b ≡ true → (a && b) ≡ true
-    both a b is also = rw (is, also) refl
+all_in test xs ys first second = list_all-append test xs ys ∙ and_from (list_all test xs) (list_all test ys) first second
 
 -- ---- texts
 

@@ -1,5 +1,5 @@
 -- What files show, whatever their stamps and marks, and what writes and intakes make of it. Only lemmas speak of it.
-use Rattle.std.specs.Prelude.{ℕ, ◌≡◌, ◌≤◌, List, [], ◌∷◌, if◌then◌else◌, bytes_eq, Option, Some, None, option_map}
+use Rattle.std.specs.Prelude.{ℕ, ◌≡◌, ◌≤◌, List, [], ◌∷◌, if◌then◌else◌, bytes_eq, fold, Option, Some, None, option_map}
 use Rattle.write_history.specs.declared.change.Change.{Change}
 use Rattle.write_history.specs.declared.change.Change.TheVariants.{Write, Intake}
 use Rattle.write_history.specs.declared.entry.Entry.{Entry}
@@ -35,5 +35,4 @@ acted changes file = file
 
 -- what entries make of it, one after another
 abbrev pub acts : List Entry → File → File
-acts [] file = file
-acts (entry ∷ entries) file = acts entries (acted entry.changes file)
+acts entries file = fold (λ (f : File) (entry : Entry). acted entry.changes f) file entries

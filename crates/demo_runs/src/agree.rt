@@ -10,10 +10,6 @@ ghost use Rattle.demo_runs.specs.Parts.{demo_parts};
 
 use demo::laws::demos_have_their_commands;
 use transcripts::laws::{a_section_alone_is_serial, a_settle_readies_all};
-use write_history::laws::{
-    histories_go_on, ids_are_places, live_files_have_paths_of_their_own, puts_change_one_file,
-    unready_files_have_an_order, worlds_are_what_they_hold,
-};
 
 /// Every run of a script whose two lanes write different files, with at most eight workers, has the summary of the run on
 /// one thread.
@@ -21,12 +17,6 @@ pub fn runs_with_lanes_apart_agree()
     ensures { (script : Parts) (told : List Worked) (ended : Ended) → WritesApart script → length told ≤ 8 → RunFits [] script told ended
         → summary_of ended ≡ summary_of (run_of [] script) }
 {
-    histories_go_on();
-    puts_change_one_file();
-    ids_are_places();
-    live_files_have_paths_of_their_own();
-    unready_files_have_an_order();
-    worlds_are_what_they_hold();
     a_settle_readies_all();
     a_section_alone_is_serial();
 }

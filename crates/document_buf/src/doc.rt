@@ -4,6 +4,7 @@ ghost use Rattle.ide_text.specs.Text.{max_chars, IsText};
 ghost use Rattle.document_buf.specs.Document.{opened, inserted, erased, committed as committed_now, marked_saved, replaced};
 
 use crate::gap::GapBuffer;
+use ide_text::laws::edited_texts_are_texts;
 use ide_text::{MAX_CHARS, SharedText, Text};
 use std::alloc::{AllocError, Global};
 use std::marker::Model;
@@ -115,6 +116,7 @@ impl Doc {
     {
         // A piece is a text, and so is what it makes of the text.
         let _ = piece.len();
+        edited_texts_are_texts();
         let state = &mut *self.state;
         state.buffer.move_to(at as usize);
         state.buffer.push(piece);
@@ -129,6 +131,7 @@ impl Doc {
         ensures document { self.new.document ≡ erased from to self.old.document }
         ensures spare { self.new.spare ≡ self.old.spare + (to - from) }
     {
+        edited_texts_are_texts();
         let state = &mut *self.state;
         state.buffer.move_to(from as usize);
         state.buffer.erase((to - from) as usize);

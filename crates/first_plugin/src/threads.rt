@@ -1,6 +1,6 @@
 //! What the threads do, each with a pass of its own.
 ghost use Rattle.std.specs.Prelude.{◌≡◌, true, IfOk};
-ghost use Rattle.shared_ide.specs.Ready.{is_edit};
+ghost use Rattle.write_history.specs.Changes.{is_edit};
 ghost use Rattle.shared_ide.specs.Passes.{IsIdePassOf};
 ghost use Rattle.first_plugin.specs.Passes.{StaysIn};
 

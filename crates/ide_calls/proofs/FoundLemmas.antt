@@ -6,7 +6,7 @@ use Rattle.action_lock.specs.declared.view.View.{View}
 use Rattle.action_lock.specs.Advances.{Advances}
 use Rattle.action_lock.specs.Steps.{with_phase}
 use Rattle.action_lock.specs.Reads.{HasRead, HasWaited}
-use Rattle.action_lock.proofs.AdvanceLemmas.{advances_on, with_phase-advances}
+use Rattle.lock_laws.proofs.AdvanceLemmas.{advances_on, with_phase-advances}
 use Rattle.list_laws.proofs.FrontLemmas.{front_self}
 use Rattle.write_history.specs.declared.entry.Entry.{Entry}
 use Rattle.write_history.specs.World.{World}

@@ -4,7 +4,6 @@ pub mod MadeLemmas
 pub mod StepLemmas
 pub mod TurnLemmas
 pub mod SettleLemmas
-pub mod RuleLemmas
 pub mod FoundLemmas
 pub mod PlanLemmas
 pub mod AcceptedLemmas

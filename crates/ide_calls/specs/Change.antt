@@ -6,7 +6,8 @@ use Rattle.write_history.specs.declared.change.Change.{Change}
 use Rattle.write_history.specs.declared.entry.Entry.{Entry}
 use Rattle.write_history.specs.declared.refusal.Refusal.{Refusal}
 use Rattle.write_history.specs.Fold.{fold, list_refusal}
-use Rattle.ide_world.specs.Ready.{hinted, is_want_of_memory}
+use Rattle.write_history.specs.Effect.{is_want_of_memory}
+use Rattle.ide_world.specs.Ready.{hinted}
 use Rattle.ide_calls.specs.Made.{HasMade, HasFound}
 use Rattle.ide_calls.specs.Settle.{entry_of}
 use Rattle.ide_calls.specs.declared.change_refusal.ChangeRefusal.{ChangeRefusal}

@@ -1,12 +1,12 @@
 -- Changes that are ready to go in, or refused.
-use Rattle.std.specs.Prelude.{◌≡◌, List, [], ◌∷◌, true, false, Some, None}
+use Rattle.std.specs.Prelude.{◌≡◌, List, true, false, Some}
 use Rattle.action_lock.specs.declared.view.View.{View}
 use Rattle.write_history.specs.declared.change.Change.{Change}
 use Rattle.write_history.specs.declared.entry.Entry.{Entry}
 use Rattle.write_history.specs.World.{World}
-use Rattle.write_history.specs.Effect.{refusal_of}
 use Rattle.write_history.specs.Fold.{fold, list_refusal}
-use Rattle.ide_world.specs.Ready.{IsReadyFor, Makes, is_want_of_memory}
+use Rattle.ide_world.specs.Ready.{IsReadyFor, Makes, IsFirstAccepted}
+use Rattle.write_history.specs.Effect.{is_want_of_memory}
 use Rattle.ide_calls.specs.Made.{HasFound}
 use Rattle.ide_calls.specs.declared.group_refusal.GroupChangeRefusal.{GroupChangeRefusal}
 use Rattle.ide_calls.specs.declared.group_refusal.GroupChangeRefusal.TheVariants.{Refused, OutOfMemory}
@@ -17,11 +17,6 @@ pub record IsPlanned (world : World) (changes : List Change) (planned : Planned)
   pub ready : IsReadyFor world planned.ready
   pub makes : Makes world planned.ready changes
   pub is_at : planned.at ≡ world.entries
-
--- the first change of the list isn't refused
-abbrev pub IsFirstAccepted : World → List Change → Type 0
-IsFirstAccepted world [] = Unit {0}
-IsFirstAccepted world (change ∷ changes) = refusal_of world change ≡ None
 
 -- why the changes may not go in: a refusal of the first of them is never reported as out of memory
 abbrev pub IsRefusedIn : World → List Change → GroupChangeRefusal → Type 0

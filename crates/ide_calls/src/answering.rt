@@ -8,13 +8,13 @@ ghost use Rattle.ide_calls.specs.Replied.{IsRepliedIn};
 use crate::replied::Replied;
 use crate::reply::Reply;
 use action_lock::Watch;
+use history_laws::laws::unready_files_have_an_order;
 use ide_text::Name;
 use ide_world::{State, path};
 use nonblocking_read::Stopped;
 use queries::Query;
 use query_engine::AskRefusal;
 use std::alloc::{AllocError, Global};
-use write_history::laws::unready_files_have_an_order;
 
 /// Answers a question, unless the watch sees that the work is to end. It looks before it has an answer.
 pub(crate) fn reply_by<W: Watch>(

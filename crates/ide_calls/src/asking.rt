@@ -8,13 +8,13 @@ use crate::IdeHome;
 use crate::answering::reply_by;
 use crate::replied::Replied;
 use action_lock::{ActionLock, Gate, Pass, Point};
+use history_laws::laws::histories_go_on;
 use ide_world::State;
 use nonblocking_read::Stopped;
 use queries::Query;
 use query_engine::NoWatch;
 use std::alloc::{AllocError, Global};
 use std::sync::Wait;
-use write_history::laws::histories_go_on;
 
 /// Answers a question by the whole history of a moment of this call. The gate is told `Reading` while the read is open.
 /// May block.

@@ -4,7 +4,7 @@ ghost use Rattle.std.specs.List.{list_all};
 ghost use Rattle.action_lock.specs.Advances.{Advances};
 ghost use Rattle.action_lock.specs.Passes.{view_of, IsSamePass, IsPassOf, Intends};
 ghost use Rattle.write_history.specs.Effect.{max_entries};
-ghost use Rattle.ide_world.specs.Ready.{is_edit};
+ghost use Rattle.write_history.specs.Changes.{is_edit};
 ghost use Rattle.ide_calls.specs.Change.{HasAccepted, HasLeft, IsChangeRefused, IsGroupRefused};
 
 use crate::accepted::Accepted;
@@ -13,9 +13,9 @@ use crate::group_refusal::GroupChangeRefusal;
 use crate::planning::plan;
 use crate::{IdeHome, write_entry};
 use action_lock::{ActionLock, Pass};
+use history_laws::laws::histories_go_on;
 use std::alloc::Global;
 use std::sync::Wait;
-use write_history::laws::histories_go_on;
 use write_history::{Change, Changes, Entry};
 
 /// Makes a change other than an intake, as an entry of its own. May block.

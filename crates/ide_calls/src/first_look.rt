@@ -8,10 +8,10 @@ use crate::IdeHome;
 use crate::choice::find_work;
 use crate::entries::entries;
 use action_lock::{ActionLock, Gate, Pass, Point};
+use history_laws::laws::histories_go_on;
 use ide_world::{Job, State};
 use std::alloc::{AllocError, Global};
 use std::sync::Wait;
-use write_history::laws::histories_go_on;
 
 /// How long the history was, and the job of the file that is to be indexed, if one is unready.
 #[derive(Drop)]

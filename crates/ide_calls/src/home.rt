@@ -8,11 +8,11 @@ ghost use Rattle.ide_world.specs.Ready.{IsReadyFor, Makes, hinted};
 use crate::kept::Kept;
 use crate::share::{Block, IdeShare};
 use action_lock::Home;
+use history_laws::laws::histories_go_on;
 use ide_world::{Ready, empty, install, reserve};
 use std::alloc::{AllocError, Global};
 use std::marker::Model;
 use std::sync::Arc;
-use write_history::laws::histories_go_on;
 use write_history::{Entry, History};
 
 /// The state and its history, seen by contracts as the entries of the history.

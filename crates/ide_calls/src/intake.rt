@@ -11,11 +11,11 @@ use crate::judge::{Judged, judge};
 use crate::step::Step;
 use crate::{IdeHome, write_entry};
 use action_lock::{ActionLock, Pass};
+use history_laws::laws::histories_go_on;
 use ide_world::Made;
 use ide_world::laws::a_task_stays_of_the_world;
 use std::alloc::{AllocError, Global};
 use std::sync::Wait;
-use write_history::laws::histories_go_on;
 use write_history::{Change, Changes, Entry};
 
 /// Takes data in under an intent of its own, where the file is still at the stamp at which they were made.

@@ -8,7 +8,7 @@ ghost use Rattle.write_history.specs.Effect.{max_entries};
 ghost use Rattle.write_history.specs.Fold.{ListRefusal, fold, list_refusal};
 ghost use Rattle.ide_calls.specs.Settle.{all_settled, refused_for, with_entry, intake_of, intake_entry, settled};
 
-use write_history::laws::{histories_go_on, intake_readies_one, unready_files_have_an_order};
+use history_laws::laws::{histories_go_on, intake_readies_one, unready_files_have_an_order};
 
 /// A settle goes on by the unready file with the lowest id: it is over where there is none, ends where the intake of
 /// that file is refused, and else goes on after that intake, with fewer unready files.

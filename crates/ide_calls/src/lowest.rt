@@ -10,12 +10,12 @@ ghost use Rattle.ide_calls.specs.Turn.{IsLowest, IsMadeOf};
 
 use crate::ahead::Ahead;
 use crate::entries::entries;
+use history_laws::laws::unready_files_have_an_order;
 use ide_world::{Job, Made, Ready, State, job, make, make_from, prepare_intake};
 use index_store::Store;
 use std::alloc::{AllocError, Global};
 use std::thread::Threads;
 use write_history::MAX_ENTRIES;
-use write_history::laws::unready_files_have_an_order;
 
 /// What is to be done for the unready file with the lowest id, where there is one.
 #[derive(Drop)]

@@ -2,17 +2,17 @@
 ghost use Rattle.std.specs.Prelude.{◌≡◌, true, IfOk, IfErr};
 ghost use Rattle.std.specs.List.{list_all};
 ghost use Rattle.action_lock.specs.Passes.{view_of, IsSamePass, Intends};
-ghost use Rattle.ide_world.specs.Ready.{is_edit};
+ghost use Rattle.write_history.specs.Changes.{is_edit};
 ghost use Rattle.ide_calls.specs.Change.{IsGroupRefused};
 ghost use Rattle.ide_calls.specs.Planned.{IsPlanned, IsRefusedIn, HasPlanned};
 
 use crate::IdeHome;
 use crate::group_refusal::GroupChangeRefusal;
 use action_lock::{ActionLock, Pass};
+use history_laws::laws::histories_go_on;
 use ide_world::{Ready, State, prepare_group};
 use std::alloc::Global;
 use std::sync::Wait;
-use write_history::laws::histories_go_on;
 use write_history::{Changes, Refusal};
 
 /// Changes that are ready to go in behind a prefix of the history.

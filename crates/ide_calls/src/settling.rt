@@ -14,12 +14,12 @@ use crate::lowest::{Lowest, prepare_lowest};
 use crate::settle_refusal::SettleRefusal;
 use crate::{IdeHome, write_entry};
 use action_lock::{ActionLock, Pass};
+use history_laws::laws::{histories_go_on, unready_files_have_an_order};
 use ide_world::laws::a_task_stays_of_the_world;
 use index_store::Store;
 use std::alloc::{AllocError, Global};
 use std::sync::Wait;
 use std::thread::Threads;
-use write_history::laws::{histories_go_on, unready_files_have_an_order};
 use write_history::{Change, Changes, Entry};
 
 /// Takes every unready file in, in order of ids, one entry each, for a line of a script. It answers with the number of

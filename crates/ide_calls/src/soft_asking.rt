@@ -12,11 +12,11 @@ use crate::replied::Replied;
 use crate::sighted::Sighted;
 use crate::soft_refusal::SoftAskRefusal;
 use action_lock::{ActionLock, Gate, Pass};
+use history_laws::laws::histories_go_on;
 use nonblocking_read::{SoftRefusal, soft};
 use queries::Query;
 use std::alloc::Global;
 use std::sync::Wait;
-use write_history::laws::histories_go_on;
 
 /// Answers a question as `ask` does, but gives way to writes: an attempt that sees that one waits ends, and after
 /// `attempts` of them the call ends too. An answer comes from a read that looked whether one waits. May block.

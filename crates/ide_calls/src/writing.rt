@@ -9,11 +9,11 @@ ghost use Rattle.action_lock.specs.Steps.{finished};
 
 use crate::home::IdeHome;
 use action_lock::{ActionLock, Pass};
+use history_laws::laws::histories_go_on;
 use ide_world::Ready;
 use std::alloc::AllocError;
 use std::sync::Wait;
 use write_history::Entry;
-use write_history::laws::histories_go_on;
 
 /// Puts a prepared entry in, under an intent that has read what it was prepared on. The intent stays. Where there is no
 /// memory nothing is written. The answer is the first of the changed files that is unready now. May block.

@@ -1,8 +1,7 @@
--- Texts with a piece put in or taken out are texts, and when two texts are the same.
-use Rattle.std.proofs.Common.{ℕ, zero, suc, ◌≡◌, ◌+◌, ◌-◌, ◌≤◌, true, List, [], ◌∷◌, ◌++◌, length, take, drop, bytes_eq, encode_utf8_all, ap, sym, ◌∙◌, arith, length-append}
+-- Texts with a piece put in or taken out are texts.
+use Rattle.std.proofs.Common.{ℕ, zero, suc, ◌≡◌, ◌+◌, ◌-◌, ◌≤◌, true, List, [], ◌∷◌, ◌++◌, length, take, drop, encode_utf8_all, ap, sym, ◌∙◌, arith, length-append}
 use Rattle.std.specs.Str.{chars, all_scalars}
-use Rattle.std.specs.Cmp.Lexicographic.{bytes_decides}
-use Rattle.std.proofs.lemmas.List.{length-take, length-drop, take_all, take_rest}
+use Rattle.std.proofs.lemmas.List.{length-take, length-drop, take_rest}
 use Rattle.std.proofs.lemmas.Str.{encodes-append, chars-encodes}
 use native.Mathlib.Nat.{sub-zero}
 use Rattle.ide_text.specs.Text.{max_chars, HasNoReturn, IsText}
@@ -55,7 +54,3 @@ chars-with_piece at piece text bytes scalar e =
     ∙ ap (λ bs. bs ++ encode_utf8_all (drop at text)) (sym (encodes-append (take at text) piece))
     ∙ sym (encodes-append (take at text ++ piece) (drop at text)))
     ∙ chars-encodes (take at text ++ piece ++ drop at text) scalar
-
--- lists of one length that are the same up to it are the same
-pub same_to_end : (xs ys : List ℕ) (n : ℕ) → length xs ≡ n → length ys ≡ n → take n xs ≡ take n ys → true ≡ bytes_eq xs ys
-same_to_end xs ys n l m h = sym ((bytes_decides xs ys).1 (sym (take_all n xs (omega arith)) ∙ h ∙ take_all n ys (omega arith)))

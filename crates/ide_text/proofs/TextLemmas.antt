@@ -10,7 +10,7 @@ use Rattle.std.proofs.lemmas.List.{take_more}
 use Rattle.std.proofs.lemmas.Bool.{false≢true, le-leb, lt-leb, ne_eqb}
 use Rattle.list_laws.proofs.BoolLemmas.{bool_cases}
 use Rattle.ide_text.specs.declared.text.TextRefusal.TheVariants.{NotText, TooLong}
-use Rattle.ide_text.specs.Text.{line_feed, carriage_return, max_chars, repaired, repaired_after, repaired_char, sized_text, text_of, HasNoReturn}
+use Rattle.ide_text.specs.Text.{line_feed, carriage_return, max_chars, repaired, repaired_after, repaired_char, sized_text, text_of, HasNoReturn, IsText}
 use Rattle.ide_text.specs.Place.{since_break}
 use Rattle.ide_text.proofs.Utf8Lemmas.{list_any-encodes}
 
@@ -112,3 +112,14 @@ all_scalars-repaired_after after_return (c ∷ cs) h =
 -- so the repaired characters in UTF-8 spell themselves
 pub chars-repaired : (bytes out : List ℕ) → IsUtf8 bytes → out ≡ encode_utf8_all (repaired (chars bytes)) → chars out ≡ repaired (chars bytes)
 chars-repaired bytes out u e = ap chars e ∙ chars-encodes (repaired (chars bytes)) (all_scalars-repaired_after false (chars bytes) (scalars-chars bytes u))
+
+-- ---- the characters of a text are read as that text
+
+none_return : (cs : List ℕ) → HasNoReturn cs → list_any (λ c. c == carriage_return) cs ≡ false
+none_return [] none = refl
+none_return (c ∷ cs) none = ap (λ b. b || list_any (λ d. d == carriage_return) cs) none.0 ∙ none_return cs none.1
+
+pub text_again : (cs : List ℕ) → IsText cs → text_of (encode_utf8_all cs) ≡ Ok cs
+text_again cs is =
+    let spelled : cs ≡ repaired (chars (encode_utf8_all cs)) = sym (ap repaired (chars-encodes cs is.scalars) ∙ repaired-none cs (none_return cs is.no_return)) in
+    text_of-spelled (encode_utf8_all cs) cs (cs, (is.scalars, refl)) spelled ∙ sized_text-few cs is.few

@@ -3,6 +3,7 @@
 
 mod chars;
 mod inline;
+pub mod laws;
 mod line_walk;
 mod name;
 mod shared;

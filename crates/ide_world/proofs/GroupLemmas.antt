@@ -1,19 +1,19 @@
 -- A list of changes, made one after another on a draft.
 use Rattle.std.proofs.Common.{ℕ, suc, ◌≡◌, ◌+◌, ◌<◌, ◌≤◌, Bool, true, false, List, [], ◌∷◌, ◌++◌, length, get_or, drop, add-one, append_assoc, append-nil, refl, ap, sym, ◌∙◌, subst, arith, Some, None}
 use Rattle.std.specs.Prelude.{◌&&◌, Result, Ok, Err, IfOk, OnOk, Option, option_map}
-use Rattle.std.proofs.lemmas.Bool.{leb-false}
 use Rattle.write_history.specs.declared.change.Change.{Change}
 use Rattle.write_history.specs.declared.refusal.Refusal.{Refusal}
 use Rattle.write_history.specs.declared.refusal.Refusal.TheVariants.{NoSuchFile, PathTaken, BadPath, NotOpen, AlreadyOpen, BadRange, Unsaved, Uncommitted, Conflict, FilesFull, DocsFull, TextFull, Stale, HistoryFull, OutOfMemory}
 use Rattle.write_history.specs.World.{World}
-use Rattle.write_history.specs.Effect.{Reason, put_of, reasons, history_full, refusal_of, max_entries}
+use Rattle.write_history.specs.Effect.{put_of, refusal_of, is_want_of_memory, max_entries}
 use Rattle.write_history.specs.Fold.{effect_of, effects_of, ListRefusal, one_later, refusal_or, list_refusal}
-use Rattle.write_history.proofs.PutLemmas.{NoneStands, accepted_reasons}
+use Rattle.history_laws.proofs.LimitLemmas.{accepted_room}
 use Rattle.ide_world.specs.declared.step.Step.{Step}
 use Rattle.ide_world.specs.Step.{after_steps}
 use Rattle.ide_world.specs.Lawful.{AreLawful, AreWide}
 use Rattle.ide_world.specs.Alike.{AreAlike}
-use Rattle.ide_world.specs.Ready.{changed_ids, ids_of, Makes, IsReadyFor, IsRefusalOf, IsListRefusalOf, is_want_of_memory, is_edit}
+use Rattle.ide_world.specs.Ready.{changed_ids, ids_of, Makes, IsReadyFor, IsRefusalOf}
+use Rattle.write_history.specs.Changes.{is_edit}
 use Rattle.ide_world.specs.Drafted.{Drafted, IsDraft, IsExtended, world_now}
 use Rattle.ide_world.specs.Builds.{Builds}
 use Rattle.ide_world.proofs.WalkLemmas.{entries_after_steps, after_steps-push, pushed}
@@ -55,14 +55,6 @@ starts w changes d base steps =
       entries = λ l. absurd (omega arith);
     }
 
-none_last : (rs : List Reason) (r : Reason) → NoneStands (rs ++ r ∷ []) → r.stands ≡ false
-none_last [] r h = h.0
-none_last (x ∷ rs) r h = none_last rs r h.1
-
--- an accepted change finds room in the history
-pub has_entries : (w : World) (change : Change) → refusal_of w change ≡ None → w.entries < max_entries
-has_entries w change accepted = leb-false max_entries w.entries (none_last (reasons w change) (history_full w) (accepted_reasons w change accepted))
-
 accepted_first : (o : Option Refusal) (later : Option ListRefusal) → o ≡ None → refusal_or o later ≡ option_map one_later later
 accepted_first o later e = ap (λ x. refusal_or x later) e
 
@@ -79,7 +71,7 @@ turns w changes i change rest d new h accepted e = record {
       ∙ h.ids;
   count = let a = e.count in let b = h.count in omega arith;
   entries = λ l.
-      let small = has_entries (world_now d) change accepted in
+      let small = accepted_room (world_now d) change accepted in
       let same : (world_now d).entries ≡ w.entries = entries_after_steps d.base d.steps ∙ ap (λ (x : World). x.entries) h.base in
       omega arith;
 }
@@ -101,9 +93,9 @@ known o (Stale made present) h n = h
 known o HistoryFull h n = h
 known o OutOfMemory h n = absurd (cc)
 
-pub refused_at : (w : World) (changes : List Change) (i place : ℕ) (change : Change) (rest : List Change) (d : Drafted) (why : Refusal) → IsSoFar w changes i (change ∷ rest) d
-    → IsRefusalOf (refusal_of (world_now d) change) why → place ≡ i + 1 → IsListRefusalOf (list_refusal w changes) (record { place = place; why = why })
-refused_at w changes i place change rest d why h r at_place = λ n.
+refused_at : (w : World) (changes : List Change) (i place : ℕ) (change : Change) (rest : List Change) (d : Drafted) (why : Refusal) → IsSoFar w changes i (change ∷ rest) d
+    → IsRefusalOf (refusal_of (world_now d) change) why → place ≡ i + 1 → is_want_of_memory why ≡ false → list_refusal w changes ≡ Some (record { place = place; why = why })
+refused_at w changes i place change rest d why h r at_place n =
     let e = known (refusal_of (world_now d) change) why r n in
     let f : ℕ → Option ListRefusal = λ k. Some (record { place = k; why = why }) in
     let p : 1 + i ≡ place = omega arith in
@@ -176,13 +168,24 @@ and_right : (a b : Bool) → (a && b) ≡ true → b ≡ true
 and_right true b h = h
 and_right false b h = absurd (cc)
 
+-- the changes that are left, of which this is the first
+left_at : (changes : List Change) (i : ℕ) (item : Change) → i < length changes → item ≡ get_or changes i item → drop i changes ≡ item ∷ drop (i + 1) changes
+left_at changes i item inside is = drop-cons changes i item inside ∙ ap (λ x. x ∷ drop (suc i) changes) (sym is) ∙ ap (λ n. item ∷ drop n changes) (sym (add-one i))
+
+-- the first of them is refused
+pub refused_here : (w : World) (changes : List Change) (i place : ℕ) (item : Change) (d : Drafted) (why : Refusal) → i < length changes → item ≡ get_or changes i item
+    → IsSoFar w changes i (drop i changes) d → IsRefusalOf (refusal_of (world_now d) item) why → place ≡ i + 1 → is_want_of_memory why ≡ false
+    → list_refusal w changes ≡ Some (record { place = place; why = why })
+refused_here w changes i place item d why inside is h =
+    let P : List Change → Type 0 = λ l. IsSoFar w changes i l d in
+    refused_at w changes i place item (drop (i + 1) changes) d why (subst P (left_at changes i item inside is) h)
+
 pub turn_at : (w : World) (changes : List Change) (i : ℕ) (item : Change) (d new : Drafted) → i < length changes → item ≡ get_or changes i item
     → IsSoFar w changes i (drop i changes) d → list_all is_edit (drop i changes) ≡ true
     → refusal_of (world_now d) item ≡ None → IsExtended d new item → IsTurned w changes (i + 1) new
 turn_at w changes i item d new inside is so_far edits accepted e =
     let rest = drop (i + 1) changes in
-    let split : drop i changes ≡ item ∷ rest =
-    drop-cons changes i item inside ∙ ap (λ x. x ∷ drop (suc i) changes) (sym is) ∙ ap (λ n. item ∷ drop n changes) (sym (add-one i)) in
+    let split = left_at changes i item inside is in
     record {
       so_far = let P : List Change → Type 0 = λ l. IsSoFar w changes i l d in turns w changes i item rest d new (subst P split so_far) accepted e;
       edits = and_right (is_edit item) (list_all is_edit rest) (sym (ap (list_all is_edit) split) ∙ edits);

@@ -18,7 +18,7 @@ use Rattle.write_history.specs.World.{World, File, file_of, id_at, document_at, 
 use Rattle.write_history.specs.Effect.{Put, refusal_of, document_len, is_unsaved, is_uncommitted, max_files, new_file, rewritten, with_document, edited, saved, taken_in, closed, moved, stamp_of}
 use Rattle.write_history.specs.Fold.{after_put, effect_of}
 use Rattle.list_laws.proofs.RowLemmas.{live_is_made}
-use Rattle.write_history.proofs.PutLemmas.{none_at_free, accepted_reasons}
+use Rattle.history_laws.proofs.PutLemmas.{none_at_free, accepted_reasons}
 use Rattle.ide_world.specs.declared.step.Step.{Step}
 use Rattle.ide_world.specs.declared.step.RowEdit.TheVariants as row_edit
 use Rattle.ide_world.specs.declared.step.DocEdit.{DocEdit}

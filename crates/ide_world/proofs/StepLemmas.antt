@@ -8,7 +8,7 @@ use Rattle.list_laws.proofs.BoolLemmas.{bool_cases}
 use Rattle.vfs_core.specs.declared.row.FileRow.{FileRow}
 use Rattle.document_buf.specs.Document.{Document}
 use Rattle.write_history.specs.World.{World, File, file_of}
-use Rattle.write_history.proofs.PutLemmas.{by_place}
+use Rattle.history_laws.proofs.PutLemmas.{by_place}
 use Rattle.ide_world.specs.declared.step.Step.{Step}
 use Rattle.ide_world.specs.declared.step.RowEdit.{RowEdit}
 use Rattle.ide_world.specs.declared.step.RowEdit.TheVariants.{Keep, Put, Remove}

@@ -1,11 +1,10 @@
 -- What it means that changes are ready to go in, and how they are refused.
-use Rattle.std.specs.Prelude.{ℕ, ◌≡◌, ◌<◌, Bool, true, false, List, [], ◌∷◌, map, find, Option, Some, None}
+use Rattle.std.specs.Prelude.{ℕ, ◌≡◌, ◌<◌, true, false, List, [], ◌∷◌, map, find, Option, Some, None}
 use Rattle.write_history.specs.declared.change.Change.{Change}
-use Rattle.write_history.specs.declared.change.Change.TheVariants.{Create, Write, Delete, OpenDoc, Insert, Erase, Commit, Save, CloseDoc, Intake, Move}
 use Rattle.write_history.specs.declared.refusal.Refusal.{Refusal}
-use Rattle.write_history.specs.declared.refusal.Refusal.TheVariants.{NoSuchFile, PathTaken, BadPath, NotOpen, AlreadyOpen, BadRange, Unsaved, Uncommitted, Conflict, FilesFull, DocsFull, TextFull, Stale, HistoryFull, OutOfMemory}
+use Rattle.write_history.specs.declared.refusal.Refusal.TheVariants.{OutOfMemory}
 use Rattle.write_history.specs.World.{World, file_of, is_unready}
-use Rattle.write_history.specs.Effect.{put_of, max_entries}
+use Rattle.write_history.specs.Effect.{put_of, refusal_of, is_want_of_memory, max_entries}
 use Rattle.write_history.specs.Fold.{ListRefusal, list_refusal, effect_of, effects_of}
 use Rattle.ide_world.specs.declared.step.Step.{Step}
 use Rattle.ide_world.specs.Step.{after_steps}
@@ -40,60 +39,21 @@ pub record IsReadyFor (world : World) (steps : List Step) : Type 0 where
   pub lawful : AreLawful world steps
   pub entries : world.entries < max_entries
 
--- a change that `prepare` takes: any but an intake, whose index data come with it
-abbrev pub is_edit : Change → Bool
-is_edit (Create path text) = true
-is_edit (Write path text) = true
-is_edit (Delete path) = true
-is_edit (OpenDoc path) = true
-is_edit (Insert path at text) = true
-is_edit (Erase path from to) = true
-is_edit (Commit path) = true
-is_edit (Save path) = true
-is_edit (CloseDoc path) = true
-is_edit (Intake file stamp) = false
-is_edit (Move path to) = true
-
 -- an answer other than `OutOfMemory` is this refusal
 abbrev pub IsRefusalOf : Option Refusal → Refusal → Type 0
 IsRefusalOf expected OutOfMemory = Unit {0}
-IsRefusalOf expected NoSuchFile = expected ≡ Some NoSuchFile
-IsRefusalOf expected PathTaken = expected ≡ Some PathTaken
-IsRefusalOf expected BadPath = expected ≡ Some BadPath
-IsRefusalOf expected NotOpen = expected ≡ Some NotOpen
-IsRefusalOf expected AlreadyOpen = expected ≡ Some AlreadyOpen
-IsRefusalOf expected (BadRange len) = expected ≡ Some (BadRange len)
-IsRefusalOf expected Unsaved = expected ≡ Some Unsaved
-IsRefusalOf expected Uncommitted = expected ≡ Some Uncommitted
-IsRefusalOf expected Conflict = expected ≡ Some Conflict
-IsRefusalOf expected FilesFull = expected ≡ Some FilesFull
-IsRefusalOf expected DocsFull = expected ≡ Some DocsFull
-IsRefusalOf expected (TextFull count) = expected ≡ Some (TextFull count)
-IsRefusalOf expected (Stale made present) = expected ≡ Some (Stale made present)
-IsRefusalOf expected HistoryFull = expected ≡ Some HistoryFull
+IsRefusalOf expected why = expected ≡ Some why
 
 -- the refusal of a list, as an answer tells it
 abbrev pub told : GroupRefusal → ListRefusal
 told refusal = record { place = refusal.place; why = refusal.why }
 
--- whether an answer tells running out of memory
-abbrev pub is_want_of_memory : Refusal → Bool
-is_want_of_memory OutOfMemory = true
-is_want_of_memory NoSuchFile = false
-is_want_of_memory PathTaken = false
-is_want_of_memory BadPath = false
-is_want_of_memory NotOpen = false
-is_want_of_memory AlreadyOpen = false
-is_want_of_memory (BadRange len) = false
-is_want_of_memory Unsaved = false
-is_want_of_memory Uncommitted = false
-is_want_of_memory Conflict = false
-is_want_of_memory FilesFull = false
-is_want_of_memory DocsFull = false
-is_want_of_memory (TextFull count) = false
-is_want_of_memory (Stale made present) = false
-is_want_of_memory HistoryFull = false
+-- the first change of a list isn't refused
+abbrev pub IsFirstAccepted : World → List Change → Type 0
+IsFirstAccepted world [] = Unit {0}
+IsFirstAccepted world (change ∷ changes) = refusal_of world change ≡ None
 
--- an answer other than `OutOfMemory` is this refusal of a list
-abbrev pub IsListRefusalOf : Option ListRefusal → GroupRefusal → Type 0
-IsListRefusalOf expected refusal = is_want_of_memory refusal.why ≡ false → expected ≡ Some (told refusal)
+-- A list is refused by the rules, or as memory ran out; that never stands for a refusal of the first change.
+pub record IsListRefused (world : World) (changes : List Change) (refusal : GroupRefusal) : Type 0 where
+  pub by_rule : is_want_of_memory refusal.why ≡ false → list_refusal world changes ≡ Some (told refusal)
+  pub memory : is_want_of_memory refusal.why ≡ true → IsFirstAccepted world changes

@@ -2,14 +2,13 @@
 ghost use Rattle.std.specs.Prelude.{◌≡◌, ◌<◌, ◌+◌, ℕ, List, [], ◌∷◌, true, Err, Some, IfOk, IfErr, IfSome, OnOk, length};
 ghost use Rattle.std.specs.List.{list_all};
 ghost use Rattle.write_history.specs.declared.change.Change.{Change};
-ghost use Rattle.write_history.specs.declared.refusal.Refusal.{Refusal};
 ghost use Rattle.write_history.specs.declared.change.Change.TheVariants.{Intake};
 ghost use Rattle.write_history.specs.World.{empty_world};
-ghost use Rattle.write_history.specs.Changes.{AreFew};
+ghost use Rattle.write_history.specs.Changes.{AreFew, is_edit};
 ghost use Rattle.write_history.specs.Effect.{refusal_of, max_entries};
-ghost use Rattle.write_history.specs.Fold.{list_refusal, after_list};
+ghost use Rattle.write_history.specs.Fold.{after_list};
 ghost use Rattle.ide_world.specs.Held.{HasRoom};
-ghost use Rattle.ide_world.specs.Ready.{Makes, hinted, IsReadyFor, is_edit, IsRefusalOf, IsListRefusalOf};
+ghost use Rattle.ide_world.specs.Ready.{Makes, hinted, IsReadyFor, IsRefusalOf, IsListRefused};
 ghost use Rattle.ide_world.specs.Task.{IsOfWorld};
 ghost use Rattle.ide_world.specs.Drafted.{world_now, IsDraft, IsExtended};
 ghost use Rattle.ide_world.specs.Alike.{AreAlike};
@@ -79,9 +78,7 @@ pub fn prepare_group(
     requires edits { list_all is_edit changes.now ≡ true }
     ensures ready { IfOk result (IsReadyFor state.now.world) }
     ensures makes { IfOk result (λ ready. Makes state.now.world ready changes.now) }
-    ensures first { (change : Change) (rest : List Change) (why : Refusal) → changes.now ≡ change ∷ rest
-        → refusal_of state.now.world change ≡ Some why → result ≡ Err (record { place = 1; why = why }) }
-    ensures refused { IfErr result (IsListRefusalOf (list_refusal state.now.world changes.now)) }
+    ensures refused { IfErr result (IsListRefused state.now.world changes.now) }
 {
     let mut draft = Draft::new(alloc, state);
     for (index, change) in changes.iter().enumerate() {

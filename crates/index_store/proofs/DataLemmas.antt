@@ -21,10 +21,13 @@ use Rattle.java_tokens.specs.Chars.{begins_word, first_passes}
 use Rattle.java_tokens.specs.Tokens.{characters_of, tokens_of}
 use Rattle.java_tokens.specs.Identifier.{is_word}
 use Rattle.java_tokens.specs.Words.{WordRow, bit_of, ends_word, words_among, words_in, marked, words_at, shown_at, is_identifier_token, is_comment, is_string, occurrences_at, occurrences_of, name_cmp, mask_in, with_occurrence, words_of, AreInOrder}
-use Rattle.java_tokens.proofs.WholeWords.{identifier-is_word}
 use Rattle.decl_parser.specs.Listing.{listing_of, IsNamedIn}
 use Rattle.property_index.specs.Keys.{RiseFrom}
 use Rattle.index_store.specs.Lawful.{AllAfter, is_spelled, are_spelled, word_rises, IsWord, IsKey}
+
+-- each identifier among the tokens of a text is one whole word
+abbrev pub IdentifiersAreWords : Type 0
+IdentifiersAreWords = (text : List ℕ) (t : Token) → Contains (tokens_of text) t → is_identifier_token text t ≡ true → is_word (characters_of text t) ≡ true
 
 -- a word that isn't empty, with a mask that has one of three bits and no other
 abbrev pub IsMarked : WordRow → Type 0
@@ -107,12 +110,12 @@ word_some : (cs : List ℕ) → is_word cs ≡ true → 0 < length cs
 word_some [] word = absurd cc
 word_some (c ∷ cs) word = omega arith
 
-words_marked : (text : List ℕ) → AllByRecursion IsMarked (words_of text)
+words_marked : IdentifiersAreWords → (text : List ℕ) → AllByRecursion IsMarked (words_of text)
 unfolding words_of
-words_marked text = fold_marked (occurrences_of text) [] (tokens_marked text (tokens_of text) some) tt
+words_marked whole text = fold_marked (occurrences_of text) [] (tokens_marked text (tokens_of text) some) tt
   where
     some : (t : Token) → Contains (tokens_of text) t → is_identifier_token text t ≡ true → characters_of text t ≢ []
-    some t among is none = absurd (let long = word_some (characters_of text t) (identifier-is_word text t among is) in let e : length (characters_of text t) ≡ 0 = ap length none in omega (arith, long, e))
+    some t among is none = absurd (let long = word_some (characters_of text t) (whole text t among is) in let e : length (characters_of text t) ≡ 0 = ap length none in omega (arith, long, e))
 
 -- ---- words and keys, one behind another
 
@@ -142,8 +145,8 @@ words_after (w ∷ ws) ordered each spelled =
     (word_is None w refl each.0 both.0, words_behind w ws ordered each.1 both.1)
 
 -- the words of a text
-pub words_lawful : (text : List ℕ) → AreInOrder (words_of text) → are_spelled (words_of text) ≡ true → AllAfter IsWord None (words_of text)
-words_lawful text ordered spelled = words_after (words_of text) ordered (words_marked text) spelled
+pub words_lawful : IdentifiersAreWords → (text : List ℕ) → AreInOrder (words_of text) → are_spelled (words_of text) ≡ true → AllAfter IsWord None (words_of text)
+words_lawful whole text ordered spelled = words_after (words_of text) ordered (words_marked whole text) spelled
 
 keys_behind : (len : ℕ) (b : List ℕ × ℕ) (ks : List (List ℕ × ℕ)) → RiseFrom (suc b.1) len ks → are_spelled ks ≡ true → AllAfter (IsKey len) (Some b) ks
 keys_behind len b [] rise spelled = tt
@@ -164,13 +167,13 @@ keys_lawful len (k ∷ ks) rise spelled =
 -- ---- declarations
 
 -- a declaration that an identifier of a text names stands in the text
-pub stub_inside : (text : List ℕ) (s : Stub) → IsNamedIn text s → s.at < length text
-stub_inside text s is =
+stub_inside : IdentifiersAreWords → (text : List ℕ) (s : Stub) → IsNamedIn text s → s.at < length text
+stub_inside whole text s is =
     let t = is.token in
     let cs = characters_of text t in
-    let some : 0 < length cs = word_some cs (identifier-is_word text t is.token_of is.identifier) in
+    let some : 0 < length cs = word_some cs (whole text t is.token_of is.identifier) in
     let place = is.place in
     omega (arith, some, place, length-take t.len (drop t.at text), length-drop t.at text)
 
-pub listing_inside : (text : List ℕ) → All (IsNamedIn text) (listing_of text) → All (λ (s : Stub). s.at < length text) (listing_of text)
-listing_inside text named = All-weaken (IsNamedIn text) (λ (s : Stub). s.at < length text) (listing_of text) (stub_inside text) named
+pub listing_inside : IdentifiersAreWords → (text : List ℕ) → All (IsNamedIn text) (listing_of text) → All (λ (s : Stub). s.at < length text) (listing_of text)
+listing_inside whole text named = All-weaken (IsNamedIn text) (λ (s : Stub). s.at < length text) (listing_of text) (stub_inside whole text) named

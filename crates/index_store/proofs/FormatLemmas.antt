@@ -1,10 +1,10 @@
 -- Bytes that are read are those of a store, and the bytes of a store are read.
-use Rattle.std.proofs.Common.{◌≡◌, ℕ, zero, suc, ◌-◌, ◌*◌, ◌^◌, ◌<◌, ◌≤◌, Bool, true, false, not, ◌&&◌, ◌==◌, cond, eqb, ltb, leb, List, [], ◌∷◌, ◌++◌, length, take, drop, All, Option, Some, None, Result, Ok, Err, refl, sym, ap, subst, ◌∙◌, append_assoc, arith, encode_utf8_all, inl, inr}
+use Rattle.std.proofs.Common.{◌≡◌, ℕ, zero, suc, ◌-◌, ◌*◌, ◌^◌, ◌<◌, ◌≤◌, Bool, true, false, not, ◌&&◌, ◌==◌, cond, eqb, ltb, leb, List, [], ◌∷◌, ◌++◌, length, take, drop, All, Option, Some, None, Result, Ok, Err, refl, sym, ap, subst, ◌∙◌, append_assoc, arith, encode_utf8_all}
 use Rattle.std.specs.Char.{encode_utf8}
 use Rattle.std.specs.List.{flat_map, list_all}
 use Rattle.std.specs.Str.{all_scalars}
-use Rattle.std.proofs.lemmas.Bool.{and_parts, and_from, eqb-true, leb-true, le-leb, ltb-true, lt-ltb, cases_lt}
-use Rattle.std.proofs.lemmas.List.{append-nil, nil_from_length, length-append, length-take, take_at, drop_at, take-append-drop, get_or_past}
+use Rattle.std.proofs.lemmas.Bool.{and_parts, and_from, eqb-true, leb-true, le-leb, ltb-true, lt-ltb}
+use Rattle.std.proofs.lemmas.List.{append-nil, nil_from_length, length-append, length-take, take_at, drop_at, take-append-drop}
 use Rattle.std.proofs.lemmas.Str.{length-encode, len_utf8_bounds}
 use Rattle.list_laws.proofs.BoolLemmas.{bool_cases}
 use Rattle.list_laws.proofs.FrontLemmas.{All-cons}
@@ -13,13 +13,13 @@ use Rattle.dumb_mode.specs.declared.kind.FileKind.{FileKind}
 use Rattle.dumb_mode.specs.declared.kind.FileKind.TheVariants.{Java, Properties}
 use Rattle.stub_tree.specs.declared.stub.Stub.{Stub}
 use Rattle.stub_tree.specs.Lawful.{IsLawfulName}
-use Rattle.stub_codec.specs.Spelling.{number, name, stub, spelling}
+use Rattle.byte_fields.specs.Spelling.{number, name}
+use Rattle.byte_fields.specs.Reading.{checked, byte_at, number_at, characters_at, name_at, many_at}
+use Rattle.stub_codec.specs.Spelling.{spelling, IsStubBytes}
 use Rattle.stub_codec.specs.Reading as stubs
-use Rattle.stub_codec.specs.Reading.{◌>>=◌, checked, byte_at, number_at, characters_at, name_at, many_at}
-use Rattle.stub_codec.proofs.FieldLemmas.{IsBytes, IsBytes-take, IsBytes-drop, bind_ok, checked_ok, ok_is, Takes, Takes-then, byte_takes, number_takes, number_again, characters_takes, characters_again, name_takes, name_again, some_bytes}
-use Rattle.stub_codec.proofs.ManyLemmas as many
-use Rattle.stub_codec.proofs.ManyLemmas.{many_takes, many_again}
-use Rattle.stub_codec.proofs.StubLemmas.{all_takes, all_again}
+use Rattle.field_laws.proofs.FieldLemmas.{IsBytes, IsBytes-take, IsBytes-drop, bytes_below, bind_ok, checked_ok, ok_is, Takes, Takes-then, byte_takes, number_takes, number_again, characters_takes, characters_again, name_takes, name_again, some_bytes}
+use Rattle.field_laws.proofs.ManyLemmas as many
+use Rattle.field_laws.proofs.ManyLemmas.{many_takes, many_again}
 use Rattle.index_store.specs.Data.{Entry, Data, code_of}
 use Rattle.index_store.specs.Spelling.{Row, versions, counted, word, key, data_bytes, row_bytes, store_bytes}
 use Rattle.index_store.specs.Lawful.{AllAfter, word_rises, IsWord, key_rises, IsKey, AreStubs, IsData, entry_rises, IsRow, IsStoreBytes}
@@ -147,6 +147,11 @@ key_again len few before k rest is =
 
 -- ---- declarations
 
+-- what `stub_lists_are_read_back` says of the bytes of declarations
+pub record AreReadBack : Type 0 where
+  pub read : (bytes : List ℕ) (ss : List Stub) → All (λ b. b < 256) bytes → stubs.all_of bytes ≡ Ok ss → IsStubBytes ss bytes
+  pub again : (bytes : List ℕ) (ss : List Stub) → IsStubBytes ss bytes → stubs.all_of bytes ≡ Ok ss
+
 field_ok : {A : Type 0} (read : Result A ℕ) (bytes : List ℕ) (x : A) → field read bytes ≡ Ok x → read ≡ Ok x
 field_ok (Ok y) bytes x e = e
 field_ok (Err left) bytes x e = absurd cc
@@ -162,10 +167,10 @@ inside_all len [] each = refl
 inside_all len (s ∷ ss) each =
     and_from (ltb s.at len) (list_all (λ (t : Stub). ltb t.at len) ss) (lt-ltb s.at len (each 0 s (omega arith))) (inside_all len ss (λ k d l. each (suc k) d (omega (arith, l))))
 
-stubs_takes : (len : ℕ) (bytes : List ℕ) (x : List Stub × List ℕ) → IsBytes bytes → stubs_at len bytes ≡ Ok x
+stubs_takes : AreReadBack → (len : ℕ) (bytes : List ℕ) (x : List Stub × List ℕ) → IsBytes bytes → stubs_at len bytes ≡ Ok x
     → Takes bytes (number (length (spelling x.0)) ++ spelling x.0) x.1 × AreStubs len x.0
 unfolding stubs_at
-stubs_takes len bytes x fits e =
+stubs_takes lists len bytes x fits e =
     let n = bind_ok (number_at bytes) _ x e in
     let nt = number_takes bytes n.0 fits n.1 in
     let size = n.0.0 in
@@ -173,7 +178,7 @@ stubs_takes len bytes x fits e =
     let whole = bind_ok (checked (leb size (length rest)) rest) _ x n.2 in
     let enough : size ≤ length rest = leb-true size (length rest) (checked_ok (leb size (length rest)) rest whole.0 whole.1) in
     let s = bind_ok (field (stubs.all_of (take size rest)) rest) _ x whole.2 in
-    let is = all_takes (take size rest) s.0 (IsBytes-take size rest nt.0.rest_fits) (field_ok (stubs.all_of (take size rest)) rest s.0 s.1) in
+    let is = lists.read (take size rest) s.0 (bytes_below (take size rest) (IsBytes-take size rest nt.0.rest_fits)) (field_ok (stubs.all_of (take size rest)) rest s.0 s.1) in
     let inside = bind_ok (checked (list_all (λ (t : Stub). ltb t.at len) s.0) rest) _ x s.2 in
     let size_is : length (spelling s.0) ≡ size = sym (ap length is.spelled) ∙ omega (arith, length-take size rest, enough) in
     let two : Takes rest (spelling s.0) (drop size rest) =
@@ -188,14 +193,6 @@ stubs_takes len bytes x fits e =
       },
     )
 
--- a list of declarations is no longer than its bytes
-list_shorter : (ss : List Stub) → length ss ≤ length (spelling ss)
-list_shorter ss = let l = each ss in omega (arith, l, length-append (number (length ss)) (flat_map stub ss))
-  where
-    each : (ts : List Stub) → length ts ≤ length (flat_map stub ts)
-    each [] = omega arith
-    each (t ∷ ts) = let l = each ts in omega (arith, l, length-append (stub t) (flat_map stub ts))
-
 bytes_again : (len : ℕ) (ss : List Stub) (bytes rest : List ℕ) → length bytes < 2 ^ 32 → stubs.all_of bytes ≡ Ok ss → list_all (λ (s : Stub). ltb s.at len) ss ≡ true
     → stubs_at len ((number (length bytes) ++ bytes) ++ rest) ≡ Ok (ss, rest)
 unfolding stubs_at
@@ -204,43 +201,41 @@ bytes_again len ss bytes rest short read inside =
     ap (stubs_at len) (append_assoc (number (length bytes)) bytes rest)
     ∙ rw (number_again (length bytes) (bytes ++ rest) short, whole, take_at bytes rest (length bytes) refl, drop_at bytes rest (length bytes) refl, read, inside) refl
 
-stubs_again : (len : ℕ) (ss : List Stub) (rest : List ℕ) → AreStubs len ss → stubs_at len ((number (length (spelling ss)) ++ spelling ss) ++ rest) ≡ Ok (ss, rest)
-stubs_again len ss rest is =
-    let short = is.short in
-    let shorter = list_shorter ss in
-    let read : stubs.all_of (spelling ss) ≡ Ok ss = all_again ss (spelling ss) (omega (arith, short, shorter)) (record { lawful = is.lawful; scalars = is.scalars; spelled = refl }) in
-    bytes_again len ss (spelling ss) rest short read (inside_all len ss is.inside)
+stubs_again : AreReadBack → (len : ℕ) (ss : List Stub) (rest : List ℕ) → AreStubs len ss → stubs_at len ((number (length (spelling ss)) ++ spelling ss) ++ rest) ≡ Ok (ss, rest)
+stubs_again lists len ss rest is =
+    let read : stubs.all_of (spelling ss) ≡ Ok ss = lists.again (spelling ss) ss (record { lawful = is.lawful; scalars = is.scalars; spelled = refl }) in
+    bytes_again len ss (spelling ss) rest is.short read (inside_all len ss is.inside)
 
 -- ---- data
 
 abbrev data_read : List Stub → List (List ℕ × ℕ) → List (List ℕ × ℕ) → List ℕ → Result (Data × List ℕ) ℕ
 data_read ss ws ks rest = Ok (record { stubs = ss; words = ws; keys = ks }, rest)
 
-data_takes : (kind : FileKind) (len : ℕ) (bytes : List ℕ) (x : Data × List ℕ) → IsBytes bytes → data_at kind len bytes ≡ Ok x → Takes bytes (data_bytes kind x.0) x.1 × IsData kind len x.0
+data_takes : AreReadBack → (kind : FileKind) (len : ℕ) (bytes : List ℕ) (x : Data × List ℕ) → IsBytes bytes → data_at kind len bytes ≡ Ok x → Takes bytes (data_bytes kind x.0) x.1 × IsData kind len x.0
 unfolding data_at data_bytes
-data_takes Java len bytes x fits e =
+data_takes lists Java len bytes x fits e =
     let s = bind_ok (stubs_at len bytes) _ x e in
-    let st = stubs_takes len bytes s.0 fits s.1 in
+    let st = stubs_takes lists len bytes s.0 fits s.1 in
     let w = bind_ok (counted_at word_at s.0.1) _ x s.2 in
     let wt = counted_takes word_at IsWord word word_takes s.0.1 w.0 st.0.rest_fits w.1 in
     let read : Data = record { stubs = s.0.0; words = w.0.0; keys = [] } in
     subst (λ (y : Data × List ℕ). Takes bytes (data_bytes Java y.0) y.1 × IsData Java len y.0) (ok_is (read, w.0.1) x w.2)
     (Takes-then bytes (number (length (spelling s.0.0)) ++ spelling s.0.0) s.0.1 (counted word w.0.0) w.0.1 st.0 wt.takes, (st.1, wt.good, wt.few, refl))
-data_takes Properties len bytes x fits e =
+data_takes lists Properties len bytes x fits e =
     let k = bind_ok (counted_at (key_at len) bytes) _ x e in
     let kt = counted_takes (key_at len) (IsKey len) key (key_takes len) bytes k.0 fits k.1 in
     let read : Data = record { stubs = []; words = []; keys = k.0.0 } in
     subst (λ (y : Data × List ℕ). Takes bytes (data_bytes Properties y.0) y.1 × IsData Properties len y.0) (ok_is (read, k.0.1) x k.2)
     (kt.takes, (refl, refl, kt.good, kt.few))
 
-data_again : (kind : FileKind) (len : ℕ) (d : Data) (rest : List ℕ) → len ≤ max_chars → IsData kind len d → data_at kind len (data_bytes kind d ++ rest) ≡ Ok (d, rest)
+data_again : AreReadBack → (kind : FileKind) (len : ℕ) (d : Data) (rest : List ℕ) → len ≤ max_chars → IsData kind len d → data_at kind len (data_bytes kind d ++ rest) ≡ Ok (d, rest)
 unfolding data_at data_bytes
-data_again Java len d rest few is =
+data_again lists Java len d rest few is =
     let ss = number (length (spelling d.stubs)) ++ spelling d.stubs in
     ap (data_at Java len) (append_assoc ss (counted word d.words) rest)
-    ∙ rw (stubs_again len d.stubs (counted word d.words ++ rest) is.0, counted_again word_at IsWord word word_again d.words rest is.2 is.1)
+    ∙ rw (stubs_again lists len d.stubs (counted word d.words ++ rest) is.0, counted_again word_at IsWord word word_again d.words rest is.2 is.1)
     (ap (λ (ks : List (List ℕ × ℕ)). data_read d.stubs d.words ks rest) (sym is.3))
-data_again Properties len d rest few is =
+data_again lists Properties len d rest few is =
     rw (counted_again (key_at len) (IsKey len) key (key_again len few) d.keys rest is.3 is.2)
     (ap (λ (ss : List Stub). data_read ss [] d.keys rest) (sym is.0) ∙ ap (λ (ws : List (List ℕ × ℕ)). data_read d.stubs ws d.keys rest) (sym is.1))
 
@@ -338,9 +333,9 @@ behind_ok : {A : Type 0} (read : Result (A × List ℕ) ℕ) (end : List ℕ) �
 behind_ok (Ok x) end e = (x.0, ap (λ (l : List ℕ). Ok (x.0, l)) (ok_is x.1 end e))
 behind_ok (Err left) end e = absurd cc
 
-row_takes : (before : Option Row) (bytes : List ℕ) (x : Row × List ℕ) → IsBytes bytes → row_at before bytes ≡ Ok x → Takes bytes (row_bytes x.0) x.1 × IsRow before x.0
+row_takes : AreReadBack → (before : Option Row) (bytes : List ℕ) (x : Row × List ℕ) → IsBytes bytes → row_at before bytes ≡ Ok x → Takes bytes (row_bytes x.0) x.1 × IsRow before x.0
 unfolding row_at
-row_takes before bytes x fits e =
+row_takes lists before bytes x fits e =
     let a = bind_ok (entry_at before bytes) _ x e in
     let entry = a.0.0 in
     let rest = a.0.1 in
@@ -348,7 +343,7 @@ row_takes before bytes x fits e =
     let b = bind_ok (behind (data_at entry.kind (length entry.text) rest)) _ x a.2 in
     let end = b.0 in
     let d = behind_ok (data_at entry.kind (length entry.text) rest) end b.1 in
-    let dt = data_takes entry.kind (length entry.text) rest (d.0, end) read.takes.rest_fits d.1 in
+    let dt = data_takes lists entry.kind (length entry.text) rest (d.0, end) read.takes.rest_fits d.1 in
     let bytes_of = data_bytes entry.kind d.0 in
     let parts : rest ≡ bytes_of ++ end = dt.0.parts in
     let front : take (length rest - length end) rest ≡ bytes_of =
@@ -359,13 +354,13 @@ row_takes before bytes x fits e =
       record { text = read.text; rises = read.rises; held = record { held = d.0; lawful = dt.1; spelled = refl } },
     ))
 
-row_again : (before : Option Row) (row : Row) (rest : List ℕ) → IsRow before row → row_at before (row_bytes row ++ rest) ≡ Ok (row, rest)
+row_again : AreReadBack → (before : Option Row) (row : Row) (rest : List ℕ) → IsRow before row → row_at before (row_bytes row ++ rest) ≡ Ok (row, rest)
 unfolding row_at
-row_again before row rest is =
+row_again lists before row rest is =
     let entry = row.0 in
     let read : data_at entry.kind (length entry.text) (row.1 ++ rest) ≡ Ok (is.held.held, rest) =
     ap (λ (l : List ℕ). data_at entry.kind (length entry.text) (l ++ rest)) is.held.spelled
-    ∙ data_again entry.kind (length entry.text) is.held.held rest is.text.few is.held.lawful in
+    ∙ data_again lists entry.kind (length entry.text) is.held.held rest is.text.few is.held.lawful in
     let front : take (length (row.1 ++ rest) - length rest) (row.1 ++ rest) ≡ row.1 =
     take_at row.1 rest (length (row.1 ++ rest) - length rest) (omega (arith, length-append row.1 rest)) in
     ap (λ (l : List ℕ). row_at before (code_of entry.kind ∷ l)) (append_assoc (name entry.text) row.1 rest)
@@ -389,22 +384,14 @@ all_ones (suc n) at (v ∷ vs) len none =
     (λ other never. absurd cc)
     none
 
--- numbers below 256 are bytes
-pub bytes_fit : (bytes : List ℕ) → All (λ b. b < 256) bytes → IsBytes bytes
-bytes_fit bytes each i =
-    elim (cases_lt i (length bytes)) [
-      | inl lt ↦ each i 0 lt
-      | inr le ↦ rw (get_or_past bytes i 0 le) (omega arith)
-    ]
-
 -- what is read is spelled so
-pub store_takes : (bytes : List ℕ) (rows : List Row) → IsBytes bytes → other_version bytes ≡ None → all_of bytes ≡ Ok rows → IsStoreBytes rows bytes
+pub store_takes : AreReadBack → (bytes : List ℕ) (rows : List Row) → IsBytes bytes → other_version bytes ≡ None → all_of bytes ≡ Ok rows → IsStoreBytes rows bytes
 unfolding all_of other_version ones
-store_takes bytes rows fits none e =
+store_takes lists bytes rows fits none e =
     let whole = bind_ok (checked (leb 6 (length bytes)) []) _ rows e in
     let enough : 6 ≤ length bytes = leb-true 6 (length bytes) (checked_ok (leb 6 (length bytes)) [] whole.0 whole.1) in
     let r = bind_ok (counted_at row_at (drop 6 bytes)) _ rows whole.2 in
-    let rt = counted_takes row_at IsRow row_bytes row_takes (drop 6 bytes) r.0 (IsBytes-drop 6 bytes fits) r.1 in
+    let rt = counted_takes row_at IsRow row_bytes (row_takes lists) (drop 6 bytes) r.0 (IsBytes-drop 6 bytes fits) r.1 in
     let ended = bind_ok (checked (eqb (length r.0.1) 0) r.0.1) _ rows r.2 in
     let nothing : r.0.1 ≡ [] = nil_from_length r.0.1 (eqb-true (length r.0.1) 0 (checked_ok (eqb (length r.0.1) 0) r.0.1 ended.0 ended.1)) in
     let front : take 6 bytes ≡ versions = all_ones 6 0 (take 6 bytes) (omega (arith, length-take 6 bytes, enough)) none in
@@ -421,9 +408,9 @@ unfolding all_of
 rows_again bytes rest rows long behind read = rw (long, behind, read) refl
 
 -- what is spelled is read
-pub store_again : (bytes : List ℕ) (rows : List Row) → IsStoreBytes rows bytes → (other_version bytes ≡ None) × (all_of bytes ≡ Ok rows)
+pub store_again : AreReadBack → (bytes : List ℕ) (rows : List Row) → IsStoreBytes rows bytes → (other_version bytes ≡ None) × (all_of bytes ≡ Ok rows)
 unfolding other_version
-store_again bytes rows is =
+store_again lists bytes rows is =
     let read : counted_at row_at (counted row_bytes rows) ≡ Ok (rows, []) =
-    ap (counted_at row_at) (sym (append-nil (counted row_bytes rows))) ∙ counted_again row_at IsRow row_bytes row_again rows [] is.few is.lawful in
+    ap (counted_at row_at) (sym (append-nil (counted row_bytes rows))) ∙ counted_again row_at IsRow row_bytes (row_again lists) rows [] is.few is.lawful in
     (ap other_version is.spelled, ap all_of is.spelled ∙ rows_again (store_bytes rows) (counted row_bytes rows) rows (le-leb 6 _ (omega arith)) refl read)

@@ -15,7 +15,7 @@ use Rattle.ide_text.specs.Text.{IsText}
 use Rattle.dumb_mode.specs.declared.kind.FileKind.{FileKind}
 use Rattle.dumb_mode.specs.declared.kind.FileKind.TheVariants.{Java, Properties}
 use Rattle.overlay_index.specs.Parts.{Parts, parts_of}
-use Rattle.stub_codec.specs.Spelling.{name, number}
+use Rattle.byte_fields.specs.Spelling.{name, number}
 use Rattle.index_store.specs.Data.{Entry, entry_cmp, code_of, data_of}
 use Rattle.index_store.specs.Spelling.{Row, data_bytes, row_bytes, rows_of, versions}
 use Rattle.index_store.specs.Lawful.{AllAfter, entry_rises, IsRow, IsStoreBytes}

@@ -4,4 +4,3 @@ pub mod DataLemmas
 pub mod HeldLemmas
 pub mod WrongLemmas
 pub mod TakenLemmas
-pub mod TextLemmas

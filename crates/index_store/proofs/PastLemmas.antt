@@ -1,9 +1,9 @@
 -- Going past so many of a kind, one after another, as a loop does.
 use Rattle.std.proofs.Common.{◌≡◌, ℕ, suc, ◌-◌, ◌+◌, ◌≤◌, ◌<◌, List, ◌∷◌, Option, Some, Result, Ok, Err, refl, sym, ◌∙◌, arith}
-use Rattle.stub_codec.specs.declared.fault.Fault.{Fault}
-use Rattle.stub_codec.specs.declared.fault.Fault.TheVariants as faults
-use Rattle.stub_codec.specs.Answers.{Fails}
-use Rattle.stub_codec.specs.Reading.{◌>>=◌, many_at}
+use Rattle.byte_fields.specs.declared.fault.Fault.{Fault}
+use Rattle.byte_fields.specs.declared.fault.Fault.TheVariants as faults
+use Rattle.byte_fields.specs.Answers.{Fails}
+use Rattle.byte_fields.specs.Reading.{◌>>=◌, many_at}
 use Rattle.index_store.specs.Reading.{behind}
 
 module _ {A : Type 0} where

@@ -1,5 +1,5 @@
 -- The first row whose data aren't right, and refusals of bytes that are those of a store.
-use Rattle.std.proofs.Common.{◌≡◌, ℕ, zero, suc, List, [], ◌∷◌, ◌++◌, length, map, Some, None, Result, Ok, Err, refl, sym, ap, subst, ◌∙◌}
+use Rattle.std.proofs.Common.{◌≡◌, ℕ, zero, suc, List, [], ◌∷◌, ◌++◌, length, map, None, Result, Ok, Err, refl, sym, ap, subst, ◌∙◌}
 use Rattle.index_store.specs.declared.refusal.StoreRefusal.{StoreRefusal}
 use Rattle.index_store.specs.declared.refusal.StoreRefusal.TheVariants.{OtherVersion, BadStore, WrongData, OutOfMemory}
 use Rattle.index_store.specs.Data.{Entry}
@@ -7,7 +7,6 @@ use Rattle.index_store.specs.Spelling.{Row, rows_of}
 use Rattle.index_store.specs.Lawful.{IsStoreBytes}
 use Rattle.index_store.specs.Reading.{other_version, all_of}
 use Rattle.index_store.specs.Answers.{IsRight, IsFirstWrong, IsWrongIn, IsRefusalOf}
-use Rattle.index_store.proofs.FormatLemmas.{store_again}
 
 -- behind entries whose data are right, a row whose data aren't is the first
 pub first_wrong : (es : List Entry) (row : Row) (rest : List Row) → (IsRight row → ⊥) → IsFirstWrong (suc (length es)) (rows_of es ++ row ∷ rest)
@@ -31,23 +30,26 @@ entries_again : (es : List Entry) → map (λ (row : Row). row.0) (rows_of es) �
 entries_again [] = refl
 entries_again (e ∷ es) = ap (λ (l : List Entry). e ∷ l) (entries_again es)
 
+-- what is spelled is read, as `reading_is_exact` says
+abbrev pub AreReadAgain : Type 0
+AreReadAgain = (bytes : List ℕ) (rows : List Row) → IsStoreBytes rows bytes → (other_version bytes ≡ None) × (all_of bytes ≡ Ok rows)
+
 -- bytes are those of one list of entries at most
-pub one_list : (bytes : List ℕ) (es fs : List Entry) → IsStoreBytes (rows_of es) bytes → IsStoreBytes (rows_of fs) bytes → es ≡ fs
-one_list bytes es fs this that =
-    let first = store_again bytes (rows_of es) this in
-    let second = store_again bytes (rows_of fs) that in
+pub one_list : AreReadAgain → (bytes : List ℕ) (es fs : List Entry) → IsStoreBytes (rows_of es) bytes → IsStoreBytes (rows_of fs) bytes → es ≡ fs
+one_list again bytes es fs this that =
+    let first = again bytes (rows_of es) this in
+    let second = again bytes (rows_of fs) that in
     let same : rows_of es ≡ rows_of fs = rows_same (rows_of es) (rows_of fs) (sym first.1 ∙ second.1) in
     sym (entries_again es) ∙ ap (map (λ (row : Row). row.0)) same ∙ entries_again fs
 
 -- bytes of a store whose data are right are refused for want of memory alone
-pub no_refusal : (bytes : List ℕ) (es : List Entry) (refusal : StoreRefusal) → IsStoreBytes (rows_of es) bytes → IsRefusalOf bytes refusal → refusal ≡ OutOfMemory
-no_refusal bytes es OutOfMemory is refused = refl
-no_refusal bytes es (OtherVersion at found) is refused = let again = store_again bytes (rows_of es) is in let e : Some (at, found) ≡ None = sym refused ∙ again.0 in absurd cc
-no_refusal bytes es (BadStore at) is refused = let again = store_again bytes (rows_of es) is in let left : ℕ = refused.1.0 in let e : read (rows_of es) ≡ Err left = sym again.1 ∙ refused.1.1 in absurd cc
-no_refusal bytes es (WrongData entry) is refused =
-    let again = store_again bytes (rows_of es) is in
+pub no_refusal : AreReadAgain → (bytes : List ℕ) (es : List Entry) (refusal : StoreRefusal) → IsStoreBytes (rows_of es) bytes → IsRefusalOf bytes refusal → refusal ≡ OutOfMemory
+no_refusal again bytes es OutOfMemory is refused = refl
+no_refusal again bytes es (OtherVersion at found) is refused = let none : other_version bytes ≡ None = (again bytes (rows_of es) is).0 in absurd cc
+no_refusal again bytes es (BadStore at) is refused = let left : ℕ = refused.1.0 in let e : read (rows_of es) ≡ Err left = sym (again bytes (rows_of es) is).1 ∙ refused.1.1 in absurd cc
+no_refusal again bytes es (WrongData entry) is refused =
     let rows = refused.1.0 in
-    let same : rows ≡ rows_of es = rows_same rows (rows_of es) (sym refused.1.1 ∙ again.1) in
+    let same : rows ≡ rows_of es = rows_same rows (rows_of es) (sym refused.1.1 ∙ (again bytes (rows_of es) is).1) in
     absurd (none_wrong entry es (subst (IsFirstWrong entry) same refused.1.2))
 
 -- a refusal of rows is one of the bytes that they were read from

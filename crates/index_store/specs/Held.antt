@@ -5,7 +5,7 @@ use Rattle.std.specs.Ordering.{nat_cmp, ordering_then}
 use Rattle.std.specs.declared.cmp.Ordering.{Ordering}
 use Rattle.std.specs.Cmp.Lexicographic.{slice_cmp}
 use Rattle.ide_text.specs.Text.{IsText}
-use Rattle.stub_codec.specs.Spelling.{name}
+use Rattle.byte_fields.specs.Spelling.{name}
 use Rattle.overlay_index.specs.Parts.{Parts, parts_of}
 use Rattle.index_store.specs.Data.{Entry, code_of, data_of}
 use Rattle.index_store.specs.Spelling.{Row, data_bytes}

@@ -6,7 +6,7 @@ use Rattle.dumb_mode.specs.declared.kind.FileKind.{FileKind}
 use Rattle.dumb_mode.specs.declared.kind.FileKind.TheVariants.{Java, Properties}
 use Rattle.stub_tree.specs.declared.stub.Stub.{Stub}
 use Rattle.stub_codec.specs.Reading as stubs
-use Rattle.stub_codec.specs.Reading.{◌>>=◌, checked, byte_at, number_at, characters_at, name_at, many_at}
+use Rattle.byte_fields.specs.Reading.{◌>>=◌, checked, byte_at, number_at, characters_at, name_at, many_at}
 use Rattle.index_store.specs.Data.{Entry, Data}
 use Rattle.index_store.specs.Spelling.{Row}
 use Rattle.index_store.specs.Lawful.{word_rises, key_rises, entry_rises}

@@ -3,7 +3,8 @@ use Rattle.std.specs.Prelude.{ℕ, List, [], ◌∷◌, ◌++◌, length, map}
 use Rattle.std.specs.List.{flat_map}
 use Rattle.dumb_mode.specs.declared.kind.FileKind.{FileKind}
 use Rattle.dumb_mode.specs.declared.kind.FileKind.TheVariants.{Java, Properties}
-use Rattle.stub_codec.specs.Spelling.{number, name, spelling}
+use Rattle.byte_fields.specs.Spelling.{number, name}
+use Rattle.stub_codec.specs.Spelling.{spelling}
 use Rattle.index_store.specs.Data.{Entry, Data, code_of, data_of}
 
 -- the version of the format, and those of the rows of types, supers, methods, words and keys

@@ -2,16 +2,16 @@
 ghost use Rattle.std.specs.Prelude.{◌≡◌, nat_lt};
 ghost use Rattle.std.specs.List.{list_all};
 ghost use Rattle.stub_tree.specs.declared.stub.Stub.{Stub as AStub};
-ghost use Rattle.stub_codec.specs.Answers.{Gives};
+ghost use Rattle.byte_fields.specs.Answers.{Gives};
 ghost use Rattle.stub_codec.specs.Reading.{all_of};
 ghost use Rattle.dumb_mode.specs.declared.kind.FileKind.TheVariants.{Java};
 ghost use Rattle.index_store.specs.Reading.{behind, data_at, field, stubs_at};
 
 use crate::reading::{past_keys, past_words};
+use byte_fields::{Fault, check, number_of};
 use dumb_mode::FileKind;
 use std::alloc::Global;
-use stub_codec::fields::{check, number_of};
-use stub_codec::{Fault, StubRefusal, decode};
+use stub_codec::{StubRefusal, decode};
 use stub_tree::StubList;
 
 /// What is left behind the data of a text of this kind with so many characters.

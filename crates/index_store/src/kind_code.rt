@@ -1,12 +1,11 @@
 //! The codes of kinds in stored bytes.
 ghost use Rattle.std.specs.Prelude.{◌≡◌};
-ghost use Rattle.stub_codec.specs.Answers.{Gives};
+ghost use Rattle.byte_fields.specs.Answers.{Gives};
 ghost use Rattle.index_store.specs.Data.{code_of};
 ghost use Rattle.index_store.specs.Reading.{kind_at, kind_by};
 
+use byte_fields::{Fault, byte_of, check};
 use dumb_mode::FileKind;
-use stub_codec::Fault;
-use stub_codec::fields::{byte_of, check};
 
 /// The code of a kind.
 pub(crate) fn code_of(kind: FileKind) -> u8

@@ -8,13 +8,17 @@ ghost use Rattle.index_store.specs.Lawful.{IsStoreBytes};
 ghost use Rattle.index_store.specs.Reading.{all_of, other_version};
 ghost use Rattle.index_store.specs.Spelling.{Row};
 
+use stub_codec::laws::stub_lists_are_read_back;
+
 /// Reading from left to right meets no other version and no fault exactly where the bytes are those of a store, and then it
 /// gives what the store holds.
 pub fn reading_is_exact()
     ensures read { (bytes : List ℕ) (rows : List Row) → All (λ b. b < 256) bytes → other_version bytes ≡ None → all_of bytes ≡ Ok rows
         → IsStoreBytes rows bytes }
     ensures again { (bytes : List ℕ) (rows : List Row) → IsStoreBytes rows bytes → (other_version bytes ≡ None) × (all_of bytes ≡ Ok rows) }
-{}
+{
+    stub_lists_are_read_back();
+}
 
 /// Entries of which neither is above the other are one.
 pub fn equal_entries_are_one()

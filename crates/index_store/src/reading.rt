@@ -2,15 +2,14 @@
 //!
 //! A text is kept as a name, which is what entries are ordered by; the data of an entry stay where they are.
 ghost use Rattle.std.specs.Prelude.{◌≡◌, None, option_copied};
-ghost use Rattle.stub_codec.specs.Answers.{Gives};
-ghost use Rattle.stub_codec.specs.Reading.{many_at};
+ghost use Rattle.byte_fields.specs.Answers.{Gives};
+ghost use Rattle.byte_fields.specs.Reading.{many_at};
 ghost use Rattle.index_store.specs.Lawful.{key_rises, word_rises};
 ghost use Rattle.index_store.specs.Reading.{behind, counted_at, is_mask, key_at, word_at};
 
+use byte_fields::{Fault, byte_of, characters_of, check, name_of, number_of};
 use ide_text::Name;
 use std::alloc::Global;
-use stub_codec::Fault;
-use stub_codec::fields::{byte_of, characters_of, check, name_of, number_of};
 
 /// What is left behind the words of a text.
 #[tactic(auto, unfolding(crate::specs::Reading::counted_at))]

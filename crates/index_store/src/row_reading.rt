@@ -3,20 +3,19 @@ ghost use Rattle.std.specs.Prelude.{◌≡◌, ◌≤◌, None, IfOk, length, no
 ghost use Rattle.std.specs.List.{list_all};
 ghost use Rattle.std.specs.Ordering.{is_lt};
 ghost use Rattle.ide_text.specs.Text.{carriage_return, max_chars};
-ghost use Rattle.stub_codec.specs.Answers.{Gives};
-ghost use Rattle.stub_codec.specs.Reading.{many_at};
+ghost use Rattle.byte_fields.specs.Answers.{Gives};
+ghost use Rattle.byte_fields.specs.Reading.{many_at};
 ghost use Rattle.index_store.specs.Data.{entry_cmp};
 ghost use Rattle.index_store.specs.Lawful.{entry_rises};
 ghost use Rattle.index_store.specs.Reading.{all_of, counted_at, entry_at, may_be_text, row_at};
 
 use crate::data_reading::past_data;
 use crate::kind_code::{code_of, kind_of};
+use byte_fields::{Fault, characters_of, check, number_of};
 use dumb_mode::FileKind;
 use ide_text::{MAX_CHARS, Name};
 use std::alloc::Global;
 use std::marker::Model;
-use stub_codec::Fault;
-use stub_codec::fields::{characters_of, check, number_of};
 
 /// An entry whose fields were read, with the bytes of its data.
 #[derive(Drop)]

@@ -1,20 +1,22 @@
 //! The data that a text has, as bytes.
 ghost use Rattle.std.specs.Prelude.{◌≡◌, ◌++◌, ◌<◌, ◌^◌, true, length, IfOk, OnOk};
 ghost use Rattle.dumb_mode.specs.declared.kind.FileKind.TheVariants.{Java, Properties};
-ghost use Rattle.stub_codec.specs.Spelling.{name, number};
+ghost use Rattle.byte_fields.specs.Spelling.{name, number};
 ghost use Rattle.index_store.specs.Data.{data_of};
 ghost use Rattle.index_store.specs.Lawful.{IsData, are_spelled, is_spelled};
 ghost use Rattle.index_store.specs.Spelling.{counted, data_bytes, key, word};
 
+use byte_fields::{put_name, put_number};
 use decl_parser::laws::names_are_identifiers;
 use decl_parser::stubs;
 use dumb_mode::FileKind;
 use ide_text::{Name, Text};
+use java_tokens::laws::identifiers_are_words;
 use java_tokens::{tokens, words};
 use property_index::laws::keys_stand_in_the_text;
 use property_index::property_keys;
 use std::alloc::{AllocError, Global};
-use stub_codec::{encode, put_name, put_number};
+use stub_codec::encode;
 
 /// The bytes of the data that a text has, by the kind of a file with it. Linear in the text, but for the sorting of its
 /// words.
@@ -38,6 +40,7 @@ fn java_data(alloc: Global, text: &Text) -> Result<Vec<u8>, AllocError>
     ensures spelled { IfOk result (λ bytes. bytes.items ≡ data_bytes Java (data_of Java text.now)) }
     ensures lawful { IfOk result (λ bytes. IsData Java (length text.now) (data_of Java text.now)) }
 {
+    identifiers_are_words();
     names_are_identifiers();
     let tokens = tokens(alloc, text)?;
     let words = words(alloc, text, &tokens)?;

@@ -18,13 +18,13 @@ use crate::spelled::put_short_name;
 use crate::store_reading::read_store;
 use crate::stored::Stored;
 use crate::text_reading::text_of_name;
+use byte_fields::put_number;
 use dumb_mode::FileKind;
 use ide_text::{Name, Text};
 use overlay_index::FileData;
 use std::alloc::{AllocError, Global};
 use std::collections::BTreeMap;
 use std::marker::Model;
-use stub_codec::put_number;
 
 /// The versions of the format and of the rows of the five indexes.
 const VERSIONS: [u8; 6] = [1, 1, 1, 1, 1, 1];

@@ -6,12 +6,13 @@ ghost use Rattle.index_store.specs.Data.{Entry as AnEntry};
 ghost use Rattle.index_store.specs.Lawful.{AllAfter, IsRow, IsStoreBytes};
 ghost use Rattle.index_store.specs.Spelling.{rows_of};
 
+use crate::laws::reading_is_exact;
 use crate::refusal::StoreRefusal;
 use crate::row_reading::{Held, all};
 use crate::store::Store;
 use crate::versions::other_version;
+use byte_fields::Fault;
 use std::alloc::Global;
-use stub_codec::Fault;
 
 /// The store that the bytes spell.
 pub(crate) fn read_store(alloc: Global, bytes: &[u8]) -> Result<Store, StoreRefusal>
@@ -20,6 +21,7 @@ pub(crate) fn read_store(alloc: Global, bytes: &[u8]) -> Result<Store, StoreRefu
         → IfOk result (λ store. store ≡ entries) × IfErr result (λ refusal. refusal ≡ OutOfMemory) }
     ensures refused { IfErr result (IsRefusalOf bytes.now) }
 {
+    reading_is_exact();
     checked_store(alloc, bytes)
 }
 
@@ -28,6 +30,7 @@ fn checked_store(alloc: Global, bytes: &[u8]) -> Result<Store, StoreRefusal>
     ensures read { IfOk result (λ store. IsStoreBytes (rows_of store) bytes.now) }
     ensures refused { IfErr result (IsRefusalOf bytes.now) }
 {
+    reading_is_exact();
     if let Some((at, found)) = other_version(bytes) {
         return Err(StoreRefusal::OtherVersion { at, found });
     }

@@ -10,10 +10,11 @@ use Rattle.write_history.specs.declared.entry.Entry.{Entry}
 use Rattle.write_history.specs.World.{World, File, file_of, is_unready}
 use Rattle.write_history.specs.Effect.{Put, put_of, refusal_of, stamp_of, taken_in}
 use Rattle.write_history.specs.Fold.{effect_of, after_list, list_refusal, fold, IsLegal}
-use Rattle.write_history.specs.Stamps.{files_made}
-use Rattle.write_history.proofs.PutLemmas.{IsAccepted, makes, ends, edits, is_accepted, is_place, by_place, accepted_reasons}
-use Rattle.write_history.proofs.FoldLemmas.{along, list_accepted, fold-append, IsLegal-split}
-use Rattle.write_history.proofs.SoundLemmas.{stamp_below}
+use Rattle.write_history.specs.Changes.{files_made}
+use Rattle.history_laws.proofs.PutLemmas.{IsAccepted, makes, ends, edits, is_place, by_place, accepted_reasons}
+use Rattle.history_laws.proofs.ChangeLemmas.{is_accepted}
+use Rattle.history_laws.proofs.FoldLemmas.{along, list_accepted, fold-append, IsLegal-split}
+use Rattle.history_laws.proofs.SoundLemmas.{stamp_below}
 use Rattle.list_laws.proofs.BoolLemmas.{bool_cases}
 use Rattle.index_workers.specs.Work.{StandsIn}
 

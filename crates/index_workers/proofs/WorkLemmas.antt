@@ -8,11 +8,11 @@ use Rattle.list_laws.specs.Fronts.{IsFront}
 use Rattle.list_laws.proofs.FrontLemmas.{All-cons, All-weaken}
 use Rattle.action_lock.specs.declared.view.View.{View}
 use Rattle.action_lock.specs.Advances.{Advances}
-use Rattle.action_lock.proofs.AdvanceLemmas.{advances_not, advances_on}
+use Rattle.lock_laws.proofs.AdvanceLemmas.{advances_not, advances_on}
 use Rattle.write_history.specs.declared.change.Change.TheVariants.{Intake}
 use Rattle.write_history.specs.declared.entry.Entry.{Entry}
 use Rattle.write_history.specs.Fold.{IsLegal}
-use Rattle.write_history.proofs.FoldLemmas.{IsLegal-split}
+use Rattle.history_laws.proofs.FoldLemmas.{IsLegal-split}
 use Rattle.job_queue.specs.declared.hint.Hint.{Hint}
 use Rattle.job_queue.specs.declared.view.QueueView.{QueueView}
 use Rattle.ide_calls.specs.Made.{HasMade}

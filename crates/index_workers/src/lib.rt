@@ -4,6 +4,7 @@
 mod cursor;
 mod ending;
 mod hinting;
+pub mod laws;
 mod pass;
 mod passes;
 mod stepping;
@@ -12,7 +13,7 @@ mod working;
 
 pub use cursor::Cursor;
 pub use hinting::hint;
-pub use ide_calls::{Sighted, Store, laws, make_stored};
+pub use ide_calls::{Sighted, Store, make_stored};
 pub use pass::IdePass;
 pub use passes::{close, first, is_last, meet, split};
 pub use stepping::index_step;

@@ -1,4 +1,3 @@
-pub mod Pieces
 pub mod KindLemmas
 pub mod SkipLemmas
 pub mod TokenLemmas

@@ -23,7 +23,7 @@ pub fn tokens(alloc: Global, text: &Text) -> Result<Vec<Token>, AllocError>
     ensures inside { IfOk result (λ list. All (IsInside text.now) list.items) }
 {
     let piece = Piece::whole(text);
-    // Even dense code has fewer than a token in two characters.
+    // Code seldom has more than a token in two characters; where it does, the list grows.
     let mut list = Vec::with_capacity(alloc, text.len() as usize / 2)?;
     let mut at = 0;
     while let Some(token) = next_token(&piece, at) {

@@ -3,3 +3,4 @@ pub mod TotalLemmas
 pub mod FrontLemmas
 pub mod PositionLemmas
 pub mod RowLemmas
+pub mod PartLemmas

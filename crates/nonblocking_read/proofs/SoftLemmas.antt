@@ -4,7 +4,7 @@ use Rattle.action_lock.specs.declared.view.View.{View}
 use Rattle.action_lock.specs.Advances.{Advances}
 use Rattle.action_lock.specs.Counts.{HasRisen, HasRisenBy}
 use Rattle.action_lock.specs.Reads.{HasChecked}
-use Rattle.action_lock.proofs.AdvanceLemmas.{advances_not, advances_on}
+use Rattle.lock_laws.proofs.AdvanceLemmas.{advances_not, advances_on}
 use Rattle.nonblocking_read.specs.declared.attempt.Miss.{Miss}
 use Rattle.nonblocking_read.specs.declared.attempt.Miss.TheVariants.{Seen}
 use Rattle.nonblocking_read.specs.declared.soft_read.SoftRefusal.{SoftRefusal}

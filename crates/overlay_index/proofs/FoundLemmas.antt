@@ -15,7 +15,7 @@ use Rattle.file_index.specs.KeyRows.{has_key, rows_with}
 use Rattle.file_index.specs.Places.{has_id}
 use Rattle.file_index.specs.Rows.{rows_in_file}
 use Rattle.file_index.specs.Walk.{HasAllFiles, walked, shown}
-use Rattle.file_index.proofs.TableLemmas.{cmp_less}
+use Rattle.std.specs.Cmp.{nat_cmp_is}
 use Rattle.overlay_index.specs.Found.{values_of, with_id, found_from}
 
 -- so many ids from the first on
@@ -26,7 +26,7 @@ ids_from first (suc count) = first ∷ ids_from (suc first) count
 above : (low first count : ℕ) → low < first → AllByRecursion (λ id. nat_cmp low id ≡ Less) (ids_from first count)
 unfolding ids_from
 above low first zero less = tt
-above low first (suc count) less = (cmp_less low first less, above low (suc first) count (omega (arith, less)))
+above low first (suc count) less = (sym (nat_cmp_is low first Less less), above low (suc first) count (omega (arith, less)))
 
 -- they rise
 pub ids_rise : (first count : ℕ) → IsStrictlySortedBy nat_cmp (ids_from first count)

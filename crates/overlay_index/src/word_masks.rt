@@ -1,6 +1,7 @@
 //! The index of words.
 ghost use Rattle.std.specs.Prelude.{◌≡◌, IfOk};
 
+use file_index::laws::rows_of_rising_keys_are_in_order;
 use file_index::{Indexer, KeyRows};
 use ide_text::Name;
 use java_tokens::WordList;
@@ -26,6 +27,7 @@ impl Indexer for WordMasks {
     }
 
     fn rows(&self, alloc: Global, words: &WordList) -> Result<KeyRows<Name, u8>, AllocError> {
+        rows_of_rising_keys_are_in_order::<Name, u8>();
         Ok(KeyRows::from_ordered(copy_words(alloc, words.as_slice())?))
     }
 
@@ -42,6 +44,7 @@ impl Indexer for WordMasks {
 pub(crate) fn rows_of_words(words: WordList) -> KeyRows<Name, u8>
     ensures { result ≡ words }
 {
+    rows_of_rising_keys_are_in_order::<Name, u8>();
     KeyRows::from_ordered(words.into_vec())
 }
 

@@ -1,5 +1,4 @@
 pub mod AnsweredLemmas
-pub mod EditLemmas
 pub mod SectionLemmas
 pub mod ViewLemmas
 pub mod PartLemmas

@@ -4,7 +4,7 @@ ghost use Rattle.std.specs.List.{list_all};
 ghost use Rattle.action_lock.specs.Advances.{Advances};
 ghost use Rattle.write_history.specs.declared.refusal.Refusal.TheVariants.{BadPath};
 ghost use Rattle.write_history.specs.Path.{is_path};
-ghost use Rattle.shared_ide.specs.Ready.{is_edit};
+ghost use Rattle.write_history.specs.Changes.{is_edit};
 ghost use Rattle.index_workers.specs.Passes.{ide_view, IsSameIdePass};
 ghost use Rattle.shared_ide.specs.Passes.{IsIdePassOf};
 ghost use Rattle.transcripts.specs.declared.record.Answer.TheVariants.{Refused};

@@ -9,6 +9,7 @@ ghost use Rattle.playing.specs.Parts.{CanRun, HasRun, MayHaveDone, MayHaveWorked
 use crate::do_section;
 use action_lock::{Gate, Point};
 use crossbeam_utils::CachePadded;
+use index_workers::laws::workers_may_have_any_gate;
 use index_workers::{IdePass, Worked};
 use script_lang::{Line, Script};
 use shared_ide::SharedIde;
@@ -124,6 +125,7 @@ fn do_worker<R: Wait, G: Gate>(
     ensures advances { Advances (ide_view pass.old) (ide_view pass.new) }
     ensures worked { MayHaveWorked (ide_view pass.old) (ide_view pass.new) result }
 {
+    workers_may_have_any_gate::<G>();
     match ide.worker(rt, alloc, pass, gate) {
         Ok(worked) => Outcome::Indexed { worked },
         Err(AllocError) => Outcome::Nothing,

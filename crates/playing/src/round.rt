@@ -11,6 +11,7 @@ use crate::part::{Outcome, Part, Task, run_part};
 use action_lock::Gate;
 use crossbeam_utils::CachePadded;
 use index_workers::IdePass;
+use index_workers::laws::passes_stay_the_same;
 use script_lang::Script;
 use shared_ide::SharedIde;
 use std::alloc::{AllocError, Global};
@@ -91,6 +92,7 @@ fn begin_parts(
     ensures count { IfOk result (λ parts. length parts.items ≡ round.lanes + round.workers) }
     ensures none { OnErr result (ide_view pass.new ≡ ide_view pass.old) }
 {
+    passes_stay_the_same();
     let count = round.lanes + round.workers;
     let mut parts = Vec::with_capacity(alloc, count)?;
     for place in 0..count {
@@ -194,6 +196,7 @@ fn meet_parts(
     ensures met { HasMet parts.items (ide_view pass.old) (ide_view pass.new) }
     ensures taken { OnOk result (HaveTaken parts.items answers.old answers.new) }
 {
+    passes_stay_the_same();
     let mut left = parts;
     let mut whole = true;
     while !left.is_empty() {

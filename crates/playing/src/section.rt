@@ -11,6 +11,7 @@ ghost use Rattle.playing.specs.Done.{HasAdded};
 use crate::line::do_line;
 use action_lock::Gate;
 use index_workers::IdePass;
+use index_workers::laws::passes_stay_the_same;
 use script_lang::Line;
 use shared_ide::SharedIde;
 use std::alloc::{AllocError, Global};
@@ -41,6 +42,7 @@ pub fn do_section<R: Threads + Wait, G: Gate>(
     ensures advances { Advances (ide_view pass.old) (ide_view pass.new) }
     ensures done { OnOk result (HasAdded beside seat lines.now loads.now (ide_view pass.old) (ide_view pass.new) records.old records.new) }
 {
+    passes_stay_the_same();
     records.reserve(lines.len())?;
     let nothing = Loaded::Nothing;
     let mut left = loads;

@@ -1,8 +1,7 @@
 //! The steps, the question, and how its answer is told.
 ghost use Rattle.std.specs.Prelude.{◌≡◌, true, IfOk};
 ghost use Rattle.std.specs.List.{list_all};
-ghost use Rattle.write_history.specs.Changes.{AreFew};
-ghost use Rattle.ide_world.specs.Ready.{is_edit};
+ghost use Rattle.write_history.specs.Changes.{AreFew, is_edit};
 
 use ide_text::{Name, SharedText, Text};
 use queries::Query;

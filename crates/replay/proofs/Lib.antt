@@ -1,2 +1,1 @@
-mod RuleLemmas
 mod IntakeLemmas

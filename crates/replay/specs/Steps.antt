@@ -5,9 +5,9 @@ use Rattle.write_history.specs.declared.change.Change.TheVariants.{Intake}
 use Rattle.write_history.specs.declared.refusal.Refusal.{Refusal}
 use Rattle.write_history.specs.declared.refusal.Refusal.TheVariants as why
 use Rattle.write_history.specs.World.{World, file_of, lowest_unready}
-use Rattle.write_history.specs.Effect.{stamp_of, refusal_of}
+use Rattle.write_history.specs.Effect.{stamp_of, is_want_of_memory}
 use Rattle.write_history.specs.Fold.{list_refusal, after_list}
-use Rattle.ide_world.specs.Ready.{is_want_of_memory}
+use Rattle.ide_world.specs.Ready.{IsFirstAccepted}
 use Rattle.replay.specs.declared.refusal.EnterRefusal.{EnterRefusal}
 use Rattle.replay.specs.declared.refusal.EnterRefusal.TheVariants as enter
 use Rattle.replay.specs.declared.refusal.IntakeRefusal.{IntakeRefusal}
@@ -18,11 +18,6 @@ use Rattle.replay.specs.declared.settling.Settling.TheVariants.{Over, Full, Take
 -- the intake of the file with an id at its present stamp
 abbrev pub intake_of : World → ℕ → List Change
 intake_of world id = Intake id (stamp_of (file_of world id)) ∷ []
-
--- the first change of the list isn't refused
-abbrev pub IsFirstAccepted : World → List Change → Type 0
-IsFirstAccepted world [] = Unit {0}
-IsFirstAccepted world (change ∷ changes) = refusal_of world change ≡ None
 
 -- A refusal of a list is that of the rules, and never tells running out of memory; that has an answer of its own, which never stands for
 -- a refusal of the first change

@@ -1,7 +1,8 @@
 //! Edits are made ready, or refused.
 ghost use Rattle.std.specs.Prelude.{◌≡◌, true, IfOk, IfErr};
 ghost use Rattle.std.specs.List.{list_all};
-ghost use Rattle.ide_world.specs.Ready.{is_edit, IsReadyFor, Makes};
+ghost use Rattle.write_history.specs.Changes.{is_edit};
+ghost use Rattle.ide_world.specs.Ready.{IsReadyFor, Makes};
 ghost use Rattle.replay.specs.Steps.{IsEnterRefused};
 
 use crate::refusal::EnterRefusal;

@@ -6,14 +6,16 @@ ghost use Rattle.write_history.specs.declared.change.Change.{Change};
 ghost use Rattle.write_history.specs.World.{empty_world, file_of, lowest_unready};
 ghost use Rattle.write_history.specs.Effect.{max_entries, max_files};
 ghost use Rattle.write_history.specs.Fold.{list_refusal, after_list};
-ghost use Rattle.ide_world.specs.Ready.{is_edit, told, IsReadyFor, Makes};
+ghost use Rattle.write_history.specs.Changes.{is_edit};
+ghost use Rattle.ide_world.specs.Ready.{told, IsReadyFor, Makes, IsFirstAccepted};
 ghost use Rattle.query_engine.specs.Reply.{reply, IsRefusalOf};
-ghost use Rattle.replay.specs.Steps.{IsFirstAccepted, IsEnterRefused, IsIntakeRefused, Settles, IsLeftUnready, intake_of};
+ghost use Rattle.replay.specs.Steps.{IsEnterRefused, IsIntakeRefused, Settles, IsLeftUnready, intake_of};
 
 use crate::entering::edits_ready;
 use crate::intake::intake_ready;
 use crate::refusal::{EnterRefusal, IntakeRefusal};
 use crate::settling::Settling;
+use history_laws::laws::unready_files_have_an_order;
 use ide_text::Name;
 use ide_world::{GroupRefusal, Ready, State, install, path, reserve};
 use queries::Query;
@@ -21,7 +23,6 @@ use query_engine::{Answer, AskRefusal, ask_unwatched};
 use std::alloc::{AllocError, Global};
 use std::marker::Model;
 use write_history::Changes;
-use write_history::laws::unready_files_have_an_order;
 
 /// A workspace that one thread goes through, seen by contracts as the world that its steps led to. It keeps no history.
 #[derive(Drop)]

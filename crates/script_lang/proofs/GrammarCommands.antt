@@ -1,12 +1,11 @@
 -- The command of a line is the one whose form the line has.
-use Rattle.std.proofs.Common.{◌≡◌, inl, inr, ℕ, ◌≤◌, leb, cond, List, [], ◌∷◌, ◌++◌, Option, Some, None, option_map, refl, ap, sym, ◌∙◌, subst, codes, arith}
+use Rattle.std.proofs.Common.{◌≡◌, inl, inr, ℕ, ◌≤◌, leb, cond, List, ◌∷◌, ◌++◌, Option, Some, None, option_map, refl, ap, sym, ◌∙◌, subst, codes, arith}
 use Rattle.std.specs.Fmt.{decimal}
 use Rattle.std.proofs.lemmas.Bool.{leb-true, le-leb, and_parts}
 use Rattle.std.proofs.lemmas.Option.{none-some, same_Some, cond_some}
 use mathlib.Core.Bool.{◌&&◌}
 use Rattle.script_lang.specs.Commands.{max_attempts, lone_queries, lone_query, query_with, request_rows, query_of_parts, query_of, attempts_of, soft_command, request_with, change_with, change_or, command_with}
 use Rattle.script_lang.specs.Fields.{space, max_number, parts_at_space, two_fields, number_of}
-use Rattle.script_lang.specs.Forms.{HasOneOf}
 use Rattle.script_lang.specs.Readers.{rows_of}
 use Rattle.script_lang.specs.Grammar.{IsQueryLine, IsCommandLine}
 use Rattle.script_lang.specs.Tables.{query_forms, load_forms, change_forms}

@@ -7,7 +7,7 @@ use Rattle.std.proofs.lemmas.List.{append-nil}
 use Rattle.std.proofs.lemmas.Option.{none-some}
 use Rattle.std.proofs.lemmas.Slice.Eq.{bytes_eq-Decides}
 use Rattle.script_lang.specs.Fields.{space, parts_at_space}
-use Rattle.script_lang.specs.Forms.{Kind, Value, Maker, Form, IsField, Spells, HasOneOf}
+use Rattle.script_lang.specs.Forms.{Kind, Value, Maker, Form, Spells, HasOneOf}
 use Rattle.script_lang.specs.Lines.{number_sign}
 use Rattle.script_lang.specs.Readers.{value_of, Values, values_of, made, read, look_up, rows_of}
 use Rattle.script_lang.proofs.CharLemmas.{differs, none_of, ascii_of, parts_at_space-found}

@@ -1,14 +1,15 @@
 -- What the commands of a script are.
-use Rattle.std.proofs.Common.{rules, ◌≡◌, inl, inr, ℕ, ◌+◌, ◌≤◌, true, ltb, List, [], ◌∷◌, ◌++◌, length, Option, Some, None, refl, sym, subst, arith}
-use Rattle.std.specs.List.{All}
+use Rattle.std.proofs.Common.{rules, ◌≡◌, inl, inr, ℕ, ◌+◌, ◌≤◌, true, ltb, List, [], ◌∷◌, ◌++◌, length, Option, Some, None, refl, sym, ap, subst, ◌∙◌, ◌&&◌, arith}
+use Rattle.std.specs.List.{All, list_all}
 use Rattle.std.specs.Str.{chars}
-use Rattle.std.proofs.lemmas.Bool.{false≢true, ltb-true}
-use Rattle.std.proofs.lemmas.List.Elements.{All-nil, All-cons, All-append}
+use Rattle.std.proofs.lemmas.Bool.{and_from, false≢true, ltb-true}
+use Rattle.std.proofs.lemmas.List.Elements.{All-nil, All-cons}
+use Rattle.std.proofs.lemmas.List.Folds.{list_all-append}
 use Rattle.std.proofs.lemmas.Option.{none-some, same_Some, cond_some}
 use Rattle.write_history.specs.declared.change.Change.{Change}
-use Rattle.write_history.specs.declared.change.Change.TheVariants as change
+use Rattle.write_history.specs.Changes.{is_edit}
 use Rattle.script_lang.specs.Grammar.{IsLine, AreContents, IsCommandLine, Rest, nothing, first_comes, lane_comes, last_comes, HoldRest, HoldScript, whole}
-use Rattle.script_lang.specs.Held.{IsNoIntake, IsOfLine, IsNoLoad, AreOfPrelude, AreOfSection, AreOfScript}
+use Rattle.script_lang.specs.Held.{IsOfLine, IsNoLoad, AreOfPrelude, AreOfSection, AreOfScript}
 use Rattle.script_lang.specs.Parts.{Parts}
 use Rattle.script_lang.specs.Reading.{OpenGroup, max_lanes, may_stand, next_lane}
 use Rattle.script_lang.specs.declared.command.Command.{Command}
@@ -22,13 +23,17 @@ use Rattle.script_lang.specs.Tables.{load_forms, change_forms}
 use Rattle.script_lang.proofs.GrammarForms.{AllMake, all_make}
 use Rattle.script_lang.proofs.RiseLemmas.{RiseFrom-HoldScript}
 
+-- a change other than an intake
+abbrev IsEdit : Change → Type 0
+IsEdit c = is_edit c ≡ true
+
 -- a line's command
 IsOfLine-IsCommandLine : (line : List ℕ) (made : Command) → IsCommandLine line made → IsOfLine made
 IsOfLine-IsCommandLine line made (inl (e, is)) = subst IsOfLine (sym is) tt
 IsOfLine-IsCommandLine line made (inr (inl has)) = all_make IsOfLine load_forms line made (λ path. tt, tt) has
-IsOfLine-IsCommandLine line made (inr (inr (inl (change, e, has)))) = subst IsOfLine (sym e) (all_make IsNoIntake change_forms line change all has)
+IsOfLine-IsCommandLine line made (inr (inr (inl (change, e, has)))) = subst IsOfLine (sym e) (all_make IsEdit change_forms line change all has)
   where
-    all : AllMake IsNoIntake change_forms
+    all : AllMake IsEdit change_forms
     all = search rules
 IsOfLine-IsCommandLine line made (inr (inr (inr (inl (q, e, is))))) = subst IsOfLine (sym e) tt
 IsOfLine-IsCommandLine line made (inr (inr (inr (inr soft)))) = subst IsOfLine (sym soft.is) (soft.some, soft.few)
@@ -134,7 +139,7 @@ AreRest-last section rest few are = record { here = AreOf-none section; lanes = 
 -- the changes of an open group
 abbrev AreOfGroup : Option OpenGroup → Type 0
 AreOfGroup None = Unit {0}
-AreOfGroup (Some group) = All IsNoIntake group.changes
+AreOfGroup (Some group) = list_all is_edit group.changes ≡ true
 
 AreRest-end : (section : Section) (opened : Option OpenGroup) (number : ℕ) (rest : Rest) → begun section ≤ max_lanes
     → HoldRest section opened number [] rest → AreRest section rest
@@ -158,19 +163,19 @@ AreRest-outside section number line content.Lane contents rest few is (lane, may
 AreRest-outside section number line content.Finally contents rest few is (may, (more, e, held)) later =
     subst (AreRest section) (sym e) (AreRest-last section more few (later Finally None more (omega arith) tt held))
 AreRest-outside section number line content.Group contents rest few is held later =
-    later section (Some (record { number = number; changes = [] })) rest few (All-nil IsNoIntake) held
+    later section (Some (record { number = number; changes = [] })) rest few refl held
 AreRest-outside section number line content.End contents rest few is held later = absurd held
 AreRest-outside section number line content.Bad contents rest few is held later = absurd held
 
 AreRest-inside : (section : Section) (group : OpenGroup) (number : ℕ) (line : List ℕ) (c : Content) (contents : List Content) (rest : Rest)
     → begun section ≤ max_lanes
-    → All IsNoIntake group.changes → IsLine line c → HoldRest section (Some group) number (c ∷ contents) rest → AreLater (number + 1) contents
+    → list_all is_edit group.changes ≡ true → IsLine line c → HoldRest section (Some group) number (c ∷ contents) rest → AreLater (number + 1) contents
     → AreRest section rest
 AreRest-inside section group number line content.PassedBy contents rest few all is held later = later section (Some group) rest few all held
 AreRest-inside section group number line (content.Holds (command.Change c)) contents rest few all is (room, held) later =
-    let one : All IsNoIntake (c ∷ []) = All-cons IsNoIntake c [] (IsOfLine-IsLine line (command.Change c) is) (All-nil IsNoIntake) in
+    let one : list_all is_edit (c ∷ []) ≡ true = ap (λ b. b && true) (IsOfLine-IsLine line (command.Change c) is) in
     let grown : OpenGroup = record { number = group.number; changes = group.changes ++ c ∷ [] } in
-    later section (Some grown) rest few (All-append IsNoIntake group.changes (c ∷ []) all one) held
+    later section (Some grown) rest few (list_all-append is_edit group.changes (c ∷ []) ∙ and_from (list_all is_edit group.changes) (list_all is_edit (c ∷ [])) all one) held
 AreRest-inside section group number line (content.Holds (command.Group changes)) contents rest few all is held later = absurd held
 AreRest-inside section group number line (content.Holds (command.Load path)) contents rest few all is held later = absurd held
 AreRest-inside section group number line (content.Holds command.Settle) contents rest few all is held later = absurd held

@@ -1,16 +1,14 @@
 -- Scripts that are printed line by line are read back.
-use Rattle.std.proofs.Common.{◌≡◌, ◌≢◌, ◌≤◌, inl, inr, ℕ, zero, suc, ◌+◌, Bool, true, false, not, ◌&&◌, leb, ltb, eqb, IsTrue, IsAscii}
-use Rattle.std.proofs.Common.{List, [], ◌∷◌, ◌++◌, length, codes, Some, None, refl, ap, sym, ◌∙◌, subst, arith}
-use Rattle.std.specs.List.{All, list_all}
+use Rattle.std.proofs.Common.{◌≡◌, ◌≤◌, inl, inr, ℕ, ◌+◌, true, false, leb, ltb, IsTrue, IsAscii}
+use Rattle.std.proofs.Common.{List, [], ◌∷◌, ◌++◌, length, codes, Some, None, refl, ap, sym, ◌∙◌, subst}
+use Rattle.std.specs.List.{list_all}
 use Rattle.std.proofs.lemmas.Bool.{and_parts, ne_eqb, ltb-true}
-use Rattle.std.proofs.lemmas.List.Elements.{All-weaker}
 use Rattle.std.proofs.lemmas.List.Folds.{list_all-append}
-use Rattle.std.proofs.lemmas.List.Sums.{AllPass-from_list_all}
 use Rattle.std.proofs.lemmas.Str.{chars-IsAscii, IsUtf8-from_ascii}
 use Rattle.ide_text.specs.Text.{repaired, max_chars}
 use Rattle.script_lang.specs.Contents.{lone_content, or_bad}
 use Rattle.script_lang.specs.Forms.{AreSpelled, IsQuoted}
-use Rattle.script_lang.specs.Grammar.{IsCommandLine, DropsReturn, IsLine, AreLines, AreContents, IsScript}
+use Rattle.script_lang.specs.Grammar.{IsCommandLine, DropsReturn, IsLine, IsScript}
 use Rattle.script_lang.specs.Grammar.{Rest, HoldRest, nothing, first_comes, lane_comes, last_comes, whole}
 use Rattle.script_lang.specs.Lines.{max_bytes, line_feed, carriage_return}
 use Rattle.script_lang.specs.Parts.{Parts}

@@ -1,8 +1,8 @@
 -- Words are looked up by their bytes as by their characters.
-use Rattle.std.proofs.Common.{◌≡◌, ℕ, Bool, true, ◌&&◌, List, [], ◌∷◌, Option, None, option_map, refl, ap, ◌∙◌}
+use Rattle.std.proofs.Common.{◌≡◌, ℕ, Bool, true, ◌&&◌, List, [], ◌∷◌, Option, None, option_map, refl, ap}
 use Rattle.std.specs.Str.{chars, IsUtf8}
 use Rattle.std.proofs.lemmas.Bool.{and_parts}
-use Rattle.script_lang.specs.Commands.{lone_queries, lone_query, query_with, request_rows, request_with, change_with, change_or, command_with}
+use Rattle.script_lang.specs.Commands.{lone_queries, lone_query, query_with, request_rows, request_with, command_with}
 use Rattle.script_lang.specs.Contents.{lone_contents, lone_content}
 use Rattle.script_lang.specs.Readers.{look_up, rows_of}
 use Rattle.script_lang.specs.Tables.{query_forms, change_forms}

@@ -5,7 +5,6 @@ use Rattle.script_lang.specs.Lines.{without_return, is_passed_by}
 use Rattle.script_lang.specs.Fields.{parts_at_space}
 use Rattle.script_lang.specs.Readers.{look_up}
 use Rattle.script_lang.specs.Commands.{lone_query, command_with}
-use Rattle.script_lang.specs.declared.command.Command.{Command}
 use Rattle.script_lang.specs.declared.command.Command.TheVariants.{Settle, Ask}
 use Rattle.script_lang.specs.declared.content.Content.{Content}
 use Rattle.script_lang.specs.declared.content.Content.TheVariants.{PassedBy, Holds, Lane, Finally, Group, End, Bad}
@@ -20,7 +19,7 @@ lone_contents =
 abbrev pub lone_content : List ℕ → Option Content
 lone_content word = look_up lone_contents word (option_map (λ query. Holds (Ask query)) (lone_query word))
 
--- something, or a line that is bad
+-- what a line is, or that it is bad where it is nothing
 abbrev pub or_bad : Option Content → Content
 or_bad None = Bad
 or_bad (Some content) = content

@@ -1,9 +1,7 @@
 -- What the commands of a script are.
-use Rattle.std.specs.Prelude.{ℕ, ◌+◌, ◌≤◌, List, [], ◌∷◌, ◌++◌, All, length}
-use Rattle.std.specs.List.{flat_map}
-use Rattle.write_history.specs.Changes.{AreFew}
-use Rattle.write_history.specs.declared.change.Change.{Change}
-use Rattle.write_history.specs.declared.change.Change.TheVariants as change
+use Rattle.std.specs.Prelude.{ℕ, ◌≡◌, ◌+◌, ◌≤◌, true, List, [], ◌∷◌, ◌++◌, All, length}
+use Rattle.std.specs.List.{flat_map, list_all}
+use Rattle.write_history.specs.Changes.{AreFew, is_edit}
 use Rattle.script_lang.specs.Commands.{max_attempts}
 use Rattle.script_lang.specs.Parts.{Parts}
 use Rattle.script_lang.specs.Reading.{max_lanes}
@@ -11,15 +9,10 @@ use Rattle.script_lang.specs.declared.command.Command.{Command}
 use Rattle.script_lang.specs.declared.command.Command.TheVariants as command
 use Rattle.script_lang.specs.declared.line.Line.{Line}
 
--- a change that a line can hold: any but an intake
-abbrev pub IsNoIntake : Change → Type 0
-IsNoIntake (change.Intake file stamp) = ⊥
-IsNoIntake change = Unit {0}
-
--- a command that lines can hold: a group has 1 to 64 changes, and a soft read 1 to 1000 attempts
+-- a command that lines can hold: a change is no intake, a group has 1 to 64 of them, and a soft read 1 to 1000 attempts
 abbrev pub IsOfLine : Command → Type 0
-IsOfLine (command.Change change) = IsNoIntake change
-IsOfLine (command.Group changes) = AreFew changes × All IsNoIntake changes
+IsOfLine (command.Change change) = is_edit change ≡ true
+IsOfLine (command.Group changes) = AreFew changes × (list_all is_edit changes ≡ true)
 IsOfLine (command.Load path) = Unit {0}
 IsOfLine command.Settle = Unit {0}
 IsOfLine (command.Ask query) = Unit {0}

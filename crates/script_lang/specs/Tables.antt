@@ -1,10 +1,10 @@
 -- The forms of the lines of a script: a row for each word.
-use Rattle.std.specs.Prelude.{ℕ, List, [], ◌∷◌, codes}
+use Rattle.std.specs.Prelude.{List, [], ◌∷◌, codes}
 use Rattle.write_history.specs.declared.change.Change.{Change}
 use Rattle.write_history.specs.declared.change.Change.TheVariants as change
 use Rattle.queries.specs.declared.query.Query.{Query}
 use Rattle.queries.specs.declared.query.Query.TheVariants as query
-use Rattle.script_lang.specs.Forms.{Kind, Path, Word, Number, Text, Form}
+use Rattle.script_lang.specs.Forms.{Path, Word, Number, Text, Form}
 use Rattle.script_lang.specs.declared.command.Command.{Command}
 use Rattle.script_lang.specs.declared.command.Command.TheVariants as command
 

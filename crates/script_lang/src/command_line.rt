@@ -81,7 +81,7 @@ fn request_of_word(alloc: Global, word: &str, rest: &str) -> Result<Option<Comma
     }
 }
 
-/// The soft read of the two fields behind its keyword.
+/// The soft read of the two fields behind its word.
 fn soft_command(alloc: Global, fields: &str) -> Result<Option<Command>, AllocError>
     ensures { IfOk result (λ command. command ≡ soft_command (chars fields.now)) }
 {

@@ -1,13 +1,13 @@
 //! Changes go in where the rules let them.
 ghost use Rattle.std.specs.Prelude.{◌≡◌, true, OnOk};
 ghost use Rattle.std.specs.List.{list_all};
-ghost use Rattle.ide_world.specs.Ready.{is_edit};
+ghost use Rattle.write_history.specs.Changes.{is_edit};
 ghost use Rattle.script_store.specs.Along.{HasEntered};
 
+use history_laws::laws::histories_go_on;
 use replay::{EnterRefusal, Replay};
 use std::alloc::{AllocError, Global};
 use write_history::Changes;
-use write_history::laws::histories_go_on;
 
 /// Lets changes in together, as one entry; where one of them is refused, nothing changes.
 pub(crate) fn enter(alloc: Global, replay: &mut Replay, changes: &Changes) -> Result<(), AllocError>

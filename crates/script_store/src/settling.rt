@@ -2,10 +2,10 @@
 ghost use Rattle.std.specs.Prelude.{OnOk};
 ghost use Rattle.script_store.specs.Along.{HasSettled};
 
+use history_laws::laws::{histories_go_on, intake_readies_one, unready_files_have_an_order};
 use ide_calls::laws::a_settle_goes_by_the_lowest;
 use replay::{Replay, Settling};
 use std::alloc::{AllocError, Global};
-use write_history::laws::{histories_go_on, intake_readies_one, unready_files_have_an_order};
 
 /// Takes unready files in, until none is left or the history is full.
 pub(crate) fn settle(alloc: Global, replay: &mut Replay) -> Result<(), AllocError>

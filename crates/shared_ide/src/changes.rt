@@ -3,7 +3,7 @@ ghost use Rattle.std.specs.Prelude.{◌≡◌, ◌<◌, ◌≤◌, ◌∷◌, []
 ghost use Rattle.std.specs.List.{list_all};
 ghost use Rattle.action_lock.specs.Advances.{Advances};
 ghost use Rattle.write_history.specs.Effect.{max_entries};
-ghost use Rattle.ide_calls.specs.Ready.{is_edit};
+ghost use Rattle.write_history.specs.Changes.{is_edit};
 ghost use Rattle.ide_calls.specs.Change.{HasAccepted, IsChangeRefused, IsGroupRefused};
 ghost use Rattle.job_queue.specs.Passes.{queue_view};
 ghost use Rattle.index_workers.specs.Passes.{ide_view, IsSameIdePass};

@@ -1,3 +1,1 @@
-pub mod FieldLemmas
-pub mod ManyLemmas
 pub mod StubLemmas

@@ -9,10 +9,12 @@ use Rattle.ide_text.specs.Text.{max_chars}
 use Rattle.stub_tree.specs.declared.stub.Stub.{Stub}
 use Rattle.stub_tree.specs.Stub.{is_type}
 use Rattle.stub_tree.specs.Lawful.{IsLawfulName, IsLawfulStub, MayFollow, IsLawfulAfter, IsLawfulList, max_depth}
-use Rattle.stub_codec.specs.Spelling.{number, name, supers, stub, version, has_scalars, IsStubBytes}
-use Rattle.stub_codec.specs.Reading.{checked, byte_at, number_at, name_at, many_at, supers_at, stub_at, all_of, is_kind, is_type_kind, may_be_depth, may_be_offset}
-use Rattle.stub_codec.proofs.FieldLemmas.{IsBytes, bind_ok, checked_ok, ok_is, Takes, Takes-then, byte_takes, number_takes, number_again, name_takes, name_again}
-use Rattle.stub_codec.proofs.ManyLemmas.{AllAfter, many_takes, many_again}
+use Rattle.byte_fields.specs.Spelling.{number, name}
+use Rattle.byte_fields.specs.Reading.{checked, byte_at, number_at, name_at, many_at}
+use Rattle.stub_codec.specs.Spelling.{supers, stub, version, has_scalars, IsStubBytes}
+use Rattle.stub_codec.specs.Reading.{supers_at, stub_at, all_of, is_kind, is_type_kind, may_be_depth, may_be_offset}
+use Rattle.field_laws.proofs.FieldLemmas.{IsBytes, bind_ok, checked_ok, ok_is, Takes, Takes-then, byte_takes, number_takes, number_again, name_takes, name_again}
+use Rattle.field_laws.proofs.ManyLemmas.{AllAfter, many_takes, many_again}
 
 -- a name that may be written
 abbrev pub IsGoodName : Option (List ℕ) → List ℕ → Type 0

@@ -1,23 +1,15 @@
 -- The one spelling of each lawful list of stubs.
-use Rattle.std.specs.Prelude.{◌≡◌, ℕ, Bool, true, ◌&&◌, List, [], ◌∷◌, ◌++◌, length, if◌then◌else◌, encode_utf8_all}
+use Rattle.std.specs.Prelude.{◌≡◌, ℕ, Bool, true, ◌&&◌, List, [], ◌∷◌, ◌++◌, length, if◌then◌else◌}
 use Rattle.std.specs.List.{flat_map, list_all}
-use Rattle.std.specs.Int.{w32, to_be_bytes}
 use Rattle.std.specs.Str.{all_scalars}
 use Rattle.stub_tree.specs.declared.stub.Stub.{Stub}
 use Rattle.stub_tree.specs.Stub.{is_type}
 use Rattle.stub_tree.specs.Lawful.{IsLawfulList}
+use Rattle.byte_fields.specs.Spelling.{number, name}
 
 -- the version of the spelling, its first byte
 abbrev pub version : ℕ
 version = 1
-
--- a number: four bytes, the greatest first
-abbrev pub number : ℕ → List ℕ
-number n = to_be_bytes w32 n
-
--- a name: the number of its bytes of UTF-8, and these bytes
-abbrev pub name : List ℕ → List ℕ
-name characters = number (length (encode_utf8_all characters)) ++ encode_utf8_all characters
 
 -- of a type the number of its supers, and each of them; of any other declaration nothing
 abbrev pub supers : Stub → List ℕ

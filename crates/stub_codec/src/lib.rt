@@ -1,11 +1,11 @@
 //! The bytes of a list of stubs, both ways.
 #![tactic(auto)]
 
-mod fault;
-pub mod fields;
+pub mod laws;
 mod reading;
+mod refusal;
 mod writing;
 
-pub use fault::{Fault, StubRefusal};
 pub use reading::decode;
-pub use writing::{encode, put_name, put_number};
+pub use refusal::StubRefusal;
+pub use writing::encode;

@@ -1,13 +1,16 @@
 //! Bytes to a list of stubs.
 ghost use Rattle.std.specs.Prelude.{◌≡◌, List, length, IfOk, IfErr, Ok, option_copied};
 ghost use Rattle.stub_tree.specs.declared.stub.Stub.{Stub as AStub};
-ghost use Rattle.stub_codec.specs.declared.fault.StubRefusal.TheVariants.{OutOfMemory};
-ghost use Rattle.stub_codec.specs.Answers.{Gives, IsRefusalOf};
+ghost use Rattle.byte_fields.specs.Answers.{Gives};
+ghost use Rattle.byte_fields.specs.Reading.{name_at, many_at};
+ghost use Rattle.stub_codec.specs.declared.refusal.StubRefusal.TheVariants.{OutOfMemory};
+ghost use Rattle.stub_codec.specs.Answers.{IsRefusalOf};
 ghost use Rattle.stub_codec.specs.Spelling.{IsStubBytes};
-ghost use Rattle.stub_codec.specs.Reading.{name_at, many_at, supers_at, stub_at, all_of, is_kind, is_type_kind, may_be_depth, may_be_offset};
+ghost use Rattle.stub_codec.specs.Reading.{supers_at, stub_at, all_of, is_kind, is_type_kind, may_be_depth, may_be_offset};
 
-use crate::fault::{Fault, StubRefusal};
-use crate::fields::{byte_of, check, name_of, number_of};
+use crate::laws::stub_lists_are_read_back;
+use crate::refusal::StubRefusal;
+use byte_fields::{Fault, byte_of, check, name_of, number_of};
 use ide_text::MAX_CHARS;
 use std::alloc::Global;
 use stub_tree::{MAX_DEPTH, Names, Stub, StubList};
@@ -22,6 +25,7 @@ pub fn decode(alloc: Global, bytes: &[u8]) -> Result<StubList, StubRefusal>
     ensures refused { IfErr result (IsRefusalOf bytes.now) }
     ensures read { IfOk result (λ stubs. all_of bytes.now ≡ Ok stubs) }
 {
+    stub_lists_are_read_back();
     match all(alloc, bytes) {
         Ok(stubs) => Ok(stubs),
         Err(Fault::Memory) => Err(StubRefusal::OutOfMemory),

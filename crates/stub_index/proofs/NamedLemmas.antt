@@ -2,15 +2,13 @@
 use Rattle.std.proofs.Common.{◌≡◌, ℕ, ◌<◌, Bool, true, false, ◌&&◌, ◌||◌, cond, List, [], ◌∷◌, ◌++◌, map, filter, refl, sym, ap, ◌∙◌, arith, subst, append_assoc, Some}
 use Rattle.std.specs.Ordering.{nat_cmp, ordering_then}
 use Rattle.std.specs.declared.cmp.Ordering.TheVariants.{Less}
-use Rattle.std.specs.Cmp.{tied_itself}
-use Rattle.std.specs.Cmp.Lexicographic.{slice_cmp, nat_list_cmp_total, texts_ties, bytes_decides}
+use Rattle.std.specs.Cmp.{tied_itself, nat_cmp_is}
+use Rattle.std.specs.Cmp.Lexicographic.{slice_cmp, nat_list_cmp_total, bytes_decides}
 use Rattle.std.specs.Str.{bytes_eq}
 use Rattle.std.specs.List.{AllByRecursion}
 use Rattle.std.specs.List.Sorted.{IsStrictlySortedBy}
 use Rattle.std.proofs.lemmas.List.Elements.{filter-append}
-use Rattle.file_index.specs.KeyRows.{AreInOrder, rows_with, row_cmp, values_with}
-use Rattle.file_index.proofs.SortLemmas.{by_keys_under}
-use Rattle.file_index.proofs.TableLemmas.{cmp_less}
+use Rattle.file_index.specs.KeyRows.{AreInOrder, by_keys, rows_with, row_cmp, values_with}
 use Rattle.stub_tree.specs.declared.stub.Stub.{Stub}
 use Rattle.stub_tree.specs.Stub.{is_type}
 use Rattle.stub_tree.specs.Lawful.{IsLawfulAfter, IsLawfulList}
@@ -51,6 +49,10 @@ kept_rise test (s ∷ ss) rise = by (test s) (kept_rise test ss rise.1)
     by true rest = (all_kept (λ t. s.at < t.at) test ss rise.0, rest)
     by false rest = rest
 
+-- sorting rows by their keys keeps those of each key as they came
+abbrev pub KeepsRows : Type 0
+KeepsRows = (key : List ℕ) (rows : List (List ℕ × Stub)) → rows_with bytes_eq key (by_keys (slice_cmp nat_cmp) rows) ≡ rows_with bytes_eq key rows
+
 -- one row
 abbrev only : List ℕ → Stub → List (List ℕ × Stub)
 only name s = (name, s) ∷ []
@@ -59,7 +61,7 @@ module _ (key : List ℕ) where
   below : (s : Stub) (ss : List Stub) → AllByRecursion (λ t. s.at < t.at) ss → AllByRecursion (λ row. row_cmp (slice_cmp nat_cmp) (λ (t : Stub). t.at) (key, s) row ≡ Less) (map (λ t. (key, t)) ss)
   below s [] all = tt
   below s (t ∷ ts) all = (
-    ap (λ o. ordering_then o (nat_cmp s.at t.at)) (tied_itself nat_list_cmp_total key) ∙ cmp_less s.at t.at all.0,
+    ap (λ o. ordering_then o (nat_cmp s.at t.at)) (tied_itself nat_list_cmp_total key) ∙ sym (nat_cmp_is s.at t.at Less all.0),
     below s ts all.1,
   )
 
@@ -89,10 +91,10 @@ module _ (key : List ℕ) where
     found_in_order : (ss : List Stub) → IsLawfulList ss → AreInOrder (slice_cmp nat_cmp) (λ (t : Stub). t.at) (rows_with bytes_eq key (rows_named names ss))
     found_in_order ss lawful = rw (rows_found ss) (keyed_in_order (filter test ss) (kept_rise test ss (offsets_rise ss lawful)))
 
-    found_values : (ss : List Stub) → values_with bytes_eq key (rows_by_name names ss) ≡ filter test ss
+    found_values : KeepsRows → (ss : List Stub) → values_with bytes_eq key (rows_by_name names ss) ≡ filter test ss
     unfolding rows_by_name
-    found_values ss =
-        ap (map (λ (row : List ℕ × Stub). row.1)) (by_keys_under (slice_cmp nat_cmp) bytes_eq nat_list_cmp_total texts_ties key (rows_named names ss) ∙ rows_found ss)
+    found_values keeps ss =
+        ap (map (λ (row : List ℕ × Stub). row.1)) (keeps key (rows_named names ss) ∙ rows_found ss)
         ∙ values_keyed (filter test ss)
 
   one_name : (name : List ℕ) (s : Stub) (b : Bool) → rows_with bytes_eq key (rows_under (cond b (name ∷ []) []) s) ≡ cond (b && bytes_eq key name) (only key s) []
@@ -127,13 +129,13 @@ module _ (key : List ℕ) where
   by_supers s false = refl
 
   -- what stands under a name, and that it is in order
-  pub types_values : (ss : List Stub) → values_with bytes_eq key (rows_by_name type_names ss) ≡ filter (is_type_named key) ss
+  pub types_values : KeepsRows → (ss : List Stub) → values_with bytes_eq key (rows_by_name type_names ss) ≡ filter (is_type_named key) ss
   types_values = found_values type_names (is_type_named key) (λ s. one_name s.name s (is_type s))
 
-  pub supers_values : (ss : List Stub) → values_with bytes_eq key (rows_by_name super_names ss) ≡ filter (names_super key) ss
+  pub supers_values : KeepsRows → (ss : List Stub) → values_with bytes_eq key (rows_by_name super_names ss) ≡ filter (names_super key) ss
   supers_values = found_values super_names (names_super key) (λ s. by_supers s (is_type s))
 
-  pub methods_values : (ss : List Stub) → values_with bytes_eq key (rows_by_name method_names ss) ≡ filter (is_method_named key) ss
+  pub methods_values : KeepsRows → (ss : List Stub) → values_with bytes_eq key (rows_by_name method_names ss) ≡ filter (is_method_named key) ss
   methods_values = found_values method_names (is_method_named key) (λ s. one_name s.name s (is_method s))
 
   pub types_in_order : (ss : List Stub) → IsLawfulList ss → AreInOrder (slice_cmp nat_cmp) (λ (t : Stub). t.at) (rows_with bytes_eq key (rows_named type_names ss))

@@ -1,6 +1,6 @@
 //! Calls on the shared workspace by one pass, one after another, and what they are answered.
 ghost use Rattle.std.specs.Prelude.{◌≡◌, true, IfOk};
-ghost use Rattle.shared_ide.specs.Ready.{is_edit};
+ghost use Rattle.write_history.specs.Changes.{is_edit};
 ghost use Rattle.shared_ide.specs.Passes.{IsIdePassOf, ide_view};
 ghost use Rattle.thread_tests.specs.Passes.{HasKept};
 

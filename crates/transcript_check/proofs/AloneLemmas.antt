@@ -30,8 +30,8 @@ use Rattle.transcript_check.specs.Checked.{Came, entry_texts, texts_behind, line
 use Rattle.transcript_check.specs.Stops.{stops_at, serial_or}
 use Rattle.transcript_check.specs.Alone.{IsGoneTo, HasGone, HasTakenNext, left_where}
 use Rattle.transcript_check.specs.Going.{HasComeAs, HasComeAlone}
-use Rattle.transcript_check.proofs.StepLemmas.{Laws, step_one}
-use Rattle.transcript_check.proofs.HereLemmas.{Counts, LowestIsUnready, GoesByLowest, intake_refusal, settle_told, tells_so}
+use Rattle.transcript_check.proofs.StepLemmas.{GoesByLowest, step_one}
+use Rattle.transcript_check.proofs.HereLemmas.{Counts, LowestIsUnready, intake_refusal, settle_told, tells_so}
 use Rattle.transcript_check.proofs.MakeLemmas.{FoldsOn, changed_next}
 
 -- a step that does the same behind each history went to the same
@@ -160,7 +160,7 @@ one_added history after seat number text entry later went (e ∷ more) answer on
       leads = subst (λ (w : Bool). IsGoneTo after (history ++ e ∷ more) (left_where w later)) (sym m) tt;
     }
 
-module _ (counts : Counts) (unready : LowestIsUnready) (goes : GoesByLowest) (folds : FoldsOn) (laws : Laws) where
+module _ (counts : Counts) (unready : LowestIsUnready) (goes : GoesByLowest) (folds : FoldsOn) where
   changes_by : (world after : World) (seat : ℕ) (line : Line) (text entry : List ℕ) (later : List (List ℕ)) (went : Bool)
       → is_settle line.command ≡ false → tells_in world seat line text ≡ false → HasChanged world after seat line text entry went
       → HasGone (λ history. line_step history seat line) seat line.number text (entry ∷ later) world after (left_where went later)
@@ -179,7 +179,7 @@ module _ (counts : Counts) (unready : LowestIsUnready) (goes : GoesByLowest) (fo
           → GoesBy history seat line.number (line_step history seat line) text (entry ∷ later) after (left_where went later)
       by history is = one_added history after seat line.number text entry later went (line_step history seat line).added
           (line_step history seat line).answer on_the_way done
-          (λ e more. step_one laws seat loaded.Nothing history line.number line.command e more no_settle)
+          (λ e more. step_one goes seat loaded.Nothing history line.number line.command e more no_settle)
           (tells_here counts unready goes world seat line text false other history is)
           (subst (λ (b : Bool). IsMadeAs (made_by_line b (bytes_eq (told_text seat line.number (line_step history seat line).answer) text) on_the_way done
           (line_step history seat line).added) history after done entry went) no_settle

@@ -1,6 +1,6 @@
 -- Each entry of a run of a script makes a change, so that its history has room for no more than it may have.
 use Rattle.std.proofs.Common.{ℕ, zero, suc, ◌≡◌, ◌+◌, ◌≤◌, ◌<◌, Bool, true, false, cond, List, [], ◌∷◌, ◌++◌, length, refl, sym, ap, subst, arith, Option, Some, None, ⊎_elim, eqb}
-use Rattle.std.specs.List.{All}
+use Rattle.std.specs.List.{All, AllByRecursion}
 use Rattle.std.proofs.lemmas.Bool.{cases_lt}
 use Rattle.list_laws.proofs.BoolLemmas.{bool_cases}
 use Rattle.write_history.specs.declared.change.Change.TheVariants.{Create}
@@ -10,6 +10,7 @@ use Rattle.write_history.specs.Effect.{max_entries}
 use Rattle.write_history.specs.Path.{is_path}
 use Rattle.write_history.specs.World.{unready_ids}
 use Rattle.write_history.specs.Fold.{ListRefusal, fold, list_refusal}
+use Rattle.history_laws.proofs.LimitLemmas.{legal_few}
 use Rattle.ide_calls.specs.Settle.{Settled, entry_of, intake_of, intake_entry, settled_unless, settled_from}
 use Rattle.script_lang.specs.declared.command.Command.{Command}
 use Rattle.script_lang.specs.declared.command.Command.TheVariants as command
@@ -26,9 +27,12 @@ use Rattle.transcripts.specs.Serial.{Step, Ended, told as just_told, step_unless
 use Rattle.transcripts.specs.Fits.{Mark, mark_at, run_beside, IsDone, IsGivenUp, SectionFits, made_by, LanesFit, WorkersFit, RunFits}
 use Rattle.transcript_check.specs.Phase.{Sides}
 use Rattle.transcript_check.proofs.StepLemmas.{made_by-own}
-use Rattle.transcript_check.proofs.IntakeLemmas.{AllChange, legal_few}
 use Rattle.transcript_check.proofs.PhaseLemmas.{AllSeats}
 use Rattle.transcript_check.proofs.MiddleLemmas.{all_seats, workers_are, none_outside}
+
+-- each entry makes a change
+abbrev pub AllChange : List Entry → Type 0
+AllChange entries = AllByRecursion (λ entry. 1 ≤ length entry.changes) entries
 
 all_change-append : (xs ys : List Entry) → AllChange xs → AllChange ys → AllChange (xs ++ ys)
 all_change-append [] ys first later = later

@@ -4,6 +4,7 @@ use Rattle.std.proofs.lemmas.List.{append-nil, append_cancel_left, map-append}
 use Rattle.std.proofs.lemmas.Bool.{both_ways, and_parts}
 use Rattle.write_history.specs.declared.entry.Entry.{Entry}
 use Rattle.write_history.specs.Fold.{IsLegal}
+use Rattle.history_laws.proofs.FoldLemmas.{IsLegal-split}
 use Rattle.script_lang.specs.declared.line.Line.{Line}
 use Rattle.script_lang.specs.Parts.{Parts}
 use Rattle.transcripts.specs.Worked.{Worked}
@@ -18,11 +19,10 @@ use Rattle.transcript_check.specs.Phase.{Sides, Reached, is_seat, phase_from, cu
 use Rattle.transcript_check.specs.Checked.{entry_texts, record_texts, Came, serial_from, ends_so, sides_of, goes_on_so, begins_so, are_checked, AreTextsOfRun}
 use Rattle.transcript_check.proofs.ReadLemmas.{seat-read}
 use Rattle.transcript_check.proofs.Texts.{texts_of_section}
-use Rattle.transcript_check.proofs.StepLemmas.{Laws}
+use Rattle.transcript_check.proofs.StepLemmas.{GoesByLowest}
 use Rattle.transcript_check.proofs.CursorLemmas.{AreFew, first_seat, own_seated}
 use Rattle.transcript_check.proofs.WorkerLemmas.{AreWorkers, WorkersFrom, workers_from, workers_all, workers_none}
 use Rattle.transcript_check.proofs.SideLemmas.{CursorsFit}
-use Rattle.transcript_check.proofs.IntakeLemmas.{FileLaws}
 use Rattle.transcript_check.proofs.PhaseLemmas.{AllSeats, sound, StopsBefore, complete}
 use Rattle.transcript_check.proofs.MiddleLemmas.{sides_of_lanes, lanes_of_sides, cursors_seated, seats_all, all_seats, told_of, length-told_of, workers_fit, workers_are}
 use Rattle.transcript_check.proofs.SerialLemmas.{entry_texts-append, serial_fits}
@@ -78,7 +78,7 @@ went loads script workers entries records h = by (serial_from 0 [] script.prelud
         goes_on first (phase_from (sides_of script workers first.history) [] (cursors_of 1 script.lanes first.records) first.entries) is refl g
 
 -- WHAT IS CHECKED IS WHAT A RUN PRINTED
-pub checked_sound : (laws : Laws) (loads : List Loaded) (script : Parts) (workers : ℕ) (entries records : List (List ℕ))
+pub checked_sound : (laws : GoesByLowest) (loads : List Loaded) (script : Parts) (workers : ℕ) (entries records : List (List ℕ))
     → are_checked loads script workers entries records ≡ true → AreTextsOfRun loads script workers entries records
 checked_sound laws loads script workers entries records checked =
     let did = went loads script workers entries records checked in
@@ -173,7 +173,7 @@ IsSerial = (seat : ℕ) (low high : Mark) (lines : List Line) (loads : List Load
     → done_from seat (record { history = start; records = earlier }) lines loads ≡ record { history = start ++ own; records = earlier ++ records }
 
 -- the last section's first entry has a seat that is nobody else's
-stops_before : (laws : Laws) (sides : Sides) (history : List Entry) (low high : Mark) (lines : List Line) (records : List Record) (closing : List Entry)
+stops_before : (laws : GoesByLowest) (sides : Sides) (history : List Entry) (low high : Mark) (lines : List Line) (records : List Record) (closing : List Entry)
     (position : ℕ) → position < 2 ^ 64
     → SectionFits false history 0 low lines [] records closing high → StopsBefore sides (entry_texts position closing)
 stops_before laws sides history low high lines records [] position short fits = tt
@@ -183,7 +183,7 @@ stops_before laws sides history low high lines records (e ∷ closing) position 
     ap (is_seat sides) (seat-read position e (omega arith) ∙ seat)
 
 -- a section that goes alone, where it is known what it leads to
-serial_goes : (laws : Laws) (lines : List Line) (loads : List Loaded) (start own : List Entry) (told : List Record) (left rest : List (List ℕ))
+serial_goes : (laws : GoesByLowest) (lines : List Line) (loads : List Loaded) (start own : List Entry) (told : List Record) (left rest : List (List ℕ))
     → done_from 0 (record { history = start; records = [] }) lines loads ≡ record { history = start ++ own; records = told }
     → serial_from 0 start lines loads (entry_texts (length start + 1) own ++ left) (record_texts told ++ rest)
     ≡ Some (record { history = start ++ own; entries = left; records = rest })
@@ -195,10 +195,10 @@ serial_goes laws lines loads start own told left rest is =
     (λ i. serial_from 0 start lines loads (entry_texts (length start + 1) (sym same i) ++ left) (record_texts (sym same_told i) ++ rest))
     ∙ (serial.goes left rest ∙ ap (λ (es : List Entry). Some (record { history = es; entries = left; records = rest })) history_is)
 
-pub checked_complete : (laws : Laws) (files : FileLaws) → IsSerial → (loads : List Loaded) (script : Parts) (workers : ℕ) (entries records : List (List ℕ))
+pub checked_complete : (laws : GoesByLowest) → IsSerial → (loads : List Loaded) (script : Parts) (workers : ℕ) (entries records : List (List ℕ))
     → length script.lanes + workers < 2 ^ 64 → (run : AreTextsOfRun loads script workers entries records) → AreFew run.ended.history
     → are_checked loads script workers entries records ≡ true
-checked_complete laws files alone loads script workers entries records small run few =
+checked_complete laws alone loads script workers entries records small run few =
     let fits : RunFits loads script run.told run.ended = run.fits in
     let opening : List Entry = fits.opening in
     let middle : List Entry = fits.middle in
@@ -206,7 +206,7 @@ checked_complete laws files alone loads script workers entries records small run
     let closing : List Entry = fits.closing in
     let sides : Sides = sides_of script workers opening in
     let whole : run.ended.history ≡ lower ++ closing = fits.history in
-    let legal : IsLegal lower = laws.shorter lower closing (subst IsLegal whole fits.legal) in
+    let legal : IsLegal lower = (IsLegal-split lower closing (subst IsLegal whole fits.legal)).0 in
     let long = ap length whole in
     let long' = length-append lower closing in
     let lower_few : AreFew lower = omega arith in
@@ -242,7 +242,7 @@ checked_complete laws files alone loads script workers entries records small run
       added = middle;
       left = entry_texts (length lower + 1) closing;
     }) =
-    complete laws files sides small lower lower_few legal middle [] (cursors_of 1 script.lanes records_left) (entry_texts (length lower + 1) closing)
+    complete laws sides small lower lower_few legal middle [] (cursors_of 1 script.lanes records_left) (entry_texts (length lower + 1) closing)
     (ap (λ (es : List Entry). es ++ middle) (sym nothing))
     (cursors_seated 1 (suc (length script.lanes)) script.lanes records_left (omega arith))
     (stops_before_closing laws sides (lower ++ closing) fits.last_begins fits.last_end script.last run.ended.last lower closing (omega arith) last_fits)
@@ -260,7 +260,7 @@ checked_complete laws files alone loads script workers entries records small run
     (subst (λ (o : Option Reached). goes_on_so script opening records_left o ≡ true) (sym goes)
     (subst (λ (o : Option Came). ends_so o ≡ true) (sym ended) refl))
   where
-    stops_before_closing : (laws : Laws) (sides : Sides) (history : List Entry) (low high : Mark) (lines : List Line) (told : List Record)
+    stops_before_closing : (laws : GoesByLowest) (sides : Sides) (history : List Entry) (low high : Mark) (lines : List Line) (told : List Record)
         (lower closing : List Entry)
         → length lower + length closing < 2 ^ 64 → SectionFits false history 0 low lines [] told closing high
         → StopsBefore sides (entry_texts (length lower + 1) closing)

@@ -18,7 +18,7 @@ use Rattle.transcripts.specs.Serial.{Step, settle_step}
 use Rattle.transcripts.specs.Fits.{made_by}
 use Rattle.transcript_check.specs.Section.{Cursor, Made, is_nil, line_step, told_text, tells, given_up, tells_given_up, is_told_here, told_from, is_over, is_settle, made_by_line, made_from}
 use Rattle.transcript_check.proofs.TextLemmas.{at_of, IsShort, same_at}
-use Rattle.transcript_check.proofs.StepLemmas.{Laws, TellsAt, IsStep, step_is, step_one, settle_steps, settle_later, settle_sooner, made_by-own}
+use Rattle.transcript_check.proofs.StepLemmas.{GoesByLowest, TellsAt, IsStep, step_is, step_one, settle_steps, settle_later, settle_sooner, made_by-own}
 use Rattle.transcript_check.proofs.Texts.{DoneBehind, DoneLate, WasGivenUp, FirstFits, TextsFit, GaveUp, gave_up, text_is}
 
 -- a section behind `here` fits the whole history, of which these are its own entries behind `here`; a settle that has begun goes on right here
@@ -100,7 +100,7 @@ first_seat seat e es all = bool_cases (eqb e.seat seat) (λ b. cond b (e ∷ mad
     (λ yes h. eqb-true e.seat seat yes)
     (λ none h. let long = ap length h in let few = count_le (λ (x : Entry). eqb x.seat seat) es in absurd (omega arith)) all
 
-module _ (laws : Laws) (beside : Bool) (history : List Entry) (seat : ℕ) where
+module _ (laws : GoesByLowest) (beside : Bool) (history : List Entry) (seat : ℕ) where
   stepped : (start : List Entry) (line : Line) → IsStep start seat (line_step start seat line)
   stepped start line = step_is laws seat Nothing start line.number line.command
 

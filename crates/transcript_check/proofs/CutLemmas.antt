@@ -1,6 +1,6 @@
--- What the laws below give: no path of a legal history and no word of a text has a line break.
-use Rattle.std.proofs.Common.{◌≡◌, ◌≢◌, ℕ, true, List, [], ◌∷◌, ◌++◌, refl, sym, subst, Some, None}
-use Rattle.std.specs.Prelude.{All, Contains, Option}
+-- What the crates below give: no word of a text has a line break.
+use Rattle.std.proofs.Common.{◌≡◌, ◌≢◌, ℕ, true, List, [], ◌∷◌, sym, subst}
+use Rattle.std.specs.Prelude.{All, Contains}
 use Rattle.std.specs.List.{list_all, AllByRecursion}
 use Rattle.std.proofs.lemmas.List.Elements.{recursion_from_All}
 use Rattle.java_tokens.specs.Token.{Token}
@@ -11,23 +11,11 @@ use Rattle.java_tokens.specs.Words.{is_identifier_token}
 use Rattle.java_tokens.specs.Places.{places_of}
 use Rattle.stub_tree.specs.declared.stub.Stub.{Stub}
 use Rattle.decl_parser.specs.Listing.{listing_of, IsIdentifierOf, IsNamedIn}
-use Rattle.write_history.specs.declared.entry.Entry.{Entry}
-use Rattle.write_history.specs.Path.{is_path}
-use Rattle.write_history.specs.Named.{NamesPaths}
-use Rattle.write_history.specs.Print.{entry_line}
-use Rattle.write_history.specs.World.{File, file_of}
-use Rattle.write_history.specs.Fold.{fold, IsLegal}
-use Rattle.transcript_check.specs.Blocks.{IsBlock}
 use Rattle.transcript_check.proofs.PlainLemmas.{plain-characters}
-use Rattle.transcript_check.proofs.EntryBlocks.{entry-block, plain-path}
-use Rattle.transcript_check.proofs.FoundBlocks.{IsShown, IsShownStub, IsShownFile}
-use Rattle.transcript_check.proofs.RecordBlocks.{Below}
+use Rattle.transcript_check.proofs.FoundBlocks.{IsShown, IsShownStub, Texts}
 
--- the laws of the crates below
+-- what holds below of words
 pub record Laws : Type 0 where
-  pub shorter : (earlier later : List Entry) → IsLegal (earlier ++ later) → IsLegal earlier
-  pub named : (entries : List Entry) → IsLegal entries → All (λ entry. All (NamesPaths (λ path. is_path path ≡ true)) entry.changes) entries
-  pub live : (entries : List Entry) (id : ℕ) (file : File) → IsLegal entries → file_of (fold entries) id ≡ Some file → is_path file.path ≡ true
   pub names : (text : List ℕ) → All (IsNamedIn text) (listing_of text)
   pub supers : (text : List ℕ) → All (λ (s : Stub). All (IsIdentifierOf text) s.supers) (listing_of text)
   pub token : (text : List ℕ) (token : Token) → Contains (tokens_of text) token → is_identifier_token text token ≡ true
@@ -60,28 +48,10 @@ module _ (laws : Laws) where
     stubs-shown text stubs names.1 supers.1,
   )
 
-  live-shown : (entries : List Entry) → IsLegal entries → (id : ℕ) → IsShownFile (file_of (fold entries) id)
-  live-shown entries legal id = by (file_of (fold entries) id) refl
-    where
-      by : (file : Option File) → file_of (fold entries) id ≡ file → IsShownFile file
-      by None is = tt
-      by (Some file) is = plain-path file.path (laws.live entries id file legal is)
-
-  entries-shown : (entries : List Entry) → AllByRecursion (λ entry. All (NamesPaths (λ path. is_path path ≡ true)) entry.changes) entries
-      → AllByRecursion (λ entry. (position : ℕ) → IsBlock (entry_line position entry)) entries
-  entries-shown [] named = tt
-  entries-shown (entry ∷ entries) named = ((λ position. entry-block position entry named.0), entries-shown entries named.1)
-
-  -- all that is printed has its line breaks where they were put
-  pub below : Below
-  below = record {
-    texts = record {
-      stubs = λ text. stubs-shown text (listing_of text) (recursion_from_All (IsNamedIn text) (listing_of text) (laws.names text))
-          (recursion_from_All (λ (s : Stub). All (IsIdentifierOf text) s.supers) (listing_of text) (laws.supers text));
-      used = λ name text used. word-shown name (laws.place name text used);
-    };
-    live = live-shown;
-    entries = λ entries legal. entries-shown entries
-        (recursion_from_All (λ (entry : Entry). All (NamesPaths (λ path. is_path path ≡ true)) entry.changes) entries (laws.named entries legal));
-    shorter = laws.shorter;
+  -- each name that a text declares or uses is shown
+  pub shown : Texts
+  shown = record {
+    stubs = λ text. stubs-shown text (listing_of text) (recursion_from_All (IsNamedIn text) (listing_of text) (laws.names text))
+        (recursion_from_All (λ (s : Stub). All (IsIdentifierOf text) s.supers) (listing_of text) (laws.supers text));
+    used = λ name text used. word-shown name (laws.place name text used);
   }

@@ -9,7 +9,7 @@ use Rattle.write_history.specs.declared.change.Change.{Change}
 use Rattle.write_history.specs.declared.change.Change.TheVariants.{Create, Write, Delete, OpenDoc, Insert, Erase, Commit, Save, CloseDoc, Intake, Move}
 use Rattle.write_history.specs.declared.entry.Entry.{Entry}
 use Rattle.write_history.specs.Path.{is_barred, is_path}
-use Rattle.write_history.specs.Named.{NamesPaths}
+use Rattle.write_history.specs.Changes.{NamesPaths}
 use Rattle.write_history.specs.Print.{change_text, group_line, group_text, changes_text, entry_line}
 use Rattle.transcript_check.specs.Blocks.{line_break, EndsOnce, IsBlock}
 use Rattle.transcript_check.proofs.PlainLemmas.{is_plain, plain-append, plain-decimal, plain-characters, plain-then, line-ends, ends-then, GoesOn, goes_on-each, begins-decimal, begins-more, begins-with_no_space}

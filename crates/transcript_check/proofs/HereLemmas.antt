@@ -11,7 +11,7 @@ use Rattle.write_history.specs.Path.{is_path}
 use Rattle.write_history.specs.World.{World, File, file_of, is_unready, lowest_unready}
 use Rattle.write_history.specs.Effect.{max_entries, stamp_of, refusal_of}
 use Rattle.write_history.specs.Fold.{fold, list_refusal, refusal_or, ListRefusal}
-use Rattle.ide_calls.specs.Settle.{Settled, all_settled, refused_for, with_entry, settled, intake_of, intake_entry}
+use Rattle.ide_calls.specs.Settle.{Settled, all_settled, refused_for, settled, intake_of}
 use Rattle.query_engine.specs.Reply.{reply}
 use Rattle.script_lang.specs.declared.command.Command.{Command}
 use Rattle.script_lang.specs.declared.command.Command.TheVariants as command
@@ -22,6 +22,7 @@ use Rattle.transcripts.specs.declared.record.Answer.TheVariants.{Refused, NotTex
 use Rattle.transcripts.specs.Serial.{Step, told, step_unless, settle_answer, settle_step, step_of}
 use Rattle.transcript_check.specs.Section.{is_nil, line_step, told_text, tells}
 use Rattle.transcript_check.specs.Here.{told_by, refused_in, settle_in, answer_in, tells_in}
+use Rattle.transcript_check.proofs.StepLemmas.{GoesByLowest}
 
 -- a world counts the entries that led to it
 abbrev pub Counts : Type 0
@@ -30,16 +31,6 @@ Counts = (entries : List Entry) → (fold entries).entries ≡ length entries
 -- the lowest unready file is unready
 abbrev pub LowestIsUnready : Type 0
 LowestIsUnready = (world : World) (id : ℕ) → lowest_unready world ≡ Some id → is_unready (file_of world id) ≡ true
-
--- how a settle goes by the lowest unready file
-pub record GoesByLowest : Type 0 where
-  pub over : (history : List Entry) (seat line : ℕ) → lowest_unready (fold history) ≡ None → settled history seat line ≡ all_settled
-  pub ends : (history : List Entry) (seat line id : ℕ) (why : Refusal) → lowest_unready (fold history) ≡ Some id
-      → option_map (λ (r : ListRefusal). r.why) (list_refusal (fold history) (intake_of (fold history) id)) ≡ Some why
-      → settled history seat line ≡ refused_for why
-  pub goes_on : (history : List Entry) (seat line id : ℕ) → lowest_unready (fold history) ≡ Some id
-      → list_refusal (fold history) (intake_of (fold history) id) ≡ None
-      → settled history seat line ≡ with_entry (intake_entry history seat line id) (settled (history ++ intake_entry history seat line id ∷ []) seat line)
 
 -- changes that go in together add nothing only where they are refused
 changes_told : (world : World) (history : List Entry) (place : ℕ → Option ℕ) (entry : Entry) (r : Option ListRefusal) → world.entries ≡ length history

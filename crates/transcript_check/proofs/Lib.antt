@@ -13,14 +13,12 @@ pub mod Texts
 pub mod CursorLemmas
 pub mod WorkerLemmas
 pub mod SideLemmas
-pub mod IntakeLemmas
 pub mod PhaseLemmas
 pub mod MiddleLemmas
 pub mod SerialLemmas
 pub mod CheckedLemmas
 pub mod ChangeLemmas
 pub mod VerdictLemmas
-pub mod EditLemmas
 pub mod HereLemmas
 pub mod HeadLemmas
 pub mod MakeLemmas

@@ -18,7 +18,8 @@ use Rattle.transcripts.specs.declared.record.Answer.TheVariants.{Accepted, NotTe
 use Rattle.transcripts.specs.Serial.{Step, told as no_more, step_unless, changes_step, step_of}
 use Rattle.transcript_check.specs.Section.{Cursor, told_text, is_settle, made_by_line, line_step}
 use Rattle.transcript_check.specs.Here.{goes_in, HasGoneIn, IsTakenLowest, HasTakenLowest, HasEnteredSo, HasChangedBy, HasChanged, IsMadeAs, HasMadeNext}
-use Rattle.transcript_check.proofs.HereLemmas.{Counts, GoesByLowest}
+use Rattle.transcript_check.proofs.StepLemmas.{GoesByLowest}
+use Rattle.transcript_check.proofs.HereLemmas.{Counts}
 
 -- a longer history goes on from the world of the shorter one
 abbrev pub FoldsOn : Type 0

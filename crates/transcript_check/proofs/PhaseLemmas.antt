@@ -19,15 +19,16 @@ use Rattle.ide_calls.specs.Settle.{entry_of, intake_entry}
 use Rattle.transcripts.specs.Fits.{made_by}
 use Rattle.transcript_check.specs.Reading.{seat_in, file_in}
 use Rattle.transcript_check.specs.Section.{Cursor, is_over}
+use Rattle.history_laws.proofs.FoldLemmas.{IsLegal-append, IsLegal-split}
+use Rattle.history_laws.proofs.LimitLemmas.{intake_finds, live_small}
 use Rattle.transcript_check.specs.Phase.{Sides, Went, Reached, is_seat, is_busy, section_went, has_taken, may_take, worker_went, seat_went, printed_so, next_went, all_told, reached, phase_from}
 use Rattle.transcript_check.specs.Checked.{entry_texts}
 use Rattle.transcript_check.proofs.ReadLemmas.{seat-read, file-read}
 use Rattle.transcript_check.proofs.Texts.{text_is}
-use Rattle.transcript_check.proofs.StepLemmas.{Laws}
+use Rattle.transcript_check.proofs.StepLemmas.{GoesByLowest}
 use Rattle.transcript_check.proofs.CursorLemmas.{AreFew, one_more, none_some, some_some}
 use Rattle.transcript_check.proofs.WorkerLemmas.{MayMake, WorkersFrom, taken_anew, not_taken}
 use Rattle.transcript_check.proofs.SideLemmas.{CursorsFit, AreSeated, AllStop, all_told_fits, others_forth, others_back, section_forth, went_back, all_over_back, all_over_forth}
-use Rattle.transcript_check.proofs.IntakeLemmas.{FileLaws, accepted_intake, live_small}
 
 -- all entries have seats of the lanes and workers
 abbrev pub AllSeats : Sides → List Entry → Type 0
@@ -54,7 +55,7 @@ record EntryWent (sides : Sides) (added : List Entry) (told : List Cursor) (seat
       → CursorsFit beside history (sides.before ++ added ++ w.entry ∷ []) w.cursors es
       → CursorsFit beside history (sides.before ++ added) told (w.entry ∷ es)
 
-module _ (laws : Laws) (sides : Sides) where
+module _ (laws : GoesByLowest) (sides : Sides) where
   -- where all is over
   ends : (added : List Entry) (cursors : List Cursor) (left : List (List ℕ)) (r : Reached) → reached added (all_told sides added cursors) left ≡ Some r
       → PhaseGoes sides added cursors left r
@@ -154,7 +155,7 @@ module _ (laws : Laws) (sides : Sides) where
             (went.back sides.beside (here ++ e ∷ rest.behind) rest.behind (rest.behind, sym (append_assoc here (e ∷ []) rest.behind)) behind_fits);
         seats = (ap (is_seat sides) went.seat_is ∙ seat, rest.seats);
         workers = (went.may, rest.workers);
-        lawful = λ legal. subst IsLegal whole (rest.lawful (subst IsLegal (sym moved) (laws.legal here e legal went.accepted)));
+        lawful = λ legal. subst IsLegal whole (rest.lawful (subst IsLegal (sym moved) (IsLegal-append here e legal went.accepted)));
       }
 
   pub sound : (texts : List (List ℕ)) (added : List Entry) (cursors : List Cursor) (r : Reached) → AreSeated 1 (suc sides.lanes) cursors
@@ -192,7 +193,7 @@ record NextGoes (sides : Sides) (added : List Entry) (told : List Cursor) (histo
   seated : AreSeated 1 (suc sides.lanes) behind
   fits : CursorsFit sides.beside history (sides.before ++ added ++ e ∷ []) behind es
 
-module _ (laws : Laws) (files : FileLaws) (sides : Sides) (small : sides.lanes + sides.workers < 2 ^ 64) (history : List Entry) (few : AreFew history)
+module _ (laws : GoesByLowest) (sides : Sides) (small : sides.lanes + sides.workers < 2 ^ 64) (history : List Entry) (few : AreFew history)
     (legal : IsLegal history) where
   -- where all fits the end of the history, all is over
   over_is : (added : List Entry) (cursors : List Cursor) (left : List (List ℕ)) → history ≡ sides.before ++ added
@@ -225,13 +226,14 @@ module _ (laws : Laws) (files : FileLaws) (sides : Sides) (small : sides.lanes +
       let file : ℕ = may.intake.file in
       let stamp : ℕ = may.intake.stamp in
       let text : List ℕ = entry_line (length here + 1) e in
-      let here_legal = laws.shorter here (e ∷ es) (subst IsLegal whole legal) in
-      let accepted : list_refusal (fold here) e.changes ≡ None = (laws.rest here (e ∷ es) (subst IsLegal whole legal)).0 in
+      let parts = IsLegal-split here (e ∷ es) (subst IsLegal whole legal) in
+      let here_legal = parts.0 in
+      let accepted : list_refusal (fold here) e.changes ≡ None = parts.1.0 in
       let e_is : e ≡ entry_of e.seat 0 (Intake file stamp ∷ []) = may.intake.is in
       let lawful : list_refusal (fold here) (Intake file stamp ∷ []) ≡ None =
       subst (λ (x : Entry). list_refusal (fold here) x.changes ≡ None) e_is accepted in
-      let there = accepted_intake (fold here) file stamp lawful in
-      let known = live_small files here file here_legal there.0 in
+      let there = intake_finds (fold here) file stamp lawful in
+      let known = live_small here file here_legal there.0 in
       let long = ap length whole in
       let long' = length-append here (e ∷ es) in
       let short : length here + 1 < 2 ^ 64 = omega arith in

@@ -5,15 +5,18 @@ use Rattle.std.specs.Option.{option_map_or}
 use Rattle.std.specs.Fmt.{decimal}
 use Rattle.std.specs.List.{concat, flat_map, AllByRecursion}
 use Rattle.std.proofs.lemmas.Bool.{cond_both}
-use Rattle.std.proofs.lemmas.List.Elements.{All-from_recursion}
+use Rattle.std.proofs.lemmas.List.Elements.{All-from_recursion, recursion_from_All}
 use Rattle.std.proofs.lemmas.List.Folds.{concat-append}
 use Rattle.write_history.specs.declared.entry.Entry.{Entry}
 use Rattle.write_history.specs.declared.refusal.Refusal.{Refusal}
 use Rattle.write_history.specs.declared.refusal.Refusal.TheVariants as why
+use Rattle.write_history.specs.Changes.{NamesPaths}
 use Rattle.write_history.specs.Path.{is_path}
 use Rattle.write_history.specs.Print.{why_text, entry_line}
 use Rattle.write_history.specs.World.{World, File, file_of}
 use Rattle.write_history.specs.Fold.{fold, ListRefusal, IsLegal}
+use Rattle.history_laws.proofs.FoldLemmas.{IsLegal-split}
+use Rattle.history_laws.proofs.NamedLemmas.{named_lawful, live_lawful}
 use Rattle.ide_calls.specs.Settle.{settled}
 use Rattle.script_lang.specs.declared.command.Command.{Command}
 use Rattle.script_lang.specs.declared.command.Command.TheVariants as command
@@ -37,16 +40,29 @@ use Rattle.transcripts.specs.Transcript.{place_of_refusal, prefix_text, answer_t
 use Rattle.transcript_check.specs.Blocks.{blocks_of, EndsOnce, IsBlock}
 use Rattle.transcript_check.specs.Checked.{entry_texts, record_texts}
 use Rattle.transcript_check.specs.Texts.{history_line, texts_of}
+use Rattle.transcript_check.proofs.EntryBlocks.{entry-block, plain-path}
 use Rattle.transcript_check.proofs.BlockLemmas.{blocks-of-texts}
 use Rattle.transcript_check.proofs.PlainLemmas.{is_plain, plain-append, plain-decimal, plain-then, line-ends, begins-decimal, begins-more, begins-with_no_space}
 use Rattle.transcript_check.proofs.FoundBlocks.{IsShown, IsShownFile, Texts, EndsIfFound, reply-ends, all-append}
 
--- What holds below: the paths of live files and of entries, and the words of texts, have no line break
-pub record Below : Type 0 where
-  pub texts : Texts
-  pub live : (entries : List Entry) → IsLegal entries → (id : ℕ) → IsShownFile (file_of (fold entries) id)
-  pub entries : (entries : List Entry) → IsLegal entries → AllByRecursion (λ entry. (position : ℕ) → IsBlock (entry_line position entry)) entries
-  pub shorter : (earlier later : List Entry) → IsLegal (earlier ++ later) → IsLegal earlier
+-- ---- legal histories
+
+-- the path of a live file of a legal history has no line break
+live-shown : (entries : List Entry) → IsLegal entries → (id : ℕ) → IsShownFile (file_of (fold entries) id)
+live-shown entries legal id = by (file_of (fold entries) id) refl
+  where
+    by : (file : Option File) → file_of (fold entries) id ≡ file → IsShownFile file
+    by None is = tt
+    by (Some file) is = plain-path file.path (live_lawful entries id file legal is)
+
+-- nor has one that an entry names, so each entry is a block
+entries-shown : (entries : List Entry) → AllByRecursion (λ entry. All (NamesPaths (λ path. is_path path ≡ true)) entry.changes) entries
+    → AllByRecursion (λ entry. (position : ℕ) → IsBlock (entry_line position entry)) entries
+entries-shown [] named = tt
+entries-shown (entry ∷ entries) named = ((λ position. entry-block position entry named.0), entries-shown entries named.1)
+
+legal-blocks : (entries : List Entry) → IsLegal entries → AllByRecursion (λ entry. (position : ℕ) → IsBlock (entry_line position entry)) entries
+legal-blocks entries legal = entries-shown entries (recursion_from_All (λ (entry : Entry). All (NamesPaths (λ path. is_path path ≡ true)) entry.changes) entries (named_lawful entries legal))
 
 -- ---- answers
 
@@ -148,18 +164,18 @@ path_at-shown world file shown = by (file_of world file) shown
     by None shown = refl
     by (Some file) shown = shown
 
-module _ (below : Below) where
+module _ (texts : Texts) where
   asked-ends : (start : List Entry) → IsLegal start → (query : Query) → AnswerEnds (answer_of (fold start) (length start) (reply (fold start) query))
-  asked-ends start legal query = by (reply (fold start) query) (reply-ends below.texts (fold start) (below.live start legal) query)
+  asked-ends start legal query = by (reply (fold start) query) (reply-ends texts (fold start) (live-shown start legal) query)
     where
       refused-so : (refusal : AskRefusal) → AnswerEnds (refused_answer (fold start) (length start) refusal)
       refused-so refused.NoSuchFile = refused-ends (length start) None why.NoSuchFile
       refused-so (refused.NotReady file) = not_ready-ends (length start) (path_at (fold start) file)
-          (path_at-shown (fold start) file (below.live start legal file))
+          (path_at-shown (fold start) file (live-shown start legal file))
       refused-so refused.Cancelled = refused-ends (length start) None why.OutOfMemory
       refused-so refused.OutOfMemory = refused-ends (length start) None why.OutOfMemory
 
-      by : (result : Result Finding AskRefusal) → EndsIfFound below.texts (fold start) (below.live start legal) result
+      by : (result : Result Finding AskRefusal) → EndsIfFound texts (fold start) (live-shown start legal) result
           → AnswerEnds (answer_of (fold start) (length start) result)
       by (Ok finding) ends = ends
       by (Err refusal) ends = refused-so refusal
@@ -182,7 +198,7 @@ module _ (below : Below) where
       → IsLegal history → IsDone history seat line load low own answer high → AnswerEnds answer
   done-ends history seat line load low own answer high legal done =
       let whole : IsLegal ((done.start ++ own) ++ done.stands.0) = subst IsLegal done.stands.1 legal in
-      let start : IsLegal done.start = below.shorter done.start own (below.shorter (done.start ++ own) done.stands.0 whole) in
+      let start : IsLegal done.start = (IsLegal-split done.start own (IsLegal-split (done.start ++ own) done.stands.0 whole).0).0 in
       subst AnswerEnds (ap (λ step. step.answer) done.step) (step-ends load done.start start seat line.number line.command)
 
   fits-end : (beside : Bool) (history : List Entry) (seat : ℕ) (line : Line) (load : Loaded) (low : Mark) (own : List Entry) (answer : Answer) (high : Mark)
@@ -219,8 +235,8 @@ module _ (below : Below) where
       → AreBlocks (ended.records ++ ended.last)
   run-blocks loads script told ended fits =
       let parts : IsLegal ((fits.opening ++ fits.middle) ++ fits.closing) = subst IsLegal fits.history fits.legal in
-      let both : IsLegal (fits.opening ++ fits.middle) = below.shorter (fits.opening ++ fits.middle) fits.closing parts in
-      let opening : IsLegal fits.opening = below.shorter fits.opening fits.middle both in
+      let both : IsLegal (fits.opening ++ fits.middle) = (IsLegal-split (fits.opening ++ fits.middle) fits.closing parts).0 in
+      let opening : IsLegal fits.opening = (IsLegal-split fits.opening fits.middle both).0 in
       all-append (λ r. IsBlock (record_text r)) ended.records ended.last
       (subst AreBlocks (sym fits.records) (all-append (λ r. IsBlock (record_text r)) fits.prelude_records fits.lanes_records
       (section-blocks false fits.opening 0 (mark_at 0) script.prelude loads fits.prelude_records fits.opening fits.prelude_end opening fits.prelude)
@@ -249,7 +265,7 @@ module _ (below : Below) where
       All-from_recursion IsBlock (texts_of ended) (
         history-block (length ended.history),
         all-append IsBlock (entry_texts 1 ended.history) (record_texts (ended.records ++ ended.last))
-            (entries-blocks 1 ended.history (below.entries ended.history fits.legal))
+            (entries-blocks 1 ended.history (legal-blocks ended.history fits.legal))
             (records-blocks (ended.records ++ ended.last) (run-blocks loads script told ended fits)),
       )
 
@@ -273,7 +289,7 @@ texts-joined ended =
     ∙ sym (append_assoc line (entry_lines 1 ended.history) (flat_map record_text records))
 
 -- the transcript of a run that fits is cut into its texts
-pub transcript-cut : Below → (loads : List Loaded) (script : Parts) (told : List Worked) (ended : Ended) → RunFits loads script told ended
+pub transcript-cut : Texts → (loads : List Loaded) (script : Parts) (told : List Worked) (ended : Ended) → RunFits loads script told ended
     → blocks_of (transcript_of ended) ≡ texts_of ended
-transcript-cut below loads script told ended fits =
-    ap blocks_of (sym (texts-joined ended)) ∙ blocks-of-texts (texts_of ended) (texts-blocks below loads script told ended fits)
+transcript-cut texts loads script told ended fits =
+    ap blocks_of (sym (texts-joined ended)) ∙ blocks-of-texts (texts_of ended) (texts-blocks texts loads script told ended fits)

@@ -19,7 +19,7 @@ use Rattle.transcripts.specs.declared.loaded.Loaded.{Loaded}
 use Rattle.transcripts.specs.declared.record.Record.{Record}
 use Rattle.transcripts.specs.Serial.{Step, Done, step_of, done_from, first_load, later_loads}
 use Rattle.transcripts.specs.Fits.{Mark, SectionFits}
-use Rattle.transcript_check.proofs.StepLemmas.{Laws, step_is}
+use Rattle.transcript_check.proofs.StepLemmas.{GoesByLowest, step_is}
 
 -- texts that begin with others
 pub behind_is : (wanted texts left : List (List ℕ)) → texts_behind wanted texts ≡ Some left → texts ≡ wanted ++ left
@@ -94,7 +94,7 @@ comes_line seat line lines loads start own told whole later entries (text ∷ te
     )))
     (λ _ other g. absurd (none_some g)) refl is)
 
-pub serial_fits : (laws : Laws) (seat : ℕ) (lines : List Line) (loads : List Loaded) (start : List Entry) (earlier : List Record)
+pub serial_fits : (laws : GoesByLowest) (seat : ℕ) (lines : List Line) (loads : List Loaded) (start : List Entry) (earlier : List Record)
     → let done : Done = done_from seat (record { history = start; records = earlier }) lines loads in
     SerialFits seat lines loads start earlier done.history done.records
 serial_fits laws seat [] loads start earlier = record {

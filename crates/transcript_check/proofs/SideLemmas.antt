@@ -10,7 +10,7 @@ use Rattle.write_history.specs.Fold.{fold, list_refusal}
 use Rattle.transcripts.specs.Fits.{made_by}
 use Rattle.transcript_check.specs.Section.{Cursor, Made, told_here, is_over, made_here}
 use Rattle.transcript_check.specs.Phase.{Went, is_busy, went_first, went_later, section_went}
-use Rattle.transcript_check.proofs.StepLemmas.{Laws, made_by-own, made_by-other}
+use Rattle.transcript_check.proofs.StepLemmas.{GoesByLowest, made_by-own, made_by-other}
 use Rattle.transcript_check.proofs.CursorLemmas.{StateFits, CursorFits, StopsAt, AreFew, told_fits, other_forth, other_back, own_forth, own_back, made_seat, made_lawful, over_back, over_forth, none_some, some_some}
 
 -- each section fits what is behind `here`
@@ -49,7 +49,7 @@ pub record ToldAll (beside : Bool) (history here : List Entry) (cursors told : L
   pub seated : (first past : ℕ) → AreSeated first past cursors → AreSeated first past told
   pub stops : AllStop beside here told
 
-module _ (laws : Laws) (beside : Bool) (history : List Entry) where
+module _ (laws : GoesByLowest) (beside : Bool) (history : List Entry) where
   pub all_told_fits : (here : List Entry) (cursors : List Cursor) → IsFront here history
       → ToldAll beside history here cursors (map (told_here beside here) cursors)
   all_told_fits here [] front = record { forth = λ few behind fits. tt; back = λ behind fits. tt; seated = λ first past seated. seated; stops = tt }
@@ -144,7 +144,7 @@ module _ (laws : Laws) (beside : Bool) (history : List Entry) where
       strictly a b le ne = ⊎_elim (λ (h : a < b). omega arith) (λ (h : b ≤ a). absurd (ne (omega arith))) (cases_lt a b)
 
 -- what an entry of one of them is
-pub record SectionWent (laws : Laws) (here : List Entry) (first past seat : ℕ) (cursors : List Cursor) (w : Went) : Type 0 where
+pub record SectionWent (laws : GoesByLowest) (here : List Entry) (first past seat : ℕ) (cursors : List Cursor) (w : Went) : Type 0 where
   pub seat_is : w.entry.seat ≡ seat
   pub within : first ≤ seat
   pub below : seat < past
@@ -163,7 +163,7 @@ mapped : {A B : Type 0} (f : A → B) (option : Option A) (b : B) → option_map
 mapped f None b h = absurd (none_some h)
 mapped f (Some a) b h = record { value = a; is = refl; same = some_some h }
 
-pub went_back : (laws : Laws) (here : List Entry) (first past seat : ℕ) (cursors : List Cursor) (w : Went) → AreSeated first past cursors
+pub went_back : (laws : GoesByLowest) (here : List Entry) (first past seat : ℕ) (cursors : List Cursor) (w : Went) → AreSeated first past cursors
     → section_went seat here cursors ≡ Some w → SectionWent laws here first past seat cursors w
 went_back laws here first past seat [] w seated goes = absurd (none_some goes)
 went_back laws here first past seat (c ∷ cs) w seated goes = bool_cases (eqb c.seat seat)
@@ -225,14 +225,14 @@ went_back laws here first past seat (c ∷ cs) w seated goes = bool_cases (eqb c
         }))) refl
 
 -- at the end of a history each section fits it where it is over
-pub all_over_back : (laws : Laws) (beside : Bool) (here : List Entry) (cursors : List Cursor) → list_all is_over cursors ≡ true
+pub all_over_back : (laws : GoesByLowest) (beside : Bool) (here : List Entry) (cursors : List Cursor) → list_all is_over cursors ≡ true
     → CursorsFit beside here here cursors []
 all_over_back laws beside here [] over = tt
 all_over_back laws beside here (c ∷ cs) over =
     let parts = and_parts (is_over c) (list_all is_over cs) over in
     (over_back laws beside here c.seat c here parts.0, all_over_back laws beside here cs parts.1)
 
-pub all_over_forth : (laws : Laws) (beside : Bool) (here : List Entry) (cursors : List Cursor) → AllStop beside here cursors
+pub all_over_forth : (laws : GoesByLowest) (beside : Bool) (here : List Entry) (cursors : List Cursor) → AllStop beside here cursors
     → CursorsFit beside here here cursors [] → list_all is_over cursors ≡ true
 all_over_forth laws beside here [] stops fits = refl
 all_over_forth laws beside here (c ∷ cs) stops fits = and_from (is_over c) (list_all is_over cs)

@@ -10,7 +10,8 @@ use Rattle.write_history.specs.declared.refusal.Refusal.{Refusal}
 use Rattle.write_history.specs.declared.refusal.Refusal.TheVariants as why
 use Rattle.write_history.specs.Path.{is_path}
 use Rattle.write_history.specs.World.{lowest_unready, unready_ids}
-use Rattle.write_history.specs.Fold.{ListRefusal, fold, fold_from, list_refusal, IsLegal, IsLegalFrom}
+use Rattle.write_history.specs.Fold.{ListRefusal, fold, list_refusal, IsLegal}
+use Rattle.history_laws.proofs.FoldLemmas.{IsLegal-append}
 use Rattle.ide_calls.specs.Settle.{Settled, all_settled, refused_for, with_entry, entry_of, intake_of, intake_entry, settled_unless, settled_from, settled}
 use Rattle.script_lang.specs.declared.command.Command.{Command}
 use Rattle.script_lang.specs.declared.command.Command.TheVariants as command
@@ -28,17 +29,13 @@ use Rattle.std.specs.Prelude.{Result, Ok, Err}
 use Rattle.transcript_check.specs.Section.{is_settle}
 use Rattle.transcript_check.proofs.TextLemmas.{at_of}
 
--- What holds below: how a longer history goes on, and that a settle goes by the lowest unready file
-pub record Laws : Type 0 where
-  pub goes_on : (earlier later : List Entry) → fold (earlier ++ later) ≡ fold_from (fold earlier) later
-  pub legal : (entries : List Entry) (entry : Entry) → IsLegal entries → list_refusal (fold entries) entry.changes ≡ None → IsLegal (entries ++ entry ∷ [])
-  pub rest : (earlier later : List Entry) → IsLegal (earlier ++ later) → IsLegalFrom (fold earlier) later
-  pub shorter : (earlier later : List Entry) → IsLegal (earlier ++ later) → IsLegal earlier
-  pub settle_over : (history : List Entry) (seat line : ℕ) → lowest_unready (fold history) ≡ None → settled history seat line ≡ all_settled
-  pub settle_ends : (history : List Entry) (seat line id : ℕ) (why : Refusal) → lowest_unready (fold history) ≡ Some id
+-- what holds below: a settle goes by the lowest unready file
+pub record GoesByLowest : Type 0 where
+  pub over : (history : List Entry) (seat line : ℕ) → lowest_unready (fold history) ≡ None → settled history seat line ≡ all_settled
+  pub ends : (history : List Entry) (seat line id : ℕ) (why : Refusal) → lowest_unready (fold history) ≡ Some id
       → option_map (λ (r : ListRefusal). r.why) (list_refusal (fold history) (intake_of (fold history) id)) ≡ Some why
       → settled history seat line ≡ refused_for why
-  pub settle_goes_on : (history : List Entry) (seat line id : ℕ) → lowest_unready (fold history) ≡ Some id
+  pub goes_on : (history : List Entry) (seat line id : ℕ) → lowest_unready (fold history) ≡ Some id
       → list_refusal (fold history) (intake_of (fold history) id) ≡ None
       → settled history seat line
       ≡ with_entry (intake_entry history seat line id) (settled (history ++ intake_entry history seat line id ∷ []) seat line)
@@ -66,7 +63,7 @@ pub record IsStep (history : List Entry) (seat : ℕ) (step : Step) : Type 0 whe
   pub nothing : step.added ≡ [] → TellsAt history step.answer
   pub something : (e : Entry) (more : List Entry) → step.added ≡ e ∷ more → at_of step.answer ≡ Some (length (history ++ step.added))
 
-module _ (laws : Laws) (seat : ℕ) where
+module _ (laws : GoesByLowest) (seat : ℕ) where
   -- an answer alone
   told_is : (history : List Entry) (answer : Answer) → TellsAt history answer → IsStep history seat (told answer)
   told_is history answer tells = record {
@@ -83,7 +80,7 @@ module _ (laws : Laws) (seat : ℕ) where
   unless_is history None told_place entry own accepted = record {
     seated = made_by-own seat entry [] own;
     lawful = λ e more h. (let same : entry ≡ e = cc in subst (λ (x : Entry). list_refusal (fold history) x.changes ≡ None) same accepted);
-    legal = λ legal. laws.legal history entry legal accepted;
+    legal = λ legal. IsLegal-append history entry legal accepted;
     nothing = λ h. absurd cc;
     something = λ e more h. ap (λ (n : ℕ). Some n) (grows history entry);
   }
@@ -111,7 +108,7 @@ module _ (laws : Laws) (seat : ℕ) where
       → (IsLegal (history ++ entry ∷ []) → IsLegal (history ++ entry ∷ [] ++ rest.added)) → IsLegal history
       → IsLegal (history ++ (settled_unless refusal entry rest).added)
   unless_legal history None entry rest accepted later legal =
-      subst IsLegal (append_assoc history (entry ∷ []) rest.added) (later (laws.legal history entry legal accepted))
+      subst IsLegal (append_assoc history (entry ∷ []) rest.added) (later (IsLegal-append history entry legal accepted))
   unless_legal history (Some refusal) entry rest refused later legal = subst IsLegal (sym (append-nil history)) legal
 
   settled_legal : (line : ℕ) (history : List Entry) (ids : List ℕ) → IsLegal history → IsLegal (history ++ (settled_from history seat line ids).added)
@@ -131,7 +128,7 @@ module _ (laws : Laws) (seat : ℕ) where
       → list_refusal (fold history) (intake_of (fold history) id) ≡ refusal → (settled history seat line).added ≡ entry ∷ more
       → Begins line history entry
   begins_by line history entry more id None lowest accepted adds =
-      let goes = laws.settle_goes_on history seat line id lowest accepted in
+      let goes = laws.goes_on history seat line id lowest accepted in
       let first : List Entry = intake_entry history seat line id ∷ (settled (history ++ intake_entry history seat line id ∷ []) seat line).added in
       let parts : first ≡ entry ∷ more = sym (ap (λ (s : Settled). s.added) goes) ∙ adds in
       let same : intake_entry history seat line id ≡ entry = head_of parts in
@@ -140,7 +137,7 @@ module _ (laws : Laws) (seat : ℕ) where
       head_of : {e f : Entry} {es fs : List Entry} → e ∷ es ≡ f ∷ fs → e ≡ f
       head_of h = cc
   begins_by line history entry more id (Some refusal) lowest refused adds =
-      let ends = laws.settle_ends history seat line id refusal.why lowest (ap (option_map (λ (r : ListRefusal). r.why)) refused) in
+      let ends = laws.ends history seat line id refusal.why lowest (ap (option_map (λ (r : ListRefusal). r.why)) refused) in
       absurd (no_more (sym (ap (λ (s : Settled). s.added) ends) ∙ adds))
     where
       no_more : {e : Entry} {es : List Entry} → [] ≡ e ∷ es → ⊥
@@ -149,7 +146,7 @@ module _ (laws : Laws) (seat : ℕ) where
   begins_from : (line : ℕ) (history : List Entry) (entry : Entry) (more : List Entry) (lowest : Option ℕ) → lowest_unready (fold history) ≡ lowest
       → (settled history seat line).added ≡ entry ∷ more → Begins line history entry
   begins_from line history entry more None lowest adds =
-      absurd (no_more (sym (ap (λ (s : Settled). s.added) (laws.settle_over history seat line lowest)) ∙ adds))
+      absurd (no_more (sym (ap (λ (s : Settled). s.added) (laws.over history seat line lowest)) ∙ adds))
     where
       no_more : {e : Entry} {es : List Entry} → [] ≡ e ∷ es → ⊥
       no_more h = cc

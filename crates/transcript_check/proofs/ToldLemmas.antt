@@ -9,7 +9,8 @@ use Rattle.script_lang.specs.declared.line.Line.{Line}
 use Rattle.transcripts.specs.declared.record.Answer.TheVariants.{Accepted}
 use Rattle.transcript_check.specs.Section.{Cursor, line_step, told_text, given_up, tells, tells_given_up, is_settle, told_from}
 use Rattle.transcript_check.specs.Here.{tells_in, goes_in, IsToldIn, HasToldOne, HasGoneIn, HasEnteredSo, HasTakenLowest, HasChanged, HasMadeNext}
-use Rattle.transcript_check.proofs.HereLemmas.{Counts, LowestIsUnready, GoesByLowest, tells_so}
+use Rattle.transcript_check.proofs.StepLemmas.{GoesByLowest}
+use Rattle.transcript_check.proofs.HereLemmas.{Counts, LowestIsUnready, tells_so}
 use Rattle.transcript_check.proofs.MakeLemmas.{FoldsOn, taken_next, changed_next}
 
 or_true : (a : Bool) → (a || true) ≡ true

@@ -15,6 +15,7 @@ use crate::block::Block;
 use crate::cursor::{change_so, take_lowest_so};
 use crate::stop::LineStop;
 use crate::told::is_answered_so;
+use history_laws::laws::{histories_go_on, intake_readies_one, unready_files_have_an_order};
 use ide_calls::laws::a_settle_goes_by_the_lowest;
 use ide_text::{Name, SharedText};
 use replay::Replay;
@@ -22,7 +23,6 @@ use script_lang::{Command, Line};
 use std::alloc::{AllocError, Global};
 use std::marker::Model;
 use transcripts::{Answer, Loaded, Record, record_text};
-use write_history::laws::{histories_go_on, intake_readies_one, unready_files_have_an_order};
 use write_history::{Change, is_lawful_path};
 
 /// The texts of entries that are left, in order.

@@ -3,13 +3,14 @@ ghost use Rattle.std.specs.Prelude.{◌≡◌, true, IfOk, IsSome, None, Some, i
 ghost use Rattle.std.specs.List.{list_all};
 ghost use Rattle.write_history.specs.World.{file_of, lowest_unready};
 ghost use Rattle.write_history.specs.Fold.{list_refusal};
-ghost use Rattle.replay.specs.Ready.{is_edit};
+ghost use Rattle.write_history.specs.Changes.{is_edit};
 ghost use Rattle.query_engine.specs.Listed.{path_at};
 ghost use Rattle.query_engine.specs.Reply.{reply};
 ghost use Rattle.script_lang.specs.Held.{IsOfLine};
 ghost use Rattle.transcripts.specs.Serial.{answer_of};
 ghost use Rattle.transcript_check.specs.Here.{answer_in, refused_in, settle_in, load_in};
 
+use history_laws::laws::unready_files_have_an_order;
 use ide_text::Name;
 use queries::Query;
 use query_engine::AskRefusal;
@@ -17,7 +18,6 @@ use replay::Replay;
 use script_lang::{Command, Line};
 use std::alloc::{AllocError, Global};
 use transcripts::Answer;
-use write_history::laws::unready_files_have_an_order;
 use write_history::{Changes, MAX_ENTRIES, Refusal, is_lawful_path};
 
 /// What the command of a line is answered here, where it adds nothing to the history; nothing was read for it. It costs

@@ -18,7 +18,6 @@ use crate::block::Block;
 use decl_parser::laws::{names_are_identifiers, supers_are_identifiers};
 use java_tokens::laws::identifiers_are_words;
 use std::alloc::{AllocError, Global};
-use write_history::laws::{histories_go_on, paths_are_lawful};
 
 /// The blocks of some bytes, as parts of them: each is a line with the lines behind it that begin with a space. Joined they
 /// are the bytes: where these begin with a space, so does the first block, and where no line break ends them, none ends the
@@ -91,8 +90,6 @@ pub fn transcripts_are_cut()
     ensures cut { (loads : List Loaded) (script : Parts) (told : List Worked) (ended : Ended) → RunFits loads script told ended
         → blocks_of (transcript_of ended) ≡ texts_of ended }
 {
-    histories_go_on();
-    paths_are_lawful();
     names_are_identifiers();
     supers_are_identifiers();
     identifiers_are_words();

@@ -1,7 +1,7 @@
 //! A section on its way through a history.
 ghost use Rattle.std.specs.Prelude.{◌≡◌, ◌<◌, length, true, IfOk, OnOk};
 ghost use Rattle.std.specs.List.{list_all};
-ghost use Rattle.replay.specs.Ready.{is_edit};
+ghost use Rattle.write_history.specs.Changes.{is_edit};
 ghost use Rattle.script_lang.specs.Held.{IsOfLine};
 ghost use Rattle.transcript_check.specs.Section.{is_settle};
 ghost use Rattle.transcript_check.specs.Here.{HasToldOne, IsToldAll, HasMadeNext, HasChanged, HasTakenLowest, HasEnteredSo};
@@ -9,6 +9,7 @@ ghost use Rattle.transcript_check.specs.Here.{HasToldOne, IsToldAll, HasMadeNext
 use crate::block::Block;
 use crate::entering::{enter_so, take_so};
 use crate::told::is_told_here;
+use history_laws::laws::histories_go_on;
 use ide_calls::laws::a_settle_goes_by_the_lowest;
 use replay::Replay;
 use script_lang::{Command, Line};
@@ -16,7 +17,6 @@ use std::alloc::{AllocError, Global};
 use std::marker::Model;
 use transcripts::{Answer, Record, record_text};
 use write_history::Changes;
-use write_history::laws::histories_go_on;
 
 /// A section on its way: its lines that are left, with the texts of their records, and whether it is in the middle of a
 /// settle.

@@ -1,7 +1,7 @@
 //! Entries go in where they are printed so.
 ghost use Rattle.std.specs.Prelude.{◌≡◌, true, IfOk};
 ghost use Rattle.std.specs.List.{list_all};
-ghost use Rattle.replay.specs.Ready.{is_edit};
+ghost use Rattle.write_history.specs.Changes.{is_edit};
 ghost use Rattle.replay.specs.Steps.{intake_of};
 ghost use Rattle.transcript_check.specs.Here.{HasGoneIn};
 

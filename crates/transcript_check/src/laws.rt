@@ -20,7 +20,6 @@ ghost use Rattle.transcript_check.specs.Verdict.{verdict_of};
 use crate::blocks::{blocks_join, transcripts_are_cut};
 use ide_calls::laws::a_settle_goes_by_the_lowest;
 use transcripts::laws::{a_run_alone_is_serial, a_section_alone_is_serial};
-use write_history::laws::{histories_go_on, ids_are_places};
 
 /// Texts of entries and records that are checked are those of a run of the script, and all those of a run are checked.
 pub fn checked_texts_are_those_of_a_run()
@@ -30,8 +29,6 @@ pub fn checked_texts_are_those_of_a_run()
         → AreOfScript script → workers < 2 ^ 32 → AreTextsOfRun loads script workers entries records
         → are_checked loads script workers entries records ≡ true }
 {
-    histories_go_on();
-    ids_are_places();
     a_settle_goes_by_the_lowest();
     a_section_alone_is_serial();
 }

@@ -14,10 +14,10 @@ use crate::round::{is_busy, tell_all, waiting};
 use crate::stop::{LineStop, SideStop};
 use crate::taken::Taken;
 use crate::workers::worker_goes;
+use history_laws::laws::histories_go_on;
 use replay::Replay;
 use script_lang::Line;
 use std::alloc::{AllocError, Global};
-use write_history::laws::histories_go_on;
 
 /// Goes on with lanes and workers side by side, entry by entry, up to the first text that is of no seat here. Gives the
 /// texts that are left, or the first entry that doesn't go in so, or else the first lane that isn't over. For each entry it goes once over the

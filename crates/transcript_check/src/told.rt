@@ -7,12 +7,12 @@ ghost use Rattle.transcript_check.specs.Here.{IsToldIn, head_in, tells_in};
 
 use crate::answering::answer_here;
 use crate::block::Block;
+use history_laws::laws::{histories_go_on, unready_files_have_an_order};
 use ide_calls::laws::a_settle_goes_by_the_lowest;
 use replay::Replay;
 use script_lang::{Command, Line};
 use std::alloc::{AllocError, Global};
 use transcripts::{Record, record_text};
-use write_history::laws::{histories_go_on, unready_files_have_an_order};
 
 /// Whether the record of a line with this text can stand here: the line adds nothing and is answered so, or another
 /// section runs beside and the text tells that the line was given up. Where the text holds at another prefix, it costs

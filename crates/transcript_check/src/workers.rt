@@ -9,9 +9,9 @@ use crate::entering::take_so;
 use crate::numbers::file_in;
 use crate::round::is_busy;
 use crate::taken::Taken;
+use history_laws::laws::ids_are_places;
 use replay::Replay;
 use std::alloc::{AllocError, Global};
-use write_history::laws::ids_are_places;
 
 /// The worker with this seat takes in the file that a text names, at its present stamp, as the entry with that text: where
 /// no section is in the middle of a settle and the worker hasn't done so before. It costs the text of the file.

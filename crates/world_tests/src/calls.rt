@@ -2,7 +2,7 @@
 ghost use Rattle.std.specs.Prelude.{◌≡◌, ◌∷◌, [], true, IfOk};
 ghost use Rattle.list_laws.specs.Fronts.{IsFront};
 ghost use Rattle.write_history.specs.Fold.{fold};
-ghost use Rattle.ide_world.specs.Ready.{is_edit};
+ghost use Rattle.write_history.specs.Changes.{is_edit};
 
 use action_lock::Home;
 use ide_calls::{IdeHome, IdeShare};

@@ -1,13 +1,16 @@
 -- The parts of a path are what a cut at each slash gives.
-use Rattle.std.proofs.Common.{◌≡◌, ℕ, zero, suc, ◌<◌, Bool, true, false, not, List, [], ◌∷◌, ◌++◌, length, eqb, cond, codes, encode_utf8_all, refl, ap, sym, ◌∙◌, ⊎_elim, arith, append-nil, lit<}
-use Rattle.std.specs.Prelude.{◌==◌, ◌&&◌, ◌||◌, map}
+use Rattle.std.proofs.Common.{◌≡◌, ℕ, zero, suc, ◌<◌, true, false, not, List, [], ◌∷◌, ◌++◌, length, eqb, cond, codes, encode_utf8_all, refl, ap, sym, ◌∙◌, ⊎_elim, arith, append-nil, lit<}
+use Rattle.std.specs.Prelude.{◌==◌, ◌&&◌, map}
 use Rattle.std.specs.Char.{encode_utf8, is_ascii}
 use Rattle.std.specs.List.{list_any, list_all, slice_split, onto_first}
 use Rattle.std.specs.Str.{chars, bytes_eq, IsUtf8, IsAscii}
-use Rattle.std.proofs.lemmas.Bool.{false≢true, cases_Bool, eqb-true, ltb-true, and_parts}
+use Rattle.std.proofs.lemmas.Bool.{cases_Bool, eqb-true, ne_eqb, ltb-true, and_parts, or_parts}
+use Rattle.std.proofs.lemmas.Bool.Decides.{same_from_decides}
+use Rattle.std.proofs.lemmas.List.Recursion.{or_from_places}
 use Rattle.std.proofs.lemmas.List.Splits.{slice_split-cons_yes, slice_split-cons_no}
-use Rattle.std.proofs.lemmas.Str.{encode_ascii, length-encode, len_utf8_bounds, encodes-IsAscii, encodes-chars}
-use Rattle.ide_text.proofs.Utf8Lemmas.{list_any-encode, bytes_eq-encodes}
+use Rattle.std.proofs.lemmas.Slice.Eq.{bytes_eq-Decides}
+use Rattle.std.proofs.lemmas.Str.{encode_ascii, length-encode, len_utf8_bounds, encodes_same, encodes-IsAscii, encodes-chars}
+use Rattle.std.proofs.lemmas.Str.Pattern.{NoCharPasses-char}
 use Rattle.write_history.specs.Path as path
 use Rattle.write_history.specs.Path.{parts_of, is_part}
 
@@ -16,11 +19,6 @@ ascii_at : (word : List ℕ) → list_all is_ascii word ≡ true → IsAscii wor
 ascii_at [] ascii i = omega arith
 ascii_at (b ∷ word) ascii zero = ltb-true b 128 (and_parts _ _ ascii).0
 ascii_at (b ∷ word) ascii (suc i) = ascii_at word (and_parts _ _ ascii).1 i
-
--- two tests that fail
-pub both_false : (a b : Bool) → (a || b) ≡ false → (a ≡ false) × (b ≡ false)
-both_false true b h = absurd (false≢true (sym h))
-both_false false b h = (refl, h)
 
 onto_first-same : (c : ℕ) (parts : List (List ℕ)) → onto_first c parts ≡ path.onto_first c parts
 onto_first-same c [] = refl
@@ -50,10 +48,10 @@ split-front : (xs ys : List ℕ) → 0 < length xs → list_any (λ b. b == 47) 
     → slice_split (λ b. eqb b 47) (xs ++ ys) ≡ onto xs (slice_split (λ b. eqb b 47) ys)
 split-front [] ys some none = absurd (omega arith)
 split-front (x ∷ []) ys some none =
-    slice_split-cons_no (λ b. eqb b 47) x ys (both_false _ _ none).0 ∙ onto-one x (slice_split (λ b. eqb b 47) ys)
+    slice_split-cons_no (λ b. eqb b 47) x ys (or_parts _ _ none).0 ∙ onto-one x (slice_split (λ b. eqb b 47) ys)
 split-front (x ∷ x' ∷ xs) ys some none =
-    slice_split-cons_no (λ b. eqb b 47) x ((x' ∷ xs) ++ ys) (both_false _ _ none).0
-    ∙ ap (onto_first x) (split-front (x' ∷ xs) ys (omega arith) (both_false _ _ none).1)
+    slice_split-cons_no (λ b. eqb b 47) x ((x' ∷ xs) ++ ys) (or_parts _ _ none).0
+    ∙ ap (onto_first x) (split-front (x' ∷ xs) ys (omega arith) (or_parts _ _ none).1)
     ∙ onto-onto_first x (x' ∷ xs) (slice_split (λ b. eqb b 47) ys)
 
 -- a part with one character more, in UTF-8
@@ -61,6 +59,12 @@ map-onto_first : (c : ℕ) (parts : List (List ℕ))
     → onto (encode_utf8 c) (map encode_utf8_all parts) ≡ map encode_utf8_all (onto_first c parts)
 map-onto_first c [] = ap (λ bs. bs ∷ []) (sym (append-nil (encode_utf8 c)))
 map-onto_first c (part ∷ parts) = refl
+
+-- no byte of a character other than the slash is a slash
+no_slash : (c : ℕ) → eqb c 47 ≡ false → list_any (λ b. b == 47) (encode_utf8 c) ≡ false
+no_slash c other =
+    or_from_places (list_any (λ b. b == 47)) (λ b. b == 47) refl (λ x xs. refl) (encode_utf8 c) 0
+    (λ i l. ne_eqb _ 47 (NoCharPasses-char 47 (encode_utf8 c) i (c ∷ [], append-nil (encode_utf8 c), (other, tt)) (lit< tt) l))
 
 -- the parts of a text in UTF-8 are those of its characters
 split-encodes : (cs : List ℕ) → slice_split (λ b. eqb b 47) (encode_utf8_all cs) ≡ map encode_utf8_all (slice_split (λ c. eqb c 47) cs)
@@ -73,7 +77,7 @@ split-encodes (c ∷ cs) = ⊎_elim
     ∙ ap (λ parts. [] ∷ parts) (split-encodes cs)
     ∙ ap (map encode_utf8_all) (sym (slice_split-cons_yes (λ b. eqb b 47) c cs slash)))
     (λ other.
-    split-front (encode_utf8 c) (encode_utf8_all cs) (omega (arith, length-encode c, (len_utf8_bounds c).0)) (list_any-encode c 47 (lit< tt) ∙ other)
+    split-front (encode_utf8 c) (encode_utf8_all cs) (omega (arith, length-encode c, (len_utf8_bounds c).0)) (no_slash c other)
     ∙ ap (onto (encode_utf8 c)) (split-encodes cs)
     ∙ map-onto_first c (slice_split (λ b. eqb b 47) cs)
     ∙ ap (map encode_utf8_all) (sym (slice_split-cons_no (λ b. eqb b 47) c cs other)))
@@ -81,7 +85,10 @@ split-encodes (c ∷ cs) = ⊎_elim
 
 -- an ASCII text against a part in UTF-8
 bytes_eq-ascii : (part text : List ℕ) → IsAscii text → bytes_eq (encode_utf8_all part) text ≡ bytes_eq part text
-bytes_eq-ascii part text ascii = ap (bytes_eq (encode_utf8_all part)) (sym (encodes-IsAscii text ascii)) ∙ bytes_eq-encodes part text
+bytes_eq-ascii part text ascii =
+    let is : encode_utf8_all text ≡ text = encodes-IsAscii text ascii in
+    let same = bytes_eq-Decides (encode_utf8_all part) text in
+    same_from_decides _ _ (λ h. encodes_same part text (same.0 h ∙ sym is), λ e. same.1 (ap encode_utf8_all e ∙ is)) (bytes_eq-Decides part text)
 
 is_part-encodes : (part : List ℕ) → is_part (encode_utf8_all part) ≡ is_part part
 is_part-encodes part = λ i.

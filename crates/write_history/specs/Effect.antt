@@ -1,12 +1,12 @@
 -- When a change is refused, and what it does.
-use Rattle.std.specs.Prelude.{ℕ, ◌+◌, Bool, false, not, ◌||◌, List, [], ◌∷◌, ◌++◌, length, nat_le, nat_lt, ◌==◌, if◌then◌else◌, Option, Some, None, is_some, is_none, option_map, unwrap_or, bytes_eq}
+use Rattle.std.specs.Prelude.{ℕ, ◌+◌, Bool, true, false, not, ◌||◌, List, [], ◌∷◌, ◌++◌, length, nat_le, nat_lt, ◌==◌, if◌then◌else◌, Option, Some, None, is_some, is_none, option_map, unwrap_or, bytes_eq}
 use Rattle.std.specs.Option.{option_map_or, option_and_then}
 use Rattle.ide_text.specs.Text.{max_chars}
 use Rattle.document_buf.specs.Document.{Document, opened, inserted, erased, committed, marked_saved, replaced}
 use Rattle.write_history.specs.declared.change.Change.{Change}
 use Rattle.write_history.specs.declared.change.Change.TheVariants.{Create, Write, Delete, OpenDoc, Insert, Erase, Commit, Save, CloseDoc, Intake, Move}
 use Rattle.write_history.specs.declared.refusal.Refusal.{Refusal}
-use Rattle.write_history.specs.declared.refusal.Refusal.TheVariants.{NoSuchFile, PathTaken, BadPath, NotOpen, AlreadyOpen, BadRange, Unsaved, Uncommitted, Conflict, FilesFull, DocsFull, TextFull, Stale, HistoryFull}
+use Rattle.write_history.specs.declared.refusal.Refusal.TheVariants.{NoSuchFile, PathTaken, BadPath, NotOpen, AlreadyOpen, BadRange, Unsaved, Uncommitted, Conflict, FilesFull, DocsFull, TextFull, Stale, HistoryFull, OutOfMemory}
 use Rattle.write_history.specs.Path.{is_path}
 use Rattle.write_history.specs.World.{World, File, file_of, id_at, file_at, document_at, next_id, is_open, count_of}
 
@@ -21,6 +21,11 @@ max_documents = 1024
 -- the most entries of a history
 abbrev pub max_entries : ℕ
 max_entries = 1048576
+
+-- a refusal that no rule gives: memory ran out
+abbrev pub is_want_of_memory : Refusal → Bool
+is_want_of_memory OutOfMemory = true
+is_want_of_memory why = false
 
 -- a reason to refuse, and whether it stands
 pub record Reason : Type 0 where

@@ -6,8 +6,6 @@ pub mod Effect
 pub mod Fold
 pub mod Stamps
 pub mod Counts
-pub mod Texts
-pub mod Named
 -- The kept history and its print
 pub mod Kept
 pub mod Print

@@ -5,7 +5,6 @@ mod change;
 mod changes;
 mod entry;
 mod history;
-pub mod laws;
 mod path;
 mod pieces;
 mod print;

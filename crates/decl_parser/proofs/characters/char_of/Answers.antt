@@ -1,5 +1,5 @@
 use Rattle.std.proofs.Common.{◌≡◌, suc, ◌∷◌, List, ℕ, drop, subst}
-use Rattle.java_tokens.proofs.Pieces.{drop-part}
+use Rattle.list_laws.proofs.PartLemmas.{drop-part}
 use Rattle.decl_parser.proofs.characters.char_of.Goals as goal
 
 -- the text's character is the node's

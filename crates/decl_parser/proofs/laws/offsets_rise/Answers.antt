@@ -1,5 +1,4 @@
 use Rattle.java_tokens.specs.Tokens.{tokens_of}
-use Rattle.java_tokens.proofs.TokenLemmas.{are_tokens_of, inside_tokens_of}
 use Rattle.decl_parser.specs.Forest.{forest_of}
 use Rattle.decl_parser.specs.Listing.{listing_of}
 use Rattle.decl_parser.proofs.ForestRising.{forest-rises}
@@ -9,4 +8,5 @@ use Rattle.decl_parser.proofs.laws.offsets_rise.Goals as goal
 pub returns : goal.returns
 unfolding listing_of
 returns c text =
-    listing-rises text (forest_of text (tokens_of text)) (forest-rises text (are_tokens_of text) (inside_tokens_of text))
+    listing-rises text (forest_of text (tokens_of text)) (forest-rises text (c.tokens_cover_their_text.ensures.follow text)
+    (c.tokens_cover_their_text.ensures.inside text))

@@ -3,7 +3,6 @@ use Rattle.std.specs.Prelude.{None, All}
 use Rattle.ide_text.specs.Text.{max_chars}
 use Rattle.java_tokens.specs.Token.{Token}
 use Rattle.java_tokens.specs.Tokens.{IsInside, tokens_of}
-use Rattle.java_tokens.proofs.TokenLemmas.{are_tokens_of, inside_tokens_of}
 use Rattle.stub_tree.specs.declared.stub.Stub.{Stub}
 use Rattle.stub_tree.specs.Lawful.{IsLawfulList}
 use Rattle.decl_parser.specs.Node.{Node}
@@ -29,8 +28,8 @@ forest-requires c =
     let tokens = c.deref.ensures.value ∙ c.requires in
     let short = c.len.ensures.text.few in
     record {
-      inside = subst (All (IsInside text)) (sym tokens) (inside_tokens_of text);
-      few = subst (λ (ts : List Token). length ts ≤ max_chars) (sym tokens) (let few = tokens_of-few text in omega arith);
+      inside = subst (All (IsInside text)) (sym tokens) (c.tokens_cover_their_text.ensures.inside text);
+      few = subst (λ (ts : List Token). length ts ≤ max_chars) (sym tokens) (let few = tokens_of-few text (c.tokens_cover_their_text.ensures.follow text) (c.tokens_cover_their_text.ensures.inside text) in omega arith);
       short = short;
     }
 
@@ -39,7 +38,7 @@ from_vec-requires c =
     let text = c.args.text.now in
     let is = listed text _ _ _ _ _ c.in_ok-add_level.ensures c.new-stubs.ensures.items c.deref-2.ensures.value c.in_ok-forest.ensures (c.deref.ensures.value ∙ c.requires) in
     subst IsLawfulList (sym is)
-    (listing-lawful text c.len.ensures.text.few (forest_of text (tokens_of text)) (forest-rises text (are_tokens_of text) (inside_tokens_of text)))
+    (listing-lawful text c.len.ensures.text.few (forest_of text (tokens_of text)) (forest-rises text (c.tokens_cover_their_text.ensures.follow text) (c.tokens_cover_their_text.ensures.inside text)))
 
 pub returns : goal.returns
 unfolding listing_of

@@ -1,5 +1,5 @@
 use Rattle.std.proofs.Common.{ap, ◌∙◌, rules}
-use Rattle.action_lock.proofs.AdvanceLemmas.{advances_on}
+use Rattle.lock_laws.proofs.AdvanceLemmas.{advances_on}
 use Rattle.write_history.specs.declared.entry.Entry.{Entry}
 use Rattle.action_lock.specs.declared.view.View.{View}
 use Rattle.ide_calls.proofs.ReadLemmas.{read_once, looked_by}

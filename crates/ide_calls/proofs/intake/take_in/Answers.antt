@@ -1,4 +1,4 @@
-use Rattle.action_lock.proofs.AdvanceLemmas.{advances_on}
+use Rattle.lock_laws.proofs.AdvanceLemmas.{advances_on}
 use Rattle.ide_calls.proofs.StepLemmas.{answered_within}
 use Rattle.ide_calls.proofs.intake.take_in.Goals as goal
 

@@ -1,5 +1,5 @@
 use Rattle.std.proofs.Common.{refl, ◌∙◌}
-use Rattle.action_lock.proofs.AdvanceLemmas.{advances_on}
+use Rattle.lock_laws.proofs.AdvanceLemmas.{advances_on}
 use Rattle.ide_calls.proofs.StepLemmas.{answered_by_read, taken_in}
 use Rattle.ide_calls.proofs.intake.take_in_now.Goals as goal
 

@@ -1,11 +1,10 @@
-use Rattle.std.proofs.Common.{rules, ◌≡◌, ◌∙◌, ap}
+use Rattle.std.proofs.Common.{rules, ◌≡◌, ap, subst}
 use Rattle.write_history.specs.declared.refusal.Refusal.TheVariants.{OutOfMemory}
-use Rattle.ide_world.specs.Ready.{is_want_of_memory}
-use Rattle.ide_calls.proofs.RuleLemmas.{first_is_accepted}
+use Rattle.write_history.specs.Effect.{is_want_of_memory}
+use Rattle.ide_world.specs.Ready.{IsFirstAccepted}
 use Rattle.ide_calls.proofs.planning.plan_in.Goals as goal
 
 pub returns-in-Err-clause-refused : goal.returns-in-Err-clause-refused
 returns-in-Err-clause-refused c =
     let wants : c.in-Err.refusal.why ≡ OutOfMemory = search rules in
-    first_is_accepted c.args.state.now.world c.args.changes.now c.in-Err.refusal (ap is_want_of_memory wants)
-    (λ change rest why is refused. let told = c.in-Err.ensures.first change rest why (c.as_slice.ensures.value ∙ is) refused in cc)
+    subst (IsFirstAccepted c.args.state.now.world) c.as_slice.ensures.value (c.in-Err.ensures.refused.memory (ap is_want_of_memory wants))

@@ -1,4 +1,4 @@
-use Rattle.action_lock.proofs.AdvanceLemmas.{advances_on}
+use Rattle.lock_laws.proofs.AdvanceLemmas.{advances_on}
 use Rattle.ide_calls.proofs.SettleLemmas.{ok_within, err_within}
 use Rattle.ide_calls.proofs.settling.settle.Goals as goal
 

@@ -1,5 +1,5 @@
 use Rattle.std.proofs.Common.{◌∙◌, Some, None}
-use Rattle.action_lock.proofs.AdvanceLemmas.{advances_on}
+use Rattle.lock_laws.proofs.AdvanceLemmas.{advances_on}
 use Rattle.write_history.specs.declared.refusal.Refusal.TheVariants as why
 use Rattle.ide_calls.proofs.TurnLemmas.{smart_on, end_on, nothing_yet, turn_on, part_on}
 use Rattle.ide_calls.proofs.settling.settle_now.Goals as goal

@@ -1,17 +1,23 @@
-use Rattle.std.proofs.Common.{ap, arith, Err}
-use Rattle.ide_world.proofs.GroupLemmas.{turn_at, whole_list}
-use Rattle.ide_world.proofs.FirstLemmas.{first_told}
+use Rattle.std.proofs.Common.{arith}
+use Rattle.ide_world.proofs.GroupLemmas.{refused_here, turn_at, whole_list}
+use Rattle.ide_world.proofs.FirstLemmas.{first_accepted, first_at_want}
 use Rattle.ide_world.proofs.group.prepare_group.Goals as goal
 
 pub loop-index-preserved : goal.loop-index-preserved
 loop-index-preserved c =
     let t = turn_at _ _ _ c.index-changes-index.result _ _ c.loop-index-test.true c.index-changes-index.is c.loop-index.invariant.so_far c.loop-index.invariant.edits c.in_default.ensures.accepted c.in_default.ensures.extended in
-    record { so_far = t.so_far; edits = t.edits }
+    record {
+      so_far = t.so_far;
+      edits = t.edits;
+      first = λ some. first_accepted _ _ _ _ c.index-changes-index.result _ c.index-changes-index.is c.loop-index.invariant.so_far c.loop-index.invariant.first c.in_default.ensures.accepted;
+    }
 
--- a first change that is refused is refused at the first turn, before any step is made
-pub returns-in-Err-clause-first : goal.returns-in-Err-clause-first
-returns-in-Err-clause-first c = λ change rest why split refused.
-    ap Err (first_told _ _ c.loop-index.index _ c.index-changes-index.result _ c.in-Err.why c.extend.result change rest why c.loop-index.invariant.so_far c.index-changes-index.is c.extend.ensures.first c.in-Err.is split refused)
+pub returns-in-Err-clause-refused : goal.returns-in-Err-clause-refused
+returns-in-Err-clause-refused c =
+    record {
+      by_rule = refused_here _ _ c.loop-index.index _ c.index-changes-index.result _ c.in-Err.why c.loop-index-test.true c.index-changes-index.is c.loop-index.invariant.so_far c.in-Err.ensures.refused (omega arith);
+      memory = first_at_want _ _ _ c.loop-index.index c.index-changes-index.result _ c.in-Err.why c.extend.result c.index-changes-index.is c.loop-index.invariant.so_far c.loop-index.invariant.first c.extend.ensures.first c.in-Err.is;
+    }
 
 pub returns-in-Ok-clause-ready : goal.returns-in-Ok-clause-ready
 returns-in-Ok-clause-ready c =

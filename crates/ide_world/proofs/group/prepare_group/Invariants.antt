@@ -1,6 +1,7 @@
-use Rattle.std.proofs.Common.{◌≡◌, drop, true}
+use Rattle.std.proofs.Common.{◌≡◌, ◌≤◌, drop, true}
 use Rattle.std.specs.List.{list_all}
-use Rattle.ide_world.specs.Ready.{is_edit}
+use Rattle.write_history.specs.Changes.{is_edit}
+use Rattle.ide_world.specs.Ready.{IsFirstAccepted}
 use Rattle.ide_world.proofs.GroupLemmas.{IsSoFar}
 use Rattle.ide_world.proofs.group.prepare_group.Given as goal
 
@@ -8,4 +9,5 @@ abbrev pub invariant-loop-index : goal.invariant-loop-index
 invariant-loop-index l = record {
   so_far : IsSoFar l.state.world l.changes l.index (drop l.index l.changes) l.draft;
   edits : list_all is_edit (drop l.index l.changes) ≡ true;
+  first : 1 ≤ l.index → IsFirstAccepted l.state.world l.changes;
 }

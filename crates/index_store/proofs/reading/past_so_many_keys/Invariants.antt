@@ -1,5 +1,5 @@
 use Rattle.std.proofs.Common.{◌≡◌, ◌-◌, None}
-use Rattle.stub_codec.specs.Reading.{many_at}
+use Rattle.byte_fields.specs.Reading.{many_at}
 use Rattle.index_store.specs.Reading.{behind, key_at}
 use Rattle.index_store.proofs.reading.past_so_many_keys.Given as goal
 

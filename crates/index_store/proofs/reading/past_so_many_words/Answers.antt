@@ -1,7 +1,7 @@
 use Rattle.std.proofs.Common.{None, subst, sym, ap, ◌∙◌}
 use Rattle.std.proofs.lemmas.Result.{err_from_is_err_and}
-use Rattle.stub_codec.specs.Answers.{Fails}
-use Rattle.stub_codec.specs.Reading.{many_at}
+use Rattle.byte_fields.specs.Answers.{Fails}
+use Rattle.byte_fields.specs.Reading.{many_at}
 use Rattle.index_store.specs.Reading.{behind, word_at}
 use Rattle.index_store.proofs.PastLemmas.{goes_on, ends, is_done}
 use Rattle.index_store.proofs.reading.past_so_many_words.Goals as goal

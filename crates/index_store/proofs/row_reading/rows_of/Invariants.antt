@@ -1,6 +1,6 @@
 use Rattle.std.proofs.Common.{◌≡◌, ◌-◌, None}
-use Rattle.stub_codec.specs.Reading.{many_at}
-use Rattle.stub_codec.proofs.ManyLemmas.{with_front, last}
+use Rattle.byte_fields.specs.Reading.{many_at}
+use Rattle.field_laws.proofs.ManyLemmas.{with_front, last}
 use Rattle.index_store.specs.Reading.{row_at}
 use Rattle.index_store.proofs.row_reading.rows_of.Given as goal
 

@@ -19,10 +19,10 @@ returns-clause-lawful c =
       record {
         lawful = coded.lawful;
         scalars = coded.scalars;
-        inside = listing_inside text (c.names_are_identifiers.ensures text);
+        inside = listing_inside c.identifiers_are_words.ensures.token text (c.names_are_identifiers.ensures text);
         short = subst (λ (l : List ℕ). length l < 2 ^ 32) coded.spelled short;
       },
-      words_lawful text ordered named,
+      words_lawful c.identifiers_are_words.ensures.token text ordered named,
       few,
       refl,
     )

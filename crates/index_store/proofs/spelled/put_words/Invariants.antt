@@ -1,6 +1,6 @@
 use Rattle.std.proofs.Common.{◌≡◌, true, ◌++◌, length, take}
 use Rattle.std.specs.List.{flat_map}
-use Rattle.stub_codec.specs.Spelling.{number}
+use Rattle.byte_fields.specs.Spelling.{number}
 use Rattle.index_store.specs.Lawful.{are_spelled}
 use Rattle.index_store.specs.Spelling.{word}
 use Rattle.index_store.proofs.spelled.put_words.Given as goal

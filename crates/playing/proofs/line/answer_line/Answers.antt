@@ -1,14 +1,13 @@
 use Rattle.std.proofs.Common.{◌≡◌, true, refl, ap, sym, subst, ◌∙◌}
 use Rattle.std.specs.List.{list_all}
-use Rattle.shared_ide.specs.Ready.{is_edit}
+use Rattle.write_history.specs.Changes.{is_edit}
 use Rattle.script_lang.specs.declared.command.Command.TheVariants as command
 use Rattle.playing.proofs.AnsweredLemmas.{line_done, line_softly}
-use Rattle.playing.proofs.EditLemmas.{edits_of}
 use Rattle.playing.proofs.line.answer_line.Goals as goal
 
 pub do_group-requires-clause-edits : goal.do_group-requires-clause-edits
 do_group-requires-clause-edits g c =
-    subst (λ changes. list_all is_edit changes ≡ true) (sym c.in_ok-copy-in-Group.ensures) (edits_of _ (rw c.in-Group.is at c.requires.command).1)
+    subst (λ changes. list_all is_edit changes ≡ true) (sym c.in_ok-copy-in-Group.ensures) (rw c.in-Group.is at c.requires.command).1
 
 pub returns-in_ok-copy-in-Change-clause-answer : goal.returns-in_ok-copy-in-Change-clause-answer
 returns-in_ok-copy-in-Change-clause-answer g c =

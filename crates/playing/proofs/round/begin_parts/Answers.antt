@@ -1,6 +1,5 @@
 use Rattle.std.proofs.Common.{◌≡◌, ℕ, List, [], ◌∷◌, ◌++◌, length, sym, ap, ◌∙◌, subst, arith, length-append}
 use Rattle.index_workers.specs.Passes.{ide_view}
-use Rattle.index_workers.proofs.PassLemmas.{same_on}
 use Rattle.playing.specs.declared.part.Outcome.TheVariants.{Nothing}
 use Rattle.playing.specs.declared.part.Part.{Part}
 use Rattle.playing.specs.Parts.{HasBegun, IsTaskAt}
@@ -24,7 +23,7 @@ loop-place-preserved c =
     before.begun split.ok.2 split.ok.0 split.ok.3 task in
     record {
       rests = split.pass.0;
-      same = same_on _ _ _ before.same split.pass.1;
+      same = c.passes_stay_the_same.ensures _ _ _ before.same split.pass.1;
       begun = subst (λ (l : List Part). HasBegun c.args.ide.now c.args.round.lanes (ide_view c.args.pass.now) (ide_view c.split.new.pass) l) (sym items) more;
       many = ap length items ∙ omega (arith, length-append parts (part ∷ []));
       room = let grown = c.push.ensures.capacity in let r = before.room in omega arith;

@@ -1,7 +1,6 @@
 use Rattle.std.proofs.Common.{◌≡◌, List, [], ◌∷◌, ◌++◌, sym, ap, ◌∙◌, arith, append_assoc}
 use Rattle.std.proofs.lemmas.Bool.{and_parts}
 use Rattle.index_workers.specs.Passes.{ide_view}
-use Rattle.index_workers.proofs.PassLemmas.{same_on}
 use Rattle.playing.specs.declared.part.Part.{Part}
 use Rattle.playing.specs.Parts.{CanMeet}
 use Rattle.playing.proofs.PartLemmas.{met_more, taken_more}
@@ -36,7 +35,7 @@ loop-left-preserved c =
     let first : left.items ≡ part ∷ rest = first_removed left.items rest part (omega arith) c.remove-other.ensures.value c.remove-other.ensures.items in
     record {
       rests = c.meet.ensures.pass.0;
-      same = same_on _ _ _ before.same c.meet.ensures.pass.1;
+      same = c.passes_stay_the_same.ensures _ _ _ before.same c.meet.ensures.pass.1;
       met = before.met ++ part ∷ [];
       are = before.are ∙ ap (λ (l : List Part). before.met ++ l) first ∙ sym (append_assoc before.met (part ∷ []) rest);
       learned = met_more (ide_view c.args.pass.now) (ide_view c.loop-left.pass) (ide_view c.meet.new.pass) before.met part before.learned

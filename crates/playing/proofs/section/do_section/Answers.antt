@@ -1,6 +1,5 @@
 use Rattle.std.proofs.Common.{rules, arith, refl, sym, subst}
-use Rattle.action_lock.proofs.AdvanceLemmas.{advances_not, advances_on}
-use Rattle.index_workers.proofs.PassLemmas.{same_on}
+use Rattle.lock_laws.proofs.AdvanceLemmas.{advances_not, advances_on}
 use Rattle.index_workers.specs.Passes.{ide_view}
 use Rattle.playing.proofs.SectionLemmas.{IsUnderWay, section_begins, section_turn, section_over}
 use Rattle.playing.proofs.section.do_section.Goals as goal
@@ -23,7 +22,7 @@ loop-line-preserved g c =
     let done = c.in_ok-do_line.ensures in
     record {
       rests = done.pass.0;
-      same = same_on _ _ _ before.same done.pass.1;
+      same = c.passes_stay_the_same.ensures _ _ _ before.same done.pass.1;
       advances = advances_on _ _ _ before.advances done.advances;
       nothing = before.nothing;
       under_way = section_turn c.args.beside c.args.seat c.args.lines.now c.args.loads.now _ _ _ _ _ _ c.loop-line.line-index _ _ _ _

@@ -7,11 +7,11 @@ use Rattle.script_lang.specs.Held.{IsOfLine}
 use Rattle.transcripts.specs.declared.loaded.Loaded.{Loaded}
 use Rattle.transcripts.specs.declared.loaded.Loaded.TheVariants.{Nothing}
 use Rattle.script_store.specs.Along.{HasEntered, HasGone}
-use Rattle.script_store.proofs.ChangeLemmas.{edits_of, change_goes}
+use Rattle.script_store.proofs.ChangeLemmas.{change_goes}
 use Rattle.script_store.proofs.along.go.Goals as goal
 
 pub enter-requires-in-Group : goal.enter-requires-in-Group
-enter-requires-in-Group c = edits_of c.in-Group.changes (subst IsOfLine c.in-Group.is c.requires).1
+enter-requires-in-Group c = (subst IsOfLine c.in-Group.is c.requires).1
 
 pub returns-in_ok-copy-in-Change : goal.returns-in_ok-copy-in-Change
 returns-in_ok-copy-in-Change c =

@@ -1,7 +1,7 @@
 use Rattle.std.proofs.Common.{None}
 use Rattle.std.proofs.lemmas.Result.{err_from_is_err_and}
-use Rattle.stub_codec.specs.Reading.{many_at, name_at}
-use Rattle.stub_codec.proofs.ManyLemmas.{last, goes_on, ends, is_done}
+use Rattle.byte_fields.specs.Reading.{many_at, name_at}
+use Rattle.field_laws.proofs.ManyLemmas.{last, goes_on, ends, is_done}
 use Rattle.stub_codec.proofs.reading.names_of.Goals as goal
 
 pub returns-in_err-name : goal.returns-in_err-name

@@ -1,8 +1,9 @@
 use Rattle.std.proofs.Common.{None, subst, sym, ap, ◌∙◌}
 use Rattle.std.proofs.lemmas.Result.{err_from_is_err_and}
-use Rattle.stub_codec.specs.Answers.{Fails}
-use Rattle.stub_codec.specs.Reading.{many_at, stub_at}
-use Rattle.stub_codec.proofs.ManyLemmas.{last, goes_on, ends, is_done}
+use Rattle.byte_fields.specs.Answers.{Fails}
+use Rattle.byte_fields.specs.Reading.{many_at}
+use Rattle.stub_codec.specs.Reading.{stub_at}
+use Rattle.field_laws.proofs.ManyLemmas.{last, goes_on, ends, is_done}
 use Rattle.stub_codec.proofs.reading.stubs_of.Goals as goal
 
 pub returns-in_err-stub : goal.returns-in_err-stub

@@ -1,7 +1,8 @@
 use Rattle.std.proofs.Common.{◌≡◌, ◌∷◌, ◌++◌, None, length, take, ap, sym, ◌∙◌, arith}
 use Rattle.std.specs.List.{flat_map, list_all}
 use Rattle.std.proofs.lemmas.Grind.{common_steps}
-use Rattle.stub_codec.specs.Spelling.{version, number, stub, has_scalars}
+use Rattle.byte_fields.specs.Spelling.{number}
+use Rattle.stub_codec.specs.Spelling.{version, stub, has_scalars}
 use Rattle.stub_codec.proofs.StubLemmas.{lawful_at}
 use Rattle.stub_codec.proofs.writing.encode.Goals as goal
 

@@ -2,4 +2,4 @@ use Rattle.stub_index.proofs.NamedLemmas.{types_values}
 use Rattle.stub_index.proofs.laws.types_are_found_by_their_names.Goals as goal
 
 pub returns : goal.returns
-returns c = λ stubs name. types_values name stubs
+returns c = λ stubs name. types_values name c.sorting_keeps_the_rows_of_a_key.ensures stubs

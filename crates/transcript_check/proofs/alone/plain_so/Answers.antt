@@ -1,6 +1,5 @@
 use Rattle.std.proofs.Common.{◌≡◌, [], ◌∷◌, sym, ◌∙◌}
-use Rattle.transcript_check.proofs.StepLemmas.{Laws}
-use Rattle.transcript_check.proofs.HereLemmas.{GoesByLowest}
+use Rattle.transcript_check.proofs.StepLemmas.{GoesByLowest}
 use Rattle.transcript_check.proofs.AloneLemmas.{told_gone, short_of_entries, no_text, all_changed_gone}
 use Rattle.transcript_check.proofs.alone.plain_so.Goals as goal
 
@@ -32,16 +31,7 @@ returns c =
       ends = c.a_settle_goes_by_the_lowest.ensures.ends;
       goes_on = c.a_settle_goes_by_the_lowest.ensures.goes_on;
     } in
-    let laws : Laws = record {
-      goes_on = c.histories_go_on.ensures.fold;
-      legal = c.histories_go_on.ensures.legal;
-      rest = c.histories_go_on.ensures.rest;
-      shorter = c.histories_go_on.ensures.shorter;
-      settle_over = c.a_settle_goes_by_the_lowest.ensures.over;
-      settle_ends = c.a_settle_goes_by_the_lowest.ensures.ends;
-      settle_goes_on = c.a_settle_goes_by_the_lowest.ensures.goes_on;
-    } in
     let texts : c.made.inside.left.now ≡ c.in-Some.entry.now ∷ c.in-Some.later.now = c.in-Some.ensures.cases.0 in
-    all_changed_gone c.histories_go_on.ensures.entries c.unready_files_have_an_order.ensures.lowest goes c.histories_go_on.ensures.fold laws
+    all_changed_gone c.histories_go_on.ensures.entries c.unready_files_have_an_order.ensures.lowest goes c.histories_go_on.ensures.fold
     c.args.replay.now c.change_so.new.replay c.args.seat c.args.line.now c.args.text.now c.in-Some.entry.now c.in-Some.later.now c.args.made.now
     c.change_so.result (sym c.made.view_is ∙ texts) c.requires.no_settle (sym c.in_ok-is_answered_so.ensures ∙ c.if-branch.false) c.change_so.ensures

@@ -1,7 +1,7 @@
 use Rattle.std.proofs.Common.{Bool, None, sym, ◌∙◌, subst}
 use Rattle.transcripts.specs.Serial.{settle_step}
 use Rattle.transcript_check.specs.Alone.{HasGone, HasTakenNext, left_where}
-use Rattle.transcript_check.proofs.HereLemmas.{GoesByLowest}
+use Rattle.transcript_check.proofs.StepLemmas.{GoesByLowest}
 use Rattle.transcript_check.proofs.AloneLemmas.{next_of, settle_next, settle_stops, settle_answered, fewer_unready, all_ok}
 use Rattle.transcript_check.proofs.alone.settle_so.Goals as goal
 

@@ -1,5 +1,4 @@
-use Rattle.transcript_check.proofs.EditLemmas.{edits_of}
 use Rattle.transcript_check.proofs.answering.answer_here.Goals as goal
 
 pub group_refusal-requires : goal.group_refusal-requires
-group_refusal-requires c = edits_of _ (rw c.in-Group.is at c.requires).1
+group_refusal-requires c = (rw c.in-Group.is at c.requires).1

@@ -1,7 +1,6 @@
 use Rattle.std.proofs.Common.{◌≡◌, ◌++◌, take, drop, length, ap, sym, ◌∙◌, subst, arith}
 use Rattle.std.proofs.lemmas.Bool.{true≢false}
 use Rattle.ide_text.specs.Text.{IsText}
-use Rattle.ide_text.proofs.EditLemmas.{IsText-with_piece}
 use Rattle.document_buf.specs.Gap.{joined_of}
 use Rattle.document_buf.specs.declared.doc.DocState.{DocState}
 use Rattle.document_buf.proofs.doc.Doc.insert.Goals as goal
@@ -16,6 +15,6 @@ invariant_of-self c =
     let front : c.push.new.self.front ≡ take c.args.at text ++ piece = c.push.ensures.front ∙ ap (λ xs. xs ++ piece) c.move_to.ensures.front in
     let back : c.push.new.self.back ≡ drop c.args.at text = c.push.ensures.back ∙ c.move_to.ensures.back in
     record {
-      text = subst IsText (sym (λ i. front i ++ back i)) (IsText-with_piece c.args.at piece text c.len.ensures.text is_text (omega (arith, len)) (omega (arith, len)));
+      text = subst IsText (sym (λ i. front i ++ back i)) (c.edited_texts_are_texts.ensures.with_piece c.args.at piece text c.len.ensures.text is_text (omega (arith, len)) (omega (arith, len)));
       unedited = λ h. absurd (true≢false h);
     }

@@ -1,5 +1,5 @@
 use Rattle.std.proofs.Common.{arith}
-use Rattle.ide_text.proofs.EditLemmas.{same_to_end}
+use Rattle.list_laws.proofs.PartLemmas.{same_to_end}
 use Rattle.ide_text.proofs.text.Text.is_same.Goals as goal
 
 pub returns : goal.returns

@@ -1,6 +1,6 @@
 use Rattle.std.proofs.Common.{◌≡◌, ◌++◌, ℕ, List, length, ap, subst, ◌∙◌, append_assoc}
 use Rattle.std.specs.List.{flat_map}
-use Rattle.stub_codec.specs.Spelling.{number}
+use Rattle.byte_fields.specs.Spelling.{number}
 use Rattle.index_store.specs.Data.{Entry}
 use Rattle.index_store.specs.Held.{held_bytes}
 use Rattle.index_store.specs.Lawful.{IsStoreBytes}

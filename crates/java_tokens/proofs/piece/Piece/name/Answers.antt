@@ -1,5 +1,5 @@
 use Rattle.std.proofs.Common.{◌≡◌, ℕ, ◌-◌, ◌≤◌, IfOk, length, take, drop, List, ap, ◌∙◌, subst, arith, length-take}
-use Rattle.java_tokens.proofs.Pieces.{part-part}
+use Rattle.list_laws.proofs.PartLemmas.{part-part}
 use Rattle.java_tokens.proofs.piece.Piece.name.Goals as goal
 
 -- the text's part is the piece's

@@ -1,5 +1,5 @@
 use Rattle.std.proofs.Common.{◌≡◌, ℕ, ◌-◌, ◌≤◌, IfSome, length, take, drop, List, ap, ◌∙◌, subst, arith, length-take}
-use Rattle.java_tokens.proofs.Pieces.{part-part}
+use Rattle.list_laws.proofs.PartLemmas.{part-part}
 use Rattle.java_tokens.proofs.piece.Piece.spelt.Goals as goal
 
 -- the text's part is the piece's

@@ -1,0 +1,84 @@
+-- Reading so many of a kind, one after another: as a loop does, and back.
+use Rattle.std.proofs.Common.{◌≡◌, ℕ, zero, suc, ◌-◌, ◌+◌, ◌≤◌, ◌<◌, List, [], ◌∷◌, ◌++◌, length, Option, Some, Result, Ok, Err, refl, sym, ap, subst, ◌∙◌, append_assoc, arith}
+use Rattle.std.specs.List.{flat_map, slice_get}
+use Rattle.std.proofs.lemmas.List.{append-nil, length-append}
+use Rattle.byte_fields.specs.declared.fault.Fault.{Fault}
+use Rattle.byte_fields.specs.declared.fault.Fault.TheVariants as faults
+use Rattle.byte_fields.specs.Answers.{Fails}
+use Rattle.byte_fields.specs.Reading.{◌>>=◌, many_at}
+use Rattle.field_laws.proofs.FieldLemmas.{IsBytes, bind_ok, ok_is, Takes, Takes-then}
+
+module _ {A : Type 0} where
+  -- what was read before, and what is still read
+  abbrev pub with_front : List A → Result (List A × List ℕ) ℕ → Result (List A × List ℕ) ℕ
+  with_front front read = read >>= λ x. Ok (front ++ x.0, x.1)
+
+  regroup : (front : List A) (n : A) (read : Result (List A × List ℕ) ℕ) → with_front front (read >>= λ x. Ok (n ∷ x.0, x.1)) ≡ with_front (front ++ n ∷ []) read
+  regroup front n (Ok x) = ap (λ (ns : List A). Ok (ns, x.1)) (sym (append_assoc front (n ∷ []) x.0))
+  regroup front n (Err f) = refl
+
+  -- the last of what was read, if anything was
+  abbrev pub last : List A → Option A
+  last xs = slice_get xs (length xs - 1)
+
+  last_is : (xs : List A) (x : A) → Some x ≡ last (xs ++ x ∷ [])
+  last_is xs x = sym (ap (slice_get (xs ++ x ∷ [])) (omega (arith, length-append xs (x ∷ []))) ∙ there xs)
+    where
+      there : (ys : List A) → slice_get (ys ++ x ∷ []) (length ys) ≡ Some x
+      there [] = refl
+      there (y ∷ ys) = there ys
+
+  module _ (one : Option A → List ℕ → Result (A × List ℕ) ℕ) where
+    -- a turn of the loop
+    pub goes_on : (front : List A) (count i : ℕ) (bytes : List ℕ) (n : A) (after : List ℕ) (total : Result (List A × List ℕ) ℕ) → i < count → one (last front) bytes ≡ Ok (n, after)
+        → with_front front (many_at one (count - i) (last front) bytes) ≡ total → with_front (front ++ n ∷ []) (many_at one (count - (i + 1)) (last (front ++ n ∷ [])) after) ≡ total
+    unfolding many_at
+    goes_on front count i bytes n after total lt h so_far =
+        let k : count - i ≡ suc (count - (i + 1)) = omega arith in
+        let one_more : with_front front (many_at one (count - i) (last front) bytes) ≡ with_front (front ++ n ∷ []) (many_at one (count - (i + 1)) (Some n) after) = rw (k, h) (regroup front n (many_at one (count - (i + 1)) (Some n) after)) in
+        ap (λ before. with_front (front ++ n ∷ []) (many_at one (count - (i + 1)) before after)) (sym (last_is front n)) ∙ sym one_more ∙ so_far
+
+    -- a turn that meets a fault
+    pub ends : (e : Fault) (before : Option A) (front : List A) (count i : ℕ) (bytes : List ℕ) (total : Result (List A × List ℕ) ℕ) → i < count → Fails e (one before bytes)
+        → with_front front (many_at one (count - i) before bytes) ≡ total → Fails e total
+    unfolding many_at
+    ends faults.Memory before front count i bytes total lt h so_far = tt
+    ends (faults.Unlawful f) before front count i bytes total lt h so_far =
+        let k : count - i ≡ suc (count - (i + 1)) = omega arith in
+        let none : with_front front (many_at one (count - i) before bytes) ≡ Err f = rw (k, h) refl in
+        sym so_far ∙ none
+
+    -- the end of the loop
+    pub is_done : (before : Option A) (front : List A) (count i : ℕ) (bytes : List ℕ) (total : Result (List A × List ℕ) ℕ) → count ≤ i → with_front front (many_at one (count - i) before bytes) ≡ total → total ≡ Ok (front, bytes)
+    unfolding many_at
+    is_done before front count i bytes total le so_far =
+        let k : count - i ≡ 0 = omega arith in
+        let all : with_front front (many_at one (count - i) before bytes) ≡ Ok (front, bytes) = rw k (ap (λ (ns : List A). Ok (ns, bytes)) (append-nil front)) in
+        sym so_far ∙ all
+
+    module _ (Good : Option A → A → Type 0) (spell : A → List ℕ) where
+      -- each is good behind the one before it
+      abbrev pub AllAfter : Option A → List A → Type 0
+      AllAfter before [] = Unit {0}
+      AllAfter before (x ∷ xs) = Good before x × AllAfter (Some x) xs
+
+      pub many_takes : ((before : Option A) (bytes : List ℕ) (x : A × List ℕ) → IsBytes bytes → one before bytes ≡ Ok x → Takes bytes (spell x.0) x.1 × Good before x.0)
+          → (count : ℕ) (before : Option A) (bytes : List ℕ) (x : List A × List ℕ) → IsBytes bytes → many_at one count before bytes ≡ Ok x
+          → Takes bytes (flat_map spell x.0) x.1 × (length x.0 ≡ count) × AllAfter before x.0
+      unfolding many_at
+      many_takes takes zero before bytes x fits e = subst (λ (y : List A × List ℕ). Takes bytes (flat_map spell y.0) y.1 × (length y.0 ≡ 0) × AllAfter before y.0) (ok_is ([], bytes) x e) (record { parts = refl; rest_fits = fits }, refl, tt)
+      many_takes takes (suc count) before bytes x fits e =
+          let a = bind_ok (one before bytes) (λ first. many_at one count (Some first.0) first.1 >>= λ others. Ok (first.0 ∷ others.0, others.1)) x e in
+          let t = takes before bytes a.0 fits a.1 in
+          let b = bind_ok (many_at one count (Some a.0.0) a.0.1) (λ others. Ok (a.0.0 ∷ others.0, others.1)) x a.2 in
+          let r = many_takes takes count (Some a.0.0) a.0.1 b.0 t.0.rest_fits b.1 in
+          subst (λ (y : List A × List ℕ). Takes bytes (flat_map spell y.0) y.1 × (length y.0 ≡ suc count) × AllAfter before y.0) (ok_is (a.0.0 ∷ b.0.0, b.0.1) x b.2)
+          (Takes-then bytes (spell a.0.0) a.0.1 (flat_map spell b.0.0) b.0.1 t.0 r.0, ap suc r.1, (t.1, r.2))
+
+      pub many_again : ((before : Option A) (x : A) (rest : List ℕ) → Good before x → one before (spell x ++ rest) ≡ Ok (x, rest))
+          → (xs : List A) (before : Option A) (rest : List ℕ) → AllAfter before xs → many_at one (length xs) before (flat_map spell xs ++ rest) ≡ Ok (xs, rest)
+      unfolding many_at
+      many_again again [] before rest good = refl
+      many_again again (x ∷ xs) before rest good =
+          ap (many_at one (suc (length xs)) before) (append_assoc (spell x) (flat_map spell xs) rest)
+          ∙ rw (again before x (flat_map spell xs ++ rest) good.0, many_again again xs (Some x) rest good.1) refl

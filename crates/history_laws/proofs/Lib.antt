@@ -1,0 +1,11 @@
+pub mod PutLemmas
+pub mod ChangeLemmas
+pub mod RuleLemmas
+pub mod FoldLemmas
+pub mod StampLemmas
+pub mod SoundLemmas
+pub mod UnreadyLemmas
+pub mod CountLemmas
+pub mod TextLemmas
+pub mod NamedLemmas
+pub mod LimitLemmas

@@ -1,0 +1,5 @@
+use Rattle.history_laws.proofs.NamedLemmas.{live_lawful, named_lawful}
+use Rattle.history_laws.proofs.laws.paths_are_lawful.Goals as goal
+
+pub returns : goal.returns
+returns c = record { named = named_lawful; live = live_lawful }

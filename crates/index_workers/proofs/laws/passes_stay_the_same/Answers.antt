@@ -1,0 +1,5 @@
+use Rattle.index_workers.proofs.PassLemmas.{same_on}
+use Rattle.index_workers.proofs.laws.passes_stay_the_same.Goals as goal
+
+pub returns : goal.returns
+returns c = same_on

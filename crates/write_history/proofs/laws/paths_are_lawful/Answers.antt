@@ -1,5 +1,0 @@
-use Rattle.write_history.proofs.NamedLemmas.{live_lawful, named_lawful}
-use Rattle.write_history.proofs.laws.paths_are_lawful.Goals as goal
-
-pub returns : goal.returns
-returns c = record { named = named_lawful; live = live_lawful }

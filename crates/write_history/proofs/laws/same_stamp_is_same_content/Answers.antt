@@ -1,5 +1,0 @@
-use Rattle.write_history.proofs.SoundLemmas.{same_stamp-fold}
-use Rattle.write_history.proofs.laws.same_stamp_is_same_content.Goals as goal
-
-pub returns : goal.returns
-returns c = same_stamp-fold

@@ -1,5 +1,0 @@
-use Rattle.write_history.proofs.TextLemmas.{saved_text}
-use Rattle.write_history.proofs.laws.saved_documents_have_the_content.Goals as goal
-
-pub returns : goal.returns
-returns c = saved_text

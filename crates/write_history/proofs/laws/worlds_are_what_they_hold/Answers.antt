@@ -1,5 +1,0 @@
-use Rattle.write_history.proofs.CountLemmas.{same_world}
-use Rattle.write_history.proofs.laws.worlds_are_what_they_hold.Goals as goal
-
-pub returns : goal.returns
-returns c = same_world
