@@ -15,6 +15,9 @@ use Rattle.write_history.specs.World.{World, file_of, lowest_unready, unready_id
 use Rattle.write_history.specs.Effect.{max_entries, stamp_of}
 use Rattle.write_history.specs.Fold.{ListRefusal, fold, list_refusal, refusal_or, after_list}
 use Rattle.write_history.specs.Print.{entry_line}
+use Rattle.history_laws.proofs.FoldLemmas.{fold-append}
+use Rattle.history_laws.proofs.StampLemmas.{entries-fold}
+use Rattle.history_laws.proofs.UnreadyLemmas.{lowest-first, lowest-none, unready-intake}
 use Rattle.ide_calls.specs.Settle.{Settled, settled, intake_of, intake_entry}
 use Rattle.script_lang.specs.declared.command.Command.TheVariants as command
 use Rattle.script_lang.specs.declared.line.Line.{Line}
@@ -31,8 +34,8 @@ use Rattle.transcript_check.specs.Stops.{stops_at, serial_or}
 use Rattle.transcript_check.specs.Alone.{IsGoneTo, HasGone, HasTakenNext, left_where}
 use Rattle.transcript_check.specs.Going.{HasComeAs, HasComeAlone}
 use Rattle.transcript_check.proofs.StepLemmas.{GoesByLowest, step_one}
-use Rattle.transcript_check.proofs.HereLemmas.{Counts, LowestIsUnready, intake_refusal, settle_told, tells_so}
-use Rattle.transcript_check.proofs.MakeLemmas.{FoldsOn, changed_next}
+use Rattle.transcript_check.proofs.HereLemmas.{intake_refusal, settle_told, tells_so}
+use Rattle.transcript_check.proofs.MakeLemmas.{changed_next}
 
 -- a step that does the same behind each history went to the same
 pub same_gone : (f g : List Entry → Step) (seat number : ℕ) (text : List ℕ) (entries : List (List ℕ)) (world after : World) (left : Option (List (List ℕ)))
@@ -81,11 +84,11 @@ no_entry history seat number (e ∷ es) answer text other =
 
 -- ---- a line that is no settle
 
-module _ (counts : Counts) (unready : LowestIsUnready) (goes : GoesByLowest) where
+module _ (goes : GoesByLowest) where
   tells_here : (world : World) (seat : ℕ) (line : Line) (text : List ℕ) (told : Bool) → tells_in world seat line text ≡ told
       → (history : List Entry) → fold history ≡ world → tells seat line.number (line_step history seat line) text ≡ told
   tells_here world seat line text told so history is =
-      sym (tells_so counts unready goes history seat line text) ∙ (ap (λ (w : World). tells_in w seat line text) is ∙ so)
+      sym (tells_so goes history seat line text) ∙ (ap (λ (w : World). tells_in w seat line text) is ∙ so)
 
   -- a line that is answered so here adds nothing
   pub told_gone : (world : World) (seat : ℕ) (line : Line) (text : List ℕ) (entries : List (List ℕ)) → tells_in world seat line text ≡ true
@@ -160,7 +163,7 @@ one_added history after seat number text entry later went (e ∷ more) answer on
       leads = subst (λ (w : Bool). IsGoneTo after (history ++ e ∷ more) (left_where w later)) (sym m) tt;
     }
 
-module _ (counts : Counts) (unready : LowestIsUnready) (goes : GoesByLowest) (folds : FoldsOn) where
+module _ (goes : GoesByLowest) where
   changes_by : (world after : World) (seat : ℕ) (line : Line) (text entry : List ℕ) (later : List (List ℕ)) (went : Bool)
       → is_settle line.command ≡ false → tells_in world seat line text ≡ false → HasChanged world after seat line text entry went
       → HasGone (λ history. line_step history seat line) seat line.number text (entry ∷ later) world after (left_where went later)
@@ -180,10 +183,10 @@ module _ (counts : Counts) (unready : LowestIsUnready) (goes : GoesByLowest) (fo
       by history is = one_added history after seat line.number text entry later went (line_step history seat line).added
           (line_step history seat line).answer on_the_way done
           (λ e more. step_one goes seat loaded.Nothing history line.number line.command e more no_settle)
-          (tells_here counts unready goes world seat line text false other history is)
+          (tells_here goes world seat line text false other history is)
           (subst (λ (b : Bool). IsMadeAs (made_by_line b (bytes_eq (told_text seat line.number (line_step history seat line).answer) text) on_the_way done
           (line_step history seat line).added) history after done entry went) no_settle
-          ((changed_next counts goes folds world after seat line [] text [] false entry went no_settle changed).is history is))
+          ((changed_next goes world after seat line [] text [] false entry went no_settle changed).is history is))
 
   -- the changes of a line went in as the next entry, or didn't
   pub all_changed_gone : {E : Type 0} (world after : World) (seat : ℕ) (line : Line) (text entry : List ℕ) (later entries : List (List ℕ))
@@ -204,8 +207,8 @@ pub record Next (world : World) : Type 0 where
   pub accepted : list_refusal world (intake_of world file) ≡ None
 
 -- there is one where a settle isn't answered yet
-pub next_of : LowestIsUnready → (world : World) → is_none (settle_in world (lowest_unready world)) ≡ true → Next world
-next_of unready world on = by_lowest (lowest_unready world) refl on
+pub next_of : (world : World) → is_none (settle_in world (lowest_unready world)) ≡ true → Next world
+next_of world on = by_lowest (lowest_unready world) refl on
   where
     by_full : (id : ℕ) → lowest_unready world ≡ Some id → (b : Bool) → nat_le max_entries world.entries ≡ b
         → is_none (if b then Some (Refused world.entries None HistoryFull) else None) ≡ true → Next world
@@ -213,14 +216,14 @@ next_of unready world on = by_lowest (lowest_unready world) refl on
     by_full id lowest false full on = record {
       file = id;
       lowest = lowest;
-      accepted = intake_refusal unready world id lowest ∙ ap (λ (t : Bool). refusal_or (if t then Some HistoryFull else None) None) full;
+      accepted = intake_refusal world id lowest ∙ ap (λ (t : Bool). refusal_or (if t then Some HistoryFull else None) None) full;
     }
 
     by_lowest : (o : Option ℕ) → lowest_unready world ≡ o → is_none (settle_in world o) ≡ true → Next world
     by_lowest None lowest on = absurd (cc)
     by_lowest (Some id) lowest on = by_full id lowest (nat_le max_entries world.entries) refl on
 
-module _ (counts : Counts) (goes : GoesByLowest) (folds : FoldsOn) where
+module _ (goes : GoesByLowest) where
   -- behind the intake of the next file a settle goes on as it does there
   goes_on_as : (history : List Entry) (seat number : ℕ) (next : Next (fold history)) → let entry : Entry = intake_entry history seat number next.file in
       settle_step history seat number
@@ -243,8 +246,8 @@ module _ (counts : Counts) (goes : GoesByLowest) (folds : FoldsOn) where
       let gone : HasGoneIn (fold history) after seat number (intake_of (fold history) next.file) entry went =
       subst (λ (o : Option ℕ). IsTakenLowest o (fold history) after seat number entry went) next.lowest taken.is in (
         gone.is ∙ (ap (λ (r : Option ListRefusal). is_none r && bytes_eq (entry_line ((fold history).entries + 1) e) entry) next.accepted
-            ∙ ap (λ (n : ℕ). bytes_eq (entry_line (n + 1) e) entry) (counts history)),
-        λ t. folds history (e ∷ []) ∙ sym (gone.then_after t),
+            ∙ ap (λ (n : ℕ). bytes_eq (entry_line (n + 1) e) entry) (entries-fold history)),
+        λ t. fold-append history (e ∷ []) ∙ sym (gone.then_after t),
       )
 
   -- where the next file went in as the next entry, a settle goes as it goes on from there
@@ -329,14 +332,14 @@ pub settles : (line : Line) → line.command ≡ command.Settle → (history : L
     → line_step history seat line ≡ settle_step history seat line.number
 settles line is history seat = ap (step_of loaded.Nothing history seat line.number) is
 
-module _ (counts : Counts) (unready : LowestIsUnready) (goes : GoesByLowest) where
+module _ (goes : GoesByLowest) where
   -- it is answered so
   settle_told_so : (world : World) (seat : ℕ) (line : Line) (text : List ℕ) (entries : List (List ℕ)) → line.command ≡ command.Settle
       → tells_in world seat line text ≡ true
       → HasGone (λ history. settle_step history seat line.number) seat line.number text entries world world (Some entries)
   settle_told_so world seat line text entries is so =
       same_gone (λ history. line_step history seat line) (λ history. settle_step history seat line.number) seat line.number text entries world world
-      (Some entries) (λ history. settles line is history seat) (told_gone counts unready goes world seat line text entries so)
+      (Some entries) (λ history. settles line is history seat) (told_gone goes world seat line text entries so)
 
   nothing_more : (world : World) (o : Option ℕ) (step : Step) → settle_in world o ≡ told_by step → is_none (settle_in world o) ≡ false → is_nil step.added ≡ true
   nothing_more world o step same ends =
@@ -351,11 +354,11 @@ module _ (counts : Counts) (unready : LowestIsUnready) (goes : GoesByLowest) whe
     left_is = λ history at. (
         let step : Step = settle_step history seat line.number in
         let none : is_nil step.added ≡ true = nothing_more (fold history) (lowest_unready (fold history)) step
-        (settle_told counts unready goes history seat line.number)
+        (settle_told goes history seat line.number)
         (ap (λ (w : World). is_none (settle_in w (lowest_unready w))) at ∙ ends) in
         let so : (is_nil step.added && bytes_eq (told_text seat line.number step.answer) text) ≡ false =
         ap (λ (s : Step). tells seat line.number s text) (sym (settles line is history seat))
-        ∙ tells_here counts unready goes world seat line text false other history at in
+        ∙ tells_here goes world seat line text false other history at in
         other_left history seat line.number step text entries
         (ap (λ (b : Bool). b && bytes_eq (told_text seat line.number step.answer) text) (sym none) ∙ so));
     leads = λ history at. tt;
@@ -372,33 +375,21 @@ module _ (counts : Counts) (unready : LowestIsUnready) (goes : GoesByLowest) whe
 
 -- ---- the number of unready files falls
 
--- the intake of the first unready file leaves the others
-abbrev pub ReadiesOne : Type 0
-ReadiesOne = (world : World) (id stamp : ℕ) (others : List ℕ) → unready_ids world ≡ id ∷ others → stamp ≡ stamp_of (file_of world id)
-    → unready_ids (after_list world (Intake id stamp ∷ [])) ≡ others
-
--- the lowest unready file is the first
-abbrev pub LowestIsFirst : Type 0
-LowestIsFirst = (world : World) (id : ℕ) (others : List ℕ) → unready_ids world ≡ id ∷ others → lowest_unready world ≡ Some id
-
-abbrev pub LowestIsSome : Type 0
-LowestIsSome = (world : World) → unready_ids world ≡ [] → lowest_unready world ≡ None
-
-pub fewer_unready : ReadiesOne → LowestIsFirst → LowestIsSome → (world after : World) (seat number : ℕ) (entries left : List (List ℕ)) → Next world
+pub fewer_unready : (world after : World) (seat number : ℕ) (entries left : List (List ℕ)) → Next world
     → HasTakenNext world after seat number entries left true → length (unready_ids after) < length (unready_ids world)
-fewer_unready readies first some world after seat number [] left next taken = let never : true ≡ false = taken.is in absurd (cc)
-fewer_unready readies first some world after seat number (entry ∷ later) left next taken = by_ids (unready_ids world) refl
+fewer_unready world after seat number [] left next taken = let never : true ≡ false = taken.is in absurd (cc)
+fewer_unready world after seat number (entry ∷ later) left next taken = by_ids (unready_ids world) refl
   where
     gone : HasGoneIn world after seat number (intake_of world next.file) entry true
     gone = subst (λ (o : Option ℕ). IsTakenLowest o world after seat number entry true) next.lowest taken.is.1.is
 
     by_ids : (ids : List ℕ) → unready_ids world ≡ ids → length (unready_ids after) < length ids
-    by_ids [] none = let never : None ≡ Some next.file = sym (some world none) ∙ next.lowest in absurd (cc)
+    by_ids [] none = let never : None ≡ Some next.file = sym (lowest-none world none) ∙ next.lowest in absurd (cc)
     by_ids (id ∷ others) is =
-        let both : Some next.file ≡ Some id = sym next.lowest ∙ first world id others is in
+        let both : Some next.file ≡ Some id = sym next.lowest ∙ lowest-first world id others is in
         let same : next.file ≡ id = cc in
         let left : unready_ids after ≡ others = ap unready_ids (gone.then_after refl)
-        ∙ readies world next.file (stamp_of (file_of world next.file)) others (is ∙ ap (λ (n : ℕ). n ∷ others) (sym same)) refl in
+        ∙ unready-intake world next.file (stamp_of (file_of world next.file)) others (is ∙ ap (λ (n : ℕ). n ∷ others) (sym same)) refl in
         let long : length (unready_ids after) ≡ length others = ap length left in
         omega arith
 

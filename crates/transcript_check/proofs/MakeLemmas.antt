@@ -7,8 +7,10 @@ use Rattle.write_history.specs.declared.entry.Entry.{Entry}
 use Rattle.write_history.specs.declared.refusal.Refusal.TheVariants.{BadPath}
 use Rattle.write_history.specs.Path.{is_path}
 use Rattle.write_history.specs.World.{World, lowest_unready}
-use Rattle.write_history.specs.Fold.{fold, fold_from, list_refusal, ListRefusal}
+use Rattle.write_history.specs.Fold.{fold, list_refusal, ListRefusal}
 use Rattle.write_history.specs.Print.{entry_line}
+use Rattle.history_laws.proofs.FoldLemmas.{fold-append}
+use Rattle.history_laws.proofs.StampLemmas.{entries-fold}
 use Rattle.ide_calls.specs.Settle.{Settled, settled, entry_of, intake_of}
 use Rattle.script_lang.specs.declared.command.Command.{Command}
 use Rattle.script_lang.specs.declared.command.Command.TheVariants as command
@@ -19,13 +21,8 @@ use Rattle.transcripts.specs.Serial.{Step, told as no_more, step_unless, changes
 use Rattle.transcript_check.specs.Section.{Cursor, told_text, is_settle, made_by_line, line_step}
 use Rattle.transcript_check.specs.Here.{goes_in, HasGoneIn, IsTakenLowest, HasTakenLowest, HasEnteredSo, HasChangedBy, HasChanged, IsMadeAs, HasMadeNext}
 use Rattle.transcript_check.proofs.StepLemmas.{GoesByLowest}
-use Rattle.transcript_check.proofs.HereLemmas.{Counts}
 
--- a longer history goes on from the world of the shorter one
-abbrev pub FoldsOn : Type 0
-FoldsOn = (earlier later : List Entry) → fold (earlier ++ later) ≡ fold_from (fold earlier) later
-
-module _ (counts : Counts) (goes : GoesByLowest) (folds : FoldsOn) (history : List Entry) (after : World) where
+module _ (goes : GoesByLowest) (history : List Entry) (after : World) where
   -- changes that aren't refused go in where their entry is printed so
   went_in : (cursor : Cursor) (text : List ℕ) (went : Bool) (seat number : ℕ) (changes : List Change) → list_refusal (fold history) changes ≡ None
       → HasGoneIn (fold history) after seat number changes text went
@@ -33,8 +30,8 @@ module _ (counts : Counts) (goes : GoesByLowest) (folds : FoldsOn) (history : Li
   went_in cursor text went seat number changes accepted gone =
       let e : Entry = entry_of seat number changes in (
         gone.is ∙ ap (λ (r : Option ListRefusal). is_none r && bytes_eq (entry_line ((fold history).entries + 1) e) text) accepted
-            ∙ ap (λ (n : ℕ). bytes_eq (entry_line (n + 1) e) text) (counts history),
-        λ t. (gone.then_after t ∙ sym (folds history (e ∷ [])), refl),
+            ∙ ap (λ (n : ℕ). bytes_eq (entry_line (n + 1) e) text) (entries-fold history),
+        λ t. (gone.then_after t ∙ sym (fold-append history (e ∷ [])), refl),
       )
 
   -- changes that are refused don't
@@ -88,7 +85,7 @@ module _ (counts : Counts) (goes : GoesByLowest) (folds : FoldsOn) (history : Li
       said = bytes_eq (told_text seat number (Accepted (length history + 1))) told
 
       here : went ≡ (said && goes_in (fold history) seat number changes text)
-      here = h.is ∙ ap (λ (n : ℕ). bytes_eq (told_text seat number (Accepted (n + 1))) told && goes_in (fold history) seat number changes text) (counts history)
+      here = h.is ∙ ap (λ (n : ℕ). bytes_eq (told_text seat number (Accepted (n + 1))) told && goes_in (fold history) seat number changes text) (entries-fold history)
 
       by_refusal : (r : Option ListRefusal) → list_refusal (fold history) changes ≡ r → Is r
       by_refusal None accepted = bool_cases said
@@ -129,11 +126,11 @@ module _ (counts : Counts) (goes : GoesByLowest) (folds : FoldsOn) (history : Li
       by_command (command.Soft attempts query) no_settle h = h
 
 -- what a section makes next whose next line is a settle
-pub taken_next : Counts → GoesByLowest → FoldsOn → (world after : World) (seat : ℕ) (line : Line) (later : List Line) (told : List ℕ) (rest : List (List ℕ))
+pub taken_next : GoesByLowest → (world after : World) (seat : ℕ) (line : Line) (later : List Line) (told : List ℕ) (rest : List (List ℕ))
     (settling : Bool) (text : List ℕ) (went : Bool) → is_settle line.command ≡ true → HasTakenLowest world after seat line.number text went
     → HasMadeNext world after (record { seat = seat; lines = line ∷ later; texts = told ∷ rest; settling = settling })
     (record { seat = seat; lines = line ∷ later; texts = told ∷ rest; settling = true }) text went
-taken_next counts goes folds world after seat line later told rest settling text went settles h = record {
+taken_next goes world after seat line later told rest settling text went settles h = record {
   is = λ history is. by_settle line.command settles refl history is;
 }
   where
@@ -159,16 +156,16 @@ taken_next counts goes folds world after seat line later told rest settling text
         (step_of Nothing history seat line.number c).added)
         history after on_the_way text went in
         subst M (sym e)
-        (settle_made counts goes folds history after on_the_way done (bytes_eq (told_text seat line.number (step_of Nothing history seat line.number command.Settle).answer) told)
+        (settle_made goes history after on_the_way done (bytes_eq (told_text seat line.number (step_of Nothing history seat line.number command.Settle).answer) told)
         went text seat line.number (subst (λ (w : World). IsTakenLowest (lowest_unready w) w after seat line.number text went) (sym is) h.is))
 
 -- what a section makes next whose next line is none
-pub changed_next : Counts → GoesByLowest → FoldsOn → (world after : World) (seat : ℕ) (line : Line) (later : List Line) (told : List ℕ) (rest : List (List ℕ))
+pub changed_next : GoesByLowest → (world after : World) (seat : ℕ) (line : Line) (later : List Line) (told : List ℕ) (rest : List (List ℕ))
     (settling : Bool) (text : List ℕ) (went : Bool) → is_settle line.command ≡ false → HasChanged world after seat line told text went
     → HasMadeNext world after (record { seat = seat; lines = line ∷ later; texts = told ∷ rest; settling = settling })
     (record { seat = seat; lines = later; texts = rest; settling = false }) text went
-changed_next counts goes folds world after seat line later told rest settling text went no_settle h = record {
-  is = λ history is. line_made counts goes folds history after line (record { seat = seat; lines = line ∷ later; texts = told ∷ rest; settling = true })
+changed_next goes world after seat line later told rest settling text went no_settle h = record {
+  is = λ history is. line_made goes history after line (record { seat = seat; lines = line ∷ later; texts = told ∷ rest; settling = true })
       (record { seat = seat; lines = later; texts = rest; settling = false }) told text went seat no_settle
       (subst (λ (w : World). HasChangedBy w after seat line.number line.command told text went) (sym is) h.is);
 }

@@ -13,6 +13,8 @@ use Rattle.write_history.specs.World.{World, file_of}
 use Rattle.write_history.specs.Effect.{stamp_of}
 use Rattle.write_history.specs.Fold.{fold, list_refusal}
 use Rattle.write_history.specs.Print.{entry_line}
+use Rattle.history_laws.proofs.FoldLemmas.{fold-append}
+use Rattle.history_laws.proofs.StampLemmas.{entries-fold}
 use Rattle.ide_calls.specs.Settle.{intake_of, intake_entry}
 use Rattle.transcripts.specs.Fits.{made_by}
 use Rattle.transcript_check.specs.Reading.{seat_in, file_in}
@@ -26,8 +28,6 @@ use Rattle.transcript_check.specs.Here.{goes_in, AreToldAll}
 use Rattle.transcript_check.specs.Going.{IsReachedAs, HasReached}
 use Rattle.transcript_check.specs.Taken.{Taking, AreKept}
 use Rattle.transcript_check.specs.Sides.{IsGoneAs, HasSectionGone, HasWorkerGone, IsNextGone, HasSeatGone}
-use Rattle.transcript_check.proofs.HereLemmas.{Counts}
-use Rattle.transcript_check.proofs.MakeLemmas.{FoldsOn}
 use Rattle.transcript_check.proofs.SeatLemmas.{IsSeated, section_seated}
 use Rattle.transcript_check.proofs.TakenLemmas.{kept_none, kept_beside, kept_more}
 
@@ -64,12 +64,12 @@ asked_apart f w P went true true true true is goes not_in goes_in = subst P (sym
 asked_apart f w P went true true true false is goes not_in goes_in = subst P (sym is) (not_in goes)
 
 -- the entry of a worker
-worker_next : Counts → FoldsOn → (lanes seat file : ℕ) (before added : List Entry) (after : World) (taken taken' : List Taking) (cursors : List Cursor)
+worker_next : (lanes seat file : ℕ) (before added : List Entry) (after : World) (taken taken' : List Taking) (cursors : List Cursor)
     (text : List ℕ) (went : Bool) → lanes < seat → AreKept lanes taken added
     → HasWorkerGone (fold (before ++ added)) after taken taken' seat file cursors text went
     → IsNextGone (option_and_then (printed_so (before ++ added) text) (worker_went (before ++ added) added seat file cursors)) lanes before added after taken'
     cursors went
-worker_next counts folds lanes seat file before added after taken taken' cursors text went past kept gone =
+worker_next lanes seat file before added after taken taken' cursors text went past kept gone =
     let here : List Entry = before ++ added in
     let world : World = fold here in
     let e : Entry = intake_entry here seat 0 file in
@@ -81,12 +81,12 @@ worker_next counts folds lanes seat file before added after taken taken' cursors
     let goes : went ≡ (not (is_busy cursors) && (anew && (lawful && printed))) =
     gone.is
     ∙ ap (λ (b : Bool). not (is_busy cursors) && (not b && goes_in world seat 0 (intake_of world file) text)) (kept.is seat file stamp past)
-    ∙ ap (λ (n : ℕ). not (is_busy cursors) && (anew && (lawful && bytes_eq (entry_line (n + 1) e) text))) (counts here) in
+    ∙ ap (λ (n : ℕ). not (is_busy cursors) && (anew && (lawful && bytes_eq (entry_line (n + 1) e) text))) (entries-fold here) in
     asked_apart (printed_so here text) w (λ (o : Option Went). IsNextGone o lanes before added after taken' cursors went) went (not (is_busy cursors)) lawful
     anew printed refl goes (λ none. none)
     (λ goes_so. (
       goes_so,
-      gone.then_after goes_so ∙ sym (folds here (e ∷ [])) ∙ ap fold (append_assoc before added (e ∷ [])),
+      gone.then_after goes_so ∙ sym (fold-append here (e ∷ [])) ∙ ap fold (append_assoc before added (e ∷ [])),
       refl,
       kept_more lanes taken taken' added seat 0 file stamp (gone.then_kept goes_so) kept,
     ))
@@ -109,11 +109,11 @@ lane_gone lanes seat world after taken cursors cursors' text (Ok went) below gon
 }
 
 -- and so is a worker's
-pub worker_gone : {E : Type 0} → Counts → FoldsOn → (lanes seat : ℕ) (world after : World) (taken taken' : List Taking) (cursors : List Cursor)
+pub worker_gone : {E : Type 0} → (lanes seat : ℕ) (world after : World) (taken taken' : List Taking) (cursors : List Cursor)
     (text : List ℕ) (result : Result Bool E) → lanes < seat → IfOk result (HasWorkerGone world after taken taken' seat (file_in text) cursors text)
     → IfOk result (HasSeatGone lanes world after taken taken' seat cursors cursors text)
-worker_gone counts folds lanes seat world after taken taken' cursors text (Err e) past gone = tt
-worker_gone counts folds lanes seat world after taken taken' cursors text (Ok went) past gone = record {
+worker_gone lanes seat world after taken taken' cursors text (Err e) past gone = tt
+worker_gone lanes seat world after taken taken' cursors text (Ok went) past gone = record {
   is = λ sides added own named leads kept. (
       let here : List Entry = sides.before ++ added in
       let beyond : leb (seat_in text) sides.lanes ≡ false = (λ i. leb (named i) (own i)) ∙ lt-leb seat lanes past in
@@ -121,7 +121,7 @@ worker_gone counts folds lanes seat world after taken taken' cursors text (Ok we
       cond-false (leb (seat_in text) sides.lanes) (section_went (seat_in text) here cursors) (worker_went here added (seat_in text) (file_in text) cursors) beyond
       ∙ ap (λ (n : ℕ). worker_went here added n (file_in text) cursors) named in
       subst (λ (o : Option Went). IsNextGone (option_and_then (printed_so here text) o) lanes sides.before added after taken' cursors went) (sym same)
-      (worker_next counts folds lanes seat (file_in text) sides.before added after taken taken' cursors text went past kept
+      (worker_next lanes seat (file_in text) sides.before added after taken taken' cursors text went past kept
       (subst (λ (w : World). HasWorkerGone w after taken taken' seat (file_in text) cursors text went) (sym leads) gone)));
 }
 

@@ -10,8 +10,8 @@ use Rattle.transcripts.specs.declared.record.Answer.TheVariants.{Accepted}
 use Rattle.transcript_check.specs.Section.{Cursor, line_step, told_text, given_up, tells, tells_given_up, is_settle, told_from}
 use Rattle.transcript_check.specs.Here.{tells_in, goes_in, IsToldIn, HasToldOne, HasGoneIn, HasEnteredSo, HasTakenLowest, HasChanged, HasMadeNext}
 use Rattle.transcript_check.proofs.StepLemmas.{GoesByLowest}
-use Rattle.transcript_check.proofs.HereLemmas.{Counts, LowestIsUnready, tells_so}
-use Rattle.transcript_check.proofs.MakeLemmas.{FoldsOn, taken_next, changed_next}
+use Rattle.transcript_check.proofs.HereLemmas.{tells_so}
+use Rattle.transcript_check.proofs.MakeLemmas.{taken_next, changed_next}
 
 or_true : (a : Bool) → (a || true) ≡ true
 or_true true = refl
@@ -30,21 +30,21 @@ told_left beside world seat line text left = record {
 }
 
 -- any other line is told where it is answered so
-pub told_so : Counts → LowestIsUnready → GoesByLowest → (beside : Bool) (world : World) (seat : ℕ) (line : Line) (text : List ℕ) (told : Bool)
+pub told_so : GoesByLowest → (beside : Bool) (world : World) (seat : ℕ) (line : Line) (text : List ℕ) (told : Bool)
     → (beside && tells_given_up seat line.number line.command text) ≡ false → told ≡ tells_in world seat line text → IsToldIn beside world seat line text told
-told_so counts unready goes beside world seat line text told left so = record {
+told_so goes beside world seat line text told left so = record {
   is = λ history is.
-      so ∙ ap (λ (w : World). tells_in w seat line text) (sym is) ∙ tells_so counts unready goes history seat line text
+      so ∙ ap (λ (w : World). tells_in w seat line text) (sym is) ∙ tells_so goes history seat line text
       ∙ sym (ap (λ (b : Bool). tells seat line.number (line_step history seat line) text || b) left
       ∙ or_false (tells seat line.number (line_step history seat line) text));
 }
 
 -- the same of a result
-pub all_told_so : {E : Type 0} → Counts → LowestIsUnready → GoesByLowest → (beside : Bool) (world : World) (seat : ℕ) (line : Line) (text : List ℕ) (result : Result Bool E)
+pub all_told_so : {E : Type 0} → GoesByLowest → (beside : Bool) (world : World) (seat : ℕ) (line : Line) (text : List ℕ) (result : Result Bool E)
     → (beside && tells_given_up seat line.number line.command text) ≡ false → IfOk result (λ told. told ≡ tells_in world seat line text)
     → IfOk result (IsToldIn beside world seat line text)
-all_told_so counts unready goes beside world seat line text (Ok told) left so = told_so counts unready goes beside world seat line text told left so
-all_told_so counts unready goes beside world seat line text (Err e) left so = tt
+all_told_so goes beside world seat line text (Ok told) left so = told_so goes beside world seat line text told left so
+all_told_so goes beside world seat line text (Err e) left so = tt
 
 -- how a line that was given up is printed
 pub cancelled_text : (seat number attempts : ℕ)
@@ -75,28 +75,28 @@ abbrev way : ℕ → List Line → List (List ℕ) → Bool → Cursor
 way seat lines texts settling = record { seat = seat; lines = lines; texts = texts; settling = settling }
 
 -- what a section makes whose next line is a settle
-pub all_taken : {E : Type 0} → Counts → GoesByLowest → FoldsOn → (world after : World) (seat : ℕ) (lines later : List Line) (texts rest : List (List ℕ)) (settling : Bool)
+pub all_taken : {E : Type 0} → GoesByLowest → (world after : World) (seat : ℕ) (lines later : List Line) (texts rest : List (List ℕ)) (settling : Bool)
     (line : Line) (told : List ℕ) (cursor : Cursor) (text : List ℕ) (result : Result Bool E) → way seat lines texts settling ≡ cursor → lines ≡ line ∷ later
     → texts ≡ told ∷ rest → is_settle line.command ≡ true → IfOk result (HasTakenLowest world after seat line.number text)
     → IfOk result (HasMadeNext world after cursor (way seat lines texts true) text)
-all_taken counts goes folds world after seat lines later texts rest settling line told cursor text (Err e) view is_lines is_texts settles taken = tt
-all_taken counts goes folds world after seat lines later texts rest settling line told cursor text (Ok went) view is_lines is_texts settles taken =
+all_taken goes world after seat lines later texts rest settling line told cursor text (Err e) view is_lines is_texts settles taken = tt
+all_taken goes world after seat lines later texts rest settling line told cursor text (Ok went) view is_lines is_texts settles taken =
     subst (λ (c : Cursor). HasMadeNext world after c (way seat lines texts true) text went) view
     (subst (λ (ls : List Line). HasMadeNext world after (way seat ls texts settling) (way seat ls texts true) text went) (sym is_lines)
     (subst (λ (ts : List (List ℕ)). HasMadeNext world after (way seat (line ∷ later) ts settling) (way seat (line ∷ later) ts true) text went) (sym is_texts)
-    (taken_next counts goes folds world after seat line later told rest settling text went settles taken)))
+    (taken_next goes world after seat line later told rest settling text went settles taken)))
 
 -- what a section makes whose next line is none
-pub all_changed : {E : Type 0} → Counts → GoesByLowest → FoldsOn → (world after : World) (seat : ℕ) (lines later : List Line) (texts rest : List (List ℕ)) (settling : Bool)
+pub all_changed : {E : Type 0} → GoesByLowest → (world after : World) (seat : ℕ) (lines later : List Line) (texts rest : List (List ℕ)) (settling : Bool)
     (line : Line) (told : List ℕ) (cursor : Cursor) (text : List ℕ) (result : Result Bool E) → way seat lines texts settling ≡ cursor → lines ≡ line ∷ later
     → texts ≡ told ∷ rest → is_settle line.command ≡ false → IfOk result (HasChanged world after seat line told text)
     → IfOk result (HasMadeNext world after cursor (way seat later rest false) text)
-all_changed counts goes folds world after seat lines later texts rest settling line told cursor text (Err e) view is_lines is_texts no_settle changed = tt
-all_changed counts goes folds world after seat lines later texts rest settling line told cursor text (Ok went) view is_lines is_texts no_settle changed =
+all_changed goes world after seat lines later texts rest settling line told cursor text (Err e) view is_lines is_texts no_settle changed = tt
+all_changed goes world after seat lines later texts rest settling line told cursor text (Ok went) view is_lines is_texts no_settle changed =
     subst (λ (c : Cursor). HasMadeNext world after c (way seat later rest false) text went) view
     (subst (λ (ls : List Line). HasMadeNext world after (way seat ls texts settling) (way seat later rest false) text went) (sym is_lines)
     (subst (λ (ts : List (List ℕ)). HasMadeNext world after (way seat (line ∷ later) ts settling) (way seat later rest false) text went) (sym is_texts)
-    (changed_next counts goes folds world after seat line later told rest settling text went no_settle changed)))
+    (changed_next goes world after seat line later told rest settling text went no_settle changed)))
 
 -- ---- going behind the records that are told
 

@@ -15,7 +15,6 @@ use crate::block::Block;
 use crate::cursor::{change_so, take_lowest_so};
 use crate::stop::LineStop;
 use crate::told::is_answered_so;
-use history_laws::laws::{histories_go_on, intake_readies_one, unready_files_have_an_order};
 use ide_calls::laws::a_settle_goes_by_the_lowest;
 use ide_text::{Name, SharedText};
 use replay::Replay;
@@ -108,9 +107,6 @@ fn settle_so(
     ensures { IfOk result (λ went. HasGone (λ history. settle_step history seat line.now.number)
         seat line.now.number text.now made.old replay.old replay.new (left_where went made.new)) }
 {
-    histories_go_on();
-    intake_readies_one();
-    unready_files_have_an_order();
     a_settle_goes_by_the_lowest();
     while settle_goes_on(replay) {
         if !take_next_so(alloc, replay, seat, line.number, made)? {
@@ -224,8 +220,6 @@ fn plain_so(
     ensures { IfOk result (λ went. HasGone (λ history. line_step history seat line.now)
         seat line.now.number text.now made.old replay.old replay.new (left_where went made.new)) }
 {
-    histories_go_on();
-    unready_files_have_an_order();
     a_settle_goes_by_the_lowest();
     if is_answered_so(alloc, replay, seat, line, text)? {
         return Ok(true);

@@ -9,7 +9,6 @@ ghost use Rattle.transcript_check.specs.Here.{HasToldOne, IsToldAll, HasMadeNext
 use crate::block::Block;
 use crate::entering::{enter_so, take_so};
 use crate::told::is_told_here;
-use history_laws::laws::histories_go_on;
 use ide_calls::laws::a_settle_goes_by_the_lowest;
 use replay::Replay;
 use script_lang::{Command, Line};
@@ -94,7 +93,6 @@ impl<'a> Cursor<'a> {
     ) -> Result<bool, AllocError>
         ensures { IfOk result (HasMadeNext replay.old replay.new self.old self.new text.now) }
     {
-        histories_go_on();
         a_settle_goes_by_the_lowest();
         let seat = self.seat;
         let lines = self.lines;

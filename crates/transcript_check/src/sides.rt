@@ -14,7 +14,6 @@ use crate::round::{is_busy, tell_all, waiting};
 use crate::stop::{LineStop, SideStop};
 use crate::taken::Taken;
 use crate::workers::worker_goes;
-use history_laws::laws::histories_go_on;
 use replay::Replay;
 use script_lang::Line;
 use std::alloc::{AllocError, Global};
@@ -99,7 +98,6 @@ fn seat_goes(
 ) -> Result<bool, AllocError>
     ensures { IfOk result (HasSeatGone lanes replay.old replay.new taken.old taken.new seat cursors.old cursors.new text.now) }
 {
-    histories_go_on();
     if seat <= lanes {
         section_goes(alloc, replay, seat, cursors, text)
     } else {

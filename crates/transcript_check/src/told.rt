@@ -7,7 +7,6 @@ ghost use Rattle.transcript_check.specs.Here.{IsToldIn, head_in, tells_in};
 
 use crate::answering::answer_here;
 use crate::block::Block;
-use history_laws::laws::{histories_go_on, unready_files_have_an_order};
 use ide_calls::laws::a_settle_goes_by_the_lowest;
 use replay::Replay;
 use script_lang::{Command, Line};
@@ -29,8 +28,6 @@ pub(crate) fn is_told_here(
     requires no_load { IsNoLoad line.now.command }
     ensures { IfOk result (IsToldIn beside replay.now seat line.now text.now) }
 {
-    histories_go_on();
-    unready_files_have_an_order();
     a_settle_goes_by_the_lowest();
     if is_left(alloc, beside, line, text)? {
         return Ok(true);

@@ -10,7 +10,7 @@ returns-then-branch c =
       ends = c.a_settle_goes_by_the_lowest.ensures.ends;
       goes_on = c.a_settle_goes_by_the_lowest.ensures.goes_on;
     } in
-    told_gone c.histories_go_on.ensures.entries c.unready_files_have_an_order.ensures.lowest goes c.args.replay.now c.args.seat c.args.line.now c.args.text.now
+    told_gone goes c.args.replay.now c.args.seat c.args.line.now c.args.text.now
     c.args.made.now (sym c.in_ok-is_answered_so.ensures ∙ c.if-branch.true)
 
 pub returns-in_default : goal.returns-in_default
@@ -21,7 +21,7 @@ returns-in_default c =
       goes_on = c.a_settle_goes_by_the_lowest.ensures.goes_on;
     } in
     let none : c.made.inside.left.now ≡ [] = no_text c.made.inside.left.now c.in_default.ensures.cases in
-    short_of_entries c.histories_go_on.ensures.entries c.unready_files_have_an_order.ensures.lowest goes c.args.replay.now c.args.replay.now c.args.seat
+    short_of_entries goes c.args.replay.now c.args.replay.now c.args.seat
     c.args.line.now c.args.text.now c.args.made.now (sym c.made.view_is ∙ none) (sym c.in_ok-is_answered_so.ensures ∙ c.if-branch.false)
 
 pub returns : goal.returns
@@ -32,6 +32,6 @@ returns c =
       goes_on = c.a_settle_goes_by_the_lowest.ensures.goes_on;
     } in
     let texts : c.made.inside.left.now ≡ c.in-Some.entry.now ∷ c.in-Some.later.now = c.in-Some.ensures.cases.0 in
-    all_changed_gone c.histories_go_on.ensures.entries c.unready_files_have_an_order.ensures.lowest goes c.histories_go_on.ensures.fold
+    all_changed_gone goes
     c.args.replay.now c.change_so.new.replay c.args.seat c.args.line.now c.args.text.now c.in-Some.entry.now c.in-Some.later.now c.args.made.now
     c.change_so.result (sym c.made.view_is ∙ texts) c.requires.no_settle (sym c.in_ok-is_answered_so.ensures ∙ c.if-branch.false) c.change_so.ensures

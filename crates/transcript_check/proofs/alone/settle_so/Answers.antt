@@ -10,36 +10,36 @@ loop-alloc-init c = λ final came gone. gone
 
 pub returns-then-not-branch : goal.returns-then-not-branch
 returns-then-not-branch c =
-    let next = next_of c.unready_files_have_an_order.ensures.lowest c.loop-alloc.replay (sym c.settle_goes_on.ensures ∙ c.loop-alloc-test.true) in
+    let next = next_of c.loop-alloc.replay (sym c.settle_goes_on.ensures ∙ c.loop-alloc-test.true) in
     let goes : GoesByLowest = record {
       over = c.a_settle_goes_by_the_lowest.ensures.over;
       ends = c.a_settle_goes_by_the_lowest.ensures.ends;
       goes_on = c.a_settle_goes_by_the_lowest.ensures.goes_on;
     } in
     c.loop-alloc.invariant c.take_next_so.new.replay None
-    (settle_stops c.histories_go_on.ensures.entries goes c.histories_go_on.ensures.fold c.loop-alloc.replay c.take_next_so.new.replay c.take_next_so.new.replay
+    (settle_stops goes c.loop-alloc.replay c.take_next_so.new.replay c.take_next_so.new.replay
     c.args.seat c.args.line.now.number c.args.text.now c.loop-alloc.made c.take_next_so.new.made next
     (subst (λ (went : Bool). HasTakenNext c.loop-alloc.replay c.take_next_so.new.replay c.args.seat c.args.line.now.number c.loop-alloc.made
     c.take_next_so.new.made went) c.if-not-branch.true c.in_ok-take_next_so.ensures))
 
 pub loop-alloc-smaller : goal.loop-alloc-smaller
 loop-alloc-smaller c =
-    let next = next_of c.unready_files_have_an_order.ensures.lowest c.loop-alloc.replay (sym c.settle_goes_on.ensures ∙ c.loop-alloc-test.true) in
-    fewer_unready c.intake_readies_one.ensures c.unready_files_have_an_order.ensures.first c.unready_files_have_an_order.ensures.smart
+    let next = next_of c.loop-alloc.replay (sym c.settle_goes_on.ensures ∙ c.loop-alloc-test.true) in
+    fewer_unready
     c.loop-alloc.replay c.take_next_so.new.replay c.args.seat c.args.line.now.number c.loop-alloc.made c.take_next_so.new.made next
     (subst (λ (went : Bool). HasTakenNext c.loop-alloc.replay c.take_next_so.new.replay c.args.seat c.args.line.now.number c.loop-alloc.made
     c.take_next_so.new.made went) c.if-not-branch.false c.in_ok-take_next_so.ensures)
 
 pub loop-alloc-preserved : goal.loop-alloc-preserved
 loop-alloc-preserved c = λ final came rest.
-    let next = next_of c.unready_files_have_an_order.ensures.lowest c.loop-alloc.replay (sym c.settle_goes_on.ensures ∙ c.loop-alloc-test.true) in
+    let next = next_of c.loop-alloc.replay (sym c.settle_goes_on.ensures ∙ c.loop-alloc-test.true) in
     let goes : GoesByLowest = record {
       over = c.a_settle_goes_by_the_lowest.ensures.over;
       ends = c.a_settle_goes_by_the_lowest.ensures.ends;
       goes_on = c.a_settle_goes_by_the_lowest.ensures.goes_on;
     } in
     c.loop-alloc.invariant final came
-    (settle_next c.histories_go_on.ensures.entries goes c.histories_go_on.ensures.fold c.loop-alloc.replay c.take_next_so.new.replay
+    (settle_next goes c.loop-alloc.replay c.take_next_so.new.replay
     c.args.seat c.args.line.now.number c.args.text.now c.loop-alloc.made c.take_next_so.new.made next
     (subst (λ (went : Bool). HasTakenNext c.loop-alloc.replay c.take_next_so.new.replay c.args.seat c.args.line.now.number c.loop-alloc.made
     c.take_next_so.new.made went) c.if-not-branch.false c.in_ok-take_next_so.ensures)
@@ -58,5 +58,5 @@ returns c =
     (λ went. HasGone (λ history. settle_step history c.args.seat c.args.line.now.number) c.args.seat c.args.line.now.number c.args.text.now
     c.args.made.now c.args.replay.now c.loop-alloc.replay (left_where went c.loop-alloc.made))
     c.is_answered_so.result (λ went. c.loop-alloc.invariant c.loop-alloc.replay (left_where went c.loop-alloc.made))
-    (settle_answered c.histories_go_on.ensures.entries c.unready_files_have_an_order.ensures.lowest goes c.loop-alloc.replay c.args.seat c.args.line.now
+    (settle_answered goes c.loop-alloc.replay c.args.seat c.args.line.now
     c.args.text.now c.loop-alloc.made c.is_answered_so.result c.requires (sym c.settle_goes_on.ensures ∙ c.loop-alloc-test.false) c.is_answered_so.ensures)

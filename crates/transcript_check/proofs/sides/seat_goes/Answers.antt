@@ -8,5 +8,5 @@ returns-then-seat-lanes c =
 
 pub returns-else-seat-lanes : goal.returns-else-seat-lanes
 returns-else-seat-lanes c =
-    worker_gone c.histories_go_on.ensures.entries c.histories_go_on.ensures.fold c.args.lanes c.args.seat c.args.replay.now c.worker_goes.new.replay
+    worker_gone c.args.lanes c.args.seat c.args.replay.now c.worker_goes.new.replay
     c.args.taken.now c.worker_goes.new.taken c.args.cursors.now c.args.text.now c.worker_goes.result c.if-seat-lanes.false c.worker_goes.ensures

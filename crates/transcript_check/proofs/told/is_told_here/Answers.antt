@@ -7,7 +7,7 @@ pub returns-then-not-branch : goal.returns-then-not-branch
 returns-then-not-branch c =
     let left : c.in_ok-is_left.field-0 ≡ false = search rules in
     let otherwise : c.in_ok-holds_here.field-0 ≡ false = search rules in
-    told_so c.histories_go_on.ensures.entries c.unready_files_have_an_order.ensures.lowest
+    told_so
     (record {
       over = c.a_settle_goes_by_the_lowest.ensures.over;
       ends = c.a_settle_goes_by_the_lowest.ensures.ends;
@@ -20,7 +20,7 @@ returns-then-not-branch c =
 pub returns : goal.returns
 returns c =
     let left : c.in_ok-is_left.field-0 ≡ false = search rules in
-    all_told_so c.histories_go_on.ensures.entries c.unready_files_have_an_order.ensures.lowest
+    all_told_so
     (record {
       over = c.a_settle_goes_by_the_lowest.ensures.over;
       ends = c.a_settle_goes_by_the_lowest.ensures.ends;

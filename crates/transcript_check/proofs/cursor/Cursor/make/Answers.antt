@@ -11,13 +11,13 @@ returns-then-is_settle c =
     let lines : c.self.inside.lines.now ≡ c.in-Some.line.now ∷ c.in-Some.later.now = search rules in
     let texts : c.self.inside.texts.now ≡ c.in-Some-split_first.told.now ∷ c.in-Some-split_first.rest.now = search rules in
     let settles : is_settle c.in-Some.line.now.command ≡ true = search rules in
-    all_taken c.histories_go_on.ensures.entries
+    all_taken
     (record {
       over = c.a_settle_goes_by_the_lowest.ensures.over;
       ends = c.a_settle_goes_by_the_lowest.ensures.ends;
       goes_on = c.a_settle_goes_by_the_lowest.ensures.goes_on;
     })
-    c.histories_go_on.ensures.fold c.args.replay.now c.take_lowest_so.new.replay c.self.inside.seat c.self.inside.lines.now c.in-Some.later.now
+    c.args.replay.now c.take_lowest_so.new.replay c.self.inside.seat c.self.inside.lines.now c.in-Some.later.now
     c.self.inside.texts.now c.in-Some-split_first.rest.now c.self.inside.settling c.in-Some.line.now c.in-Some-split_first.told.now
     c.args.self.now c.args.text.now c.take_lowest_so.result c.self.view_is lines texts settles c.take_lowest_so.ensures
 
@@ -31,12 +31,12 @@ returns c =
     let lines : c.self.inside.lines.now ≡ c.in-Some.line.now ∷ c.in-Some.later.now = search rules in
     let texts : c.self.inside.texts.now ≡ c.in-Some-split_first.told.now ∷ c.in-Some-split_first.rest.now = search rules in
     let no_settle : is_settle c.in-Some.line.now.command ≡ false = search rules in
-    all_changed c.histories_go_on.ensures.entries
+    all_changed
     (record {
       over = c.a_settle_goes_by_the_lowest.ensures.over;
       ends = c.a_settle_goes_by_the_lowest.ensures.ends;
       goes_on = c.a_settle_goes_by_the_lowest.ensures.goes_on;
     })
-    c.histories_go_on.ensures.fold c.args.replay.now c.change_so.new.replay c.self.inside.seat c.self.inside.lines.now c.in-Some.later.now
+    c.args.replay.now c.change_so.new.replay c.self.inside.seat c.self.inside.lines.now c.in-Some.later.now
     c.self.inside.texts.now c.in-Some-split_first.rest.now c.self.inside.settling c.in-Some.line.now c.in-Some-split_first.told.now
     c.args.self.now c.args.text.now c.change_so.result c.self.view_is lines texts no_settle c.change_so.ensures
