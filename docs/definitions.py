@@ -29,7 +29,7 @@ what was read for the loads, and so `RunFits` of what is printed):
 | each printed reply is the one that indexing from scratch gives | `IsDone.step`: the answer is that of `step_of`, which for a question is `reply` of the world that the prefix makes, and `reply` lists the shown texts anew |
 | after a prefix of that history | `IsDone.stands`: `start`, and what the command made behind it, begin the history |
 | a prefix that holds all that its lane had seen | `IsDone.late` and the marks of `SectionFits`; a lane begins at the mark behind the prelude, the last section behind all others |
-| a settle leaves nothing unready | the law `a_settle_readies_all` on `settled` |
+| a settle leaves nothing unready | the law `a_settle_readies_all` of `history_laws` on `settled` |
 | `cancelled` only where the lane's pass saw pending writes | `IsGivenUp`: the record's counts of sights rose by at least as many as it was allowed attempts; `Fits`: only where another section runs beside. That these counts are the pass's is `HasSighted` (of `soft_ask`), which alone makes a `Sighted` |
 | what workers made | `RunFits.worked` (`WorkerFits`): intakes without a line, no two of the same file and stamp, as many as it tells; `EndFits` |
 
@@ -48,7 +48,7 @@ declarations (`stub_tree`), the stages of a listing (`decl_parser`), tokens (`ja
 | the words of a text, where a name stands in it, its declarations, and its property keys | `words_of`; `places_of`; `listing_of`; `keys_of` | `java_tokens/specs/Words.antt`; `Places.antt`; `decl_parser/specs/Listing.antt`; `property_index/specs/Keys.antt` |
 | which declarations a question asks for; the types that come from a name, level by level | `is_class`, `has_super`, `is_method`; `inheritors_of` | `query_engine/specs/Fits.antt`; `Inheritors.antt` |
 | the answer to a question in a world: it lists the shown texts anew | `reply` | `query_engine/specs/Reply.antt` |
-| what a settle adds to a history | `settled` | `ide_calls/specs/Settle.antt` |
+| what a settle adds to a history | `settled` | `write_history/specs/Settle.antt` |
 | what one command adds behind a history and is answered; one thread | `step_of`; `run_of` | `transcripts/specs/Serial.antt` |
 | one record of a run beside others; a section; lanes; workers; the whole run | `IsDone`, `IsGivenUp`; `SectionFits`; `LanesFit`; `WorkerFits`; `RunFits` | `transcripts/specs/Fits.antt` |
 | what was read for the loads | `AreLoadsOf` | `transcripts/specs/Loads.antt` |

@@ -7,7 +7,7 @@ use Rattle.demo_runs.proofs.Words.{IsIntakeBy, Done, Ended, done_from, lanes_fro
 use Rattle.demo_runs.proofs.Words.{WorkersFit, made_by, RunFits, summary_text, summary_of, Edit, create_line, write_line, ask_line, settle_line, IsAmong}
 use Rattle.demo_runs.proofs.Words.{WritesApart, bare_at, IsLive, IsEdit, writes, takes, acted, acts}
 use Rattle.std.proofs.lemmas.List.Sums.{fold-append}
-use Rattle.demo_runs.proofs.LawLemmas.{Laws}
+use Rattle.demo_runs.proofs.LawLemmas.{IsSerialAlone}
 use Rattle.demo_runs.proofs.ListLemmas.{all_weaker, by_seats, count_to, count_next, count_none, seats_bound}
 use Rattle.demo_runs.proofs.StepLemmas.{goes_on, stays_all, live_on}
 use Rattle.demo_runs.proofs.PreludeLemmas.{HasMade, begun_empty, prelude_makes}
@@ -25,7 +25,7 @@ worker_at history low entries (worked ∷ workers) first seat from to fit = ⊎_
     (λ (upto : seat ≤ first). (worked, subst (λ (n : ℕ). WorkerFits history low n entries worked) (omega (arith, from, upto)) fit.0))
     (cases_lt first seat)
 
-module _ (laws : Laws) (script : Parts) (apart : WritesApart script) where
+module _ (alone : IsSerialAlone) (script : Parts) (apart : WritesApart script) where
   -- the script by its parts
   abbrev pub parts : Parts
   parts = record {
@@ -55,7 +55,7 @@ module _ (laws : Laws) (script : Parts) (apart : WritesApart script) where
 
     opened : done_from 0 (record { history = []; records = [] }) (map create_line apart.creations) []
         ≡ record { history = opening; records = fits.prelude_records }
-    opened = laws.alone 0 (mark_at 0) fits.prelude_end (map create_line apart.creations) [] [] fits.prelude_records [] opening refl fits.prelude
+    opened = alone 0 (mark_at 0) fits.prelude_end (map create_line apart.creations) [] [] fits.prelude_records [] opening refl fits.prelude
 
     begun : HasMade (IsAmong apart.creations) [] opening (0 + length apart.creations)
     begun = rw (sym (ap (λ (d : Done). d.history) opened))
@@ -212,21 +212,21 @@ module _ (laws : Laws) (script : Parts) (apart : WritesApart script) where
         = same_shown (fold (opening ++ middle)) (fold (opening ++ lane_entries)) (goes.ids ∙ sym goes_serial.ids)
         (λ id. goes.files id ∙ mapped (bare_at (fold opening) id) ∙ sym (goes_serial.files id)) in
         let lines : List Line = settle_line apart.settle ∷ map ask_line apart.questions in
-        let last = laws.alone 0 fits.last_begins fits.last_end lines [] [] ended.last (opening ++ middle) fits.closing fits.last_behind
+        let last = alone 0 fits.last_begins fits.last_end lines [] [] ended.last (opening ++ middle) fits.closing fits.last_behind
         (subst (λ (h : List Entry). SectionFits false h 0 fits.last_begins lines [] ended.last fits.closing fits.last_end) fits.history fits.last) in
         let room : length (opening ++ middle) + next_id (fold (opening ++ middle)) ≤ max_entries
         = omega (arith, length-append opening middle, few_middle, few_begun, goes.ids) in
         let room_serial : length (opening ++ lane_entries) + next_id (fold (opening ++ lane_entries)) ≤ max_entries
         = omega (arith, length-append opening lane_entries, few_lanes, few_begun, goes_serial.ids) in
         ap (λ (d : Done). flat_map summary_text d.records) (sym last)
-        ∙ last_told laws (opening ++ middle) legal room apart.settle apart.questions apart.of_all
+        ∙ last_told (opening ++ middle) legal room apart.settle apart.questions apart.of_all
         ∙ ap (λ (w : World). smart_text ++ all_told w apart.questions) same
-        ∙ sym (last_told laws (opening ++ lane_entries) serial.1 room_serial apart.settle apart.questions apart.of_all)
+        ∙ sym (last_told (opening ++ lane_entries) serial.1 room_serial apart.settle apart.questions apart.of_all)
         ∙ ap (λ (h : List Entry). flat_map summary_text (last_from h lines).records) (sym serial.0)
 
 -- every run of a script whose lanes write apart has the summary of the run on one thread
-pub writes_apart_agree : Laws → (script : Parts) → WritesApart script → (told : List Worked) → length told ≤ 8 → (ended : Ended)
+pub writes_apart_agree : IsSerialAlone → (script : Parts) → WritesApart script → (told : List Worked) → length told ≤ 8 → (ended : Ended)
     → RunFits [] script told ended → summary_of ended ≡ summary_of (run_of [] script)
-writes_apart_agree laws script apart =
+writes_apart_agree alone script apart =
     subst (λ (s : Parts). (told : List Worked) → length told ≤ 8 → (ended : Ended) → RunFits [] s told ended → summary_of ended ≡ summary_of (run_of [] s))
-    (λ i. record { prelude = sym apart.prelude i; lanes = sym apart.lanes i; last = sym apart.last i }) (agree laws script apart)
+    (λ i. record { prelude = sym apart.prelude i; lanes = sym apart.lanes i; last = sym apart.last i }) (agree alone script apart)

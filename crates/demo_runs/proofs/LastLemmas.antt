@@ -1,70 +1,56 @@
 -- The last section: its settle goes through, and what it tells is read from what the files show.
-use Rattle.demo_runs.proofs.Words.{ℕ, suc, ◌≡◌, ◌+◌, ◌<◌, ◌≤◌, Bool, false, List, [], ◌∷◌, ◌++◌, length, map, filter, refl, ap, sym, ◌∙◌, subst, arith}
+use Rattle.demo_runs.proofs.Words.{ℕ, suc, ◌≡◌, ◌+◌, ◌<◌, ◌≤◌, Bool, false, List, [], ◌∷◌, ◌++◌, length, map, filter, refl, ap, sym, ◌∙◌, arith}
 use Rattle.demo_runs.proofs.Words.{append_assoc, append-nil, length-append, Some, None, Option, option_map, is_some, option_map_or, AllByRecursion, flat_map}
 use Rattle.demo_runs.proofs.Words.{length-map, All-from_get_or, flat_map-append, get_or-map, option_map_id, one_if, filter_none, length-filter-cons, count_le}
-use Rattle.demo_runs.proofs.Words.{FileKind, words_of, mask_in, Entry, Refusal, World, File, file_of, next_id, shown_text, is_open, is_unready, count_of}
-use Rattle.demo_runs.proofs.Words.{lowest_unready, unready_ids, stamp_of, max_entries, list_refusal, ListRefusal, fold, IsLegal, IsLegal-append, lowest-None}
-use Rattle.demo_runs.proofs.Words.{count-unready, same_world, Settled, settled, settled_from, settled_unless, intake_of, intake_entry, Query, is_class}
-use Rattle.demo_runs.proofs.Words.{has_super, is_method, Listing, inheritors_of, Row, rows_in, word_in, word_row, uses_in, keys_in, types_in, types_of}
-use Rattle.demo_runs.proofs.Words.{row_of, listed_row, level_row, of_files, of_world, unless_unready, reply, Record, answer_of, done_from, last_from}
-use Rattle.demo_runs.proofs.Words.{query_step, settle_answer, answer_text, found_text, summary_text, Question, ask_line, settle_line, IsOfAll, bare, bare_at}
-use Rattle.demo_runs.proofs.Words.{IsEdit, takes, acts}
-use Rattle.dumb_mode.specs.declared.kind.FileKind.TheVariants.{Java, Properties}
+use Rattle.demo_runs.proofs.Words.{FileKind, words_of, mask_in, Entry, Refusal, World, File, file_of, next_id, shown_text, is_open, is_unready}
+use Rattle.demo_runs.proofs.Words.{lowest_unready, unready_ids, max_entries, fold, IsLegal, lowest-None}
+use Rattle.demo_runs.proofs.Words.{count-unready, same_world, Settled, settled, Query}
+use Rattle.demo_runs.proofs.Words.{Listing, inheritors_of, Row, word_in, word_row, types_in, types_of}
+use Rattle.demo_runs.proofs.Words.{row_of, listed_row, level_row, of_files, reply, Record, answer_of, done_from, last_from}
+use Rattle.demo_runs.proofs.Words.{query_step, settle_answer, answer_text, summary_text, Question, ask_line, settle_line, IsOfAll, bare, bare_at}
+use Rattle.demo_runs.proofs.Words.{IsEdit, takes, acts, ◌&&◌, not, true}
+use Rattle.write_history.specs.World.{ids_from}
+use Rattle.history_laws.proofs.UnreadyLemmas.{lowest-none}
+use Rattle.dumb_mode.specs.Filter.{passes_filter}
+use Rattle.dumb_mode.specs.declared.kind.FileKind.TheVariants.{Java}
 use Rattle.queries.specs.declared.query.Query.TheVariants as query
-use Rattle.query_engine.specs.declared.answer.Answer.{Answer as Finding}
-use Rattle.query_engine.specs.declared.answer.Answer.TheVariants as found
 use Rattle.transcripts.specs.declared.record.Answer.TheVariants.{Smart}
-use Rattle.demo_runs.proofs.LawLemmas.{Laws}
+use Rattle.history_laws.proofs.SettledLemmas.{settle_leaves, settled_takes, settled_few, settled_legal}
 use Rattle.demo_runs.proofs.StepLemmas.{goes_on}
+use Rattle.demo_runs.proofs.MiddleLemmas.{Leaves, all_leave}
 
 -- ---- the settle
 
--- what a settle adds for these files, at most, is legal, and changes nothing that a file shows
-pub record AddsIntakes (history : List Entry) (ids : List ℕ) (ends : Settled) : Type 0 where
-  pub few : length ends.added ≤ length ids
+-- a settle that goes through, and changes nothing that a file shows
+pub record GoesThrough (history : List Entry) (ends : Settled) : Type 0 where
+  pub refused : ends.refused ≡ None
   pub edits : AllByRecursion IsEdit ends.added
   pub same : (file : File) → acts ends.added file ≡ file
   pub legal : IsLegal (history ++ ends.added)
 
-adds_intakes : (seat line : ℕ) (ids : List ℕ) (history : List Entry) → IsLegal history → AddsIntakes history ids (settled_from history seat line ids)
-adds_intakes seat line [] history legal = record { few = omega arith; edits = tt; same = λ file. refl; legal = rw (append-nil history) legal }
-adds_intakes seat line (id ∷ ids) history legal =
-    by_refusal (adds_intakes seat line ids after) (list_refusal (fold history) (intake_of (fold history) id)) refl
+-- so does one with room for an intake of each file
+pub settles : (seat line : ℕ) (history : List Entry) → IsLegal history → length history + next_id (fold history) ≤ max_entries
+    → GoesThrough history (settled history seat line)
+settles seat line history legal room = record {
+  refused = none (settled history seat line).refused refl;
+  edits = settled_takes IsEdit seat line (λ id stamp. takes id stamp refl) history ids;
+  same = λ file. all_leave file.path (settled history seat line).added
+      (settled_takes (Leaves file.path) seat line (λ id stamp other is. refl) history ids) file refl;
+  legal = settled_legal seat line history ids legal;
+}
   where
-    entry : Entry
-    entry = intake_entry history seat line id
-
-    after : List Entry
-    after = history ++ entry ∷ []
-
-    by_refusal : (IsLegal after → AddsIntakes after ids (settled_from after seat line ids)) → (refusal : Option ListRefusal)
-        → list_refusal (fold history) entry.changes ≡ refusal
-        → AddsIntakes history (id ∷ ids) (settled_unless refusal entry (settled_from after seat line ids))
-    by_refusal rest (Some refusal) is = record { few = omega arith; edits = tt; same = λ file. refl; legal = rw (append-nil history) legal }
-    by_refusal rest None is =
-        let later = rest (IsLegal-append history entry legal is) in record {
-          few = omega (arith, later.few);
-          edits = (takes id (stamp_of (file_of (fold history) id)) refl, later.edits);
-          same = later.same;
-          legal = subst IsLegal (append_assoc history (entry ∷ []) (settled_from after seat line ids).added) later.legal;
-        }
-
--- a settle with room for an intake of each file goes through
-pub settles : Laws → (seat line : ℕ) (history : List Entry) → IsLegal history → length history + next_id (fold history) ≤ max_entries
-    → AddsIntakes history (unready_ids (fold history)) (settled history seat line) × ((settled history seat line).refused ≡ None)
-settles laws seat line history legal room = (adds, none (settled history seat line).refused refl)
-  where
-    adds : AddsIntakes history (unready_ids (fold history)) (settled history seat line)
-    adds = adds_intakes seat line (unready_ids (fold history)) history legal
+    ids : List ℕ
+    ids = unready_ids (fold history)
 
     few : length (history ++ (settled history seat line).added) < max_entries
     few =
         let unready = count_le is_unready (fold history).files in
-        omega (arith, room, length-append history (settled history seat line).added, adds.few, count-unready (fold history), unready)
+        let added = settled_few seat line history ids in
+        omega (arith, room, length-append history (settled history seat line).added, added, count-unready (fold history), unready)
 
     none : (refused : Option Refusal) → (settled history seat line).refused ≡ refused → refused ≡ None
     none None is = refl
-    none (Some why) is = absurd (omega (arith, few, laws.full history seat line why is))
+    none (Some why) is = absurd (omega (arith, few, (settle_leaves history seat line).full why is))
 
 -- ---- what a world shows
 
@@ -125,39 +111,44 @@ inheritors_shown name world =
     ap (λ types. map (level_row (shown world)) (inheritors_of name types)) (rows_shown Java types_in (λ id file. refl) 1 world.files)
     ∙ levels_shown world (inheritors_of name (types_of world))
 
+-- no file that is bare is unready
+shown_ready : (world : World) → lowest_unready (shown world) ≡ None
+shown_ready world = lowest-none (shown world) (none 1 world.files)
+  where
+    ready : (filtered : Bool) → (filtered && false) ≡ false
+    ready true = refl
+    ready false = refl
+
+    none : (id : ℕ) (files : List (Option File)) → ids_from is_unready id (map (option_map bare) files) ≡ []
+    none id [] = refl
+    none id (None ∷ files) = none (id + 1) files
+    none id (Some file ∷ files) = rw (ready (passes_filter file.path && not (is_some file.document))) (none (id + 1) files)
+
 -- ---- one question
 
 -- what a question about a workspace without unready files is told
 abbrev told_of : World → Query → List ℕ
-told_of world (query.Class name) = found_text (found.Rows (of_world Java (rows_in (is_class name)) world))
-told_of world (query.Supers name) = found_text (found.Rows (of_world Java (rows_in (has_super name)) world))
-told_of world (query.Method name) = found_text (found.Rows (of_world Java (rows_in (is_method name)) world))
-told_of world (query.Word name) = found_text (found.Words (of_world Java (word_in name) world))
-told_of world (query.Usages name) = found_text (found.Usages name (of_world Java (uses_in name) world))
-told_of world (query.Inheritors name) = found_text (found.Inheritors (map (level_row world) (inheritors_of name (types_of world))))
-told_of world (query.Key key) = found_text (found.Keys (of_world Properties (keys_in key) world))
-told_of world (query.Outline path) = []
-told_of world query.Status = found_text (found.Counts (count_of is_some world) (count_of is_open world) 0)
+told_of world query = answer_text (answer_of world 0 (reply world query))
 
-module _ (world : World) (ready : lowest_unready world ≡ None) (at : ℕ) where
-  listed : {X : Type 0} (kind : FileKind) (answer : List X → Finding) (rows : ℕ → File → List X) → ((id : ℕ) (file : File) → rows id (bare file) ≡ rows id file)
-      → answer_text (answer_of world at (unless_unready (lowest_unready world) (answer (of_world kind rows world))))
-      ≡ found_text (answer (of_world kind rows (shown world)))
-  listed kind answer rows same = rw ready (ap (λ found. found_text (answer found)) (sym (rows_shown kind rows same 1 world.files)))
+unready_none : (world : World) → lowest_unready world ≡ None → length (filter is_unready world.files) ≡ 0
+unready_none world none = ap length (filter_none is_unready world.files
+    (All-from_get_or (λ file. is_unready file ≡ false) world.files None (λ place inside. lowest-None world none (suc place))))
 
-  asked : (asks : Query) → IsOfAll asks → answer_text (answer_of world at (reply world asks)) ≡ told_of (shown world) asks
-  asked (query.Class name) about = listed Java found.Rows (rows_in (is_class name)) (λ id file. refl)
-  asked (query.Supers name) about = listed Java found.Rows (rows_in (has_super name)) (λ id file. refl)
-  asked (query.Method name) about = listed Java found.Rows (rows_in (is_method name)) (λ id file. refl)
-  asked (query.Word name) about = listed Java found.Words (word_in name) (λ id file. word_shown id file (mask_in (words_of _) name))
-  asked (query.Usages name) about = listed Java (found.Usages name) (uses_in name) (λ id file. refl)
-  asked (query.Inheritors name) about = rw ready (ap (λ rows. found_text (found.Inheritors rows)) (sym (inheritors_shown name world)))
-  asked (query.Key key) about = listed Properties found.Keys (keys_in key) (λ id file. refl)
-  asked (query.Outline path) about = absurd about
-  asked query.Status about =
-      let none = filter_none is_unready world.files
-      (All-from_get_or (λ file. is_unready file ≡ false) world.files None (λ place inside. lowest-None world ready (suc place))) in
-      rw (counts_shown is_some (λ file. refl) world.files, counts_shown is_open (λ file. refl) world.files, none) refl
+-- it is read from what the files show
+asked : (world : World) → lowest_unready world ≡ None → (at : ℕ) (query : Query) → IsOfAll query
+    → answer_text (answer_of world at (reply world query)) ≡ told_of (shown world) query
+asked world ready at (query.Word name) about =
+    rw (ready, shown_ready world, rows_shown Java (word_in name) (λ id file. word_shown id file (mask_in (words_of (shown_text file)) name)) 1 world.files) refl
+asked world ready at (query.Inheritors name) about = rw (ready, shown_ready world, inheritors_shown name world) refl
+asked world ready at (query.Outline path) about = absurd about
+asked world ready at query.Status about =
+    rw (
+      counts_shown is_some (λ file. refl) world.files,
+      counts_shown is_open (λ file. refl) world.files,
+      unready_none world ready,
+      unready_none (shown world) (shown_ready world),
+    ) refl
+asked world ready at query about = rw (ready, shown_ready world, rows_shown _ _ (λ id file. refl) 1 world.files) refl
 
 -- ---- the section
 
@@ -182,17 +173,18 @@ questions_told (question ∷ questions) history records ready about =
     (append_assoc (flat_map summary_text records) told (all_told (shown (fold history)) questions))
 
 -- from a history with room for an intake of each file, a settle and questions about the workspace are told what its files show
-pub last_told : Laws → (history : List Entry) → IsLegal history → length history + next_id (fold history) ≤ max_entries → (settle : ℕ)
+pub last_told : (history : List Entry) → IsLegal history → length history + next_id (fold history) ≤ max_entries → (settle : ℕ)
     (questions : List Question) → AllByRecursion (λ (question : Question). IsOfAll question.query) questions
     → flat_map summary_text (last_from history (settle_line settle ∷ map ask_line questions)).records
     ≡ smart_text ++ all_told (shown (fold history)) questions
-last_told laws history legal room settle questions about =
+last_told history legal room settle questions about =
     let ends : Settled = settled history 0 settle in
-    let through = settles laws 0 settle history legal room in
-    let unchanged : (o : Option File) → option_map (acts ends.added) o ≡ o = λ o. (λ i. option_map (λ file. through.0.same file i) o) ∙ option_map_id o in
-    let goes = goes_on ends.added history through.0.edits through.0.legal in
+    let through = settles 0 settle history legal room in
+    let unchanged : (o : Option File) → option_map (acts ends.added) o ≡ o = λ o. (λ i. option_map (λ file. through.same file i) o) ∙ option_map_id o in
+    let goes = goes_on ends.added history through.edits through.legal in
     let kept : shown (fold (history ++ ends.added)) ≡ shown (fold history)
     = same_shown (fold (history ++ ends.added)) (fold history) goes.ids
     (λ id. goes.files id ∙ unchanged (bare_at (fold history) id)) in
     let one : Record = record { seat = 0; line = settle; answer = settle_answer (length (history ++ ends.added)) ends.refused } in
-    rw (questions_told questions (history ++ ends.added) (one ∷ []) (laws.smart history 0 settle through.1) about, through.1, kept) refl
+    let smart = (settle_leaves history 0 settle).smart through.refused in
+    rw (questions_told questions (history ++ ends.added) (one ∷ []) smart about, through.refused, kept) refl

@@ -28,7 +28,7 @@ pub use Rattle.write_history.specs.declared.change.Change.TheVariants.{Create, W
 pub use Rattle.write_history.specs.declared.entry.Entry.{Entry}
 pub use Rattle.write_history.specs.declared.refusal.Refusal.{Refusal}
 pub use Rattle.write_history.specs.Path.{is_path, is_barred}
-pub use Rattle.write_history.specs.World.{World, File, file_of, next_id, id_at, shown_text, is_open, is_unready, count_of, lowest_unready}
+pub use Rattle.write_history.specs.World.{World, File, file_of, next_id, id_at, shown_text, is_open, is_unready, lowest_unready}
 pub use Rattle.write_history.specs.World.{unready_ids}
 pub use Rattle.write_history.specs.Effect.{Put, put_of, refusal_of, rewritten, taken_in, stamp_of, max_files, max_entries}
 pub use Rattle.write_history.specs.Fold.{effect_of, list_refusal, ListRefusal, counted, after_list, fold, IsLegal}
@@ -40,13 +40,12 @@ pub use Rattle.history_laws.proofs.StampLemmas.{next_id-effect_of, entries-fold}
 pub use Rattle.history_laws.proofs.SoundLemmas.{IsApart-fold, id_at-live}
 pub use Rattle.history_laws.proofs.UnreadyLemmas.{lowest-None, count-unready}
 pub use Rattle.history_laws.proofs.CountLemmas.{same_world}
-pub use Rattle.transcripts.specs.Settle.{Settled, settled, settled_from, settled_unless, entry_of, intake_of, intake_entry}
+pub use Rattle.write_history.specs.Settle.{Settled, settled, entry_of}
 pub use Rattle.queries.specs.declared.query.Query.{Query}
-pub use Rattle.query_engine.specs.Fits.{is_class, has_super, is_method}
 pub use Rattle.query_engine.specs.Inheritors.{Listing, inheritors_of}
 pub use Rattle.query_engine.specs.declared.answer.Row.{Row}
-pub use Rattle.query_engine.specs.Reply.{rows_in, word_in, word_row, uses_in, keys_in, types_in, types_of, row_of, listed_row, level_row, of_files, of_world}
-pub use Rattle.query_engine.specs.Reply.{unless_unready, reply}
+pub use Rattle.query_engine.specs.Reply.{word_in, word_row, types_in, types_of, row_of, listed_row, level_row, of_files}
+pub use Rattle.query_engine.specs.Reply.{reply}
 pub use Rattle.script_lang.specs.declared.line.Line.{Line}
 pub use Rattle.script_lang.specs.Parts.{Parts}
 pub use Rattle.transcripts.specs.Worked.{Worked}
@@ -58,7 +57,7 @@ pub use Rattle.transcripts.specs.declared.record.Record.{Record}
 pub use Rattle.transcripts.specs.Serial.{Step, step_unless, change_step, Done, Ended, answer_of, done_from, lanes_from, before_last, last_from, run_of}
 pub use Rattle.transcripts.specs.Serial.{query_step, settle_answer}
 pub use Rattle.transcripts.specs.Fits.{Mark, mark_at, Fits, SectionFits, WorkerFits, WorkersFit, made_by, IsSeatOf, RunFits}
-pub use Rattle.transcripts.specs.Transcript.{answer_text, found_text, summary_text, summary_of}
+pub use Rattle.transcripts.specs.Transcript.{answer_text, summary_text, summary_of}
 pub use Rattle.demo.specs.declared.command.Command.{Command}
 pub use Rattle.demo.specs.declared.command.Verb.{Verb}
 pub use Rattle.demo.specs.Line.{path_of, class_of}

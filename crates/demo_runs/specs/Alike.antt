@@ -6,9 +6,9 @@ use Rattle.write_history.specs.declared.entry.Entry.{Entry}
 use Rattle.write_history.specs.World.{World, File, file_of}
 use Rattle.write_history.specs.Effect.{rewritten}
 
--- a file without its stamp and its mark
+-- a file with the same stamp as any other, at which it is indexed
 abbrev pub bare : File → File
-bare file = record { path = file.path; content = file.content; stamp = 0; indexed = None; document = file.document }
+bare file = record { path = file.path; content = file.content; stamp = 0; indexed = Some 0; document = file.document }
 
 -- the file with an id, bare, where it is live
 abbrev pub bare_at : World → ℕ → Option File

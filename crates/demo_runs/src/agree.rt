@@ -9,7 +9,7 @@ ghost use Rattle.demo_runs.specs.Apart.{WritesApart};
 ghost use Rattle.demo_runs.specs.Parts.{demo_parts};
 
 use demo::laws::demos_have_their_commands;
-use transcripts::laws::{a_section_alone_is_serial, a_settle_readies_all};
+use transcripts::laws::a_section_alone_is_serial;
 
 /// Every run of a script whose two lanes write different files, with at most eight workers, has the summary of the run on
 /// one thread.
@@ -17,7 +17,6 @@ pub fn runs_with_lanes_apart_agree()
     ensures { (script : Parts) (told : List Worked) (ended : Ended) → WritesApart script → length told ≤ 8 → RunFits [] script told ended
         → summary_of ended ≡ summary_of (run_of [] script) }
 {
-    a_settle_readies_all();
     a_section_alone_is_serial();
 }
 

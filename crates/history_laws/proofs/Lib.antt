@@ -5,6 +5,8 @@ pub mod FoldLemmas
 pub mod StampLemmas
 pub mod SoundLemmas
 pub mod UnreadyLemmas
+pub mod SettleLemmas
+pub mod SettledLemmas
 pub mod CountLemmas
 pub mod TextLemmas
 pub mod NamedLemmas

@@ -1,5 +1,5 @@
 -- What an intake of the first unready file makes of the unready files.
-use Rattle.std.proofs.Common.{ℕ, zero, suc, ◌≡◌, ◌+◌, ◌<◌, ◌≤◌, Bool, true, false, not, List, [], ◌∷◌, length, get_or, filter, refl, ap, ◌∙◌, subst, arith, Some, None}
+use Rattle.std.proofs.Common.{ℕ, zero, suc, ◌≡◌, ◌+◌, ◌<◌, ◌≤◌, Bool, true, false, not, List, [], ◌∷◌, length, get_or, filter, refl, ap, sym, ◌∙◌, subst, arith, Some, None}
 use Rattle.std.specs.Prelude.{if◌then◌else◌, ◌&&◌, ◌==◌, Option, is_some, option_map}
 use Rattle.std.specs.List.{position}
 use Rattle.std.proofs.lemmas.Bool.{eq-eqb}
@@ -87,6 +87,17 @@ lowest-first world id others e =
 pub lowest-none : (world : World) → unready_ids world ≡ [] → lowest_unready world ≡ None
 lowest-none world e = ap (option_map suc) (no_id is_unready 1 world.files e)
 
+-- the unready ids begin with the lowest
+pub ids_of_lowest : (world : World) (id : ℕ) → lowest_unready world ≡ Some id → (others : List ℕ) × (unready_ids world ≡ id ∷ others)
+ids_of_lowest world id lowest = behind (unready_ids world) refl
+  where
+    behind : (ids : List ℕ) → unready_ids world ≡ ids → (others : List ℕ) × (unready_ids world ≡ id ∷ others)
+    behind [] is = absurd (let seen : Some id ≡ None = sym lowest ∙ lowest-none world is in cc)
+    behind (i ∷ ids) is =
+        let seen : Some id ≡ Some i = sym lowest ∙ lowest-first world i ids is in
+        let same : i ≡ id = cc in
+        (ids, is ∙ ap (λ n. n ∷ ids) same)
+
 -- the lowest unready file is unready, and no file before it is
 pub lowest-Some : (world : World) (id : ℕ) → lowest_unready world ≡ Some id
     → (is_unready (file_of world id) ≡ true) × ((other : ℕ) → other < id → is_unready (file_of world other) ≡ false)
@@ -150,3 +161,12 @@ unready-intake world id stamp others e at =
     let taken : Option File = option_map (taken_in stamp) (file_of world id) in
     ap (λ k. ids_from is_unready 1 (with_row k taken world.files)) n
     ∙ f.left taken (ready_where_taken_in stamp (file_of world id) at)
+
+-- so fewer files are unready after the intake of the lowest one
+pub fewer-intake : (world : World) (id : ℕ) → lowest_unready world ≡ Some id
+    → length (unready_ids (after_list world (Intake id (stamp_of (file_of world id)) ∷ []))) < length (unready_ids world)
+fewer-intake world id lowest =
+    let ids = ids_of_lowest world id lowest in
+    let after = ap length (unready-intake world id (stamp_of (file_of world id)) ids.0 ids.1 refl) in
+    let before : length (unready_ids world) ≡ length (id ∷ ids.0) = ap length ids.1 in
+    omega (arith, after, before)

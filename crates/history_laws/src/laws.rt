@@ -1,15 +1,17 @@
 //! Laws of the world that callers rest on: functions that do nothing, whose contracts are the laws.
-ghost use Rattle.std.specs.Prelude.{◌≡◌, ◌<◌, ◌≤◌, ◌+◌, ◌*◌, ◌==◌, true, false, [], ◌∷◌, ◌++◌, length, ℕ, List, Bool, Option, Some, None, if◌then◌else◌};
+ghost use Rattle.std.specs.Prelude.{◌≡◌, ◌<◌, ◌≤◌, ◌+◌, ◌*◌, ◌==◌, true, false, [], ◌∷◌, ◌++◌, length, ℕ, List, Bool, Option, Some, None, if◌then◌else◌, option_map, IsSome};
 ghost use Rattle.std.specs.List.{All};
 ghost use Rattle.write_history.specs.declared.entry.Entry.{Entry};
 ghost use Rattle.write_history.specs.declared.change.Change.{Change};
 ghost use Rattle.write_history.specs.declared.change.Change.TheVariants.{Intake};
 ghost use Rattle.write_history.specs.World.{World, File, file_of, next_id, id_at, is_unready, unready_ids, lowest_unready, count_of};
 ghost use Rattle.write_history.specs.Changes.{max_changes, NamesPaths, GivesContent, stamps_drawn, files_made};
-ghost use Rattle.write_history.specs.Effect.{Put, put_of, refusal_of, stamp_of};
-ghost use Rattle.write_history.specs.Fold.{after_put, effect_of, effects_of, after_list, list_refusal, fold, fold_from, IsLegal, IsLegalFrom};
+ghost use Rattle.write_history.specs.Effect.{Put, max_entries, put_of, refusal_of, stamp_of};
+ghost use Rattle.write_history.specs.Fold.{ListRefusal, after_put, effect_of, effects_of, after_list, list_refusal, fold, fold_from, IsLegal, IsLegalFrom};
+ghost use Rattle.write_history.specs.Settle.{all_settled, refused_for, with_entry, intake_of, intake_entry, settled};
 ghost use Rattle.write_history.specs.Counts.{counted_as};
 ghost use Rattle.write_history.specs.declared.refusal.Refusal.{Refusal};
+ghost use Rattle.write_history.specs.declared.refusal.Refusal.TheVariants.{HistoryFull};
 ghost use Rattle.ide_text.specs.Text.{max_chars};
 ghost use Rattle.document_buf.specs.Document.{Document};
 ghost use Rattle.write_history.specs.Path.{is_path};
@@ -178,4 +180,40 @@ pub fn intake_readies_one()
     ensures { (world : World) (id : ℕ) (stamp : ℕ) (others : List ℕ) → unready_ids world ≡ id ∷ others
         → stamp ≡ stamp_of (file_of world id)
         → unready_ids (after_list world (Intake id stamp ∷ [])) ≡ others }
+{}
+
+/// A settle goes on by the unready file with the lowest id: it is over where there is none, ends where the intake of
+/// that file is refused, and else goes on after that intake, with fewer unready files.
+pub fn a_settle_goes_by_the_lowest()
+    ensures over { (history : List Entry) (seat : ℕ) (line : ℕ) → lowest_unready (fold history) ≡ None
+        → settled history seat line ≡ all_settled }
+    ensures ends { (history : List Entry) (seat : ℕ) (line : ℕ) (id : ℕ) (why : Refusal) → lowest_unready (fold history) ≡ Some id
+        → option_map (λ (r : ListRefusal). r.why) (list_refusal (fold history) (intake_of (fold history) id)) ≡ Some why
+        → settled history seat line ≡ refused_for why }
+    ensures goes_on { (history : List Entry) (seat : ℕ) (line : ℕ) (id : ℕ) → lowest_unready (fold history) ≡ Some id
+        → list_refusal (fold history) (intake_of (fold history) id) ≡ None
+        → settled history seat line
+        ≡ with_entry (intake_entry history seat line id) (settled (history ++ intake_entry history seat line id ∷ []) seat line) }
+    ensures fewer { (history : List Entry) (seat : ℕ) (line : ℕ) (id : ℕ) → lowest_unready (fold history) ≡ Some id
+        → length (unready_ids (fold (history ++ intake_entry history seat line id ∷ []))) < length (unready_ids (fold history)) }
+{}
+
+/// The intake of an unready file at its stamp is refused only where the history is full.
+pub fn intakes_are_refused_where_full()
+    ensures reason { (history : List Entry) (id : ℕ) (refusal : ListRefusal) → lowest_unready (fold history) ≡ Some id
+        → list_refusal (fold history) (intake_of (fold history) id) ≡ Some refusal → refusal.why ≡ HistoryFull }
+    ensures full { (history : List Entry) (id : ℕ) (refusal : ListRefusal) → lowest_unready (fold history) ≡ Some id
+        → list_refusal (fold history) (intake_of (fold history) id) ≡ Some refusal → max_entries ≤ length history }
+{}
+
+/// After a settle that went through no file is unready. One that didn't left a file unready, and a history that is full.
+pub fn a_settle_readies_all()
+    ensures smart { (history : List Entry) (seat : ℕ) (line : ℕ) → (settled history seat line).refused ≡ None
+        → lowest_unready (fold (history ++ (settled history seat line).added)) ≡ None }
+    ensures unready { (history : List Entry) (seat : ℕ) (line : ℕ) (why : Refusal) → (settled history seat line).refused ≡ Some why
+        → IsSome (lowest_unready (fold (history ++ (settled history seat line).added))) }
+    ensures full { (history : List Entry) (seat : ℕ) (line : ℕ) (why : Refusal) → (settled history seat line).refused ≡ Some why
+        → max_entries ≤ length (history ++ (settled history seat line).added) }
+    ensures reason { (history : List Entry) (seat : ℕ) (line : ℕ) (why : Refusal) → (settled history seat line).refused ≡ Some why
+        → why ≡ HistoryFull }
 {}

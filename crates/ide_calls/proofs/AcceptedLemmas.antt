@@ -11,17 +11,17 @@ use Rattle.write_history.specs.declared.entry.Entry.{Entry}
 use Rattle.write_history.specs.Effect.{max_entries}
 use Rattle.write_history.specs.Fold.{fold, list_refusal, IsLegal}
 use Rattle.ide_calls.specs.Made.{HasFound}
-use Rattle.ide_calls.specs.Settle.{entry_of}
+use Rattle.write_history.specs.Settle.{entry_of}
 use Rattle.ide_calls.specs.Change.{HasAccepted, HasLeft}
 use Rattle.ide_world.specs.Ready.{hinted}
 use Rattle.action_lock.specs.Rule.{entries_of}
-use Rattle.ide_calls.proofs.FoundLemmas.{CountsEntries}
+use Rattle.history_laws.proofs.StampLemmas.{entries-fold}
 
 -- the entry went in behind all that was seen, where none of its changes is refused
-pub has_accepted : CountsEntries → (v u w : View Entry) (seat line : ℕ) (changes : List Change) (at : ℕ) → v.number ≡ Some seat
+pub has_accepted : (v u w : View Entry) (seat line : ℕ) (changes : List Change) (at : ℕ) → v.number ≡ Some seat
     → HasFound v u → list_refusal (fold u.seen) changes ≡ None → at ≡ (fold u.seen).entries
     → w ≡ finished (entry_of seat line changes) u → IsLegal w.seen → Advances u w → HasAccepted v w line changes (at + 1)
-has_accepted counts v u w seat line changes at own found accepted is_at is legal later =
+has_accepted v u w seat line changes at own found accepted is_at is legal later =
     let entry = entry_of seat line changes in
     let seen = ap (λ (x : View Entry). x.seen) is in
     record {
@@ -42,7 +42,7 @@ has_accepted counts v u w seat line changes at own found accepted is_at is legal
           reads = ap (λ (x : View Entry). x.reads) is ∙ found.read.reads;
         };
       };
-      is_at = ap (λ n. n + 1) (is_at ∙ counts u.seen) ∙ sym (length-append u.seen (entry ∷ [])) ∙ sym (ap length seen);
+      is_at = ap (λ n. n + 1) (is_at ∙ entries-fold u.seen) ∙ sym (length-append u.seen (entry ∷ [])) ∙ sym (ap length seen);
     }
 
 -- the file that is to be indexed after an entry that went in behind all that was seen
@@ -69,11 +69,11 @@ own_few : (seat : ℕ) (mine seen : List Entry) → mine ≡ entries_of (λ (e :
 own_few seat mine seen is = subst (λ (l : List Entry). length l ≤ length seen) (sym is) (filter_few (λ (e : Entry). e.seat == seat) seen)
 
 -- so where the history has room for one entry more, it has made no more than a history may have, with that one
-pub few_own : CountsEntries → (v w : View Entry) (entry : Entry) (seen : List Entry) → v.mine ≡ entries_of (λ (e : Entry). e.seat) entry.seat seen
+pub few_own : (v w : View Entry) (entry : Entry) (seen : List Entry) → v.mine ≡ entries_of (λ (e : Entry). e.seat) entry.seat seen
     → seen ≡ v.seen → (fold v.seen).entries < max_entries → w ≡ finished entry v → length w.mine ≤ max_entries
-few_own counts v w entry seen mine same room is =
+few_own v w entry seen mine same room is =
     let own = own_few entry.seat v.mine seen mine in
     let long = ap length same in
-    let all = counts v.seen in
+    let all = entries-fold v.seen in
     let more = ap (λ (x : View Entry). length x.mine) is ∙ length-append v.mine (entry ∷ []) in
     omega arith

@@ -5,7 +5,7 @@ use Rattle.std.specs.List.{All, flat_map}
 use Rattle.std.specs.Option.{option_map_or, option_and_then}
 use Rattle.std.specs.declared.alloc.AllocError.{AllocError}
 use Rattle.std.proofs.lemmas.List.{append-nil}
-use Rattle.std.proofs.lemmas.List.Elements.{All-nil, All-append, All-weaker, All-head, All-tail, All-rest, All-same}
+use Rattle.std.proofs.lemmas.List.Elements.{All-nil, All-append, All-weaker, All-tail, All-same}
 use Rattle.std.proofs.lemmas.List.Concat.{flat_map-append}
 use Rattle.list_laws.specs.Fronts.{IsFront}
 use Rattle.dumb_mode.specs.declared.kind.FileKind.{FileKind}
@@ -71,12 +71,6 @@ pub unready_task : (world : World) (id : ℕ) (task : Task) → is_unready (file
     → (task.file ≡ id) × (task.stamp ≡ stamp_of (file_of world id))
 unready_task world id = file_task id (file_of world id)
 
--- what was taken out of a list whose elements have a property has it
-pub first_has : (P : Task → Type 0) (old lost new : List Task) (task : Task) → old ≡ (lost ++ task ∷ []) ++ new → All P old → P task
-first_has P old [] new task is all = All-head P task new (All-same P (task ∷ new) old (sym is) all)
-first_has P old (t ∷ lost) new task is all =
-    first_has P ((lost ++ task ∷ []) ++ new) lost new task refl (All-rest P t ((lost ++ task ∷ []) ++ new) old is all)
-
 -- what is left of such a list has it
 pub rest_has : (P : Task → Type 0) (gone kept : List Task) → All P (gone ++ kept) → All P kept
 rest_has P [] kept all = all
@@ -92,14 +86,6 @@ stays_later seen whole tasks front = All-weaker (StaysOfWorld seen) (StaysOfWorl
 -- the work of an unready file stays of the world
 task_stays : WorkStays → (seen : List Entry) (tasks : List Task) → All (IsTask (fold seen)) tasks → All (StaysOfWorld seen) tasks
 task_stays law seen = All-weaker (IsTask (fold seen)) (StaysOfWorld seen) (λ task is later legal. law seen later is.id task legal is.work)
-
--- what stays of the world is of it
-pub of_world_now : (seen : List Entry) (world : World) (tasks : List Task) → IsLegal seen → world ≡ fold seen → All (StaysOfWorld seen) tasks
-    → All (IsOfWorld world) tasks
-of_world_now seen world tasks legal is = All-weaker (StaysOfWorld seen) (IsOfWorld world) (λ task stays.
-    let same = append-nil seen in
-    let now : IsOfWorld (fold seen) task = subst (λ (l : List Entry). IsOfWorld (fold l) task) same (stays [] (subst IsLegal (sym same) legal)) in
-    subst (λ (w : World). IsOfWorld w task) (sym is) now) tasks
 
 -- what is left, and what is added, stay of the world
 pub ahead_stays : WorkStays → (seen : List Entry) (world : World) (old new : List Task) → world ≡ fold seen → All (StaysOfWorld seen) old

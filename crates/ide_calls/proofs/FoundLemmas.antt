@@ -1,5 +1,5 @@
 -- What a read that has ended leaves.
-use Rattle.std.proofs.Common.{◌≡◌, ℕ, true, [], ◌∷◌, ◌++◌, sym, ap, ◌∙◌, subst, length, append-nil, Result, Ok, Err, IfOk, List}
+use Rattle.std.proofs.Common.{◌≡◌, ℕ, true, [], ◌∷◌, ◌++◌, sym, ap, ◌∙◌, subst, length, append-nil, Result, Ok, Err, IfOk}
 use Rattle.action_lock.specs.declared.view.Phase.{Phase}
 use Rattle.action_lock.specs.declared.view.Phase.TheVariants.{Out}
 use Rattle.action_lock.specs.declared.view.View.{View}
@@ -8,6 +8,7 @@ use Rattle.action_lock.specs.Steps.{with_phase}
 use Rattle.action_lock.specs.Reads.{HasRead, HasWaited}
 use Rattle.lock_laws.proofs.AdvanceLemmas.{advances_on, with_phase-advances}
 use Rattle.list_laws.proofs.FrontLemmas.{front_self}
+use Rattle.history_laws.proofs.StampLemmas.{entries-fold}
 use Rattle.write_history.specs.declared.entry.Entry.{Entry}
 use Rattle.write_history.specs.World.{World}
 use Rattle.write_history.specs.Fold.{fold, IsLegal}
@@ -15,10 +16,6 @@ use Rattle.queries.specs.declared.query.Query.{Query}
 use Rattle.ide_calls.specs.Made.{HasFound}
 use Rattle.ide_calls.specs.declared.replied.Replied.{Replied}
 use Rattle.ide_calls.specs.Replied.{IsRepliedIn, HasReplied}
-
--- the law that each entry is counted
-abbrev pub CountsEntries : Type 0
-CountsEntries = (entries : List Entry) → (fold entries).entries ≡ length entries
 
 -- a read that waited until it was let in, and has left again: `u` is the view of it, of which the share stands for this world
 pub record HasEnded (number_of : Entry → ℕ) (phase : Phase) (v u w : View Entry) (world : World) : Type 0 where
@@ -59,9 +56,9 @@ module _ (number_of : Entry → ℕ) (phase : Phase) (v u w : View Entry) (world
       ∙ ap (λ (x : View Entry). x.intent) h.waited.waited.same ∙ intends
 
   -- what was replied in the world of the share is replied by what is now seen
-  pub has_replied : {E : Type 0} (query : Query) (result : Result Replied E) → CountsEntries → IfOk result (IsRepliedIn world query)
+  pub has_replied : {E : Type 0} (query : Query) (result : Result Replied E) → IfOk result (IsRepliedIn world query)
       → IfOk result (HasReplied v w query)
-  has_replied query (Ok replied) counts told =
+  has_replied query (Ok replied) told =
       let here = subst (λ (x : World). IsRepliedIn x query replied) same_world told in
-      record { found = has_found; is_at = here.is_at ∙ counts w.seen; tells = here.tells }
-  has_replied query (Err refused) counts told = tt
+      record { found = has_found; is_at = here.is_at ∙ entries-fold w.seen; tells = here.tells }
+  has_replied query (Err refused) told = tt

@@ -1,4 +1,3 @@
-pub mod SettledLemmas
 pub mod ReadLemmas
 pub mod MadeLemmas
 pub mod StepLemmas

@@ -10,7 +10,8 @@ use Rattle.ide_calls.specs.declared.group_refusal.GroupChangeRefusal.TheVariants
 use Rattle.ide_calls.specs.declared.planning.Planned.{Planned}
 use Rattle.ide_calls.specs.Change.{IsGroupRefused}
 use Rattle.ide_calls.specs.Planned.{IsPlanned, IsRefusedIn, HasPlanned}
-use Rattle.ide_calls.proofs.FoundLemmas.{CountsEntries, HasEnded, has_found, same_world, stays_current}
+use Rattle.history_laws.proofs.StampLemmas.{entries-fold}
+use Rattle.ide_calls.proofs.FoundLemmas.{HasEnded, has_found, same_world, stays_current}
 
 module _ (number_of : Entry → ℕ) (phase : Phase) (v u w : View Entry) (world : World) (h : HasEnded number_of phase v u w world) (changes : List Change) where
   -- changes that are ready in the world of a share that was read under an intent are ready behind what is now seen
@@ -23,15 +24,15 @@ module _ (number_of : Entry → ℕ) (phase : Phase) (v u w : View Entry) (world
   has_planned (Err refusal) intends ready = tt
 
   -- a refusal in the world of a share is one by what is now seen
-  is_refused : (refusal : GroupChangeRefusal) → CountsEntries → IsRefusedIn world changes refusal → IsGroupRefused v w changes refusal
-  is_refused (Refused at place why) counts refused =
+  is_refused : (refusal : GroupChangeRefusal) → IsRefusedIn world changes refusal → IsGroupRefused v w changes refusal
+  is_refused (Refused at place why) refused =
       let here = subst (λ (x : World). IsRefusedIn x changes (Refused at place why)) (same_world number_of phase v u w world h) refused in
-      record { found = has_found number_of phase v u w world h; refused = here.1; no_want = here.2; is_at = here.0 ∙ counts w.seen }
-  is_refused OutOfMemory counts refused =
+      record { found = has_found number_of phase v u w world h; refused = here.1; no_want = here.2; is_at = here.0 ∙ entries-fold w.seen }
+  is_refused OutOfMemory refused =
       let found = has_found number_of phase v u w world h in
       record { advances = found.advances; mine = found.mine ∙ append-nil v.mine }
 
-  pub has_refused : {A : Type 0} (result : Result A GroupChangeRefusal) → CountsEntries → IfErr result (IsRefusedIn world changes)
+  pub has_refused : {A : Type 0} (result : Result A GroupChangeRefusal) → IfErr result (IsRefusedIn world changes)
       → IfErr result (IsGroupRefused v w changes)
-  has_refused (Ok planned) counts refused = tt
-  has_refused (Err refusal) counts refused = is_refused refusal counts refused
+  has_refused (Ok planned) refused = tt
+  has_refused (Err refusal) refused = is_refused refusal refused

@@ -11,7 +11,7 @@ use Rattle.write_history.specs.declared.refusal.Refusal.{Refusal}
 use Rattle.write_history.specs.declared.refusal.Refusal.TheVariants as why
 use Rattle.write_history.specs.World.{lowest_unready}
 use Rattle.write_history.specs.Fold.{fold}
-use Rattle.ide_calls.specs.Settle.{settled}
+use Rattle.write_history.specs.Settle.{settled}
 use Rattle.ide_calls.specs.declared.settle_refusal.SettleRefusal.{SettleRefusal}
 use Rattle.ide_calls.specs.declared.settle_refusal.SettleRefusal.TheVariants.{HistoryFull, OutOfMemory}
 use Rattle.ide_calls.specs.Settling.{HasSettled, IsSettled, HasStopped}

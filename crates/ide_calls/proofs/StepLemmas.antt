@@ -21,7 +21,7 @@ use Rattle.write_history.specs.Effect.{stamp_of}
 use Rattle.write_history.specs.Fold.{fold, IsLegal}
 use Rattle.ide_world.specs.declared.data.Job.{Job}
 use Rattle.ide_world.specs.Task.{Task, task_of, work_of}
-use Rattle.ide_calls.specs.Settle.{entry_of}
+use Rattle.write_history.specs.Settle.{entry_of}
 use Rattle.ide_calls.specs.declared.step.Step.{Step as Answer}
 use Rattle.ide_calls.specs.declared.step.Step.TheVariants.{Idle, Gone, Stale, Refused, Taken}
 use Rattle.ide_calls.specs.declared.judge.Judged.TheVariants.{Prepared}

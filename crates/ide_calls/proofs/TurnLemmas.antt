@@ -1,42 +1,23 @@
 -- Turns of a settle, one after another.
-use Rattle.std.proofs.Common.{◌≡◌, ℕ, true, List, [], ◌∷◌, ◌++◌, length, refl, sym, ap, ◌∙◌, subst, append_assoc, Some, None, Option}
-use Rattle.std.specs.Prelude.{option_map, is_none, not, ◌==◌, nat_le}
+use Rattle.std.proofs.Common.{◌≡◌, ◌≤◌, ℕ, Bool, List, [], ◌∷◌, ◌++◌, length, refl, sym, ap, ◌∙◌, subst, append_assoc, arith, Some, None, Option}
+use Rattle.std.specs.Prelude.{option_map, if◌then◌else◌}
 use Rattle.std.proofs.lemmas.List.{append-nil}
-use Rattle.std.proofs.lemmas.Bool.{eq-eqb}
+use Rattle.std.proofs.lemmas.Bool.{le-leb}
 use Rattle.list_laws.specs.Fronts.{IsFront}
 use Rattle.list_laws.proofs.FrontLemmas.{front_self, front_nil}
 use Rattle.action_lock.specs.declared.view.View.{View}
 use Rattle.lock_laws.proofs.AdvanceLemmas.{advances_on}
+use Rattle.history_laws.proofs.SettleLemmas.{settled-over, settled-ends, settled-goes_on, intake_refusal}
 use Rattle.write_history.specs.declared.entry.Entry.{Entry}
 use Rattle.write_history.specs.declared.refusal.Refusal.{Refusal}
-use Rattle.write_history.specs.declared.refusal.Refusal.TheVariants.{NoSuchFile, Stale, HistoryFull}
-use Rattle.write_history.specs.World.{World, File, file_of, is_unready, lowest_unready}
-use Rattle.write_history.specs.Effect.{first_standing, stamp_of, max_entries}
-use Rattle.write_history.specs.Fold.{fold, list_refusal, refusal_or, ListRefusal}
+use Rattle.write_history.specs.declared.refusal.Refusal.TheVariants.{HistoryFull}
+use Rattle.write_history.specs.Effect.{max_entries}
+use Rattle.write_history.specs.Fold.{fold, refusal_or, ListRefusal}
 use Rattle.ide_calls.specs.Made.{HasMade}
-use Rattle.ide_calls.specs.Settle.{Settled, settled, all_settled, refused_for, with_entry, intake_of, intake_entry}
+use Rattle.write_history.specs.Settle.{Settled, settled, all_settled, refused_for, with_entry, intake_entry}
 use Rattle.ide_calls.specs.Reads.{HasOnlyLearned, HasReadOnce}
 use Rattle.ide_calls.specs.Turn.{IsSmart, IsEnd, HasTaken, HasGoneOn, HasGonePartly, GoesThrough, FillsUp}
 use Rattle.ide_calls.proofs.MadeLemmas.{found_by_read}
-
--- the laws of a settle, by the unready file with the lowest id
-abbrev pub IsOver : Type 0
-IsOver = (history : List Entry) (seat line : ℕ) → lowest_unready (fold history) ≡ None → settled history seat line ≡ all_settled
-
-abbrev pub Ends : Type 0
-Ends = (history : List Entry) (seat line id : ℕ) (why : Refusal) → lowest_unready (fold history) ≡ Some id
-    → option_map (λ (r : ListRefusal). r.why) (list_refusal (fold history) (intake_of (fold history) id)) ≡ Some why
-    → settled history seat line ≡ refused_for why
-
-abbrev pub GoesOn : Type 0
-GoesOn = (history : List Entry) (seat line id : ℕ) → lowest_unready (fold history) ≡ Some id
-    → list_refusal (fold history) (intake_of (fold history) id) ≡ None
-    → settled history seat line
-    ≡ with_entry (intake_entry history seat line id) (settled (history ++ intake_entry history seat line id ∷ []) seat line)
-
--- the lowest unready file is unready
-abbrev pub LowestIsUnready : Type 0
-LowestIsUnready = (world : World) (id : ℕ) → lowest_unready world ≡ Some id → is_unready (file_of world id) ≡ true
 
 -- what a read found is what a settle adds, where that is nothing
 nothing_more : (seat line : ℕ) (v w : View Entry) (so : Settled) (refused : Option Refusal)
@@ -49,37 +30,24 @@ nothing_more seat line v w so refused is none why read = record {
 }
 
 -- a turn that finds no unready file ends the settle
-pub smart_on : IsOver → (seat line len : ℕ) (v w : View Entry) → IsSmart v w len → GoesThrough seat line v w len
-smart_on over seat line len v w turn = record {
-  done = nothing_more seat line v w all_settled None (over w.seen seat line turn.smart) refl refl turn.read;
+pub smart_on : (seat line len : ℕ) (v w : View Entry) → IsSmart v w len → GoesThrough seat line v w len
+smart_on seat line len v w turn = record {
+  done = nothing_more seat line v w all_settled None (settled-over w.seen seat line turn.smart) refl refl turn.read;
   whole = turn.whole;
   smart = turn.smart;
 }
 
--- the intake of an unready file at its stamp is refused where the history is full
-full_refusal : (file : Option File) (entries : ℕ) → is_unready file ≡ true → entries ≡ max_entries
-    → first_standing
-    (record { stands = is_none file; refusal = NoSuchFile }
-    ∷ record { stands = not (stamp_of file == stamp_of file); refusal = Stale (stamp_of file) (stamp_of file) }
-    ∷ record { stands = nat_le max_entries entries; refusal = HistoryFull } ∷ [])
-    ≡ Some HistoryFull
-full_refusal None entries unready full = absurd (cc)
-full_refusal (Some file) entries unready full = rw (eq-eqb file.stamp file.stamp refl) (rw full refl)
-
-full_list : (world : World) (id : ℕ) → is_unready (file_of world id) ≡ true → world.entries ≡ max_entries
-    → option_map (λ (r : ListRefusal). r.why) (list_refusal world (intake_of world id)) ≡ Some HistoryFull
-full_list world id unready full =
-    ap (λ (why : Option Refusal). option_map (λ (r : ListRefusal). r.why) (refusal_or why None))
-    (full_refusal (file_of world id) world.entries unready full)
-
 -- a turn that finds a full history and an unready file ends the settle
-pub end_on : Ends → LowestIsUnready → (seat line len : ℕ) (v w : View Entry) → IsEnd v w len → FillsUp seat line v w len
-end_on ends lowest seat line len v w turn =
+pub end_on : (seat line len : ℕ) (v w : View Entry) → IsEnd v w len → FillsUp seat line v w len
+end_on seat line len v w turn =
     let full = turn.full in
-    let why = full_list (fold w.seen) full.id (lowest (fold w.seen) full.id full.unready) (sym full.whole ∙ full.full) in
+    let filled : max_entries ≤ (fold w.seen).entries = omega (arith, full.whole, full.full) in
+    let refused = intake_refusal (fold w.seen) full.id full.unready
+    ∙ ap (λ (b : Bool). refusal_or (if b then Some HistoryFull else None) None) (le-leb max_entries (fold w.seen).entries filled) in
+    let why = ap (option_map (λ (r : ListRefusal). r.why)) refused in
     record {
       done = nothing_more seat line v w (refused_for HistoryFull) (Some HistoryFull)
-          (ends w.seen seat line full.id HistoryFull full.unready why) refl refl turn.read;
+          (settled-ends w.seen seat line full.id HistoryFull full.unready why) refl refl turn.read;
       whole = turn.whole;
       full = full;
     }
@@ -115,8 +83,8 @@ module _ (seat line : ℕ) (v w : View Entry) (turn : HasTaken seat line v w) wh
   reads_after = ap (λ (x : View Entry). x.reads) turn.after ∙ turn.read.reads
 
   -- a settle goes on after the turn
-  goes_after : GoesOn → settled turn.between.seen seat line ≡ with_entry taken after_turn
-  goes_after goes = goes turn.between.seen seat line turn.id turn.unready turn.accepted
+  goes_after : settled turn.between.seen seat line ≡ with_entry taken after_turn
+  goes_after = settled-goes_on turn.between.seen seat line turn.id turn.unready turn.accepted
 
   -- what is made behind the turn's entry is made with it behind what the turn read
   made_with : (x : View Entry) (own : List Entry) → HasMade w x (turn.between.seen ++ taken ∷ []) own → HasMade v x turn.between.seen (taken ∷ own)
@@ -137,20 +105,20 @@ module _ (seat line : ℕ) (v w : View Entry) (turn : HasTaken seat line v w) wh
       }
 
   -- a settle that goes on after the turn has gone on before it
-  pub turn_on : GoesOn → (x : View Entry) (refused : Option Refusal) → HasGoneOn seat line w x refused → HasGoneOn seat line v x refused
-  turn_on goes x refused rest =
+  pub turn_on : (x : View Entry) (refused : Option Refusal) → HasGoneOn seat line w x refused → HasGoneOn seat line v x refused
+  turn_on x refused rest =
       let here : rest.before ≡ turn.between.seen ++ taken ∷ [] = rest.still turn.current ∙ seen_after in
       let made = subst (λ (b : List Entry). HasMade w x b (settled b seat line).added) here rest.made in
       record {
         before = turn.between.seen;
         still = turn.read.learned.still;
-        made = subst (HasMade v x turn.between.seen) (sym (ap (λ (s : Settled). s.added) (goes_after goes))) (made_with x after_turn.added made);
-        ends = ap (λ (s : Settled). s.refused) (goes_after goes) ∙ ap (λ (b : List Entry). (settled b seat line).refused) (sym here) ∙ rest.ends;
+        made = subst (HasMade v x turn.between.seen) (sym (ap (λ (s : Settled). s.added) goes_after)) (made_with x after_turn.added made);
+        ends = ap (λ (s : Settled). s.refused) goes_after ∙ ap (λ (b : List Entry). (settled b seat line).refused) (sym here) ∙ rest.ends;
       }
 
   -- and so has one of which a part was made
-  pub part_on : GoesOn → (x : View Entry) → HasGonePartly seat line w x → HasGonePartly seat line v x
-  part_on goes x rest =
+  pub part_on : (x : View Entry) → HasGonePartly seat line w x → HasGonePartly seat line v x
+  part_on x rest =
       let here : rest.before ≡ turn.between.seen ++ taken ∷ [] = rest.still turn.current ∙ seen_after in
       let part = subst (λ (b : List Entry). IsFront rest.own (settled b seat line).added) here rest.part in
       record {
@@ -160,5 +128,5 @@ module _ (seat line : ℕ) (v w : View Entry) (turn : HasTaken seat line v w) wh
         known = turn.read.learned.advances.seen;
         seen = rest.seen ∙ ap (λ (l : List Entry). l ++ rest.own) here ∙ append_assoc turn.between.seen (taken ∷ []) rest.own;
         mine = rest.mine ∙ ap (λ (l : List Entry). l ++ rest.own) mine_after ∙ append_assoc v.mine (taken ∷ []) rest.own;
-        part = (part.0, ap (λ (s : Settled). s.added) (goes_after goes) ∙ ap (λ (l : List Entry). taken ∷ l) part.1);
+        part = (part.0, ap (λ (s : Settled). s.added) goes_after ∙ ap (λ (l : List Entry). taken ∷ l) part.1);
       }

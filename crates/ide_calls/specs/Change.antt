@@ -9,7 +9,7 @@ use Rattle.write_history.specs.Fold.{fold, list_refusal}
 use Rattle.write_history.specs.Effect.{is_want_of_memory}
 use Rattle.ide_world.specs.Ready.{hinted}
 use Rattle.ide_calls.specs.Made.{HasMade, HasFound}
-use Rattle.ide_calls.specs.Settle.{entry_of}
+use Rattle.write_history.specs.Settle.{entry_of}
 use Rattle.ide_calls.specs.declared.change_refusal.ChangeRefusal.{ChangeRefusal}
 use Rattle.ide_calls.specs.declared.change_refusal.ChangeRefusal.TheVariants as change
 use Rattle.ide_calls.specs.declared.group_refusal.GroupChangeRefusal.{GroupChangeRefusal}

@@ -5,8 +5,7 @@ pub mod Change
 pub mod Replied
 pub mod Sighting
 pub mod SoftRefusal
--- what a settle adds and does, which file a step takes up, and what a step answers
-pub mod Settle
+-- what a settle does, which file a step takes up, and what a step answers
 pub mod Settling
 pub mod Choice
 pub mod Step
@@ -30,3 +29,4 @@ pub use Rattle.query_engine.specs.Listed
 pub use Rattle.ide_world.specs.Ready
 pub use Rattle.write_history.specs.World
 pub use Rattle.write_history.specs.Fold
+pub use Rattle.write_history.specs.Settle

@@ -6,9 +6,7 @@ use Rattle.write_history.specs.World.{World}
 use Rattle.write_history.specs.Fold.{fold}
 use Rattle.queries.specs.declared.query.Query.{Query}
 use Rattle.query_engine.specs.declared.answer.Answer.{Answer}
-use Rattle.query_engine.specs.declared.answer.AskRefusal.{AskRefusal}
-use Rattle.query_engine.specs.declared.answer.AskRefusal.TheVariants as refused
-use Rattle.query_engine.specs.Reply.{reply}
+use Rattle.query_engine.specs.Reply.{NoAnswer, no_such_file, not_ready, reply}
 use Rattle.query_engine.specs.Listed.{path_at}
 use Rattle.ide_calls.specs.Made.{HasFound}
 use Rattle.ide_calls.specs.declared.reply.Reply.{Reply}
@@ -16,10 +14,10 @@ use Rattle.ide_calls.specs.declared.reply.Reply.TheVariants.{Found, NoSuchFile, 
 use Rattle.ide_calls.specs.declared.replied.Replied.{Replied}
 
 -- the reply tells what the definition gives in this world, and the path of a file that isn't ready
-abbrev pub Tells : World → Result Answer AskRefusal → Reply → Type 0
+abbrev pub Tells : World → Result Answer NoAnswer → Reply → Type 0
 Tells world expected (Found answer) = expected ≡ Ok answer
-Tells world expected NoSuchFile = expected ≡ Err refused.NoSuchFile
-Tells world expected (NotReady file path) = (expected ≡ Err (refused.NotReady file)) × (path ≡ path_at world file)
+Tells world expected NoSuchFile = expected ≡ Err no_such_file
+Tells world expected (NotReady file path) = (expected ≡ Err (not_ready file)) × (path ≡ path_at world file)
 
 -- the reply is that of the definition in this world, and the moment its number of entries
 pub record IsRepliedIn (world : World) (query : Query) (replied : Replied) : Type 0 where

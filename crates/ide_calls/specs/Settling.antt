@@ -9,7 +9,7 @@ use Rattle.write_history.specs.World.{lowest_unready}
 use Rattle.write_history.specs.Effect.{max_entries}
 use Rattle.write_history.specs.Fold.{fold}
 use Rattle.ide_calls.specs.Made.{HasMade}
-use Rattle.ide_calls.specs.Settle.{settled}
+use Rattle.write_history.specs.Settle.{settled}
 use Rattle.ide_calls.specs.declared.settle_refusal.SettleRefusal.{SettleRefusal}
 use Rattle.ide_calls.specs.declared.settle_refusal.SettleRefusal.TheVariants.{HistoryFull, OutOfMemory}
 

@@ -8,7 +8,7 @@ use Rattle.write_history.specs.World.{World, File, file_of, is_unready, lowest_u
 use Rattle.write_history.specs.Effect.{stamp_of, max_entries}
 use Rattle.write_history.specs.Fold.{fold}
 use Rattle.ide_calls.specs.Made.{HasMade, HasFound}
-use Rattle.ide_calls.specs.Settle.{entry_of}
+use Rattle.write_history.specs.Settle.{entry_of}
 use Rattle.ide_calls.specs.declared.step.Step.{Step}
 use Rattle.ide_calls.specs.declared.step.Step.TheVariants.{Idle, Gone, Stale, Refused, Taken}
 use Rattle.ide_calls.specs.Choice.{file_to_index}

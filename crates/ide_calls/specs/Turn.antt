@@ -15,7 +15,7 @@ use Rattle.ide_world.specs.declared.step.Step.{Step}
 use Rattle.ide_world.specs.declared.data.Made.{Made}
 use Rattle.ide_world.specs.Task.{IsOfWorld}
 use Rattle.ide_calls.specs.Made.{HasMade}
-use Rattle.ide_calls.specs.Settle.{settled, intake_of, intake_entry}
+use Rattle.write_history.specs.Settle.{settled, intake_of, intake_entry}
 use Rattle.ide_calls.specs.declared.lowest.Lowest.{Lowest}
 use Rattle.ide_calls.specs.declared.lowest.Lowest.TheVariants as lowest
 use Rattle.ide_calls.specs.declared.settling.Turn.{Turn}

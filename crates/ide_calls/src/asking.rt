@@ -8,7 +8,6 @@ use crate::IdeHome;
 use crate::answering::reply_by;
 use crate::replied::Replied;
 use action_lock::{ActionLock, Gate, Pass, Point};
-use history_laws::laws::histories_go_on;
 use ide_world::State;
 use nonblocking_read::Stopped;
 use queries::Query;
@@ -32,7 +31,6 @@ pub fn ask<R: Wait, G: Gate>(
     ensures mine { (view_of pass.new).mine ≡ (view_of pass.old).mine }
     ensures ok { IfOk result (HasReplied (view_of pass.old) (view_of pass.new) query.now) }
 {
-    histories_go_on();
     let seat = pass.number();
     match pass.read(rt, alloc, lock) {
         Ok(reading) => {

@@ -13,7 +13,6 @@ use crate::group_refusal::GroupChangeRefusal;
 use crate::planning::plan;
 use crate::{IdeHome, write_entry};
 use action_lock::{ActionLock, Pass};
-use history_laws::laws::histories_go_on;
 use std::alloc::Global;
 use std::sync::Wait;
 use write_history::{Change, Changes, Entry};
@@ -97,7 +96,6 @@ fn put_in<R: Wait>(
     ensures unready { IfOk result (λ done. HasLeft (view_of pass.new) entry.changes done.unready) }
     ensures refused { IfErr result (IsGroupRefused (view_of pass.old) (view_of pass.new) entry.changes) }
 {
-    histories_go_on();
     let planned = plan(rt, alloc, lock, pass, &entry.changes)?;
     match write_entry(rt, lock, pass, planned.ready, entry) {
         Ok(unready) => Ok(Accepted {

@@ -8,7 +8,6 @@ use crate::IdeHome;
 use crate::choice::find_work;
 use crate::entries::entries;
 use action_lock::{ActionLock, Gate, Pass, Point};
-use history_laws::laws::histories_go_on;
 use ide_world::{Job, State};
 use std::alloc::{AllocError, Global};
 use std::sync::Wait;
@@ -35,7 +34,6 @@ pub(crate) fn first_look<R: Wait, G: Gate>(
     ensures learned { HasOnlyLearned (view_of pass.old) (view_of pass.new) }
     ensures ok { IfOk result (HasLooked seat hint (view_of pass.old) (view_of pass.new)) }
 {
-    histories_go_on();
     let reading = pass.read(rt, alloc, lock)?;
     let found = look_at(reading.share().state(), seat, hint);
     gate.at(Point::Reading { seat });

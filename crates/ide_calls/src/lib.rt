@@ -16,7 +16,6 @@ mod home;
 mod intake;
 mod judge;
 mod kept;
-pub mod laws;
 mod lowest;
 mod making;
 mod place;

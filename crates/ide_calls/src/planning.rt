@@ -9,7 +9,6 @@ ghost use Rattle.ide_calls.specs.Planned.{IsPlanned, IsRefusedIn, HasPlanned};
 use crate::IdeHome;
 use crate::group_refusal::GroupChangeRefusal;
 use action_lock::{ActionLock, Pass};
-use history_laws::laws::histories_go_on;
 use ide_world::{Ready, State, prepare_group};
 use std::alloc::Global;
 use std::sync::Wait;
@@ -37,7 +36,6 @@ pub(crate) fn plan<R: Wait>(
     ensures ok { IfOk result (HasPlanned (view_of pass.old) (view_of pass.new) changes.now) }
     ensures refused { IfErr result (IsGroupRefused (view_of pass.old) (view_of pass.new) changes.now) }
 {
-    histories_go_on();
     match pass.read(rt, alloc, lock) {
         Ok(reading) => {
             let planned = plan_in(alloc, reading.share().state(), changes);

@@ -9,12 +9,11 @@ ghost use Rattle.ide_calls.specs.Settling.{IsSettled, HasStopped};
 ghost use Rattle.ide_calls.specs.Turn.{HasFoundLowest, HasTurned, GoesThrough, Stops};
 
 use crate::ahead::Ahead;
-use crate::laws::a_settle_goes_by_the_lowest;
 use crate::lowest::{Lowest, prepare_lowest};
 use crate::settle_refusal::SettleRefusal;
 use crate::{IdeHome, write_entry};
 use action_lock::{ActionLock, Pass};
-use history_laws::laws::{histories_go_on, unready_files_have_an_order};
+use history_laws::laws::histories_go_on;
 use ide_world::laws::a_task_stays_of_the_world;
 use index_store::Store;
 use std::alloc::{AllocError, Global};
@@ -77,8 +76,6 @@ fn settle_now<R: Threads + Wait>(
     ensures ok { IfOk result (GoesThrough seat line (view_of pass.old) (view_of pass.new)) }
     ensures err { IfErr result (Stops seat line (view_of pass.old) (view_of pass.new)) }
 {
-    a_settle_goes_by_the_lowest();
-    unready_files_have_an_order();
     for _ in rt.forever() {
         match take_lowest_in(rt, alloc, lock, store, pass, seat, line, ahead) {
             Ok(Turn::Taken) => (),

@@ -1,13 +1,13 @@
 -- What edits of a document make of what readers see of it.
-use Rattle.std.proofs.Common.{ℕ, ◌≡◌, ◌+◌, ◌-◌, ◌≤◌, Bool, true, false, List, ◌++◌, length, take, drop, refl, ap, sym, arith, Some, None, length-append, length-drop}
+use Rattle.std.proofs.Common.{ℕ, ◌≡◌, ◌+◌, ◌-◌, ◌≤◌, true, false, List, ◌++◌, length, take, drop, refl, ap, sym, arith, Some, None, length-append, length-drop}
 use Rattle.std.proofs.lemmas.List.{length-take-le}
-use Rattle.std.specs.Prelude.{Option, option_map}
+use Rattle.std.specs.Prelude.{Option, option_map, is_some}
 use Rattle.document_buf.specs.Document.{Document, with_piece, without_part}
 use Rattle.ide_world.specs.declared.step.DocEdit.{DocEdit}
-use Rattle.ide_world.specs.declared.step.DocEdit.TheVariants.{Keep, Open, Insert, Erase, Commit, MarkSaved, Replace, Close}
+use Rattle.ide_world.specs.declared.step.DocEdit.TheVariants.{Keep, Insert, Erase, Commit, MarkSaved}
 use Rattle.ide_world.specs.DocEdits.{edited_document, IsDocEditFit}
 use Rattle.ide_world.specs.declared.look.Look.{Look}
-use Rattle.ide_world.specs.Walk.{look_of, edited_look, edited_committed, edited_text, IsTextEditFit, keeps_texts}
+use Rattle.ide_world.specs.Walk.{look_of, edited_look, edited_committed, edited_text, IsTextEditFit, keeps_texts, is_open_after}
 
 abbrev pub text_of_document : Option Document → Option (List ℕ)
 text_of_document document = option_map (λ d. d.text) document
@@ -30,84 +30,47 @@ length-without_part from to text ordered inside =
     let d = length-drop to text in
     omega arith
 
-look_with : Bool → ℕ → Option Look
-look_with saved n = Some (record { len = n; saved = saved })
+abbrev look_with : ℕ → Option Look
+look_with n = Some (record { len = n; saved = false })
 
 pub look-edited : (edit : DocEdit) (d : Option Document) → IsDocEditFit edit d → option_map look_of (edited_document edit d) ≡ edited_look edit (option_map look_of d)
+look-edited (Insert at text) (Some d) fit = ap (λ n. look_with n) (length-with_piece at text d.text fit.inside)
+look-edited (Erase from to) (Some d) fit = ap (λ n. look_with n) (length-without_part from to d.text fit.ordered fit.inside)
 look-edited Keep d fit = refl
-look-edited (Open doc) d fit = refl
-look-edited (Insert at text) None fit = refl
-look-edited (Insert at text) (Some d) fit = let inside = fit.inside in let e = length-with_piece at text d.text inside in
-    let f : ℕ → Option Look = λ n. Some (record { len = n; saved = false }) in ap f e
-look-edited (Erase from to) None fit = refl
-look-edited (Erase from to) (Some d) fit = let e = length-without_part from to d.text fit.ordered fit.inside in
-    let f : ℕ → Option Look = λ n. Some (record { len = n; saved = false }) in ap f e
-look-edited (Commit text) None fit = refl
-look-edited (Commit text) (Some d) fit = refl
-look-edited MarkSaved None fit = refl
-look-edited MarkSaved (Some d) fit = refl
-look-edited (Replace doc) None fit = refl
-look-edited (Replace doc) (Some d) fit = refl
-look-edited Close d fit = refl
+look-edited edit None fit = refl
+look-edited edit (Some d) fit = refl
 
 pub committed-edited : (edit : DocEdit) (d : Option Document) → IsDocEditFit edit d → committed_of (edited_document edit d) ≡ edited_committed edit (committed_of d)
-committed-edited Keep d fit = refl
-committed-edited (Open doc) d fit = refl
-committed-edited (Insert at text) None fit = refl
-committed-edited (Insert at text) (Some d) fit = refl
-committed-edited (Erase from to) None fit = refl
-committed-edited (Erase from to) (Some d) fit = refl
-committed-edited (Commit text) None fit = refl
 committed-edited (Commit text) (Some d) fit = ap Some (sym fit)
-committed-edited MarkSaved None fit = refl
-committed-edited MarkSaved (Some d) fit = refl
-committed-edited (Replace doc) None fit = refl
-committed-edited (Replace doc) (Some d) fit = refl
-committed-edited Close d fit = refl
+committed-edited Keep d fit = refl
+committed-edited edit None fit = refl
+committed-edited edit (Some d) fit = refl
 
-pub text-edited : (edit : DocEdit) (d : Option Document) → text_of_document (edited_document edit d) ≡ edited_text edit (text_of_document d)
-text-edited Keep d = refl
-text-edited (Open doc) d = refl
-text-edited (Insert at text) None = refl
-text-edited (Insert at text) (Some d) = refl
-text-edited (Erase from to) None = refl
-text-edited (Erase from to) (Some d) = refl
-text-edited (Commit text) None = refl
-text-edited (Commit text) (Some d) = refl
-text-edited MarkSaved None = refl
-text-edited MarkSaved (Some d) = refl
-text-edited (Replace doc) None = refl
-text-edited (Replace doc) (Some d) = refl
-text-edited Close d = refl
+pub text-edited : (edit : DocEdit) (d : Option Document) → IsDocEditFit edit d
+    → text_of_document (edited_document edit d) ≡ edited_text edit (text_of_document d)
+text-edited Keep d fit = refl
+text-edited edit None fit = refl
+text-edited edit (Some d) fit = refl
 
 pub text_edit_fits : (edit : DocEdit) (d : Option Document) → IsDocEditFit edit d → IsTextEditFit edit (text_of_document d)
-text_edit_fits Keep d fit = tt
-text_edit_fits (Open doc) d fit = tt
-text_edit_fits (Insert at text) None fit = tt
 text_edit_fits (Insert at text) (Some d) fit = (fit.inside, fit.fits)
-text_edit_fits (Erase from to) None fit = tt
 text_edit_fits (Erase from to) (Some d) fit = (fit.ordered, fit.inside)
-text_edit_fits (Commit text) d fit = tt
-text_edit_fits MarkSaved d fit = tt
-text_edit_fits (Replace doc) d fit = tt
-text_edit_fits Close d fit = tt
+text_edit_fits Keep d fit = tt
+text_edit_fits edit None fit = tt
+text_edit_fits edit (Some d) fit = tt
 
+pub is_some-edited : (edit : DocEdit) (d : Option Document) → IsDocEditFit edit d → is_some (edited_document edit d) ≡ is_open_after edit (is_some d)
+is_some-edited Keep d fit = refl
+is_some-edited edit None fit = refl
+is_some-edited edit (Some d) fit = refl
+
+-- an edit that keeps the texts
 pub kept_text : (edit : DocEdit) (text : Option (List ℕ)) → keeps_texts edit ≡ true → edited_text edit text ≡ text
 kept_text Keep text k = refl
-kept_text (Open doc) text k = absurd (cc)
-kept_text (Insert at piece) text k = absurd (cc)
-kept_text (Erase from to) text k = absurd (cc)
-kept_text (Commit new) text k = absurd (cc)
 kept_text MarkSaved text k = refl
-kept_text (Replace doc) text k = absurd (cc)
-kept_text Close text k = absurd (cc)
+kept_text edit text k = absurd (cc)
 
 pub kept_committed : (edit : DocEdit) (text : Option (List ℕ)) → keeps_texts edit ≡ true → edited_committed edit text ≡ text
 kept_committed Keep text k = refl
-kept_committed (Open doc) text k = absurd (cc)
-kept_committed (Insert at piece) text k = absurd (cc)
-kept_committed (Erase from to) text k = absurd (cc)
-kept_committed (Commit new) text k = absurd (cc)
 kept_committed MarkSaved text k = refl
-kept_committed (Replace doc) text k = absurd (cc)
-kept_committed Close text k = absurd (cc)
+kept_committed edit text k = absurd (cc)

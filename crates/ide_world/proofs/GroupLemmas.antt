@@ -1,9 +1,9 @@
 -- A list of changes, made one after another on a draft.
-use Rattle.std.proofs.Common.{ℕ, suc, ◌≡◌, ◌+◌, ◌<◌, ◌≤◌, Bool, true, false, List, [], ◌∷◌, ◌++◌, length, get_or, drop, add-one, append_assoc, append-nil, refl, ap, sym, ◌∙◌, subst, arith, Some, None}
-use Rattle.std.specs.Prelude.{◌&&◌, Result, Ok, Err, IfOk, OnOk, Option, option_map}
+use Rattle.std.proofs.Common.{ℕ, ◌≡◌, ◌+◌, ◌<◌, ◌≤◌, Bool, true, false, List, [], ◌∷◌, ◌++◌, length, get_or, drop, append_assoc, append-nil, refl, ap, sym, ◌∙◌, subst, arith, Some, None}
+use Rattle.std.specs.Prelude.{Result, Ok, Err, IfOk, OnOk, Option, option_map}
 use Rattle.write_history.specs.declared.change.Change.{Change}
 use Rattle.write_history.specs.declared.refusal.Refusal.{Refusal}
-use Rattle.write_history.specs.declared.refusal.Refusal.TheVariants.{NoSuchFile, PathTaken, BadPath, NotOpen, AlreadyOpen, BadRange, Unsaved, Uncommitted, Conflict, FilesFull, DocsFull, TextFull, Stale, HistoryFull, OutOfMemory}
+use Rattle.write_history.specs.declared.refusal.Refusal.TheVariants.{OutOfMemory}
 use Rattle.write_history.specs.World.{World}
 use Rattle.write_history.specs.Effect.{put_of, refusal_of, is_want_of_memory, max_entries}
 use Rattle.write_history.specs.Fold.{effect_of, effects_of, ListRefusal, one_later, refusal_or, list_refusal}
@@ -18,8 +18,8 @@ use Rattle.ide_world.specs.Drafted.{Drafted, IsDraft, IsExtended, world_now}
 use Rattle.ide_world.specs.Builds.{Builds}
 use Rattle.ide_world.proofs.WalkLemmas.{entries_after_steps, after_steps-push, pushed}
 use Rattle.ide_world.proofs.AlikeLemmas.{lawful_alike, length_alike, after_alike, ids_alike}
-use Rattle.std.proofs.lemmas.List.{length-append, map-append, drop_all}
-use Rattle.std.proofs.Math.Seq.{drop-cons}
+use Rattle.std.proofs.lemmas.Bool.{and_parts}
+use Rattle.std.proofs.lemmas.List.{length-append, map-append, drop_all, drop_more}
 use Rattle.std.specs.List.{list_all}
 
 -- a refusal that stands so many places later
@@ -37,11 +37,11 @@ pub record IsSoFar (w : World) (changes : List Change) (i : ℕ) (rest : List Ch
 
 later_by-zero : (o : Option ListRefusal) → o ≡ option_map (later_by 0) o
 later_by-zero None = refl
-later_by-zero (Some r) = let e : r.place ≡ r.place + 0 = omega arith in let f : ℕ → Option ListRefusal = λ n. Some (record { place = n; why = r.why }) in ap f e
+later_by-zero (Some r) = let e : r.place ≡ r.place + 0 = omega arith in λ i. Some (record { place = e i; why = r.why })
 
 later_by-suc : (n : ℕ) (o : Option ListRefusal) → option_map (later_by n) (option_map one_later o) ≡ option_map (later_by (n + 1)) o
 later_by-suc n None = refl
-later_by-suc n (Some r) = let e : r.place + 1 + n ≡ r.place + (n + 1) = omega arith in let f : ℕ → Option ListRefusal = λ k. Some (record { place = k; why = r.why }) in ap f e
+later_by-suc n (Some r) = let e : r.place + 1 + n ≡ r.place + (n + 1) = omega arith in λ i. Some (record { place = e i; why = r.why })
 
 pub starts : (w : World) (changes : List Change) (d : Drafted) → d.base ≡ w → d.steps ≡ [] → IsSoFar w changes 0 changes d
 starts w changes d base steps =
@@ -55,14 +55,11 @@ starts w changes d base steps =
       entries = λ l. absurd (omega arith);
     }
 
-accepted_first : (o : Option Refusal) (later : Option ListRefusal) → o ≡ None → refusal_or o later ≡ option_map one_later later
-accepted_first o later e = ap (λ x. refusal_or x later) e
-
 pub turns : (w : World) (changes : List Change) (i : ℕ) (change : Change) (rest : List Change) (d new : Drafted) → IsSoFar w changes i (change ∷ rest) d
     → refusal_of (world_now d) change ≡ None → IsExtended d new change → IsSoFar w changes (i + 1) rest new
 turns w changes i change rest d new h accepted e = record {
   base = e.base ∙ h.base;
-  refusal = h.refusal ∙ ap (option_map (later_by i)) (accepted_first (refusal_of (world_now d) change) (list_refusal (effect_of (world_now d) change) rest) accepted)
+  refusal = h.refusal ∙ ap (λ o. option_map (later_by i) (refusal_or o (list_refusal (effect_of (world_now d) change) rest))) accepted
       ∙ later_by-suc i (list_refusal (effect_of (world_now d) change) rest) ∙ sym (ap (λ x. option_map (later_by (i + 1)) (list_refusal x rest)) e.effect);
   effect = ap (λ x. effects_of x rest) e.effect ∙ h.effect;
   ids = ap (λ x. ids_of new.steps ++ changed_ids x rest) e.effect
@@ -77,29 +74,8 @@ turns w changes i change rest d new h accepted e = record {
 }
 
 known : (o : Option Refusal) (why : Refusal) → IsRefusalOf o why → is_want_of_memory why ≡ false → o ≡ Some why
-known o NoSuchFile h n = h
-known o PathTaken h n = h
-known o BadPath h n = h
-known o NotOpen h n = h
-known o AlreadyOpen h n = h
-known o (BadRange len) h n = h
-known o Unsaved h n = h
-known o Uncommitted h n = h
-known o Conflict h n = h
-known o FilesFull h n = h
-known o DocsFull h n = h
-known o (TextFull count) h n = h
-known o (Stale made present) h n = h
-known o HistoryFull h n = h
 known o OutOfMemory h n = absurd (cc)
-
-refused_at : (w : World) (changes : List Change) (i place : ℕ) (change : Change) (rest : List Change) (d : Drafted) (why : Refusal) → IsSoFar w changes i (change ∷ rest) d
-    → IsRefusalOf (refusal_of (world_now d) change) why → place ≡ i + 1 → is_want_of_memory why ≡ false → list_refusal w changes ≡ Some (record { place = place; why = why })
-refused_at w changes i place change rest d why h r at_place n =
-    let e = known (refusal_of (world_now d) change) why r n in
-    let f : ℕ → Option ListRefusal = λ k. Some (record { place = k; why = why }) in
-    let p : 1 + i ≡ place = omega arith in
-    h.refusal ∙ ap (λ o. option_map (later_by i) (refusal_or o (list_refusal (effect_of (world_now d) change) rest))) e ∙ ap f p
+known o why h n = h
 
 pub finished : (w : World) (changes : List Change) (i : ℕ) (d : Drafted) (steps : List Step) → IsSoFar w changes i [] d → IsDraft d → 1 ≤ i
     → AreAlike d.steps steps → AreWide steps → IsReadyFor w steps × Makes w steps changes
@@ -164,21 +140,21 @@ pub record IsTurned (w : World) (changes : List Change) (i : ℕ) (d : Drafted) 
   pub so_far : IsSoFar w changes i (drop i changes) d
   pub edits : list_all is_edit (drop i changes) ≡ true
 
-and_right : (a b : Bool) → (a && b) ≡ true → b ≡ true
-and_right true b h = h
-and_right false b h = absurd (cc)
-
 -- the changes that are left, of which this is the first
 left_at : (changes : List Change) (i : ℕ) (item : Change) → i < length changes → item ≡ get_or changes i item → drop i changes ≡ item ∷ drop (i + 1) changes
-left_at changes i item inside is = drop-cons changes i item inside ∙ ap (λ x. x ∷ drop (suc i) changes) (sym is) ∙ ap (λ n. item ∷ drop n changes) (sym (add-one i))
+left_at changes i item inside is = drop_more changes i item inside ∙ ap (λ x. x ∷ drop (i + 1) changes) (sym is)
 
 -- the first of them is refused
 pub refused_here : (w : World) (changes : List Change) (i place : ℕ) (item : Change) (d : Drafted) (why : Refusal) → i < length changes → item ≡ get_or changes i item
     → IsSoFar w changes i (drop i changes) d → IsRefusalOf (refusal_of (world_now d) item) why → place ≡ i + 1 → is_want_of_memory why ≡ false
     → list_refusal w changes ≡ Some (record { place = place; why = why })
-refused_here w changes i place item d why inside is h =
-    let P : List Change → Type 0 = λ l. IsSoFar w changes i l d in
-    refused_at w changes i place item (drop (i + 1) changes) d why (subst P (left_at changes i item inside is) h)
+refused_here w changes i place item d why inside is h refused at_place n =
+    let split = left_at changes i item inside is in
+    let here : 1 + i ≡ place = omega arith in
+    let later = list_refusal (effect_of (world_now d) item) (drop (i + 1) changes) in
+    h.refusal ∙ ap (λ rest. option_map (later_by i) (list_refusal (world_now d) rest)) split
+    ∙ ap (λ o. option_map (later_by i) (refusal_or o later)) (known (refusal_of (world_now d) item) why refused n)
+    ∙ (λ k. Some (record { place = here k; why = why }))
 
 pub turn_at : (w : World) (changes : List Change) (i : ℕ) (item : Change) (d new : Drafted) → i < length changes → item ≡ get_or changes i item
     → IsSoFar w changes i (drop i changes) d → list_all is_edit (drop i changes) ≡ true
@@ -188,5 +164,5 @@ turn_at w changes i item d new inside is so_far edits accepted e =
     let split = left_at changes i item inside is in
     record {
       so_far = let P : List Change → Type 0 = λ l. IsSoFar w changes i l d in turns w changes i item rest d new (subst P split so_far) accepted e;
-      edits = and_right (is_edit item) (list_all is_edit rest) (sym (ap (list_all is_edit) split) ∙ edits);
+      edits = (and_parts (is_edit item) (list_all is_edit rest) (sym (ap (list_all is_edit) split) ∙ edits)).1;
     }

@@ -1,10 +1,10 @@
 pub mod MarkLemmas
+pub mod StepLemmas
 pub mod WorldLemmas
 pub mod RoomLemmas
 pub mod ReaderLemmas
 pub mod UnreadyLemmas
 pub mod FoundLemmas
-pub mod StepLemmas
 pub mod EditLemmas
 pub mod PathLemmas
 pub mod WalkLemmas

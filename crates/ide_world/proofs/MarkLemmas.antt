@@ -17,14 +17,7 @@ use Rattle.std.proofs.lemmas.Map.Entries.{lookup-filter-keys}
 use Rattle.std.proofs.lemmas.Map.Keys.{sorted_head, sorted_tail}
 
 is_eq-nat_cmp : (a b : ℕ) → is_eq (nat_cmp a b) ≡ eqb a b
-is_eq-nat_cmp a b = ⊎_elim
-    (λ (below : ltb a b ≡ true). ap (λ t. is_eq (cond t Less (cond (eqb a b) Equal Greater))) below ∙ sym (ne_eqb a b (λ e. omega (arith, ltb-true a b below, e))))
-    (λ (above : ltb a b ≡ false). ap (λ t. is_eq (cond t Less (cond (eqb a b) Equal Greater))) above ∙ by (eqb a b))
-    (cases_Bool (ltb a b))
-  where
-    by : (t : Bool) → is_eq (cond t Equal Greater) ≡ t
-    by true = refl
-    by false = refl
+is_eq-nat_cmp a b = grind (arith, nat_tests)
 
 less_below : (a b : ℕ) → nat_cmp a b ≡ Less → a < b
 less_below a b h = grind (arith, nat_tests)
@@ -92,23 +85,11 @@ reaches from key = range_contains nat_cmp (Included from) Unbounded key
 abbrev pub from_on : ℕ → List (ℕ × Bool) → List (ℕ × Bool)
 from_on from es = filter (λ e. reaches from e.0) es
 
--- the same test, by two tests of the key
-abbrev reaches_by : Bool → Bool → Bool
-reaches_by below same = is_le (cond below Less (cond same Equal Greater)) && not false
-
 reaches_above : (from key : ℕ) → from ≤ key → reaches from key ≡ true
-reaches_above from key above = ⊎_elim
-    (λ (below : ltb from key ≡ true). ap (λ t. reaches_by t (eqb from key)) below)
-    (λ (past : ltb from key ≡ false). ap (λ t. reaches_by t (eqb from key)) past
-    ∙ ap (λ t. reaches_by false t) (eq-eqb from key (omega (arith, above, ltb-false from key past))))
-    (cases_Bool (ltb from key))
+reaches_above from key above = grind (arith, nat_tests)
 
 ends_below : (from key : ℕ) → key < from → reaches from key ≡ false
-ends_below from key less = ⊎_elim
-    (λ (below : ltb from key ≡ true). absurd (omega (arith, less, ltb-true from key below)))
-    (λ (past : ltb from key ≡ false). ap (λ t. reaches_by t (eqb from key)) past
-    ∙ ap (λ t. reaches_by false t) (ne_eqb from key (λ e. omega (arith, less, e))))
-    (cases_Bool (ltb from key))
+ends_below from key less = grind (arith, nat_tests)
 
 same_key : (other key : ℕ) → is_at (nat_cmp other) key ≡ true → other ≡ key
 same_key other key h = eqb-true other key (sym (is_eq-nat_cmp other key) ∙ h)

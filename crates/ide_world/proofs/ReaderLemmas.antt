@@ -2,15 +2,15 @@
 use Rattle.std.proofs.Common.{◌≡◌, ℕ, ◌+◌, ◌<◌, ◌≤◌, zero, suc, true, false, cond, ltb, List, [], ◌∷◌, length, get_or, filter, Some, None, refl, sym, ap, ◌∙◌, arith, ltb-true, ltb-false}
 use Rattle.std.specs.Prelude.{Option, is_some, option_map, position, not, IfSome, IfNone}
 use Rattle.std.specs.List.{position_or_len}
-use Rattle.std.proofs.lemmas.Bool.{false≢true, cond-true, lt-ltb}
-use Rattle.std.proofs.lemmas.List.Sums.{position_or_len_is}
+use Rattle.std.proofs.lemmas.Bool.{false≢true}
 use Rattle.list_laws.proofs.BoolLemmas.{bool_cases}
 use Rattle.document_buf.specs.Document.{Document}
 use Rattle.document_buf.specs.Held.{HeldDoc}
 use Rattle.vfs_core.specs.declared.row.FileRow.{FileRow}
 use Rattle.vfs_core.specs.Row as rows
 use Rattle.list_laws.specs.Rows.{row_in, one_if}
-use Rattle.list_laws.proofs.RowLemmas.{length-filter-cons}
+use Rattle.list_laws.proofs.PositionLemmas.{position_first}
+use Rattle.list_laws.proofs.RowLemmas.{length-filter-cons, past_all}
 use Rattle.write_history.specs.World.{File, has_path, is_unready}
 use Rattle.ide_world.specs.Marks.{Marks, is_on}
 use Rattle.ide_world.specs.Step.{joined}
@@ -30,7 +30,7 @@ live-files_from document id (row ∷ all) =
     let rest = live-files_from document (id + 1) all in
     let same = ap one_if (is_some-joined row (document id)) in omega (arith, new, old, rest, same)
 
-has_path-joined : (path : List ℕ) (row : Option FileRow) (document : Option Document) → has_path path (joined row document) ≡ rows.has_path path row
+pub has_path-joined : (path : List ℕ) (row : Option FileRow) (document : Option Document) → has_path path (joined row document) ≡ rows.has_path path row
 has_path-joined path None document = refl
 has_path-joined path (Some row) document = refl
 
@@ -55,37 +55,34 @@ pub document-copied : {A : Type 0} (f : A → HeldDoc) (o : Option A) → option
 document-copied f None = refl
 document-copied f (Some x) = refl
 
-past_all : (files : List (Option File)) (place : ℕ) → length files ≤ place → get_or files place None ≡ None
-past_all [] place past = refl
-past_all (file ∷ files) zero past = absurd (omega (arith, past))
-past_all (file ∷ files) (suc place) past = past_all files place (omega (arith, past))
-
 -- an unready file is among the files
 pub unready_inside : (files : List (Option File)) (place : ℕ) → is_unready (get_or files place None) ≡ true → place < length files
-unready_inside files place on = bool_cases (ltb place (length files)) (λ b. (ltb place (length files) ≡ b) → place < length files)
-    (λ within e. ltb-true place (length files) within)
-    (λ past e. absurd (false≢true (sym (ap is_unready (past_all files place (ltb-false place (length files) past))) ∙ on)))
-    refl
+unready_inside files place on = bool_cases (ltb place (length files)) (λ b. place < length files)
+    (λ within. ltb-true place (length files) within)
+    (λ past. absurd (false≢true (sym (ap is_unready (past_all files place (ltb-false place (length files) past))) ∙ on)))
 
 -- the lowest unready file, where marks say which are unready
 pub lowest_is : (files : List (Option File)) (id : ℕ) → is_unready (row_in files id) ≡ true
     → ((other : ℕ) → other < id → is_unready (row_in files other) ≡ false)
     → Some id ≡ option_map suc (position is_unready files)
 lowest_is files zero on before = absurd (false≢true on)
-lowest_is files (suc place) on before =
-    let within : place < length files = unready_inside files place on in
-    let first : position_or_len is_unready files ≡ place = position_or_len_is is_unready files place None (omega (arith, within))
-    (λ k below. before (suc k) (omega (arith, below))) (λ _. on) in
-    ap (option_map suc) (sym (ap (λ p. place_or_none p (length files)) first ∙ cond-true (ltb place (length files)) (Some place) None (lt-ltb place (length files) within)))
+lowest_is files (suc place) on before = ap (option_map suc) (sym (position_first is_unready files place None (unready_inside files place on) on
+    (λ k below. before (suc k) (omega (arith, below)))))
 
 pub lowest_none : (files : List (Option File)) → ((id : ℕ) → is_unready (row_in files id) ≡ false)
     → None ≡ option_map suc (position is_unready files)
 lowest_none files none = ap (option_map suc) (sym (none_first is_unready files None (λ place. none (suc place))))
 
+-- an id is the lowest that is on and isn't below another, where one is
+pub record IsLowestFrom (marks : Marks) (from : ℕ) (found : Option ℕ) : Type 0 where
+  pub on : IfSome found (λ id. is_on marks id ≡ true)
+  pub within : IfSome found (λ id. from ≤ id)
+  pub first : IfSome found (λ id. (other : ℕ) → from ≤ other → other < id → is_on marks other ≡ false)
+  pub none : IfNone found ((id : ℕ) → from ≤ id → is_on marks id ≡ false)
+
 -- the lowest id that is on is the lowest unready file's
-pub lowest_result : (marks : Marks) (files : List (Option File)) (lowest : Option ℕ) → IfSome lowest (λ id. is_on marks id ≡ true)
-    → IfSome lowest (λ id. (other : ℕ) → 0 ≤ other → other < id → is_on marks other ≡ false) → IfNone lowest ((id : ℕ) → 0 ≤ id → is_on marks id ≡ false)
+pub lowest_result : (marks : Marks) (files : List (Option File)) (lowest : Option ℕ) → IsLowestFrom marks 0 lowest
     → ((id : ℕ) → is_on marks id ≡ is_unready (row_in files id)) → lowest ≡ option_map suc (position is_unready files)
-lowest_result marks files None on before none each = lowest_none files (λ id. sym (each id) ∙ none id (omega arith))
-lowest_result marks files (Some id) on before none each =
-    lowest_is files id (sym (each id) ∙ on) (λ other below. sym (each other) ∙ before other (omega arith) below)
+lowest_result marks files None h each = lowest_none files (λ id. sym (each id) ∙ h.none id (omega arith))
+lowest_result marks files (Some id) h each =
+    lowest_is files id (sym (each id) ∙ h.on) (λ other below. sym (each other) ∙ h.first other (omega arith) below)

@@ -1,17 +1,16 @@
 -- What room is left after a step.
-use Rattle.std.proofs.Common.{◌≡◌, ℕ, zero, suc, ◌+◌, ◌*◌, ◌<◌, ◌≤◌, true, false, eqb, List, [], ◌∷◌, ◌++◌, length, get_or, take, Some, None, refl, sym, ap, ◌∙◌, subst, arith, inl, inr, ⊎_elim, ◌⊎◌}
+use Rattle.std.proofs.Common.{◌≡◌, ℕ, zero, suc, ◌+◌, ◌*◌, ◌<◌, ◌≤◌, false, cond, eqb, List, [], ◌∷◌, ◌++◌, length, get_or, take, Some, None, refl, sym, ap, ◌∙◌, subst, arith}
 use Rattle.std.specs.Prelude.{Option, is_some, IsSome, IfSome}
 use Rattle.std.proofs.lemmas.List.{take_more}
-use Rattle.std.proofs.lemmas.Bool.{eq-eqb, ne_eqb, cond-true, cond-false, cases_eq}
-use Rattle.vfs_core.specs.declared.row.FileRow.{FileRow}
+use Rattle.std.proofs.lemmas.Bool.{eq-eqb, eqb-true, cond-true}
+use Rattle.std.proofs.lemmas.Option.{IfSome_then}
 use Rattle.vfs_core.specs.Held as files
 use Rattle.document_buf.specs.Held as docs
 use Rattle.overlay_index.specs.Layers as layers
-use Rattle.overlay_index.specs.Parts.{Parts}
 use Rattle.write_history.specs.World.{World}
 use Rattle.write_history.specs.Fold.{counted}
 use Rattle.ide_world.specs.declared.step.DocEdit.{DocEdit}
-use Rattle.ide_world.specs.declared.step.DocEdit.TheVariants.{Keep, Open, Insert, Erase, Commit, MarkSaved, Replace, Close}
+use Rattle.ide_world.specs.declared.step.DocEdit.TheVariants.{Keep}
 use Rattle.ide_world.specs.declared.step.Step.{Step}
 use Rattle.ide_world.specs.RowEdits.{put_row}
 use Rattle.ide_world.specs.DocEdits.{edited_document, IsWide, inserted_by}
@@ -21,6 +20,7 @@ use Rattle.list_laws.specs.Rows.{one_if}
 use Rattle.ide_world.specs.Room.{Room, HasStepRoom, HasEachRoom, HasRoomIn, KeepsRoom, KeepsCounts, room_before, room_before_step, room_needed, rows_of, brought}
 use Rattle.ide_world.specs.Held.{Held, HasRoom}
 use Rattle.ide_world.specs.StepsReady.{IsReady}
+use Rattle.list_laws.proofs.BoolLemmas.{bool_cases}
 use Rattle.list_laws.proofs.RowLemmas.{one_if_le}
 
 -- the room for characters that is left after the document of a file was edited
@@ -31,40 +31,24 @@ pub chars_left : (old new : docs.Held) (step : Step)
     → IsSome (edited_document step.doc (docs.document_of old step.id)) → n ≤ docs.room_of new step.id)
     → (id n : ℕ) → (step.id ≡ id → IsWide n step.doc) → (IsSome (docs.document_of old id) → room_before_step id step n ≤ docs.room_of old id)
     → IsSome (docs.document_of new id) → n ≤ docs.room_of new id
-chars_left old new step becomes others here id n wide room open' = ⊎_elim
-    (λ (same : step.id ≡ id).
-    let is : eqb step.id id ≡ true = eq-eqb step.id id same in
-    let into : room_before_step id step n ≡ room_before step.doc n = cond-true (eqb step.id id) (room_before step.doc n) n is in
-    let open_here : IsSome (edited_document step.doc (docs.document_of old step.id)) =
-    ap is_some (sym (becomes id ∙ cond-true (eqb step.id id) (edited_document step.doc (docs.document_of old step.id)) (docs.document_of old id) is)) ∙ open' in
-    let left : n ≤ docs.room_of new step.id = here n (wide same) (λ some.
-    let had : room_before_step id step n ≤ docs.room_of old id = room (ap (λ i. is_some (docs.document_of old i)) (sym same) ∙ some) in
-    omega (arith, had, into, ap (docs.room_of old) same)) open_here in
-    omega (arith, left, ap (docs.room_of new) same))
-    (λ (apart : step.id ≡ id → ⊥).
-    let is : eqb step.id id ≡ false = ne_eqb step.id id apart in
-    let into : room_before_step id step n ≡ n = cond-false (eqb step.id id) (room_before step.doc n) n is in
-    let had : room_before_step id step n ≤ docs.room_of old id = room
-    (ap is_some (sym (becomes id ∙ cond-false (eqb step.id id) (edited_document step.doc (docs.document_of old step.id)) (docs.document_of old id) is)) ∙ open') in
-    omega (arith, had, into, others id is))
-    (cases_eq step.id id)
+chars_left old new step becomes others here id n wide room open' = bool_cases (eqb step.id id)
+    (λ b. (IsSome (docs.document_of old id) → cond b (room_before step.doc n) n ≤ docs.room_of old id)
+    → IsSome (cond b (edited_document step.doc (docs.document_of old step.id)) (docs.document_of old id)) → n ≤ docs.room_of new id)
+    (λ t had is_open.
+    let same : step.id ≡ id = eqb-true step.id id t in
+    subst (λ i. n ≤ docs.room_of new i) same (here n (wide same)
+    (subst (λ i. IsSome (docs.document_of old i) → room_before step.doc n ≤ docs.room_of old i) (sym same) had) is_open))
+    (λ f had is_open. omega (arith, had is_open, others id f))
+    room (ap is_some (sym (becomes id)) ∙ open')
 
 step_room_kept : (old new : Room) (step : Step) → KeepsRoom old new → HasStepRoom old step → HasStepRoom new step
 step_room_kept old new step keeps room = record {
-  path = path (put_row step.row) room.path;
+  path = IfSome_then (put_row step.row) room.path (λ row had. keeps.paths row.path had);
   place = λ opening above. keeps.places step.id (room.place opening above);
-  parts = parts (brought step.index) room.parts;
+  parts = IfSome_then (brought step.index) room.parts (λ parts had. keeps.parts step.id parts had);
   layer = λ shows. keeps.layers step.id (room.layer shows);
   mark = keeps.marks step.id room.mark;
 }
-  where
-    path : (row : Option FileRow) → IfSome row (λ r. files.HasPathRoom old.files r.path) → IfSome row (λ r. files.HasPathRoom new.files r.path)
-    path None h = tt
-    path (Some r) h = keeps.paths r.path h
-
-    parts : (given : Option Parts) → IfSome given (layers.HasRoom old.layers step.id) → IfSome given (layers.HasRoom new.layers step.id)
-    parts None h = tt
-    parts (Some p) h = keeps.parts step.id p h
 
 -- what had room for what steps bring still has it
 pub each_room_kept : (old new : Room) (steps : List Step) → KeepsRoom old new → HasEachRoom old steps → HasEachRoom new steps
@@ -93,24 +77,12 @@ ready_after old new step steps ready world keeps rows chars = record {
 -- an insert needs room for what it inserts
 inserted_before : (edit : DocEdit) (n : ℕ) → inserted_by edit ≤ room_before edit n
 inserted_before Keep n = omega arith
-inserted_before (Open doc) n = omega arith
-inserted_before (Insert at text) n = omega arith
-inserted_before (Erase from to) n = omega arith
-inserted_before (Commit text) n = omega arith
-inserted_before MarkSaved n = omega arith
-inserted_before (Replace doc) n = omega arith
-inserted_before Close n = omega arith
+inserted_before edit n = omega arith
 
--- no other edit needs room where none is needed behind it
-none_before : (edit : DocEdit) → inserted_by edit ≡ 0 → room_before edit 0 ≡ 0
-none_before Keep none = refl
-none_before (Open doc) none = refl
-none_before (Insert at text) none = omega (arith, none)
-none_before (Erase from to) none = omega arith
-none_before (Commit text) none = refl
-none_before MarkSaved none = refl
-none_before (Replace doc) none = refl
-none_before Close none = refl
+-- and no other edit needs room where none is needed behind it
+some_inserted : (edit : DocEdit) → 0 < room_before edit 0 → 0 < inserted_by edit
+some_inserted Keep above = omega (arith, above)
+some_inserted edit above = omega (arith, above)
 
 -- what carrying out the first of them asks
 pub first_rows : (held : Held) (step : Step) (steps : List Step) → IsReady held (step ∷ steps) → files.HasRowRoom held.room.files (one_if (is_some (put_row step.row)))
@@ -164,15 +136,13 @@ HasEachChars room all (step ∷ steps) =
     (0 < inserted_by step.doc → IsSome (docs.document_of room.docs step.id) → room_needed step.id all ≤ docs.room_of room.docs step.id)
     × HasEachChars room all steps
 
-each_room_push : (room : Room) (steps : List Step) (step : Step) → HasEachRoom room steps → HasStepRoom room step → HasEachRoom room (steps ++ step ∷ [])
-each_room_push room [] step each one = (one, tt)
-each_room_push room (first ∷ steps) step each one = (each.0, each_room_push room steps step each.1 one)
-
-each_chars_push : (room : Room) (all steps : List Step) (step : Step) → HasEachChars room all steps
+each_push : (room : Room) (all steps : List Step) (step : Step) → HasEachRoom room steps × HasEachChars room all steps → HasStepRoom room step
     → (0 < inserted_by step.doc → IsSome (docs.document_of room.docs step.id) → room_needed step.id all ≤ docs.room_of room.docs step.id)
-    → HasEachChars room all (steps ++ step ∷ [])
-each_chars_push room all [] step each one = (one, tt)
-each_chars_push room all (first ∷ steps) step each one = (each.0, each_chars_push room all steps step each.1 one)
+    → HasEachRoom room (steps ++ step ∷ []) × HasEachChars room all (steps ++ step ∷ [])
+each_push room all [] step each one chars = ((one, tt), (chars, tt))
+each_push room all (first ∷ steps) step each one chars =
+    let rest = each_push room all steps step (each.0.1, each.1.1) one chars in
+    ((each.0.0, rest.0), (each.1.0, rest.1))
 
 each_chars_kept : (old new : Room) (all steps : List Step) → KeepsCounts old new → HasEachChars old all steps → HasEachChars new all steps
 each_chars_kept old new all [] keeps each = tt
@@ -188,48 +158,36 @@ pub each_more : (old new : Room) (all : List Step) (i : ℕ) (step : Step) → i
     → HasEachRoom old (take i all) × HasEachChars old all (take i all) → HasEachRoom new (take (i + 1) all) × HasEachChars new all (take (i + 1) all)
 each_more old new all i step within at_i keeps counts room chars each =
     let more : take (i + 1) all ≡ take i all ++ step ∷ [] = take_more all i step within ∙ ap (λ s. take i all ++ s ∷ []) (sym at_i) in
-    subst (λ done. HasEachRoom new done × HasEachChars new all done) (sym more) (
-      each_room_push new (take i all) step (each_room_kept old new (take i all) keeps each.0) room,
-      each_chars_push new all (take i all) step (each_chars_kept old new all (take i all) counts each.1) chars,
-    )
+    subst (λ done. HasEachRoom new done × HasEachChars new all done) (sym more)
+    (each_push new all (take i all) step (each_room_kept old new (take i all) keeps each.0, each_chars_kept old new all (take i all) counts each.1) room chars)
 
 rows_le : (steps : List Step) → rows_of steps ≤ length steps
 rows_le [] = omega arith
 rows_le (step ∷ steps) = omega (arith, rows_le steps, one_if_le (is_some (put_row step.row)))
 
-chars_or_none : (room : Room) (all steps : List Step) (id : ℕ) → HasEachChars room all steps → IsSome (docs.document_of room.docs id)
-    → (room_needed id steps ≡ 0) ⊎ (room_needed id all ≤ docs.room_of room.docs id)
-chars_or_none room all [] id each open' = inl refl
-chars_or_none room all (step ∷ steps) id each open' = ⊎_elim
-    (λ (none : room_needed id steps ≡ 0). ⊎_elim
-    (λ (nothing : room_before_step id step 0 ≡ 0). inl (ap (room_before_step id step) none ∙ nothing))
-    (λ (some : (step.id ≡ id) × (0 < inserted_by step.doc)).
-    let here : room_needed step.id all ≤ docs.room_of room.docs step.id = each.0 some.1 (ap (λ i. is_some (docs.document_of room.docs i)) some.0 ∙ open') in
-    inr (subst (λ i. room_needed i all ≤ docs.room_of room.docs i) some.0 here))
-    (needed_cases id step))
-    (λ (held : room_needed id all ≤ docs.room_of room.docs id). inr held)
-    (chars_or_none room all steps id each.1 open')
+chars_held : (room : Room) (all steps : List Step) (id : ℕ) → HasEachChars room all steps → IsSome (docs.document_of room.docs id)
+    → 0 < room_needed id steps → room_needed id all ≤ docs.room_of room.docs id
+chars_held room all [] id each open' some = absurd (omega (arith, some))
+chars_held room all (step ∷ steps) id each open' some = bool_cases (eqb step.id id)
+    (λ b. 0 < cond b (room_before step.doc (room_needed id steps)) (room_needed id steps) → room_needed id all ≤ docs.room_of room.docs id)
+    (λ t above. by (eqb-true step.id id t) (chars_held room all steps id each.1 open') (room_needed id steps) refl above)
+    (λ f above. chars_held room all steps id each.1 open' above)
+    some
   where
-    some_inserted : (edit : DocEdit) (n : ℕ) → inserted_by edit ≡ n → (room_before edit 0 ≡ 0) ⊎ (0 < inserted_by edit)
-    some_inserted edit zero e = inl (none_before edit e)
-    some_inserted edit (suc n) e = inr (omega (arith, e))
-
-    needed_cases : (id : ℕ) (step : Step) → (room_before_step id step 0 ≡ 0) ⊎ ((step.id ≡ id) × (0 < inserted_by step.doc))
-    needed_cases id step = ⊎_elim
-        (λ (same : step.id ≡ id). ⊎_elim
-        (λ (nothing : room_before step.doc 0 ≡ 0). inl (cond-true (eqb step.id id) (room_before step.doc 0) 0 (eq-eqb step.id id same) ∙ nothing))
-        (λ (some : 0 < inserted_by step.doc). inr (same, some))
-        (some_inserted step.doc (inserted_by step.doc) refl))
-        (λ (apart : step.id ≡ id → ⊥). inl (cond-false (eqb step.id id) (room_before step.doc 0) 0 (ne_eqb step.id id apart)))
-        (cases_eq step.id id)
+    by : step.id ≡ id → (0 < room_needed id steps → room_needed id all ≤ docs.room_of room.docs id)
+        → (n : ℕ) → room_needed id steps ≡ n → 0 < room_before step.doc n → room_needed id all ≤ docs.room_of room.docs id
+    by same rest zero e above = subst (λ i. room_needed i all ≤ docs.room_of room.docs i) same
+        (each.0 (some_inserted step.doc above) (ap (λ i. is_some (docs.document_of room.docs i)) same ∙ open'))
+    by same rest (suc n) e above = rest (omega (arith, e))
 
 -- room was made for all of them
 pub room_made : (room : Room) (all : List Step) → files.HasRowRoom room.files (length all) → HasEachRoom room all × HasEachChars room all all → HasRoomIn room all
 room_made room all rows each = record {
   rows = omega (arith, rows, rows_le all);
   each = each.0;
-  chars = λ id open'. ⊎_elim
-      (λ (none : room_needed id all ≡ 0). omega (arith, none))
-      (λ (held : room_needed id all ≤ docs.room_of room.docs id). held)
-      (chars_or_none room all all id each.1 open');
+  chars = λ id open'. by id open' (room_needed id all) refl;
 }
+  where
+    by : (id : ℕ) → IsSome (docs.document_of room.docs id) → (n : ℕ) → room_needed id all ≡ n → n ≤ docs.room_of room.docs id
+    by id open' zero e = omega arith
+    by id open' (suc n) e = omega (arith, e, chars_held room all all id each.1 open' (omega (arith, e)))

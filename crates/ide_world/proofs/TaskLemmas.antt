@@ -1,12 +1,14 @@
 -- The work of a file, and the world at a later time.
-use Rattle.std.proofs.Common.{ℕ, ◌≡◌, refl, sym, ap, ◌∙◌, subst, Some, None}
+use Rattle.std.proofs.Common.{ℕ, ◌≡◌, List, ◌++◌, refl, sym, ap, ◌∙◌, subst, Some, None}
 use Rattle.std.specs.Prelude.{Option, option_map, IfSome, if◌then◌else◌}
 use Rattle.std.specs.Option.{option_and_then}
 use Rattle.list_laws.proofs.BoolLemmas.{bool_cases}
 use Rattle.dumb_mode.specs.declared.kind.FileKind.{FileKind}
 use Rattle.dumb_mode.specs.Filter.{kind_of}
 use Rattle.write_history.specs.World.{World, File, file_of, is_unready}
-use Rattle.write_history.specs.Stamps.{IsAsStamped}
+use Rattle.write_history.specs.declared.entry.Entry.{Entry}
+use Rattle.write_history.specs.Fold.{fold, IsLegal}
+use Rattle.history_laws.proofs.SoundLemmas.{same_stamp-fold}
 use Rattle.ide_world.specs.Task.{Task, task_of, work_of, task_with_id, IsOfWorld}
 
 -- the file and the kind that work is of
@@ -28,21 +30,19 @@ task_parts (Some f) id task e = bool_cases (is_unready (Some f)) (λ b. (if b th
     (λ n h. absurd (cc))
     e
 
-pub of_task : (w now : World) (id : ℕ) (task : Task)
-    → ((old new : File) → file_of w id ≡ Some old → file_of now id ≡ Some new → new.stamp ≡ old.stamp → IsAsStamped old new)
-    → task_with_id w id ≡ Some task → IsOfWorld now task
-of_task w now id task law e =
-    let p = task_parts (file_of w id) id task e in
-    let P : Task → Type 0 = IsOfWorld now in
-    subst P p.is (record { content = content p.old p.live (file_of now id) refl; kind = kept p.old p.kind p.live p.of_kind (file_of now id) refl })
+-- the work of a file, taken after a part of a legal history, is of the world after all of it
+pub of_task : (earlier later : List Entry) (id : ℕ) (task : Task) → IsLegal (earlier ++ later) → task_with_id (fold earlier) id ≡ Some task
+    → IsOfWorld (fold (earlier ++ later)) task
+of_task earlier later id task legal e =
+    let now = fold (earlier ++ later) in
+    let p = task_parts (file_of (fold earlier) id) id task e in
+    let facts = by p.old p.kind p.live p.of_kind (file_of now id) refl in
+    subst (IsOfWorld now) p.is (record { content = facts.0; kind = facts.1 })
   where
-    content : (old : File) → file_of w id ≡ Some old → (o : Option File) → file_of now id ≡ o → IfSome o (λ f. f.stamp ≡ old.stamp → f.content ≡ old.content)
-    content old live None q = tt
-    content old live (Some new) q = λ s. (law old new live q s).content
-
-    kept : (old : File) (kind : FileKind) → file_of w id ≡ Some old → kind_of old.path ≡ Some kind → (o : Option File) → file_of now id ≡ o
-        → IfSome o (λ f. f.stamp ≡ old.stamp → IfSome (kind_of f.path) (λ k. k ≡ kind))
-    kept old kind live is None q = tt
-    kept old kind live is (Some new) q = λ s.
-        let K : Option FileKind → Type 0 = λ o. IfSome o (λ k. k ≡ kind) in
-        subst K (sym (ap kind_of (law old new live q s).path ∙ is)) refl
+    by : (old : File) (kind : FileKind) → file_of (fold earlier) id ≡ Some old → kind_of old.path ≡ Some kind
+        → (new : Option File) → file_of (fold (earlier ++ later)) id ≡ new
+        → IfSome new (λ f. f.stamp ≡ old.stamp → f.content ≡ old.content) × IfSome new (λ f. f.stamp ≡ old.stamp → IfSome (kind_of f.path) (λ k. k ≡ kind))
+    by old kind live is None e = (tt, tt)
+    by old kind live is (Some new) e =
+        let law = same_stamp-fold earlier later id old new legal live e in
+        ((λ s. (law s).content), λ s. subst (λ o. IfSome o (λ k. k ≡ kind)) (sym (ap kind_of (law s).path ∙ is)) refl)

@@ -68,7 +68,8 @@ pub fn prepare(alloc: Global, state: &State, change: &Change) -> Result<Ready, R
     made_ready(draft)
 }
 
-/// Makes a list of changes ready, each judged where the earlier ones lead, or gives the first refused one.
+/// Makes a list of changes ready, each judged where the earlier ones lead, or gives the first refused one. Where memory runs out,
+/// the first change isn't refused; a later one may be.
 pub fn prepare_group(
     alloc: Global,
     state: &State,

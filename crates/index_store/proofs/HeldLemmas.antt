@@ -200,18 +200,6 @@ held_store hs bytes held ordered few spelled =
 
 -- ---- the data of a row
 
--- bytes that are those of the data of a row's text
-pub right_data : (row : Row) (text : List ℕ) (d : Stored) → text ≡ row.0.text → AreDataOf (record { text = text; kind = row.0.kind }) d → bytes_eq d.1 row.1 ≡ true
-    → row.1 ≡ data_bytes row.0.kind (data_of row.0.kind row.0.text)
-right_data row text d same are equal =
-    sym ((bytes_decides d.1 row.1).0 equal) ∙ are.spelled ∙ ap (λ (t : List ℕ). data_bytes row.0.kind (data_of row.0.kind t)) same
-
--- bytes that aren't
-pub wrong_data : (row : Row) (text : List ℕ) (d : Stored) → text ≡ row.0.text → AreDataOf (record { text = text; kind = row.0.kind }) d → bytes_eq d.1 row.1 ≡ false
-    → row.1 ≡ data_bytes row.0.kind (data_of row.0.kind row.0.text) → ⊥
-wrong_data row text d same are other right =
-    false≢true (sym other ∙ (bytes_decides d.1 row.1).1 (are.spelled ∙ ap (λ (t : List ℕ). data_bytes row.0.kind (data_of row.0.kind t)) same ∙ sym right))
-
 -- ---- entries taken in order
 
 -- a row is above the one before it

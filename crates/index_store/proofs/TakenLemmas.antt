@@ -22,16 +22,6 @@ module _ (es : List Entry) (rows : List Row) (i : ℕ) (so_far : rows_of es ++ d
     split : rows_of es ++ get_or rows i d ∷ drop (i + 1) rows ≡ rows
     split = ap (λ (l : List Row). rows_of es ++ l) (sym (drop_more rows i d inside)) ∙ so_far
 
-    -- there is room for one more
-    pub few_at : length rows < 2 ^ 32 → length es < 4294967295
-    few_at few =
-        let all : length (rows_of es) + suc (length (drop (i + 1) rows)) ≡ length rows = sym (length-append (rows_of es) (get_or rows i d ∷ drop (i + 1) rows)) ∙ ap length split in
-        omega (arith, few, all, rows_length es)
-      where
-        rows_length : (fs : List Entry) → length (rows_of fs) ≡ length fs
-        rows_length [] = refl
-        rows_length (f ∷ fs) = ap suc (rows_length fs)
-
     -- a row whose data are right
     pub taken_at : (new : List Entry) → AllAfter IsRow None rows → IsRight (get_or rows i d) → new ≡ with_entry (get_or rows i d).0 es → rows_of new ++ drop (i + 1) rows ≡ rows
     taken_at new good right is = ap (λ (fs : List Entry). rows_of fs ++ drop (i + 1) rows) is ∙ taken es (get_or rows i d) (drop (i + 1) rows) rows good split right

@@ -51,10 +51,3 @@ no_refusal again bytes es (WrongData entry) is refused =
     let rows = refused.1.0 in
     let same : rows ≡ rows_of es = rows_same rows (rows_of es) (sym refused.1.1 ∙ (again bytes (rows_of es) is).1) in
     absurd (none_wrong entry es (subst (IsFirstWrong entry) same refused.1.2))
-
--- a refusal of rows is one of the bytes that they were read from
-pub wrong_refused : (bytes : List ℕ) (rows : List Row) (refusal : StoreRefusal) → other_version bytes ≡ None → all_of bytes ≡ Ok rows → IsWrongIn rows refusal → IsRefusalOf bytes refusal
-wrong_refused bytes rows OutOfMemory none e wrong = tt
-wrong_refused bytes rows (OtherVersion at found) none e wrong = absurd wrong
-wrong_refused bytes rows (BadStore at) none e wrong = absurd wrong
-wrong_refused bytes rows (WrongData entry) none e wrong = (none, (rows, e, wrong))

@@ -16,7 +16,7 @@ use Rattle.history_laws.proofs.FoldLemmas.{IsLegal-split}
 use Rattle.job_queue.specs.declared.hint.Hint.{Hint}
 use Rattle.job_queue.specs.declared.view.QueueView.{QueueView}
 use Rattle.ide_calls.specs.Made.{HasMade}
-use Rattle.ide_calls.specs.Settle.{entry_of}
+use Rattle.write_history.specs.Settle.{entry_of}
 use Rattle.ide_calls.specs.declared.step.Step.{Step}
 use Rattle.ide_calls.specs.declared.step.Step.TheVariants.{Idle, Gone, Stale, Refused, Taken}
 use Rattle.ide_calls.specs.Step.{HasStepped, HasTried}
@@ -25,7 +25,7 @@ use Rattle.index_workers.specs.declared.worked.End.TheVariants as end
 use Rattle.index_workers.specs.Hints.{HasTaken, IsFirstTried}
 use Rattle.index_workers.specs.declared.worked.Worked.{Worked}
 use Rattle.index_workers.specs.Work.{Done, Leads, taken_by, Sayings, any_answer, GoesOn, IsEndOf, WentOn, EndsWith, EndsBy, IsAtEnd, IsIntakeBy}
-use Rattle.index_workers.specs.Work.{StandsIn, HasGone, HasGoneOn, HasWorked, HasWorkedSo, HasWorkedInPart, max_turns}
+use Rattle.index_workers.specs.Work.{StandsIn, HasGone, HasGoneOn, HasWorked, HasWorkedSo, HasWorkedInPart}
 use Rattle.index_workers.proofs.ReadyLemmas.{not_unready}
 
 -- ---- lists
@@ -228,19 +228,6 @@ ends said seat turns taken v w u q r s hint file answer why on takes first stepp
       ends = ends_by said seat why (on.steps ++ d ∷ []) (record { before = on.steps; last = d; are = refl; ends = is; going = on.going }) answer is;
       at_end = at_end said seat w u (Some file) answer why stepped is;
     }
-
--- after all steps
-pub all_turns : (said : Sayings) (seat taken : ℕ) (v w : View Entry) (q r : QueueView) → HasGoneOn said seat max_turns taken v w q r
-    → HasWorked said v w q r (record { seat = seat; turns = max_turns; taken = taken; end = end.Turns })
-all_turns said seat taken v w q r on = record {
-  steps = on.steps;
-  own = on.own;
-  gone = on.gone;
-  turns = on.turns_are;
-  taken = on.taken_are;
-  ends = (on.turns_are, on.going);
-  at_end = tt;
-}
 
 -- after a step in which memory ran out
 pub cut_short : (said : Sayings) (seat turns taken : ℕ) (v w u : View Entry) (q r s : QueueView) (hint : Option Hint)

@@ -9,7 +9,6 @@ ghost use Rattle.index_workers.specs.Passes.{IsSameIdePass};
 ghost use Rattle.index_workers.specs.Work.{HasWorked, HasWorkedSo};
 
 use action_lock::Gate;
-pub use ide_calls::laws::{a_settle_goes_by_the_lowest, intakes_are_refused_where_full};
 
 /// A pass stays the same from one call to the next.
 pub fn passes_stay_the_same()

@@ -11,7 +11,7 @@ use Rattle.write_history.specs.declared.refusal.Refusal.TheVariants.{BadPath}
 use Rattle.write_history.specs.Path.{is_path}
 use Rattle.write_history.specs.World.{World}
 use Rattle.write_history.specs.Fold.{fold, list_refusal, ListRefusal}
-use Rattle.ide_calls.specs.Settle.{entry_of, settled}
+use Rattle.write_history.specs.Settle.{entry_of, settled}
 use Rattle.ide_calls.specs.Change.{HasAccepted, HasRefused}
 use Rattle.ide_calls.specs.Replied.{HasReplied, Tells}
 use Rattle.ide_calls.specs.declared.replied.Replied.{Replied}
@@ -20,8 +20,7 @@ use Rattle.ide_calls.specs.declared.reply.Reply.TheVariants as reply
 use Rattle.ide_calls.specs.Settling.{HasSettled}
 use Rattle.queries.specs.declared.query.Query.{Query}
 use Rattle.transcripts.specs.Answer.{Answer as Finding}
-use Rattle.transcripts.specs.AskRefusal.{AskRefusal}
-use Rattle.transcripts.specs.Reply.{reply as reply_of}
+use Rattle.transcripts.specs.Reply.{NoAnswer, reply as reply_of}
 use Rattle.script_lang.specs.declared.command.Command.{Command}
 use Rattle.script_lang.specs.declared.command.Command.TheVariants.{Soft}
 use Rattle.script_lang.specs.declared.line.Line.{Line}
@@ -176,7 +175,7 @@ settles v w line at refusal h long =
 
 -- ---- questions
 
-tells_answer : (world : World) (at : ℕ) (expected : Result Finding AskRefusal) (reply : Reply) → Tells world expected reply
+tells_answer : (world : World) (at : ℕ) (expected : Result Finding NoAnswer) (reply : Reply) → Tells world expected reply
     → answer_of world at expected ≡ reply_answer at reply
 tells_answer world at expected (reply.Found finding) h = ap (answer_of world at) h
 tells_answer world at expected reply.NoSuchFile h = ap (answer_of world at) h

@@ -4,7 +4,7 @@ use Rattle.std.specs.List.{flat_map}
 use Rattle.std.proofs.lemmas.List.Concat.{flat_map-append}
 use Rattle.std.proofs.lemmas.List.Elements.{All-append}
 use Rattle.list_laws.specs.Fronts.{IsFront}
-use Rattle.list_laws.proofs.FrontLemmas.{All-cons, All-weaken, front_self, front_trans}
+use Rattle.list_laws.proofs.FrontLemmas.{All-cons, All-weaken, front_trans}
 use Rattle.action_lock.specs.declared.view.Ended.{Ended}
 use Rattle.action_lock.specs.declared.view.View.{View}
 use Rattle.action_lock.specs.Advances.{Advances}
@@ -31,10 +31,6 @@ all_from_push P place [] x all last = let same : place + 0 ≡ place = omega ari
 all_from_push P place (y ∷ ys) x all last =
     let same : place + suc (length ys) ≡ suc place + length ys = omega arith in
     (all.0, all_from_push P (suc place) ys x all.1 (subst (λ (n : ℕ). P n x) same last))
-
--- before the first
-pub none_begun : (ide : SharedIde) (lanes : ℕ) (v : View Entry) → HasBegun ide lanes v v []
-none_begun ide lanes v = record { places = refl; number = refl; drawn = omega arith; seen = refl; mine = refl; ended = refl; each = tt }
 
 -- one more
 pub begun_more : (ide : SharedIde) (lanes : ℕ) (v x y : View Entry) (parts : List Part) (p : Part) → HasBegun ide lanes v x parts → y ≡ splitting x
@@ -115,17 +111,6 @@ can_meet ide lanes beside v place [] some run = λ k d less. absurd (omega arith
 can_meet ide lanes beside v place (p ∷ ps) some run = All-cons (CanMeet ide) p ps
     (record { rests = run.0.rests; follows = λ same. other_number v.drawn place some (sym run.0.advances.number ∙ same) })
     (can_meet ide lanes beside v (suc place) ps some run.1)
-
--- before the first
-pub none_met : (v : View Entry) → HasMet [] v v
-none_met v = record {
-  number = refl;
-  drawn = refl;
-  mine = refl;
-  ended = sym (append-nil v.ended);
-  seen = front_self v.seen;
-  learned = λ k d less. absurd (omega arith);
-}
 
 -- one more
 pub met_more : (v x y : View Entry) (parts : List Part) (p : Part) → HasMet parts v x → y ≡ told (joined x (ide_view p.pass)) → IsFront x.seen y.seen

@@ -1,31 +1,22 @@
 -- A first look, and what follows it.
-use Rattle.std.proofs.Common.{ℕ, ◌≡◌, ◌≢◌, ◌≤◌, ◌+◌, ◌/◌, length, inl, inr, refl, sym, subst, arith, Result, Err, IsErrAnd}
+use Rattle.std.proofs.Common.{ℕ, ◌≡◌, ◌≢◌, ◌≤◌, ◌+◌, inl, inr, refl, sym, subst, arith, Result, Err, IsErrAnd}
 use Rattle.action_lock.specs.Counts.{counted, HasRisen}
 use Rattle.write_history.specs.World.{World}
 use Rattle.queries.specs.declared.query.Query.{Query}
-use Rattle.queries.specs.declared.query.Query.TheVariants as query
 use Rattle.query_engine.specs.declared.answer.Answer.{Answer}
 use Rattle.query_engine.specs.declared.answer.AskRefusal.{AskRefusal}
 use Rattle.query_engine.specs.declared.answer.AskRefusal.TheVariants.{Cancelled}
-use Rattle.query_engine.specs.Reply.{reply}
-use Rattle.query_engine.specs.Looks.{later_looks, where_smart, first_uses, super_count, rows_a_look, MayLook, HasLooked, HasLookedFor, LooksThrough, EndsEarly}
+use Rattle.query_engine.specs.Looks.{LaterLooks, just, at_most, looks_after, AreLooks, MayLook, HasLooked, HasLookedFor, LooksThrough, EndsEarly}
 use Rattle.query_engine.specs.Given.{RepliesTo}
 use Rattle.query_engine.proofs.LookLemmas.{looked_as, looked_on, looked_short, looked_up}
 
-one_of : (n : ℕ) → 1 ≤ 1 + n
-one_of n = omega arith
-
 -- how often a question may look after its first look
 some_looks : (world : World) (query : Query) → (later : ℕ) × MayLook world query (1 + later)
-some_looks world (query.Class name) = (later_looks (reply world (query.Class name)), refl)
-some_looks world (query.Supers name) = (later_looks (reply world (query.Supers name)), refl)
-some_looks world (query.Method name) = (later_looks (reply world (query.Method name)), refl)
-some_looks world (query.Word name) = (later_looks (reply world (query.Word name)), refl)
-some_looks world (query.Usages name) = (where_smart world (length (first_uses name world)), refl)
-some_looks world (query.Inheritors name) = (0, (one_of 0, one_of (where_smart world (super_count world / rows_a_look))))
-some_looks world (query.Key key) = (later_looks (reply world (query.Key key)), refl)
-some_looks world (query.Outline path) = (later_looks (reply world (query.Outline path)), refl)
-some_looks world query.Status = (later_looks (reply world query.Status), refl)
+some_looks world query = some (looks_after world query)
+  where
+    some : (looks : LaterLooks) → (later : ℕ) × AreLooks looks (1 + later)
+    some (just later) = (later, refl)
+    some (at_most later) = (0, (omega arith, omega arith))
 
 risen_none : (a b : ℕ) → a ≡ 0 → b ≡ 0 → HasRisen a b → ⊥
 risen_none a b from to (inl less) = omega (arith, from, to, less)
@@ -41,7 +32,7 @@ module _ {W : Type 0} (l s : W → ℕ) (st : W → W → Type 0) (world : World
         number = 1 + later;
         may = may;
         looked = looked_as l s st X Answer (1 + later) r e old new told
-            (looked_short l s st X 1 (1 + later) e old new (one_of later) (subst EndsEarly (sym is) tt) q);
+            (looked_short l s st X 1 (1 + later) e old new (omega arith) (subst EndsEarly (sym is) tt) q);
       }
 
   -- the first look saw nothing, and the question was replied to
@@ -54,7 +45,8 @@ module _ {W : Type 0} (l s : W → ℕ) (st : W → W → Type 0) (world : World
   }
 
   -- so there was a look
-  pub counted_first : (r : Result Answer AskRefusal) (old mid new : W) → l mid ≡ counted (l old) → RepliesTo l s st world query r mid new → counted (l old) ≤ l new
+  pub counted_first : (r : Result Answer AskRefusal) (old mid new : W) → l mid ≡ counted (l old) → RepliesTo l s st world query r mid new
+      → counted (l old) ≤ l new
   counted_first r old mid new once h = subst (λ (n : ℕ). n ≤ l new) once (looked_up l s st h.later r mid new h.looked)
 
   -- a watch that never sees anything stops no call

@@ -1,5 +1,5 @@
 -- The names that were asked for, as a set.
-use Rattle.std.proofs.Common.{ℕ, ◌≡◌, Bool, true, false, cond, ◌||◌, List, [], ◌∷◌, map, refl, ap, sym, ◌∙◌}
+use Rattle.std.proofs.Common.{ℕ, ◌≡◌, Bool, true, cond, ◌||◌, List, [], ◌∷◌, map, refl, ap, sym, ◌∙◌, arith}
 use Rattle.std.specs.Bool.{one_answer}
 use Rattle.std.specs.List.{list_any}
 use Rattle.std.specs.Str.{bytes_eq}
@@ -25,8 +25,7 @@ bytes_swap xs ys = one_answer (bytes_eq xs ys) (bytes_eq ys xs) (bytes_eq-Decide
     ((λ h. sym ((bytes_eq-Decides ys xs).0 h)), (λ h. (bytes_eq-Decides ys xs).1 (sym h)))
 
 cond_or : (b c : Bool) → cond b true c ≡ (b || c)
-cond_or true c = refl
-cond_or false c = refl
+cond_or b c = grind arith
 
 -- one more name
 pub asked_more : (name : Bor (List ℕ)) (old new : BTreeSet (Bor (List ℕ))) → Updates (λ x y. slice_cmp nat_cmp x.now y.now) old new name true

@@ -34,44 +34,10 @@ last_all P [] t last all = absurd (no_last t last)
 last_all P (a ∷ []) t last all = subst P (some_is a t last) (All-head P a [] all)
 last_all P (a ∷ b ∷ ts) t last all = last_all P (b ∷ ts) t last (All-tail P a (b ∷ ts) all)
 
--- a chain without its last type
-record Without (P : Listing → Type 0) (name : List ℕ) (ts : List Listing) (u : Listing) : Type 0 where
-  front : List Listing
-  before : Listing
-  last : last_of front ≡ Some before
-  linked : IsChain name front
-  all : All P front
-  size : length ts ≡ length front + 1
-  link : has_super before.1.name u.1 ≡ true
-
-chain_pop : (P : Listing → Type 0) (name : List ℕ) (a b : Listing) (ts : List Listing) (u : Listing) → IsChain name (a ∷ b ∷ ts) → All P (a ∷ b ∷ ts)
-    → last_of (a ∷ b ∷ ts) ≡ Some u
-    → Without P name (a ∷ b ∷ ts) u
-chain_pop P name a b [] u linked all last = record {
-  front = a ∷ [];
-  before = a;
-  last = refl;
-  linked = (linked.0, tt);
-  all = All-cons P a [] (All-head P a (b ∷ []) all) (All-nil P);
-  size = refl;
-  link = subst (λ (w : Listing). has_super a.1.name w.1 ≡ true) (some_is b u last) linked.1.0;
-}
-chain_pop P name a b (c ∷ ts) u linked all last =
-    let rest = chain_pop P a.1.name b c ts u linked.1 (All-tail P a (b ∷ c ∷ ts) all) last in
-    record {
-      front = a ∷ rest.front;
-      before = rest.before;
-      last = last_behind a rest.before rest.front rest.last;
-      linked = (linked.0, rest.linked);
-      all = All-cons P a rest.front (All-head P a (b ∷ c ∷ ts) all) rest.all;
-      size = let s = rest.size in omega (arith, s);
-      link = rest.link;
-    }
-
-module _ (types : List Listing) (name : List ℕ) where
+module _ (types : List Listing) where
   -- a type that names the name
-  pub chain_one : (t : Listing) → Contains types t → has_super name t.1 ≡ true → EndsChain types name 1 t
-  chain_one t listed is = record {
+  pub chain_one : (name : List ℕ) (t : Listing) → Contains types t → has_super name t.1 ≡ true → EndsChain types name 1 t
+  chain_one name t listed is = record {
     chain = t ∷ [];
     listed = All-cons (Contains types) t [] listed (All-nil (Contains types));
     linked = (is, tt);
@@ -79,7 +45,31 @@ module _ (types : List Listing) (name : List ℕ) where
     ends = refl;
   }
 
-  -- and one that names the type that a chain ends at
+  -- a type in front of a chain from its name
+  chain_front : (name : List ℕ) (a t : Listing) (len : ℕ) → Contains types a → has_super name a.1 ≡ true → EndsChain types a.1.name len t
+      → EndsChain types name (suc len) t
+  chain_front name a t len listed is h = record {
+    chain = a ∷ h.chain;
+    listed = All-cons (Contains types) a h.chain listed h.listed;
+    linked = (is, h.linked);
+    many = ap suc h.many;
+    ends = last_behind a t h.chain h.ends;
+  }
+
+  -- a chain without its last type
+  chain_pop : (name : List ℕ) (a b : Listing) (ts : List Listing) (u : Listing) → IsChain name (a ∷ b ∷ ts) → All (Contains types) (a ∷ b ∷ ts)
+      → last_of (b ∷ ts) ≡ Some u → (t : Listing) × EndsChain types name (length (b ∷ ts)) t × (has_super t.1.name u.1 ≡ true)
+  chain_pop name a b [] u linked listed last = (
+    a,
+    chain_one name a (All-head (Contains types) a (b ∷ []) listed) linked.0,
+    subst (λ (w : Listing). has_super a.1.name w.1 ≡ true) (some_is b u last) linked.1.0,
+  )
+  chain_pop name a b (c ∷ ts) u linked listed last =
+      let (t, rest, link) = chain_pop a.1.name b c ts u linked.1 (All-tail (Contains types) a (b ∷ c ∷ ts) listed) last in
+      (t, chain_front name a t (length (c ∷ ts)) (All-head (Contains types) a (b ∷ c ∷ ts) listed) linked.0 rest, link)
+
+module _ (types : List Listing) (name : List ℕ) where
+  -- a type more that names the one that a chain ends at
   pub chain_more : (len : ℕ) (t u : Listing) → EndsChain types name len t → Contains types u → has_super t.1.name u.1 ≡ true → EndsChain types name (len + 1) u
   chain_more len t u h listed link = record {
     chain = h.chain ++ u ∷ [];
@@ -120,6 +110,5 @@ module _ (types : List Listing) (name : List ℕ) where
       of [] listed linked many last = absurd (no_last u last)
       of (a ∷ []) listed linked many last = absurd (omega (arith, many))
       of (a ∷ b ∷ ts) listed linked many last =
-          let w = chain_pop (Contains types) name a b ts u linked listed last in
-          let s = w.size in
-          (w.before, record { chain = w.front; listed = w.all; linked = w.linked; many = omega (arith, many, s); ends = w.last }, w.link)
+          let (t, chain, link) = chain_pop types name a b ts u linked listed last in
+          (t, subst (λ (n : ℕ). EndsChain types name n t) (omega (arith, many)) chain, link)

@@ -1,17 +1,17 @@
 -- What a search by levels has found, before each level and at its end.
-use Rattle.std.proofs.Common.{◌≡◌, ◌≤◌, ◌<◌, ◌⊎◌, inl, inr, ℕ, zero, suc, ◌+◌, ◌==◌, true, false, ◌&&◌, List, [], ◌∷◌, ◌++◌, length, filter, Option, None, IfSome, refl, ap, sym, subst, ◌∙◌, append-nil, append_assoc, arith}
+use Rattle.std.proofs.Common.{◌≡◌, ◌≤◌, ◌<◌, ◌⊎◌, inl, inr, ℕ, zero, suc, ◌+◌, ◌==◌, true, false, ◌&&◌, List, [], ◌∷◌, ◌++◌, length, filter, All, Option, None, IfSome, refl, ap, sym, subst, ◌∙◌, append-nil, append_assoc, arith}
 use Rattle.std.specs.Prelude.{not, is_some}
-use Rattle.std.specs.List.{AllByRecursion}
-use Rattle.std.proofs.lemmas.Bool.{false≢true, cases_lt}
-use Rattle.std.proofs.lemmas.List.Elements.{filter-append, filter_agree}
+use Rattle.std.proofs.lemmas.Bool.{false≢true, cases_eq}
+use Rattle.std.proofs.lemmas.List.{nil_from_length}
+use Rattle.std.proofs.lemmas.List.Elements.{All-nil, All-append, All-map, All-weaker, filter-append, filter_agree}
 use Rattle.std.proofs.lemmas.List.Filters.{length-filter_both}
 use Rattle.query_engine.specs.Fits.{has_super}
 use Rattle.query_engine.specs.Inheritors.{Listing, names_any, names_of, levels_from, inheritors_of}
 use Rattle.query_engine.specs.Search.{Seen, Reached, is_asked, leveled, is_level, with_this, tagged, LevelsRise, IsFound}
-use Rattle.query_engine.proofs.OrderLemmas.{all_append, all_each, all_weaker}
+use Rattle.query_engine.proofs.MemberLemmas.{all_each, filter_none, filter_two}
 use Rattle.query_engine.proofs.LevelLemmas.{found_in, left_by}
-use Rattle.query_engine.proofs.SearchLemmas.{any_agree, any_names, IsAt}
-use Rattle.query_engine.proofs.TagLemmas.{filter_none, filter_two, no_level, this_level, other_level, above_level, lower_next, still_none, and_swap, tagged_each, tagged_this, rise_append, below_none, few_none, tagged_other}
+use Rattle.query_engine.proofs.SearchLemmas.{any_agree, any_names, new_named, IsAt}
+use Rattle.query_engine.proofs.TagLemmas.{no_level, this_level, other_level, lower_next, tagged_this, rise_append, below_none, tagged_other}
 
 -- the types that have no level yet
 abbrev pub without : (Listing → Option ℕ) → List Listing → List Listing
@@ -31,7 +31,7 @@ pub record IsBefore (types : List Listing) (name : List ℕ) (level : ℕ) (name
   pub enough : (length (without levels types) ≤ more) ⊎ ((t : Listing) → names_any last t ≡ false)
   pub each : (k : ℕ) → filter (λ found. found.0 == k) front ≡ tagged k (with_this k levels types)
   pub rise : LevelsRise front
-  pub below : AllByRecursion (λ found. found.0 < level) front
+  pub below : All (λ found. found.0 < level) front
 
 -- no type has a level
 abbrev no_levels : Listing → Option ℕ
@@ -50,9 +50,9 @@ before_first types name = record {
   whole = ap (levels_from (length types) 1 (name ∷ [])) (all types);
   same = λ t. refl;
   enough = inl (subst (λ (l : List Listing). length l ≤ length types) (sym (all types)) (omega arith));
-  each = λ k. sym (ap (tagged k) (filter_none (λ (t : Listing). false) types (all_each (λ (t : Listing). false ≡ false) types (λ t. refl))));
+  each = λ k. sym (ap (tagged k) (filter_none (λ (t : Listing). false) types (λ i d inside. refl)));
   rise = tt;
-  below = tt;
+  below = All-nil (λ (found : ℕ × Listing). found.0 < 1);
 }
   where
     none : (ts : List Listing) → [] ≡ leveled no_levels ts
@@ -77,15 +77,14 @@ module _ (types : List Listing) (name : List ℕ) (level : ℕ) (names asked ask
   found_same =
       filter_two (names_any b.last) (λ t. not (is_some (b.levels t))) types
       ∙ filter_agree (λ t. not (is_some (b.levels t)) && names_any b.last t) (λ t. is_level level (at.levels t))
-      (λ t. ap (λ n. not (is_some (b.levels t)) && n) (b.same t) ∙ sym (found_test t)) types
+      (λ t. grind (arith, b.same t, found_test t)) types
 
   left_same : left_by b.last left ≡ without at.levels types
   unfolding left
   left_same =
       filter_two (λ t. not (names_any b.last t)) (λ t. not (is_some (b.levels t))) types
       ∙ filter_agree (λ t. not (is_some (b.levels t)) && not (names_any b.last t)) (λ t. not (is_some (at.levels t)))
-      (λ t. ap (λ n. not (is_some (b.levels t)) && not n) (b.same t) ∙ still_none level (b.levels t) (names_any names t)
-      ∙ ap (λ o. not (is_some o)) (sym (at.is t))) types
+      (λ t. grind (arith, b.same t, at.is t)) types
 
   front' : List (ℕ × Listing)
   front' = b.front ++ tagged level (with_this level at.levels types)
@@ -115,8 +114,8 @@ module _ (types : List Listing) (name : List ℕ) (level : ℕ) (names asked ask
   }
     where
       none : (length left ≤ 0) ⊎ ((t : Listing) → names_any b.last t ≡ false) → found_in b.last left ≡ []
-      none (inl few) = few_none (names_any b.last) left few
-      none (inr nobody) = filter_none (names_any b.last) left (all_each (λ (t : Listing). names_any b.last t ≡ false) left nobody)
+      none (inl few) = ap (found_in b.last) (nil_from_length left (omega (arith, few)))
+      none (inr nobody) = filter_none (names_any b.last) left (all_each (λ t. names_any b.last t ≡ false) left nobody)
   onward (suc more) whole enough = record {
     more = more;
     whole = append_assoc b.front (tagged level (with_this level at.levels types))
@@ -130,8 +129,7 @@ module _ (types : List Listing) (name : List ℕ) (level : ℕ) (names asked ask
       fewer : (length left ≤ suc more) ⊎ ((t : Listing) → names_any b.last t ≡ false) → (found : List Listing) → found_in b.last left ≡ found
           → (length (without at.levels types) ≤ more) ⊎ ((t : Listing) → names_any last' t ≡ false)
       fewer enough [] none = inr (none_last none)
-      fewer (inr nobody) (u ∷ us) some = inr
-          (none_last (filter_none (names_any b.last) left (all_each (λ (t : Listing). names_any b.last t ≡ false) left nobody)))
+      fewer (inr nobody) (u ∷ us) some = inr (none_last (filter_none (names_any b.last) left (all_each (λ t. names_any b.last t ≡ false) left nobody)))
       fewer (inl few) (u ∷ us) some =
           let both = length-filter_both (names_any b.last) (λ t. not (names_any b.last t)) (λ t. refl) left in
           let many : length (found_in b.last left) ≡ suc (length us) = ap length some in
@@ -141,37 +139,21 @@ module _ (types : List Listing) (name : List ℕ) (level : ℕ) (names asked ask
   -- what is found at each level
   each' : (k : ℕ) → filter (λ found. found.0 == k) front' ≡ tagged k (with_this k at.levels types)
   unfolding front'
-  each' k = filter-append (λ found. found.0 == k) b.front (tagged level (with_this level at.levels types)) ∙ of (cases_lt k level)
+  each' k = filter-append (λ found. found.0 == k) b.front (tagged level new) ∙ of (cases_eq level k)
     where
-      later : (k ≡ level) ⊎ (level < k)
-          → filter (λ found. found.0 == k) b.front ++ filter (λ found. found.0 == k) (tagged level (with_this level at.levels types))
-          ≡ tagged k (with_this k at.levels types)
-      later (inl same) =
-          ap (λ l. l ++ filter (λ found. found.0 == k) (tagged level (with_this level at.levels types)))
-          (below_none level k b.front (omega (arith, same)) b.below)
-          ∙ ap (λ n. filter (λ found. found.0 == n) (tagged level (with_this level at.levels types))) same
-          ∙ tagged_this level (with_this level at.levels types)
-          ∙ ap (λ n. tagged n (with_this n at.levels types)) (sym same)
-      later (inr above) =
-          ap (λ l. l ++ filter (λ found. found.0 == k) (tagged level (with_this level at.levels types)))
-          (below_none level k b.front (omega (arith, above)) b.below)
-          ∙ tagged_other level k (with_this level at.levels types) (λ same. omega (arith, above, same))
-          ∙ ap (tagged k) (sym (filter_none (λ t. is_level k (at.levels t)) types (all_each (λ (t : Listing). is_level k (at.levels t) ≡ false) types
-          (λ t. ap (is_level k) (at.is t) ∙ above_level level k (b.levels t) (names_any names t) above (b.lower t)))))
+      new : List Listing
+      new = with_this level at.levels types
 
-      of : (k < level) ⊎ (level ≤ k) → filter (λ found. found.0 == k) b.front ++ filter (λ found. found.0 == k)
-          (tagged level (with_this level at.levels types)) ≡ tagged k (with_this k at.levels types)
-      of (inl less) =
-          ap (λ l. filter (λ found. found.0 == k) b.front ++ l) (tagged_other level k (with_this level at.levels types) (λ same. omega (arith, less, same)))
-          ∙ append-nil (filter (λ found. found.0 == k) b.front)
-          ∙ b.each k
+      of : (level ≡ k) ⊎ (level ≡ k → ⊥) → filter (λ found. found.0 == k) b.front ++ filter (λ found. found.0 == k) (tagged level new)
+          ≡ tagged k (with_this k at.levels types)
+      of (inl same) =
+          subst (λ k. filter (λ found. found.0 == k) b.front ++ filter (λ found. found.0 == k) (tagged level new) ≡ tagged k (with_this k at.levels types)) same
+          (ap (λ l. l ++ filter (λ found. found.0 == level) (tagged level new)) (below_none level b.front b.below) ∙ tagged_this level new)
+      of (inr apart) =
+          ap (λ l. filter (λ found. found.0 == k) b.front ++ l) (tagged_other level k new apart)
+          ∙ append-nil (filter (λ found. found.0 == k) b.front) ∙ b.each k
           ∙ ap (tagged k) (filter_agree (λ t. is_level k (b.levels t)) (λ t. is_level k (at.levels t))
-          (λ t. sym (other_level level k (b.levels t) (names_any names t) less) ∙ ap (is_level k) (sym (at.is t))) types)
-      of (inr enough) = later (split (cases_lt level k))
-        where
-          split : (level < k) ⊎ (k ≤ level) → (k ≡ level) ⊎ (level < k)
-          split (inl above) = inr above
-          split (inr few) = inl (omega (arith, enough, few))
+          (λ t. sym (other_level level k (b.levels t) (names_any names t) apart) ∙ ap (is_level k) (sym (at.is t))) types)
 
   -- a level ends, and the next one begins
   pub before_next : IsBefore types name (level + 1) reached'.next asked' reached'.seen
@@ -188,17 +170,15 @@ module _ (types : List Listing) (name : List ℕ) (level : ℕ) (names asked ask
         front = front';
         whole = on.whole;
         same = λ t. any_names (λ name. has_super name t.1) (λ t. is_level level (at.levels t)) types
-            ∙ any_agree (λ u. is_level level (at.levels u) && has_super u.1.name t.1)
-            (λ u. names_any names u && (not (is_some (b.levels u)) && has_super u.1.name t.1))
-            (λ u. ap (λ c. c && has_super u.1.name t.1) (found_test u)
-            ∙ sym (and_swap (names_any names u) (not (is_some (b.levels u))) (has_super u.1.name t.1))) types
+            ∙ any_agree (λ u. is_level level (at.levels u) && has_super u.1.name t.1) (new_named b.levels names (λ name. has_super name t.1))
+            (λ u. grind (arith, found_test u)) types
             ∙ sym (at.next (λ name. has_super name t.1));
         enough = on.enough;
         each = each';
         rise = rise_append level b.front (with_this level at.levels types) b.rise b.below;
-        below = all_append (λ found. found.0 < level + 1) b.front (tagged level (with_this level at.levels types))
-            (all_weaker (λ found. found.0 < level) (λ found. found.0 < level + 1) b.front (λ found less. omega (arith, less)) b.below)
-            (tagged_each (λ found. found.0 < level + 1) level (with_this level at.levels types) (λ t. omega arith));
+        below = All-append (λ found. found.0 < level + 1) b.front (tagged level (with_this level at.levels types))
+            (All-weaker (λ found. found.0 < level) (λ found. found.0 < level + 1) (λ found less. omega (arith, less)) b.front b.below)
+            (All-map (λ found. found.0 < level + 1) (λ t. (level, t)) (with_this level at.levels types) (λ k d inside. omega arith));
       }
 
 -- no name is left, and the search ends

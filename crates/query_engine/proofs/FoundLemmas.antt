@@ -1,8 +1,9 @@
 -- What is found in the files of a world.
-use Rattle.std.proofs.Common.{ℕ, suc, ◌≡◌, ◌≤◌, ◌<◌, ◌+◌, if◌then◌else◌, Bool, true, false, List, [], ◌∷◌, ◌++◌, map, filter, length, get_or, Option, Some, None, option_map, option_to_list, unwrap_or, IsSome, IfSome, All, refl, ap, sym, subst, ◌∙◌, le_refl, arith}
+use Rattle.std.proofs.Common.{ℕ, suc, ◌≡◌, ◌≤◌, ◌<◌, ◌+◌, if◌then◌else◌, Bool, true, false, List, [], ◌∷◌, ◌++◌, map, length, get_or, Option, Some, None, option_map, option_to_list, IsSome, IfSome, All, refl, ap, sym, subst, ◌∙◌, le_refl, arith}
 use Rattle.std.specs.Option.{option_map_or}
-use Rattle.std.proofs.lemmas.Bool.{eq-eqb, ne_eqb}
+use Rattle.std.proofs.lemmas.Bool.{eq-eqb, ne_eqb, cond_both}
 use Rattle.std.proofs.lemmas.List.{map-append}
+use Rattle.std.proofs.lemmas.Simd.{map-map}
 use Rattle.std.proofs.lemmas.List.Elements.{All-tail, All-append, All-map}
 use Rattle.ide_text.specs.Text.{max_chars}
 use Rattle.dumb_mode.specs.declared.kind.FileKind.{FileKind}
@@ -16,22 +17,20 @@ use Rattle.property_index.specs.Keys.{RiseFrom, keys_of, places_of_key}
 use Rattle.write_history.specs.World.{World, File, file_of, shown_text}
 use Rattle.ide_world.specs.Found.{found, found_from, found_in, stubs_in, masks_in}
 use Rattle.query_engine.specs.declared.answer.WordRow.{WordRow}
-use Rattle.query_engine.specs.Reply.{of_files, of_kind, of_world, place_row, row_of, rows_in, keys_in, word_in, word_row}
-use Rattle.query_engine.specs.Listed.{Listed, AreLive, AreAhead, AreFrom, itself, listed_at, offset_in, path_at, place_found, row_found, stub_at, text_at, word_found}
+use Rattle.query_engine.specs.Reply.{of_files, of_kind, of_world, word_in, word_row}
+use Rattle.query_engine.specs.Listed.{Listed, AreLive, AreAhead, AreFrom, itself, listed_at, offset_in, path_at, stub_at, text_at, word_found}
 use Rattle.query_engine.proofs.FromLemmas.{from_listing, from_filter, from_keys}
 
--- the path that a reader gives is that of the file
-path_found : (world : World) (id : ℕ) (path : List ℕ) → Some path ≡ option_map (λ file. file.path) (file_of world id) → path ≡ path_at world id
-path_found world id path is = ap (λ o. unwrap_or o []) is ∙ of (file_of world id)
-  where
-    of : (o : Option File) → unwrap_or (option_map (λ file. file.path) o) [] ≡ option_map_or (λ file. file.path) o []
-    of None = refl
-    of (Some file) = refl
+-- what a reader gives of a file is what the file has
+pub read_found : (read : File → List ℕ) (o : Option File) (x : List ℕ) → Some x ≡ option_map read o → x ≡ option_map_or read o []
+read_found read None x is = absurd cc
+read_found read (Some file) x is = cc
 
 -- the row that is made for a word
 pub word_row_made : (world : World) (id mask : ℕ) (path copy : List ℕ) → Some path ≡ option_map (λ file. file.path) (file_of world id) → copy ≡ path
     → ◌≡◌ {A = WordRow} (record { file = id; path = copy; mask = mask }) (word_found world (id, mask))
-word_row_made world id mask path copy is same = ap (λ p. record { file = id; path = p; mask = mask }) (same ∙ path_found world id path is)
+word_row_made world id mask path copy is same =
+    ap (λ p. record { file = id; path = p; mask = mask }) (same ∙ read_found (λ file. file.path) (file_of world id) path is)
 
 -- what is left is of live files
 pub live_rest : {X : Type 0} (world : World) (x : ℕ × X) (left left' : List (ℕ × X)) → left ≡ x ∷ left' → AreLive world left → AreLive world left'
@@ -57,37 +56,42 @@ at_tail world id file files h k = let e : id + 1 + k ≡ id + suc k = omega arit
 live_is : (world : World) (id : ℕ) (file : File) → file_of world id ≡ Some file → IsSome (file_of world id)
 live_is world id file is = subst (λ (o : Option File). IsSome o) (sym is) refl
 
--- what is made of all that is found is what the files give, where of each file's it is what that file gives
-pub rows_from : {X R : Type 0} (kind : FileKind) (made : List (ℕ × X) → List R) → ((xs ys : List (ℕ × X)) → made (xs ++ ys) ≡ made xs ++ made ys) → made [] ≡ []
-    → (read : List ℕ → List X) (rows : ℕ → File → List R) (world : World)
-    → ((id : ℕ) (file : File) → file_of world id ≡ Some file → made (map (λ x. (id, x)) (read (shown_text file))) ≡ rows id file)
-    → (id : ℕ) (files : List (Option File)) → AreAt world id files → made (found_from kind read id files) ≡ of_files kind rows id files
-rows_from kind made joins none read rows world each id [] at = none
-rows_from kind made joins none read rows world each id (None ∷ files) at =
-    rows_from kind made joins none read rows world each (id + 1) files (at_tail world id None files at)
-rows_from {X} {R} kind made joins none read rows world each id (Some file ∷ files) at =
-    joins (map (λ x. (id, x)) (found_in kind read file)) (found_from kind read (id + 1) files)
-    ∙ ap (λ (rs : List R). rs ++ made (found_from kind read (id + 1) files)) (of (has_kind kind file.path))
-    ∙ ap (λ (rs : List R). of_kind kind rows id (Some file) ++ rs)
-    (rows_from kind made joins none read rows world each (id + 1) files (at_tail world id (Some file) files at))
+module _ {X R : Type 0} (kind : FileKind) (made : List (ℕ × X) → List R) (joins : (xs ys : List (ℕ × X)) → made (xs ++ ys) ≡ made xs ++ made ys)
+    (none : made [] ≡ []) (read : List ℕ → List X) (rows : ℕ → File → List R) (world : World)
+    (each : (id : ℕ) (file : File) → file_of world id ≡ Some file → made (map (λ x. (id, x)) (read (shown_text file))) ≡ rows id file) where
+  rows_from : (id : ℕ) (files : List (Option File)) → AreAt world id files → made (found_from kind read id files) ≡ of_files kind rows id files
+  rows_from id [] at = none
+  rows_from id (None ∷ files) at = rows_from (id + 1) files (at_tail world id None files at)
+  rows_from id (Some file ∷ files) at =
+      joins (map (λ x. (id, x)) (found_in kind read file)) (found_from kind read (id + 1) files)
+      ∙ ap (λ (rs : List R). rs ++ made (found_from kind read (id + 1) files)) (of (has_kind kind file.path))
+      ∙ ap (λ (rs : List R). of_kind kind rows id (Some file) ++ rs) (rows_from (id + 1) files (at_tail world id (Some file) files at))
+    where
+      of : (b : Bool) → made (map (λ x. (id, x)) (if b then read (shown_text file) else [])) ≡ (if b then rows id file else [])
+      of true = each id file (at_head world id (Some file) files at)
+      of false = none
+
+  -- what is made of all that is found is what the files give, where of each file's it is what that file gives
+  pub rows_found : made (found kind read world) ≡ of_world kind rows world
+  rows_found = rows_from 1 world.files (at_all world)
+
+-- what is found is what each file gives, with its id
+pub found_is : {X : Type 0} (kind : FileKind) (read : List ℕ → List X) (world : World)
+    → found kind read world ≡ of_world kind (λ id file. map (λ x. (id, x)) (read (shown_text file))) world
+found_is kind read world =
+    rows_found kind (λ xs. xs) (λ xs ys. refl) refl read (λ id file. map (λ x. (id, x)) (read (shown_text file))) world (λ id file is. refl)
+
+-- the rows of what is found, each made by its file's id, path and text, are those of the files
+pub placed_found : {X R : Type 0} (kind : FileKind) (row : ℕ → List ℕ → List ℕ → X → R) (read : List ℕ → List X) (world : World)
+    → map (λ f. row f.0 (path_at world f.0) (text_at world f.0) f.1) (found kind read world)
+    ≡ of_world kind (λ id file. map (row id file.path (shown_text file)) (read (shown_text file))) world
+placed_found {X} {R} kind row read world =
+    rows_found kind (map made) (map-append made) refl read (λ id file. map (row id file.path (shown_text file)) (read (shown_text file))) world
+    (λ id file is. map-map made (λ x. (id, x)) (read (shown_text file))
+    ∙ ap (λ (o : Option File). map (row id (option_map_or (λ f. f.path) o []) (option_map_or shown_text o [])) (read (shown_text file))) is)
   where
-    of : (b : Bool) → made (map (λ x. (id, x)) (if b then read (shown_text file) else [])) ≡ (if b then rows id file else [])
-    of true = each id file (at_head world id (Some file) files at)
-    of false = none
-
--- the rows of declarations of one file
-stub_rows_of : (world : World) (id : ℕ) (file : File) → file_of world id ≡ Some file → (stubs : List Stub)
-    → map (row_found world) (map (λ s. (id, s)) stubs) ≡ map (row_of id file.path (shown_text file)) stubs
-stub_rows_of world id file is [] = refl
-stub_rows_of world id file is (s ∷ stubs) =
-    ap (λ o. row_of id (option_map_or (λ f. f.path) o []) (option_map_or shown_text o []) s ∷ map (row_found world) (map (λ s. (id, s)) stubs)) is
-    ∙ ap (λ rs. row_of id file.path (shown_text file) s ∷ rs) (stub_rows_of world id file is stubs)
-
--- the rows of the declarations that are found
-pub stub_rows_found : (fits : Stub → Bool) (world : World) → map (row_found world) (found Java (stubs_in fits) world) ≡ of_world Java (rows_in fits) world
-stub_rows_found fits world =
-    rows_from Java (map (row_found world)) (map-append (row_found world)) refl (stubs_in fits) (rows_in fits) world
-    (λ id file is. stub_rows_of world id file is (filter fits (listing_of (shown_text file)))) 1 world.files (at_all world)
+    made : ℕ × X → R
+    made f = row f.0 (path_at world f.0) (text_at world f.0) f.1
 
 -- the row of a word of one file
 word_rows_of : (world : World) (id : ℕ) (file : File) → file_of world id ≡ Some file → (mask : Option ℕ)
@@ -98,30 +102,18 @@ word_rows_of world id file is (Some mask) = ap (λ o. record { file = id; path =
 -- the rows of a word that is found
 pub word_rows_found : (name : List ℕ) (world : World) → map (word_found world) (found Java (masks_in name) world) ≡ of_world Java (word_in name) world
 word_rows_found name world =
-    rows_from Java (map (word_found world)) (map-append (word_found world)) refl (masks_in name) (word_in name) world
-    (λ id file is. word_rows_of world id file is (mask_in (words_of (shown_text file)) name)) 1 world.files (at_all world)
-
--- the rows of the places of one file
-place_rows_of : (world : World) (id : ℕ) (file : File) → file_of world id ≡ Some file → (ats : List ℕ)
-    → map (place_found world) (map (λ at. (id, at)) ats) ≡ map (place_row id file.path (shown_text file)) ats
-place_rows_of world id file is [] = refl
-place_rows_of world id file is (at ∷ ats) =
-    ap (λ o. place_row id (option_map_or (λ f. f.path) o []) (option_map_or shown_text o []) at ∷ map (place_found world) (map (λ at. (id, at)) ats)) is
-    ∙ ap (λ rs. place_row id file.path (shown_text file) at ∷ rs) (place_rows_of world id file is ats)
-
--- the rows of a property key that is found
-pub key_rows_found : (key : List ℕ) (world : World) → map (place_found world) (found Properties (places_of_key key) world) ≡ of_world Properties (keys_in key) world
-key_rows_found key world =
-    rows_from Properties (map (place_found world)) (map-append (place_found world)) refl (places_of_key key) (keys_in key) world
-    (λ id file is. place_rows_of world id file is (places_of_key key (shown_text file))) 1 world.files (at_all world)
+    rows_found Java (map (word_found world)) (map-append (word_found world)) refl (masks_in name) (word_in name) world
+    (λ id file is. word_rows_of world id file is (mask_in (words_of (shown_text file)) name))
 
 -- what is found is of live files
-live_from : {X : Type 0} (read : List ℕ → List X) (world : World) (id : ℕ) (files : List (Option File)) → AreAt world id files → AreLive world (found_from Java read id files)
+live_from : {X : Type 0} (read : List ℕ → List X) (world : World) (id : ℕ) (files : List (Option File)) → AreAt world id files
+    → AreLive world (found_from Java read id files)
 live_from read world id [] at = λ k d inside. absurd (omega (arith, inside))
 live_from read world id (None ∷ files) at = live_from read world (id + 1) files (at_tail world id None files at)
 live_from {X} read world id (Some file ∷ files) at =
     All-append (λ (f : ℕ × X). IsSome (file_of world f.0)) (map (λ x. (id, x)) (found_in Java read file)) (found_from Java read (id + 1) files)
-    (All-map (λ (f : ℕ × X). IsSome (file_of world f.0)) (λ x. (id, x)) (found_in Java read file) (λ k d inside. live_is world id file (at_head world id (Some file) files at)))
+    (All-map (λ (f : ℕ × X). IsSome (file_of world f.0)) (λ x. (id, x)) (found_in Java read file)
+    (λ k d inside. live_is world id file (at_head world id (Some file) files at)))
     (live_from read world (id + 1) files (at_tail world id (Some file) files at))
 
 pub live_found : {X : Type 0} (read : List ℕ → List X) (world : World) → AreLive world (found Java read world)
@@ -150,7 +142,8 @@ offset_same world id at = ap (λ b. if b then at else 0) (eq-eqb id id refl)
 ahead_chain : {X : Type 0} (at_of : X → ℕ) (world : World) (id : ℕ) → IsSome (file_of world id) → (rest : List (ℕ × X))
     → ((before : Option Listed) → IsBelow (id + 1) before → AreAhead at_of world before rest)
     → (xs : List X) (before : Option Listed) → IsBelow (id + 1) before
-    → (length (text_at world id) ≤ max_chars → AreFrom at_of (length (text_at world id)) (offset_in before id) xs) → AreAhead at_of world before (map (λ x. (id, x)) xs ++ rest)
+    → (length (text_at world id) ≤ max_chars → AreFrom at_of (length (text_at world id)) (offset_in before id) xs)
+    → AreAhead at_of world before (map (λ x. (id, x)) xs ++ rest)
 unfolding IsBelow
 ahead_chain at_of world id live rest others [] before below from = others before below
 ahead_chain at_of world id live rest others (x ∷ xs) before below from = (
@@ -170,22 +163,22 @@ module _ {X : Type 0} (kind : FileKind) (at_of : X → ℕ) (read : List ℕ →
   ahead_from id [] at before below = tt
   ahead_from id (None ∷ files) at before below = ahead_from (id + 1) files (at_tail world id None files at) before (below_more id before below)
   ahead_from id (Some file ∷ files) at before below =
-      of (has_kind kind file.path) (ahead_from (id + 1) files (at_tail world id (Some file) files at))
+      of (ahead_from (id + 1) files (at_tail world id (Some file) files at))
     where
       is : file_of world id ≡ Some file
       is = at_head world id (Some file) files at
 
-      text_is : shown_text file ≡ text_at world id
-      text_is = sym (ap (λ (o : Option File). option_map_or shown_text o []) is)
-
       from : length (text_at world id) ≤ max_chars → AreFrom at_of (length (text_at world id)) (offset_in before id) (read (shown_text file))
       from short = subst (λ n. AreFrom at_of (length (text_at world id)) n (read (shown_text file))) (sym (offset_below id before below))
-          (subst (λ text. AreFrom at_of (length (text_at world id)) 0 (read text)) (sym text_is) (rises (text_at world id) short))
+          (subst (λ (o : Option File). AreFrom at_of (length (text_at world id)) 0 (read (option_map_or shown_text o []))) is (rises (text_at world id) short))
 
-      of : (b : Bool) → ((before : Option Listed) → IsBelow (id + 1) before → AreAhead at_of world before (found_from kind read (id + 1) files))
-          → AreAhead at_of world before (map (λ x. (id, x)) (if b then read (shown_text file) else []) ++ found_from kind read (id + 1) files)
-      of true others = ahead_chain at_of world id (live_is world id file is) (found_from kind read (id + 1) files) others (read (shown_text file)) before (below_more id before below) from
-      of false others = others before (below_more id before below)
+      of : ((before : Option Listed) → IsBelow (id + 1) before → AreAhead at_of world before (found_from kind read (id + 1) files))
+          → AreAhead at_of world before (found_from kind read id (Some file ∷ files))
+      of others = cond_both (has_kind kind file.path) (read (shown_text file)) []
+          (λ xs. AreAhead at_of world before (map (λ x. (id, x)) xs ++ found_from kind read (id + 1) files))
+          (λ on. ahead_chain at_of world id (live_is world id file is) (found_from kind read (id + 1) files) others (read (shown_text file)) before
+          (below_more id before below) from)
+          (λ off. others before (below_more id before below))
 
   -- what is found in files stands one behind another
   pub rising_ahead : AreAhead at_of world None (found kind read world)
@@ -202,4 +195,5 @@ ahead_found lawful named fits world =
 -- and so do the places of a property key
 pub keys_ahead : ((text : List ℕ) → RiseFrom 0 (length text) (keys_of text)) → (key : List ℕ) (world : World)
     → AreAhead itself world None (found Properties (places_of_key key) world)
-keys_ahead rise key world = rising_ahead Properties itself (places_of_key key) (λ text short. from_keys key 0 0 (length text) (keys_of text) (le_refl 0) (rise text)) world
+keys_ahead rise key world =
+    rising_ahead Properties itself (places_of_key key) (λ text short. from_keys key 0 0 (length text) (keys_of text) (le_refl 0) (rise text)) world

@@ -1,82 +1,65 @@
 -- What lists have, through a filter and a map.
-use Rattle.std.proofs.Common.{◌≡◌, ◌⊎◌, inl, inr, zero, suc, Bool, true, false, cond, ◌||◌, List, [], ◌∷◌, map, filter, refl, ap, sym, subst, ◌∙◌, arith}
+use Rattle.std.proofs.Common.{◌≡◌, ◌⊎◌, inl, inr, ◌<◌, Bool, true, false, ◌&&◌, List, [], ◌∷◌, map, filter, get_or, All, refl, ap, sym, subst, ◌∙◌, arith}
+use Rattle.std.specs.Prelude.{not}
 use Rattle.std.specs.List.{Contains, list_any}
 use Rattle.std.proofs.lemmas.Bool.{false≢true}
+use Rattle.std.proofs.lemmas.List.{get_or-map, length-map}
+use Rattle.std.proofs.lemmas.List.Elements.{All-head, All-tail, All-map, All-filter, All-weaker, All-contains, All-contains_itself, filter_passes, Contains-append_cases}
+use Rattle.std.proofs.lemmas.List.Folds.{Any-from_list_any, list_any_at}
+use Rattle.std.proofs.lemmas.List.Sorted.{Contains-permutation, IsPermutation-filter_both}
 
 module _ {X : Type 0} where
+  -- what holds of all that there is
+  pub all_each : (P : X → Type 0) (xs : List X) → ((x : X) → P x) → All P xs
+  all_each P xs each k d inside = each (get_or xs k d)
+
   pub has_none : (x : X) → Contains [] x → ⊥
-  has_none x h = let l = h.1 in omega (arith, l)
-
-  pub has_head : (x : X) (xs : List X) → Contains (x ∷ xs) x
-  has_head x xs = (0, omega arith, refl)
-
-  pub has_tail : (y x : X) (xs : List X) → Contains xs x → Contains (y ∷ xs) x
-  has_tail y x xs h = let l = h.1 in (suc h.0, omega (arith, l), h.2)
-
-  pub has_cases : (y x : X) (xs : List X) → Contains (y ∷ xs) x → (y ≡ x) ⊎ Contains xs x
-  has_cases y x xs (zero, inside, is) = inl is
-  has_cases y x xs (suc k, inside, is) = inr (k, omega (arith, inside), is)
-
-  -- what passes a test stays
-  pub has_filter : (p : X → Bool) (xs : List X) (x : X) → Contains xs x → p x ≡ true → Contains (filter p xs) x
-  has_filter p [] x h is = absurd (has_none x h)
-  has_filter p (y ∷ ys) x h is = of (p y) refl (has_cases y x ys h) (λ h. has_filter p ys x h is)
-    where
-      of : (b : Bool) → p y ≡ b → (y ≡ x) ⊎ Contains ys x → (Contains ys x → Contains (filter p ys) x) → Contains (cond b (y ∷ filter p ys) (filter p ys)) x
-      of true e (inl same) rest = subst (λ z. Contains (z ∷ filter p ys) x) (sym same) (has_head x (filter p ys))
-      of true e (inr h) rest = has_tail y x (filter p ys) (rest h)
-      of false e (inl same) rest = absurd (false≢true (sym e ∙ ap p same ∙ is))
-      of false e (inr h) rest = rest h
+  has_none x h = omega (arith, h.1)
 
   -- what stays was there, and passes the test
   pub filter_has : (p : X → Bool) (xs : List X) (x : X) → Contains (filter p xs) x → Contains xs x × (p x ≡ true)
-  filter_has p [] x h = absurd (has_none x h)
-  filter_has p (y ∷ ys) x h = of (p y) refl (λ h. filter_has p ys x h) h
+  filter_has p xs x h = (
+    All-contains (Contains xs) (filter p xs) x (All-filter p (Contains xs) xs (All-contains_itself xs)) h,
+    All-contains (λ x. p x ≡ true) (filter p xs) x (filter_passes p xs) h,
+  )
+
+  -- what passes a test stays
+  pub has_filter : (p : X → Bool) (xs : List X) (x : X) → Contains xs x → p x ≡ true → Contains (filter p xs) x
+  has_filter p xs x h is =
+      of (Contains-append_cases (filter p xs) (filter (λ x. not (p x)) xs) x
+      (Contains-permutation xs _ x (IsPermutation-filter_both p (λ x. not (p x)) (λ x. refl) xs) h))
     where
-      later : Contains ys x × (p x ≡ true) → Contains (y ∷ ys) x × (p x ≡ true)
-      later found = (has_tail y x ys found.0, found.1)
+      of : Contains (filter p xs) x ⊎ Contains (filter (λ x. not (p x)) xs) x → Contains (filter p xs) x
+      of (inl stays) = stays
+      of (inr goes) = absurd (false≢true (ap not (sym is) ∙ (filter_has (λ x. not (p x)) xs x goes).1))
 
-      of : (b : Bool) → p y ≡ b → (Contains (filter p ys) x → Contains ys x × (p x ≡ true)) → Contains (cond b (y ∷ filter p ys) (filter p ys)) x
-          → Contains (y ∷ ys) x × (p x ≡ true)
-      of true e rest h = here (has_cases y x (filter p ys) h)
-        where
-          here : (y ≡ x) ⊎ Contains (filter p ys) x → Contains (y ∷ ys) x × (p x ≡ true)
-          here (inl same) = (subst (λ z. Contains (y ∷ ys) z) same (has_head y ys), sym (ap p same) ∙ e)
-          here (inr h) = later (rest h)
-      of false e rest h = later (rest h)
-
-  -- what is in an empty filter
   pub any_has : (p : X → Bool) (xs : List X) → list_any p xs ≡ true → (x : X) × Contains xs x × (p x ≡ true)
-  any_has p [] h = absurd (false≢true h)
-  any_has p (y ∷ ys) h = of (p y) refl h (any_has p ys)
-    where
-      of : (b : Bool) → p y ≡ b → (b || list_any p ys) ≡ true → (list_any p ys ≡ true → (x : X) × Contains ys x × (p x ≡ true))
-          → (x : X) × Contains (y ∷ ys) x × (p x ≡ true)
-      of true e h rest = (y, has_head y ys, e)
-      of false e h rest = let found = rest h in (found.0, has_tail y found.0 ys found.1, found.2)
+  any_has p xs h = let (k, x, inside, is, passes) = Any-from_list_any p xs h in (x, (k, inside, is), passes)
 
   pub has_any : (p : X → Bool) (xs : List X) (x : X) → Contains xs x → p x ≡ true → list_any p xs ≡ true
-  has_any p [] x h is = absurd (has_none x h)
-  has_any p (y ∷ ys) x h is = of (p y) refl (has_cases y x ys h) (λ h. has_any p ys x h is)
-    where
-      of : (b : Bool) → p y ≡ b → (y ≡ x) ⊎ Contains ys x → (Contains ys x → list_any p ys ≡ true) → (b || list_any p ys) ≡ true
-      of true e h rest = refl
-      of false e (inl same) rest = absurd (false≢true (sym e ∙ ap p same ∙ is))
-      of false e (inr h) rest = rest h
+  has_any p xs x h is = list_any_at p xs h.0 x h.1 (ap p h.2 ∙ is)
 
-module _ {X Y : Type 0} where
-  pub has_map : (f : X → Y) (xs : List X) (x : X) → Contains xs x → Contains (map f xs) (f x)
-  has_map f [] x h = absurd (has_none x h)
-  has_map f (y ∷ ys) x h = of (has_cases y x ys h) (has_map f ys x)
-    where
-      of : (y ≡ x) ⊎ Contains ys x → (Contains ys x → Contains (map f ys) (f x)) → Contains (f y ∷ map f ys) (f x)
-      of (inl same) rest = subst (λ z. Contains (f y ∷ map f ys) (f z)) same (has_head (f y) (map f ys))
-      of (inr h) rest = has_tail (f y) (f x) (map f ys) (rest h)
+-- a filter that lets nothing through
+pub filter_none : {X : Type 0} (p : X → Bool) (xs : List X) → All (λ x. p x ≡ false) xs → filter p xs ≡ []
+filter_none p [] all = refl
+filter_none p (x ∷ xs) all = grind (arith, All-head (λ x. p x ≡ false) x xs all, filter_none p xs (All-tail (λ x. p x ≡ false) x xs all))
 
-  pub map_has : (f : X → Y) (xs : List X) (y : Y) → Contains (map f xs) y → (x : X) × Contains xs x × (f x ≡ y)
-  map_has f [] y h = absurd (has_none y h)
-  map_has f (x ∷ xs) y h = of (has_cases (f x) y (map f xs) h) (map_has f xs y)
-    where
-      of : (f x ≡ y) ⊎ Contains (map f xs) y → (Contains (map f xs) y → (z : X) × Contains xs z × (f z ≡ y)) → (z : X) × Contains (x ∷ xs) z × (f z ≡ y)
-      of (inl same) rest = (x, has_head x xs, same)
-      of (inr h) rest = let found = rest h in (found.0, has_tail x found.0 xs found.1, found.2)
+-- two tests one after the other
+pub filter_two : {X : Type 0} (p q : X → Bool) (xs : List X) → filter p (filter q xs) ≡ filter (λ x. q x && p x) xs
+filter_two p q [] = refl
+filter_two p q (x ∷ xs) = grind (arith, filter_two p q xs)
+
+-- a test of what is made of each
+pub filter_of_map : {X Y : Type 0} (f : X → Y) (p : Y → Bool) (xs : List X) → filter p (map f xs) ≡ map f (filter (λ x. p (f x)) xs)
+filter_of_map f p [] = refl
+filter_of_map f p (x ∷ xs) = grind (arith, filter_of_map f p xs)
+
+module _ {X Y : Type 0} (f : X → Y) (xs : List X) where
+  pub has_map : (x : X) → Contains xs x → Contains (map f xs) (f x)
+  has_map x h = (h.0, subst (λ n. h.0 < n) (sym (length-map xs f)) h.1, get_or-map f xs h.0 x (f x) h.1 ∙ ap f h.2)
+
+  pub map_has : (y : Y) → Contains (map f xs) y → (x : X) × Contains xs x × (f x ≡ y)
+  map_has y h =
+      All-contains (λ y. (x : X) × Contains xs x × (f x ≡ y)) (map f xs) y
+      (All-map (λ y. (x : X) × Contains xs x × (f x ≡ y)) f xs
+      (All-weaker (Contains xs) (λ z. (x : X) × Contains xs x × (f x ≡ f z)) (λ z there. (z, there, refl)) xs (All-contains_itself xs))) h

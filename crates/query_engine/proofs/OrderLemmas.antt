@@ -1,96 +1,62 @@
 -- Lists in order, and the order of levels.
-use Rattle.std.proofs.Common.{◌≤◌, inl, inr, ℕ, zero, suc, ◌+◌, Bool, true, false, cond, List, [], ◌∷◌, ◌++◌, length, filter, refl, arith}
+use Rattle.std.proofs.Common.{◌≤◌, inl, inr, ℕ, zero, suc, ◌+◌, List, [], ◌∷◌, ◌++◌, map, length, All, refl, arith}
 use Rattle.std.specs.Prelude.{not}
-use Rattle.std.specs.List.{AllByRecursion, AllPairs}
-use Rattle.std.proofs.lemmas.List.Elements.{All-from_recursion}
-use Rattle.std.proofs.lemmas.List.Kept.{AllPairs-cons}
-use Rattle.query_engine.specs.Inheritors.{Listing, names_any, names_of, levels_from, inheritors_of, StandsBefore, Precedes}
+use Rattle.std.specs.List.{AllPairs}
+use Rattle.std.proofs.lemmas.List.Elements.{All-nil, All-head, All-tail, All-append, All-map, All-weaker}
+use Rattle.std.proofs.lemmas.List.Kept.{AllPairs-cons, AllPairs-filter}
+use Rattle.query_engine.specs.Inheritors.{Listing, names_any, levels_from, inheritors_of, StandsBefore, Precedes}
 use Rattle.query_engine.specs.Search.{tagged}
-use Rattle.query_engine.proofs.LevelLemmas.{found_in, left_by}
+use Rattle.query_engine.proofs.MemberLemmas.{all_each}
+use Rattle.query_engine.proofs.LevelLemmas.{found_in, left_by, levels_behind}
 
-module _ {X : Type 0} where
-  pub all_filter : (P : X → Type 0) (p : X → Bool) (xs : List X) → AllByRecursion P xs → AllByRecursion P (filter p xs)
-  all_filter P p [] all = tt
-  all_filter P p (x ∷ xs) all = of (p x) (all_filter P p xs all.1)
-    where
-      of : (b : Bool) → AllByRecursion P (filter p xs) → AllByRecursion P (cond b (x ∷ filter p xs) (filter p xs))
-      of true rest = (all.0, rest)
-      of false rest = rest
+module _ {X : Type 0} (R : X → X → Type 0) where
+  pub pairs_nil : AllPairs R []
+  pairs_nil i j d less inside = absurd (omega (arith, inside))
 
-  pub all_weaker : (P Q : X → Type 0) (xs : List X) → ((x : X) → P x → Q x) → AllByRecursion P xs → AllByRecursion Q xs
-  all_weaker P Q [] from all = tt
-  all_weaker P Q (x ∷ xs) from all = (from x all.0, all_weaker P Q xs from all.1)
+  pub pairs_head : (x : X) (xs : List X) → AllPairs R (x ∷ xs) → All (R x) xs
+  pairs_head x xs pairs k d inside = pairs 0 (suc k) d (omega arith) (omega (arith, inside))
 
-  pub all_each : (P : X → Type 0) (xs : List X) → ((x : X) → P x) → AllByRecursion P xs
-  all_each P [] each = tt
-  all_each P (x ∷ xs) each = (each x, all_each P xs each)
+  pub pairs_tail : (x : X) (xs : List X) → AllPairs R (x ∷ xs) → AllPairs R xs
+  pairs_tail x xs pairs i j d less inside = pairs (suc i) (suc j) d (omega (arith, less)) (omega (arith, inside))
 
-  pub all_append : (P : X → Type 0) (xs ys : List X) → AllByRecursion P xs → AllByRecursion P ys → AllByRecursion P (xs ++ ys)
-  all_append P [] ys all rest = rest
-  all_append P (x ∷ xs) ys all rest = (all.0, all_append P xs ys all.1 rest)
+  pub pairs_append : (xs ys : List X) → AllPairs R xs → AllPairs R ys → All (λ x. All (R x) ys) xs → AllPairs R (xs ++ ys)
+  pairs_append [] ys front back across = back
+  pairs_append (x ∷ xs) ys front back across =
+      AllPairs-cons R x (xs ++ ys) (All-append (R x) xs ys (pairs_head x xs front) (All-head (λ x. All (R x) ys) x xs across))
+      (pairs_append xs ys (pairs_tail x xs front) back (All-tail (λ x. All (R x) ys) x xs across))
 
-  module _ (R : X → X → Type 0) where
-    -- each stands before those behind it
-    abbrev pub Sorted : List X → Type 0
-    Sorted [] = Unit {0}
-    Sorted (x ∷ xs) = AllByRecursion (R x) xs × Sorted xs
-
-    pub sorted_filter : (p : X → Bool) (xs : List X) → Sorted xs → Sorted (filter p xs)
-    sorted_filter p [] sorted = tt
-    sorted_filter p (x ∷ xs) sorted = of (p x) (sorted_filter p xs sorted.1)
-      where
-        of : (b : Bool) → Sorted (filter p xs) → Sorted (cond b (x ∷ filter p xs) (filter p xs))
-        of true rest = (all_filter (R x) p xs sorted.0, rest)
-        of false rest = rest
-
-    pub sorted_append : (xs ys : List X) → Sorted xs → Sorted ys → AllByRecursion (λ x. AllByRecursion (R x) ys) xs → Sorted (xs ++ ys)
-    sorted_append [] ys front back across = back
-    sorted_append (x ∷ xs) ys front back across = (all_append (R x) xs ys front.0 across.0, sorted_append xs ys front.1 back across.1)
-
-    pub sorted_pairs : (xs : List X) → Sorted xs → AllPairs R xs
-    sorted_pairs [] sorted = λ i j d less inside. absurd (omega (arith, inside))
-    sorted_pairs (x ∷ xs) sorted = AllPairs-cons R x xs (All-from_recursion (R x) xs sorted.0) (sorted_pairs xs sorted.1)
-
--- types of one level
-tagged_all : (P : ℕ × Listing → Type 0) (level : ℕ) (ts : List Listing) → AllByRecursion (λ t. P (level, t)) ts → AllByRecursion P (tagged level ts)
-tagged_all P level [] all = tt
-tagged_all P level (t ∷ ts) all = (all.0, tagged_all P level ts all.1)
-
-tagged_sorted : (level : ℕ) (ts : List Listing) → Sorted StandsBefore ts → Sorted Precedes (tagged level ts)
-tagged_sorted level [] sorted = tt
-tagged_sorted level (t ∷ ts) sorted = (
-  tagged_all (Precedes (level, t)) level ts (all_weaker (StandsBefore t) (λ u. Precedes (level, t) (level, u)) ts (λ u h. inr (refl, h)) sorted.0),
-  tagged_sorted level ts sorted.1,
-)
+-- what is made of each of a list stands in order where the list does
+pub pairs_map : {X Y : Type 0} (R : X → X → Type 0) (Q : Y → Y → Type 0) (f : X → Y) → ((a b : X) → R a b → Q (f a) (f b))
+    → (xs : List X) → AllPairs R xs → AllPairs Q (map f xs)
+pairs_map R Q f from [] pairs = pairs_nil Q
+pairs_map R Q f from (x ∷ xs) pairs =
+    AllPairs-cons Q (f x) (map f xs) (All-map (Q (f x)) f xs (All-weaker (R x) (λ y. Q (f x) (f y)) (from x) xs (pairs_head R x xs pairs)))
+    (pairs_map R Q f from xs (pairs_tail R x xs pairs))
 
 -- no type that is found has a lower level
-levels_above : (more level : ℕ) (names : List (List ℕ)) (left : List Listing) → AllByRecursion (λ found. level ≤ found.0) (levels_from more level names left)
+levels_above : (more level : ℕ) (names : List (List ℕ)) (left : List Listing) → All (λ found. level ≤ found.0) (levels_from more level names left)
 unfolding levels_from
-levels_above zero level names left = tt
+levels_above zero level names left = All-nil (λ (found : ℕ × Listing). level ≤ found.0)
 levels_above (suc more) level names left =
-    all_append (λ found. level ≤ found.0) (tagged level (found_in names left))
-    (levels_from more (level + 1) (names_of (found_in names left)) (left_by names left))
-    (tagged_all (λ found. level ≤ found.0) level (found_in names left) (all_each (λ (t : Listing). level ≤ level) (found_in names left) (λ t. omega arith)))
-    (all_weaker (λ found. level + 1 ≤ found.0) (λ found. level ≤ found.0) (levels_from more (level + 1) (names_of (found_in names left)) (left_by names left))
-    (λ found above. omega (arith, above))
-    (levels_above more (level + 1) (names_of (found_in names left)) (left_by names left)))
+    All-append (λ found. level ≤ found.0) (tagged level (found_in names left)) (levels_behind more level names left)
+    (All-map (λ found. level ≤ found.0) (λ t. (level, t)) (found_in names left) (λ k d inside. omega arith))
+    (All-weaker (λ found. level + 1 ≤ found.0) (λ found. level ≤ found.0) (λ found above. omega (arith, above)) (levels_behind more level names left)
+    (levels_above more (level + 1) _ (left_by names left)))
 
-levels_sorted : (more level : ℕ) (names : List (List ℕ)) (left : List Listing) → Sorted StandsBefore left → Sorted Precedes (levels_from more level names left)
+levels_sorted : (more level : ℕ) (names : List (List ℕ)) (left : List Listing) → AllPairs StandsBefore left
+    → AllPairs Precedes (levels_from more level names left)
 unfolding levels_from
-levels_sorted zero level names left sorted = tt
+levels_sorted zero level names left sorted = pairs_nil Precedes
 levels_sorted (suc more) level names left sorted =
-    sorted_append Precedes (tagged level (found_in names left)) (levels_from more (level + 1) (names_of (found_in names left)) (left_by names left))
-    (tagged_sorted level (found_in names left) (sorted_filter StandsBefore (names_any names) left sorted))
-    (levels_sorted more (level + 1) (names_of (found_in names left)) (left_by names left)
-    (sorted_filter StandsBefore (λ t. not (names_any names t)) left sorted))
-    (tagged_all (λ a. AllByRecursion (Precedes a) (levels_from more (level + 1) (names_of (found_in names left)) (left_by names left))) level
-    (found_in names left)
-    (all_each (λ (t : Listing). AllByRecursion (Precedes (level, t)) (levels_from more (level + 1) (names_of (found_in names left)) (left_by names left)))
-    (found_in names left)
-    (λ t. all_weaker (λ found. level + 1 ≤ found.0) (Precedes (level, t)) (levels_from more (level + 1) (names_of (found_in names left)) (left_by names left))
-    (λ found above. inl (omega (arith, above)))
-    (levels_above more (level + 1) (names_of (found_in names left)) (left_by names left)))))
+    pairs_append Precedes (tagged level (found_in names left)) (levels_behind more level names left)
+    (pairs_map StandsBefore Precedes (λ t. (level, t)) (λ t u h. inr (refl, h)) (found_in names left)
+    (AllPairs-filter StandsBefore (names_any names) left sorted))
+    (levels_sorted more (level + 1) _ (left_by names left) (AllPairs-filter StandsBefore (λ t. not (names_any names t)) left sorted))
+    (All-map (λ a. All (Precedes a) (levels_behind more level names left)) (λ t. (level, t)) (found_in names left)
+    (all_each (λ t. All (Precedes (level, t)) (levels_behind more level names left)) (found_in names left)
+    (λ t. All-weaker (λ found. level + 1 ≤ found.0) (Precedes (level, t)) (λ found above. inl (omega (arith, above))) (levels_behind more level names left)
+    (levels_above more (level + 1) _ (left_by names left)))))
 
 -- the types that come from a name stand in order, each once
-pub inheritors_ordered : (name : List ℕ) (types : List Listing) → Sorted StandsBefore types → AllPairs Precedes (inheritors_of name types)
-inheritors_ordered name types sorted = sorted_pairs Precedes (inheritors_of name types) (levels_sorted (length types) 1 (name ∷ []) types sorted)
+pub inheritors_ordered : (name : List ℕ) (types : List Listing) → AllPairs StandsBefore types → AllPairs Precedes (inheritors_of name types)
+inheritors_ordered name types sorted = levels_sorted (length types) 1 (name ∷ []) types sorted

@@ -1,27 +1,20 @@
 -- Replies to a question that no file may be unready for, with as many looks as the question may.
-use Rattle.std.proofs.Common.{ℕ, ◌≡◌, ◌≤◌, ◌+◌, ◌/◌, List, length, arith, refl, ap, sym, subst, ◌∙◌, Option, Some, None, IsSomeAnd, Result, Ok, Err, IsErrAnd}
-use Rattle.std.specs.Option.{option_map_or}
+use Rattle.std.proofs.Common.{ℕ, ◌≡◌, ◌+◌, refl, ap, sym, subst, ◌∙◌, Option, Some, None, IsSomeAnd, Result, Ok, Err, IsErrAnd}
 use Rattle.write_history.specs.World.{World, lowest_unready}
 use Rattle.queries.specs.declared.query.Query.{Query}
-use Rattle.queries.specs.declared.query.Query.TheVariants as query
 use Rattle.query_engine.specs.declared.answer.Answer.{Answer}
 use Rattle.query_engine.specs.declared.answer.AskRefusal.{AskRefusal}
 use Rattle.query_engine.specs.declared.answer.AskRefusal.TheVariants.{NotReady}
-use Rattle.query_engine.specs.Reply.{reply, types_of, unless_unready, IsRefusalOf}
-use Rattle.query_engine.specs.Looks.{rows_a_look, where_smart, first_uses, super_count, MayLook, HasLooked, LooksThrough, EndsEarly}
-use Rattle.query_engine.specs.Search.{all_supers}
+use Rattle.query_engine.specs.Reply.{NoAnswer, reply, unless_unready, IsRefusalOf}
+use Rattle.query_engine.specs.Looks.{MayLook, HasLooked, LooksThrough, EndsEarly}
 use Rattle.query_engine.specs.Given.{RepliesTo}
 use Rattle.query_engine.proofs.LookLemmas.{looked_not, looked_as}
 use Rattle.query_engine.proofs.ReplyLemmas.{early_refused}
-use Rattle.query_engine.proofs.TypesLemmas.{supers_counted}
 
 -- a file is unready, and is told
 unready_of : (o : Option ℕ) (e : AskRefusal) → IsSomeAnd o (λ file. e ≡ NotReady file) → (file : ℕ) × (o ≡ Some file) × (e ≡ NotReady file)
 unready_of None e h = absurd h
 unready_of (Some file) e h = (file, refl, h)
-
-one_of : (n : ℕ) → 1 ≤ 1 + n
-one_of n = omega arith
 
 module _ {W : Type 0} (l s : W → ℕ) (st : W → W → Type 0) (world : World) where
   -- the question is this one
@@ -58,7 +51,7 @@ module _ {W : Type 0} (l s : W → ℕ) (st : W → W → Type 0) (world : World
       may = may;
       looked = looked_as l s st X Answer n (Err f) e old new is q;
       answer = tt;
-      refused = subst (λ (x : Result Answer AskRefusal). IsRefusalOf x f) (sym (smart_reply smart))
+      refused = subst (λ (x : Result Answer NoAnswer). IsRefusalOf x f) (sym (smart_reply smart))
           (subst (λ (f : AskRefusal). IsRefusalOf (Ok answer) f) (sym is) (early_refused answer e early));
     }
 
@@ -72,23 +65,3 @@ module _ {W : Type 0} (l s : W → ℕ) (st : W → W → Type 0) (world : World
       answer = smart_reply smart ∙ ap Ok (sym is);
       refused = tt;
     }
-
--- where a file is unready, no file's uses are looked for
-pub dumb_uses : (world : World) (name : List ℕ) (file : ℕ) → lowest_unready world ≡ Some file → MayLook world (query.Usages name) (1 + 0)
-dumb_uses world name file is = ap (λ o. 1 + option_map_or (λ f. 0) o (length (first_uses name world))) (sym is)
-
--- the first look is one that the question may take
-pub first_may : (world : World) (name : List ℕ) → MayLook world (query.Inheritors name) (1 + 0)
-first_may world name = (omega arith, one_of (where_smart world (super_count world / rows_a_look)))
-
--- as many looks as there are full 256 names of supers, at most
-pub few_may : (world : World) (name : List ℕ) (number : ℕ) → lowest_unready world ≡ None → number ≤ all_supers (types_of world) / rows_a_look
-    → MayLook world (query.Inheritors name) (1 + number)
-few_may world name number smart few = (
-  one_of number,
-  subst (λ (o : Option ℕ). 1 + number ≤ 1 + option_map_or (λ f. 0) o (super_count world / rows_a_look)) (sym smart)
-      (more_of number (super_count world / rows_a_look) (subst (λ (n : ℕ). number ≤ n / rows_a_look) (supers_counted (types_of world)) few)),
-)
-  where
-    more_of : (m n : ℕ) → m ≤ n → 1 + m ≤ 1 + n
-    more_of m n h = omega (arith, h)

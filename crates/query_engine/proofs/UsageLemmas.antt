@@ -1,9 +1,9 @@
 -- Where a name is used in the files of a world, with a look after each file that uses it.
-use Rattle.std.proofs.Common.{ℕ, suc, ◌≡◌, ◌≢◌, ◌≤◌, ◌<◌, ◌+◌, Bool, true, false, cond, List, [], ◌∷◌, ◌++◌, map, filter, length, take, get_or, drop, Option, Some, None, option_to_list, refl, ap, sym, subst, ◌∙◌, ⊎_elim, append_assoc, append-nil, arith}
+use Rattle.std.proofs.Common.{ℕ, ◌≡◌, ◌≢◌, ◌≤◌, ◌+◌, Bool, true, false, cond, List, [], ◌∷◌, ◌++◌, map, filter, length, take, Option, Some, None, option_to_list, refl, ap, sym, ◌∙◌, append_assoc, arith}
 use Rattle.std.specs.List.{flat_map}
 use Rattle.std.specs.Option.{option_map_or}
-use Rattle.std.proofs.lemmas.Bool.{cases_Bool, cond-true, cond-false}
-use Rattle.std.proofs.lemmas.Grind.{flat_map-append}
+use Rattle.std.proofs.lemmas.Bool.{cond-true, cond-false}
+use Rattle.std.proofs.lemmas.Grind.{common_steps, flat_map-append}
 use Rattle.std.proofs.lemmas.List.{length-append}
 use Rattle.std.proofs.lemmas.List.Elements.{filter-append}
 use Rattle.dumb_mode.specs.declared.kind.FileKind.TheVariants.{Java}
@@ -19,8 +19,7 @@ use Rattle.query_engine.specs.declared.answer.PlaceRow.{PlaceRow}
 use Rattle.query_engine.specs.Reply.{of_files, of_kind, of_world, place_row, uses_in}
 use Rattle.query_engine.specs.Looks.{LooksThrough, MayLook, first_uses}
 use Rattle.query_engine.specs.Listed.{has_code, uses_at, uses_found}
-use Rattle.query_engine.proofs.AheadLemmas.{next_left}
-use Rattle.query_engine.proofs.FoundLemmas.{at_all, rows_from}
+use Rattle.query_engine.proofs.FoundLemmas.{rows_found}
 use Rattle.query_engine.proofs.LookLemmas.{looked_through}
 
 -- the masks of a word in files, each with the file's id
@@ -73,14 +72,6 @@ module _ {W R : Type 0} (l s : W → ℕ) (uses : ℕ × ℕ → List R) (all : 
 abbrev pub StandBehind : ℕ → ℕ → List ℕ → Type 0
 StandBehind at len ats = (from : ℕ) × (at ≤ from) × RiseFrom from len ats
 
--- the next place, and those behind it
-pub behind-next : (at len : ℕ) (ats : List ℕ) (i next : ℕ) → i < length ats → next ≡ get_or ats i next → StandBehind at len (drop i ats)
-    → (at ≤ next) × (next ≤ len) × StandBehind next len (drop (i + 1) ats)
-behind-next at len ats i next inside is behind =
-    let (from, before, rise) = behind in
-    let now = subst (RiseFrom from len) (next_left ats i next inside is) rise in
-    (omega (arith, before, now.0), omega (arith, now.1), (suc next, omega arith, now.2))
-
 module _ (unused : (name text : List ℕ) → is_in_code (mask_in (words_of text) name) ≡ false → places_of name text ≡ [])
     (used : (name text : List ℕ) → is_in_code (mask_in (words_of text) name) ≡ true → places_of name text ≢ []) (world : World) (name : List ℕ) where
   -- the rows of the file with an id
@@ -93,48 +84,46 @@ module _ (unused : (name text : List ℕ) → is_in_code (mask_in (words_of text
   uses_of : (id : ℕ) (file : File) → file_of world id ≡ Some file → (mask : Option ℕ) → mask_in (words_of (shown_text file)) name ≡ mask
       → flat_map (uses_found world name) (filter has_code (map (λ m. (id, m)) (option_to_list mask))) ≡ uses_in name id file
   uses_of id file is None none = ap (map (place_row id file.path (shown_text file))) (sym (unused name (shown_text file) (ap is_in_code none)))
-  uses_of id file is (Some mask) some = ⊎_elim
-      (λ on. ap (flat_map (uses_found world name)) (cond-true (has_bit Code mask) ((id, mask) ∷ []) [] on)
-      ∙ append-nil (uses_at world name id) ∙ uses_there id file is)
-      (λ off. ap (flat_map (uses_found world name)) (cond-false (has_bit Code mask) ((id, mask) ∷ []) [] off)
-      ∙ ap (map (place_row id file.path (shown_text file))) (sym (unused name (shown_text file) (ap is_in_code some ∙ off))))
-      (cases_Bool (has_bit Code mask))
+  uses_of id file is (Some mask) some =
+      let none : has_bit Code mask ≡ false → places_of name (shown_text file) ≡ [] = λ off. unused name (shown_text file) (ap is_in_code some ∙ off) in
+      let there = uses_there id file is in
+      grind (arith, common_steps, none, there)
 
   -- the rows of the files in whose code the name is found are those of all files
   pub uses_told : flat_map (uses_found world name) (filter has_code (found Java (masks_in name) world)) ≡ of_world Java (uses_in name) world
   uses_told =
-      rows_from Java (λ xs. flat_map (uses_found world name) (filter has_code xs))
+      rows_found Java (λ xs. flat_map (uses_found world name) (filter has_code xs))
       (λ xs ys. ap (flat_map (uses_found world name)) (filter-append has_code xs ys)
       ∙ flat_map-append (uses_found world name) (filter has_code xs) (filter has_code ys))
-      refl (masks_in name) (uses_in name) world
-      (λ id file is. uses_of id file is (mask_in (words_of (shown_text file)) name) refl) 1 world.files (at_all world)
+      refl (masks_in name) (uses_in name) world (λ id file is. uses_of id file is (mask_in (words_of (shown_text file)) name) refl)
 
-  -- a name that has a place has a first row
-  first_of : (ps : List ℕ) (row : ℕ → PlaceRow) → ps ≢ [] → 1 ≡ length (take 1 (map row ps))
+  -- a name that has a place has a first row, and one that has none has none
+  first_of : (ps : List ℕ) (row : ℕ → PlaceRow) → ps ≢ [] → length (take 1 (map row ps)) ≡ 1
   first_of [] row some = absurd (some refl)
   first_of (p ∷ ps) row some = refl
 
-  -- the number of first rows of some places
-  firsts : ℕ → File → List ℕ → ℕ
-  firsts id file ps = length (take 1 (map (place_row id file.path (shown_text file)) ps))
+  first_none : (ps : List ℕ) (row : ℕ → PlaceRow) → ps ≡ [] → length (take 1 (map row ps)) ≡ 0
+  first_none ps row none = ap (λ ps. length (take 1 (map row ps))) none
 
   first_there : (id : ℕ) (file : File) (mask : Option ℕ) → mask_in (words_of (shown_text file)) name ≡ mask
       → length (filter has_code (map (λ m. (id, m)) (option_to_list mask))) ≡ length (take 1 (uses_in name id file))
-  unfolding firsts
-  first_there id file None none = ap (firsts id file) (sym (unused name (shown_text file) (ap is_in_code none)))
-  first_there id file (Some mask) some = ⊎_elim
-      (λ on. ap length (cond-true (has_bit Code mask) ((id, mask) ∷ []) [] on)
-      ∙ first_of (places_of name (shown_text file)) (place_row id file.path (shown_text file)) (used name (shown_text file) (ap is_in_code some ∙ on)))
-      (λ off. ap length (cond-false (has_bit Code mask) ((id, mask) ∷ []) [] off)
-      ∙ ap (firsts id file) (sym (unused name (shown_text file) (ap is_in_code some ∙ off))))
-      (cases_Bool (has_bit Code mask))
+  first_there id file None none =
+      sym (first_none (places_of name (shown_text file)) (place_row id file.path (shown_text file)) (unused name (shown_text file) (ap is_in_code none)))
+  first_there id file (Some mask) some =
+      let ps = places_of name (shown_text file) in
+      let row = place_row id file.path (shown_text file) in
+      let one : has_bit Code mask ≡ true → length (take 1 (map row ps)) ≡ 1 = λ on. first_of ps row (used name (shown_text file) (ap is_in_code some ∙ on)) in
+      let none : has_bit Code mask ≡ false → length (take 1 (map row ps)) ≡ 0 =
+      λ off. first_none ps row (unused name (shown_text file) (ap is_in_code some ∙ off)) in
+      grind (arith, one, none)
 
   -- the first row of a file that uses the name
   first : ℕ → File → List PlaceRow
   first id file = take 1 (uses_in name id file)
 
   -- as many files have the name in their code as have a first row
-  counted_from : (id : ℕ) (files : List (Option File)) → length (filter has_code (found_from Java (masks_in name) id files)) ≡ length (of_files Java first id files)
+  counted_from : (id : ℕ) (files : List (Option File))
+      → length (filter has_code (found_from Java (masks_in name) id files)) ≡ length (of_files Java first id files)
   unfolding first
   counted_from id [] = refl
   counted_from id (None ∷ files) = counted_from (id + 1) files
@@ -165,3 +154,7 @@ module _ (unused : (name text : List ℕ) → is_in_code (mask_in (words_of text
   used_given walk copy rows ready same made =
       ap (λ (n : List ℕ). Usages n rows) same
       ∙ ap (Usages name) (made ∙ ap (λ (xs : Masks). flat_map (uses_found world name) (filter has_code xs)) ready ∙ uses_told)
+
+-- where a file is unready, no file's uses are looked for
+pub dumb_uses : (world : World) (name : List ℕ) (file : ℕ) → lowest_unready world ≡ Some file → MayLook world (query.Usages name) (1 + 0)
+dumb_uses world name file is = ap (λ o. 1 + option_map_or (λ f. 0) o (length (first_uses name world))) (sym is)

@@ -11,7 +11,7 @@ use Rattle.query_engine.specs.declared.answer.Answer.{Answer}
 use Rattle.query_engine.specs.declared.answer.Answer.TheVariants.{Rows, Outline, Words, Usages, Inheritors, Keys, Counts}
 use Rattle.query_engine.specs.declared.answer.AskRefusal.{AskRefusal}
 use Rattle.query_engine.specs.declared.answer.AskRefusal.TheVariants.{NoSuchFile, NotReady, Cancelled, OutOfMemory}
-use Rattle.query_engine.specs.Reply.{reply, of_world, uses_in, types_of}
+use Rattle.query_engine.specs.Reply.{NoAnswer, reply, of_world, uses_in, types_of}
 
 -- a count of looks after so many more; like `counted`, it goes up to 2^64 - 1 and stands there
 abbrev pub counted_by : ℕ → ℕ → ℕ
@@ -32,12 +32,12 @@ row_count (Keys rows) = length rows
 row_count (Counts files docs unready) = 0
 
 -- how often the call with this answer looks after its first look, where no look sees anything: once for each full 256 rows
-abbrev pub later_looks : Result Answer AskRefusal → ℕ
+abbrev pub later_looks : Result Answer NoAnswer → ℕ
 later_looks (Ok answer) = row_count answer / rows_a_look
-later_looks (Err refusal) = 0
+later_looks (Err why) = 0
 
 -- how often the call with this answer looks, where no look sees anything
-abbrev pub looks_for : Result Answer AskRefusal → ℕ
+abbrev pub looks_for : Result Answer NoAnswer → ℕ
 looks_for answer = 1 + later_looks answer
 
 -- where no file is unready so many, else none
@@ -52,18 +52,26 @@ first_uses name world = of_world Java (λ id file. take 1 (uses_in name id file)
 abbrev pub super_count : World → ℕ
 super_count world = sum (map (λ t. length t.1.supers) (types_of world))
 
--- How often a question may look in a world, where no look sees anything: once as the call begins, and once for each full 256 rows. For
--- usages once for each file in the answer instead, and for inheritors at most once for each full 256 names of supers.
+-- how often a question may look after its first look: just so often, or so often at most
+pub data LaterLooks : Type 0 where
+  just : ℕ → LaterLooks
+  at_most : ℕ → LaterLooks
+
+-- How often a question may look in a world after its first look, where no look sees anything: once for each full 256 rows. For usages once
+-- for each file in the answer instead, and for inheritors at most once for each full 256 names of supers.
+abbrev pub looks_after : World → Query → LaterLooks
+looks_after world (query.Usages name) = just (where_smart world (length (first_uses name world)))
+looks_after world (query.Inheritors name) = at_most (where_smart world (super_count world / rows_a_look))
+looks_after world query = just (later_looks (reply world query))
+
+-- a first look and then as many as these
+abbrev pub AreLooks : LaterLooks → ℕ → Type 0
+AreLooks (just later) n = n ≡ 1 + later
+AreLooks (at_most later) n = (1 ≤ n) × (n ≤ 1 + later)
+
+-- how often a question may look in a world, where no look sees anything: once as the call begins, and then as said above
 abbrev pub MayLook : World → Query → ℕ → Type 0
-MayLook world (query.Usages name) n = n ≡ 1 + where_smart world (length (first_uses name world))
-MayLook world (query.Inheritors name) n = (1 ≤ n) × (n ≤ 1 + where_smart world (super_count world / rows_a_look))
-MayLook world (query.Class name) n = n ≡ looks_for (reply world (query.Class name))
-MayLook world (query.Supers name) n = n ≡ looks_for (reply world (query.Supers name))
-MayLook world (query.Method name) n = n ≡ looks_for (reply world (query.Method name))
-MayLook world (query.Word name) n = n ≡ looks_for (reply world (query.Word name))
-MayLook world (query.Key key) n = n ≡ looks_for (reply world (query.Key key))
-MayLook world (query.Outline path) n = n ≡ looks_for (reply world (query.Outline path))
-MayLook world query.Status n = n ≡ looks_for (reply world query.Status)
+MayLook world query n = AreLooks (looks_after world query) n
 
 -- how often a call looks when it has made so many rows
 abbrev pub looks_at : ℕ → ℕ

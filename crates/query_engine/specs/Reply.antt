@@ -21,7 +21,7 @@ use Rattle.query_engine.specs.declared.answer.LevelRow.{LevelRow}
 use Rattle.query_engine.specs.declared.answer.Answer.{Answer}
 use Rattle.query_engine.specs.declared.answer.Answer.TheVariants.{Rows, Outline, Words, Usages, Inheritors, Keys, Counts}
 use Rattle.query_engine.specs.declared.answer.AskRefusal.{AskRefusal}
-use Rattle.query_engine.specs.declared.answer.AskRefusal.TheVariants.{NoSuchFile, NotReady, Cancelled, OutOfMemory}
+use Rattle.query_engine.specs.declared.answer.AskRefusal.TheVariants as refused
 use Rattle.query_engine.specs.Fits.{is_class, has_super, is_method}
 use Rattle.query_engine.specs.Inheritors.{Listing, inheritors_of}
 
@@ -94,22 +94,27 @@ listed_row world t = row_of t.0 (option_map_or (λ file. file.path) (file_of wor
 abbrev pub level_row : World → ℕ × Listing → LevelRow
 level_row world found = record { level = found.0; row = listed_row world found.1 }
 
+-- why a question has no answer: no live file has the path, or the file with this id is unready
+pub data NoAnswer : Type 0 where
+  no_such_file : NoAnswer
+  not_ready : ℕ → NoAnswer
+
 -- an answer that no file may be unready for, or the unready file with the lowest id
-abbrev pub unless_unready : Option ℕ → Answer → Result Answer AskRefusal
+abbrev pub unless_unready : Option ℕ → Answer → Result Answer NoAnswer
 unless_unready None answer = Ok answer
-unless_unready (Some file) answer = Err (NotReady file)
+unless_unready (Some file) answer = Err (not_ready file)
 
 -- the rows of all declarations of a file, whatever its path
 abbrev pub all_rows : ℕ → File → List Row
 all_rows id file = map (row_of id file.path (shown_text file)) (listing_of (shown_text file))
 
 -- the declarations of the live file with an id, where a file has it
-abbrev pub listing_reply : World → Option ℕ → Result Answer AskRefusal
-listing_reply world None = Err NoSuchFile
+abbrev pub listing_reply : World → Option ℕ → Result Answer NoAnswer
+listing_reply world None = Err no_such_file
 listing_reply world (Some id) = Ok (Outline (option_map_or (all_rows id) (file_of world id) []))
 
 -- the answer to a question
-abbrev pub reply : World → Query → Result Answer AskRefusal
+abbrev pub reply : World → Query → Result Answer NoAnswer
 reply world (query.Class name) = unless_unready (lowest_unready world) (Rows (of_world Java (rows_in (is_class name)) world))
 reply world (query.Supers name) = unless_unready (lowest_unready world) (Rows (of_world Java (rows_in (has_super name)) world))
 reply world (query.Method name) = unless_unready (lowest_unready world) (Rows (of_world Java (rows_in (is_method name)) world))
@@ -122,8 +127,8 @@ reply world (query.Outline path) = listing_reply world (id_at world path)
 reply world query.Status = Ok (Counts (count_of is_some world) (count_of is_open world) (count_of is_unready world))
 
 -- a refusal is the one that is expected, a call that is stopped owes none, and running out of memory never stands for a refusal
-abbrev pub IsRefusalOf : Result Answer AskRefusal → AskRefusal → Type 0
-IsRefusalOf expected NoSuchFile = expected ≡ Err NoSuchFile
-IsRefusalOf expected (NotReady file) = expected ≡ Err (NotReady file)
-IsRefusalOf expected Cancelled = Unit {0}
-IsRefusalOf expected OutOfMemory = IsOk expected
+abbrev pub IsRefusalOf : Result Answer NoAnswer → AskRefusal → Type 0
+IsRefusalOf expected refused.NoSuchFile = expected ≡ Err no_such_file
+IsRefusalOf expected (refused.NotReady file) = expected ≡ Err (not_ready file)
+IsRefusalOf expected refused.Cancelled = Unit {0}
+IsRefusalOf expected refused.OutOfMemory = IsOk expected

@@ -1,17 +1,13 @@
 -- Changes of lines, behind every history that leads to a world.
-use Rattle.std.proofs.Common.{ℕ, ◌≡◌, List, [], ◌∷◌, ◌++◌, sym, ap, ◌∙◌, None}
+use Rattle.std.proofs.Common.{◌≡◌, List, [], ◌∷◌, ◌++◌, sym, ap, ◌∙◌, None}
 use Rattle.std.proofs.lemmas.List.{append-nil}
 use Rattle.write_history.specs.declared.change.Change.{Change}
 use Rattle.write_history.specs.declared.entry.Entry.{Entry}
 use Rattle.write_history.specs.World.{World}
-use Rattle.write_history.specs.Fold.{fold, fold_from}
+use Rattle.write_history.specs.Fold.{fold}
 use Rattle.script_lang.specs.declared.command.Command.TheVariants as command
 use Rattle.transcripts.specs.declared.loaded.Loaded.{Loaded}
 use Rattle.script_store.specs.Along.{HasEntered, HasGone}
-
--- a longer history goes on from the world of the shorter one
-abbrev pub FoldsOn : Type 0
-FoldsOn = (earlier later : List Entry) → fold (earlier ++ later) ≡ fold_from (fold earlier) later
 
 -- entries that add nothing leave the world
 pub nothing_added : (history added : List Entry) (world : World) → fold history ≡ world → added ≡ [] → world ≡ fold (history ++ added)

@@ -4,7 +4,7 @@ use Rattle.write_history.specs.declared.change.Change.{Change}
 use Rattle.write_history.specs.declared.entry.Entry.{Entry}
 use Rattle.write_history.specs.World.{World}
 use Rattle.write_history.specs.Fold.{fold}
-use Rattle.ide_calls.specs.Settle.{settled}
+use Rattle.write_history.specs.Settle.{settled}
 use Rattle.script_lang.specs.declared.command.Command.{Command}
 use Rattle.script_lang.specs.declared.line.Line.{Line}
 use Rattle.transcripts.specs.declared.loaded.Loaded.{Loaded}

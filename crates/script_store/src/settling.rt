@@ -2,8 +2,6 @@
 ghost use Rattle.std.specs.Prelude.{OnOk};
 ghost use Rattle.script_store.specs.Along.{HasSettled};
 
-use history_laws::laws::{histories_go_on, intake_readies_one, unready_files_have_an_order};
-use ide_calls::laws::a_settle_goes_by_the_lowest;
 use replay::{Replay, Settling};
 use std::alloc::{AllocError, Global};
 
@@ -11,10 +9,6 @@ use std::alloc::{AllocError, Global};
 pub(crate) fn settle(alloc: Global, replay: &mut Replay) -> Result<(), AllocError>
     ensures { OnOk result (HasSettled replay.old replay.new) }
 {
-    histories_go_on();
-    intake_readies_one();
-    unready_files_have_an_order();
-    a_settle_goes_by_the_lowest();
     loop {
         match replay.settle_next(alloc)? {
             Settling::Taken { file: _ } => {}

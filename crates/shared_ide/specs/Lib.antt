@@ -4,7 +4,7 @@ pub mod Hints
 -- What public clauses cite from below
 pub use Rattle.action_lock.specs.Advances
 pub use Rattle.ide_calls.specs.Made
-pub use Rattle.ide_calls.specs.Settle
+pub use Rattle.write_history.specs.Settle
 pub use Rattle.ide_calls.specs.Change
 pub use Rattle.ide_calls.specs.Replied
 pub use Rattle.ide_calls.specs.SoftRefusal

@@ -10,8 +10,8 @@ use std::sync::Wait;
 
 impl SharedIde {
     /// Makes anew what readers share, and changes nothing else. A write that finds no memory for a share leaves those passes
-    /// without one whose numbers are the same modulo the lock's places: each call of theirs that reads runs out of memory, until a write
-    /// finds it. So where calls run out of memory again and again, call this once there is memory. May block.
+    /// without one whose numbers are the same modulo the lock's places: each call of theirs that reads runs out of memory,
+    /// until a write finds it. So where calls run out of memory again and again, call this once there is memory. May block.
     pub fn renew<R: Wait>(&self, rt: &R, pass: &mut IdePass)
         requires { IsIdePassOf self.now pass.old }
         ensures pass { IsIdePassOf self.now pass.new × IsSameIdePass pass.old pass.new }

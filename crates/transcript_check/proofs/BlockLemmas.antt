@@ -2,14 +2,10 @@
 use Rattle.std.proofs.Common.{◌≡◌, ℕ, suc, ◌<◌, ◌≤◌, Bool, true, false, not, ◌&&◌, ◌==◌, cond, List, [], ◌∷◌, ◌++◌, length, take, drop, refl, sym, ap, ◌∙◌, append-nil, append_assoc, arith}
 use Rattle.std.specs.Prelude.{All}
 use Rattle.std.specs.List.{concat, AllByRecursion}
-use Rattle.std.proofs.lemmas.Bool.{eqb-true}
+use Rattle.list_laws.proofs.BoolLemmas.{bool_cases}
+use Rattle.std.proofs.lemmas.Bool.{cond_both, eqb-true}
 use Rattle.std.proofs.lemmas.List.Elements.{recursion_from_All}
 use Rattle.transcript_check.specs.Blocks.{line_break, space, begins_with_space, ends_block, first_len, before_first, blocks_of, EndsOnce, IsBlock}
-
--- what holds where a test holds, and where it doesn't, holds
-bool_cases : (b : Bool) (P : Type 0) → (b ≡ true → P) → (b ≡ false → P) → P
-bool_cases true P then otherwise = then refl
-bool_cases false P then otherwise = otherwise refl
 
 -- a byte put before the first block stands before the joined blocks
 joined-before : (byte : ℕ) (blocks : List (List ℕ)) → concat (before_first byte blocks) ≡ byte ∷ concat blocks
@@ -47,20 +43,15 @@ blocks-first byte (next ∷ rest) = by (ends_block byte (next ∷ rest)) (blocks
 -- a block isn't longer than the bytes that it begins
 pub first_len-within : (bytes : List ℕ) → first_len bytes ≤ length bytes
 first_len-within [] = omega arith
-first_len-within (byte ∷ bytes) = by (ends_block byte bytes) (first_len-within bytes)
-  where
-    by : (b : Bool) → first_len bytes ≤ length bytes → cond b 1 (suc (first_len bytes)) ≤ length (byte ∷ bytes)
-    by true rest = omega arith
-    by false rest = omega arith
+first_len-within (byte ∷ bytes) =
+    let rest = first_len-within bytes in
+    cond_both (ends_block byte bytes) 1 (suc (first_len bytes)) (λ n. n ≤ length (byte ∷ bytes)) (λ _. omega arith) (λ _. omega arith)
 
 -- the first block has a byte, where there is one
 pub first_len-some : (bytes : List ℕ) → 0 < length bytes → 0 < first_len bytes
 first_len-some [] some = absurd (omega arith)
-first_len-some (byte ∷ bytes) some = by (ends_block byte bytes)
-  where
-    by : (b : Bool) → 0 < cond b 1 (suc (first_len bytes))
-    by true = omega arith
-    by false = omega arith
+first_len-some (byte ∷ bytes) some =
+    cond_both (ends_block byte bytes) 1 (suc (first_len bytes)) (λ n. 0 < n) (λ _. omega arith) (λ _. omega arith)
 
 -- where bytes are left, there is one
 pub some-left : (left : List ℕ) (empty : Bool) → empty ≡ (length left == 0) → empty ≡ false → 0 < length left
@@ -90,9 +81,8 @@ cut-end done (byte ∷ bytes) all nothing so_far = absurd (omega arith)
 
 -- a byte that is no line break, or has a space behind it, ends no block
 goes_on : (byte next : ℕ) (bytes : List ℕ) → (byte ≡ line_break → next ≡ space) → ends_block byte (next ∷ bytes) ≡ false
-goes_on byte next bytes then = bool_cases (byte == line_break) (ends_block byte (next ∷ bytes) ≡ false)
-    (λ is. ap (λ n. (byte == line_break) && not (n == space)) (then (eqb-true byte line_break is)) ∙ ap (λ b. b && false) is)
-    (λ other. ap (λ b. b && not (next == space)) other)
+goes_on byte next bytes then = bool_cases (byte == line_break) (λ b. (b && not (next == space)) ≡ false)
+    (λ is. ap (λ n. not (n == space)) (then (eqb-true byte line_break is))) (λ other. refl)
 
 -- behind a text that ends once, where what follows doesn't begin with a space, a block ends
 pub blocks-behind : (text bytes : List ℕ) → EndsOnce text → begins_with_space bytes ≡ false → blocks_of (text ++ bytes) ≡ text ∷ blocks_of bytes

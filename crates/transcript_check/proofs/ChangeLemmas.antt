@@ -1,5 +1,5 @@
 -- Each entry of a run of a script makes a change, so that its history has room for no more than it may have.
-use Rattle.std.proofs.Common.{ℕ, zero, suc, ◌≡◌, ◌+◌, ◌≤◌, ◌<◌, Bool, true, false, cond, List, [], ◌∷◌, ◌++◌, length, refl, sym, ap, subst, arith, Option, Some, None, ⊎_elim, eqb}
+use Rattle.std.proofs.Common.{ℕ, zero, suc, ◌≡◌, ◌+◌, ◌≤◌, ◌<◌, Bool, false, cond, List, [], ◌∷◌, ◌++◌, length, refl, sym, ap, subst, arith, Option, Some, None, inl, inr, eqb}
 use Rattle.std.specs.List.{All, AllByRecursion}
 use Rattle.std.proofs.lemmas.Bool.{cases_lt}
 use Rattle.list_laws.proofs.BoolLemmas.{bool_cases}
@@ -11,7 +11,8 @@ use Rattle.write_history.specs.Path.{is_path}
 use Rattle.write_history.specs.World.{unready_ids}
 use Rattle.write_history.specs.Fold.{ListRefusal, fold, list_refusal}
 use Rattle.history_laws.proofs.LimitLemmas.{legal_few}
-use Rattle.ide_calls.specs.Settle.{Settled, entry_of, intake_of, intake_entry, settled_unless, settled_from}
+use Rattle.write_history.specs.Settle.{entry_of}
+use Rattle.history_laws.proofs.SettledLemmas.{settled_takes}
 use Rattle.script_lang.specs.declared.command.Command.{Command}
 use Rattle.script_lang.specs.declared.command.Command.TheVariants as command
 use Rattle.script_lang.specs.declared.line.Line.{Line}
@@ -24,36 +25,25 @@ use Rattle.transcripts.specs.declared.loaded.Loaded.TheVariants as loaded
 use Rattle.transcripts.specs.declared.record.Answer.TheVariants.{Refused}
 use Rattle.transcripts.specs.declared.record.Record.{Record}
 use Rattle.transcripts.specs.Serial.{Step, Ended, told as just_told, step_unless, create_of, step_of, first_load, later_loads}
-use Rattle.transcripts.specs.Fits.{Mark, mark_at, run_beside, IsDone, IsGivenUp, SectionFits, made_by, LanesFit, WorkersFit, RunFits}
+use Rattle.transcripts.specs.Fits.{Mark, mark_at, run_beside, SectionFits, made_by, LanesFit, WorkersFit, RunFits}
 use Rattle.transcript_check.specs.Phase.{Sides}
+use Rattle.transcript_check.proofs.ChoiceLemmas.{all-append}
 use Rattle.transcript_check.proofs.StepLemmas.{made_by-own}
 use Rattle.transcript_check.proofs.PhaseLemmas.{AllSeats}
 use Rattle.transcript_check.proofs.MiddleLemmas.{all_seats, workers_are, none_outside}
 
 -- each entry makes a change
-abbrev pub AllChange : List Entry → Type 0
-AllChange entries = AllByRecursion (λ entry. 1 ≤ length entry.changes) entries
+abbrev MakesChange : Entry → Type 0
+MakesChange entry = 1 ≤ length entry.changes
 
-all_change-append : (xs ys : List Entry) → AllChange xs → AllChange ys → AllChange (xs ++ ys)
-all_change-append [] ys first later = later
-all_change-append (x ∷ xs) ys first later = (first.0, all_change-append xs ys first.1 later)
+abbrev pub AllChange : List Entry → Type 0
+AllChange entries = AllByRecursion MakesChange entries
 
 -- what a step adds
 unless_change : (refusal : Option ListRefusal) (told_place : ℕ → Option ℕ) (history : List Entry) (entry : Entry) → 1 ≤ length entry.changes
     → AllChange (step_unless refusal told_place history entry).added
 unless_change None told_place history entry some = (some, tt)
 unless_change (Some refusal) told_place history entry some = tt
-
-settled_change : (seat line : ℕ) (history : List Entry) (ids : List ℕ) → AllChange (settled_from history seat line ids).added
-settled_change seat line history [] = tt
-settled_change seat line history (id ∷ ids) =
-    by (list_refusal (fold history) (intake_of (fold history) id)) (settled_from (history ++ intake_entry history seat line id ∷ []) seat line ids)
-    (settled_change seat line (history ++ intake_entry history seat line id ∷ []) ids)
-  where
-    by : (refusal : Option ListRefusal) (rest : Settled) → AllChange rest.added
-        → AllChange (settled_unless refusal (intake_entry history seat line id) rest).added
-    by None rest later = (omega arith, later)
-    by (Some refusal) rest later = tt
 
 created_change : (history : List Entry) (seat line : ℕ) (path : List ℕ) (load : Loaded) → AllChange (create_of history seat line path load).added
 created_change history seat line path (loaded.Text content) =
@@ -71,7 +61,8 @@ step_change load history seat line (command.Group changes) is =
 step_change load history seat line (command.Load path) is = bool_cases (is_path path)
     (λ (b : Bool). AllChange (cond b (create_of history seat line path load) (just_told (Refused (length history) None why.BadPath))).added)
     (λ lawful. created_change history seat line path load) (λ unlawful. tt)
-step_change load history seat line command.Settle is = settled_change seat line history (unready_ids (fold history))
+step_change load history seat line command.Settle is =
+    settled_takes (λ entry. 1 ≤ length entry.changes) seat line (λ id stamp. omega arith) history (unready_ids (fold history))
 step_change load history seat line (command.Ask query) is = tt
 step_change load history seat line (command.Soft attempts query) is = tt
 
@@ -82,13 +73,13 @@ section_change : (beside : Bool) (history : List Entry) (seat : ℕ) (low high :
 section_change beside history seat low high [] loads records own are fits = subst AllChange (sym fits.1) tt
 section_change beside history seat low high (line ∷ lines) loads records own are fits =
     let is : IsOfLine line.command = are 0 line (omega arith) in
-    let first : AllChange fits.made = ⊎_elim
-    (λ (done : IsDone history seat line (first_load loads) low fits.made fits.answer fits.between).
-    subst (λ (s : Step). AllChange s.added) done.step (step_change (first_load loads) done.start seat line.number line.command is))
-    (λ (given : (beside ≡ true) × IsGivenUp seat line low fits.made fits.answer fits.between). subst AllChange (sym given.1.nothing) tt) fits.first in
+    let first : AllChange fits.made = elim fits.first [
+      | inl done ↦ subst (λ (s : Step). AllChange s.added) done.step (step_change (first_load loads) done.start seat line.number line.command is)
+      | inr given ↦ subst AllChange (sym given.1.nothing) tt
+    ] in
     let rest = section_change beside history seat fits.between high lines (later_loads loads) fits.later fits.made_later
     (λ k d less. are (suc k) d (omega arith)) fits.rest in
-    subst AllChange (sym fits.own_is) (all_change-append fits.made fits.made_later first rest)
+    subst AllChange (sym fits.own_is) (all-append MakesChange fits.made fits.made_later first rest)
 
 commands_of : (lines : List Line) → AreOfSection lines → All (λ (l : Line). IsOfLine l.command) lines
 commands_of lines are = λ k d less. (are k d less).0
@@ -98,14 +89,13 @@ lanes_change : (beside : Bool) (history : List Entry) (low : Mark) (seat : ℕ) 
     → All AreOfSection lanes → LanesFit beside history low seat lanes entries records → (s : ℕ) → seat ≤ s → s < seat + length lanes
     → AllChange (made_by s entries)
 lanes_change beside history low seat [] entries records are fits s above below = absurd (omega arith)
-lanes_change beside history low seat (lane ∷ lanes) entries records are fits s above below = ⊎_elim
-    (λ (later : seat < s). lanes_change beside history low (suc seat) lanes entries fits.others
-    (λ k d less. are (suc k) d (omega arith)) fits.rest s later (omega arith))
-    (λ (here : s ≤ seat). (let same : seat ≡ s = omega arith in
-    subst (λ (n : ℕ). AllChange (made_by n entries)) same
-    (section_change beside history seat low fits.high lane [] fits.own_records (made_by seat entries)
-    (commands_of lane (are 0 lane (omega arith))) fits.fits)))
-    (cases_lt seat s)
+lanes_change beside history low seat (lane ∷ lanes) entries records are fits s above below = elim (cases_lt seat s) [
+  | inl later ↦ lanes_change beside history low (suc seat) lanes entries fits.others (λ k d less. are (suc k) d (omega arith)) fits.rest s later (omega arith)
+  | inr here ↦ (let same : seat ≡ s = omega arith in
+      subst (λ (n : ℕ). AllChange (made_by n entries)) same
+      (section_change beside history seat low fits.high lane [] fits.own_records (made_by seat entries)
+      (commands_of lane (are 0 lane (omega arith))) fits.fits))
+]
 
 -- what a worker made
 intakes_change : (seat : ℕ) (entries : List Entry) → All (IsIntakeBy seat) entries → AllChange entries
@@ -135,11 +125,10 @@ module _ (sides : Sides) (history : List Entry) (low : ℕ) (mark : Mark) (lanes
     (worked : WorkersFit history low (1 + sides.lanes) middle told) where
   seat_change : (seat : ℕ) → AllChange (made_by seat middle)
   seat_change zero = subst AllChange (sym (none_outside sides 0 middle seats refl)) tt
-  seat_change (suc n) = ⊎_elim
-      (λ (worker : sides.lanes < suc n). intakes_change (suc n) (made_by (suc n) middle)
-      (workers_are history low sides middle told workers seats worked (suc n) worker).intakes)
-      (λ (lane : suc n ≤ sides.lanes). lanes_change sides.beside history mark 1 lanes middle records are fit (suc n) (omega arith) (omega arith))
-      (cases_lt sides.lanes (suc n))
+  seat_change (suc n) = elim (cases_lt sides.lanes (suc n)) [
+    | inl worker ↦ intakes_change (suc n) (made_by (suc n) middle) (workers_are history low sides middle told workers seats worked (suc n) worker).intakes
+    | inr lane ↦ lanes_change sides.beside history mark 1 lanes middle records are fit (suc n) (omega arith) (omega arith)
+  ]
 
   pub middle_change : AllChange middle
   middle_change = each_change middle seat_change
@@ -159,4 +148,4 @@ run_few loads script told ended are fits =
     (commands_of script.last are.last) fits.last in
     legal_few ended.history fits.legal
     (subst AllChange (sym fits.history)
-    (all_change-append (fits.opening ++ fits.middle) fits.closing (all_change-append fits.opening fits.middle opening middle) closing))
+    (all-append MakesChange (fits.opening ++ fits.middle) fits.closing (all-append MakesChange fits.opening fits.middle opening middle) closing))

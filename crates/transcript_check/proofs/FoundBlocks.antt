@@ -23,13 +23,13 @@ use Rattle.query_engine.specs.declared.answer.PlaceRow.{PlaceRow}
 use Rattle.query_engine.specs.declared.answer.LevelRow.{LevelRow}
 use Rattle.query_engine.specs.declared.answer.Answer.{Answer as Finding}
 use Rattle.query_engine.specs.declared.answer.Answer.TheVariants.{Rows}
-use Rattle.query_engine.specs.declared.answer.AskRefusal.{AskRefusal}
 use Rattle.query_engine.specs.Fits.{is_class, has_super, is_method}
 use Rattle.query_engine.specs.Inheritors.{Listing, names_any, names_of, levels_from, inheritors_of}
-use Rattle.query_engine.specs.Reply.{row_of, rows_in, word_row, word_in, of_kind, of_files, of_world, place_row, uses_in, keys_in, types_in, types_of, listed_row, level_row, unless_unready, all_rows, listing_reply, reply}
+use Rattle.query_engine.specs.Reply.{row_of, rows_in, word_row, word_in, of_kind, of_files, of_world, place_row, uses_in, keys_in, types_in, types_of, listed_row, level_row, unless_unready, all_rows, listing_reply, NoAnswer, reply}
 use Rattle.transcripts.specs.Transcript.{joined, mask_text, word_line, kind_text, indent, super_text, supers_text, place_text, name_place_text, declared_text, found_line, outline_line, usage_line, key_line, level_line, count_line, files_text, open_text, unready_text, counts_line, found_text}
 use Rattle.transcript_check.specs.Blocks.{space, EndsOnce}
-use Rattle.transcript_check.proofs.PlainLemmas.{is_plain, plain-append, plain-decimal, plain-then, line-ends, ends-then, GoesOn, goes_on-each}
+use Rattle.transcript_check.proofs.ChoiceLemmas.{all-append, all-filter, all-map}
+use Rattle.transcript_check.proofs.PlainLemmas.{is_plain, plain, plain-then, line-ends, lines-end, GoesOn}
 
 -- a name as it is printed has no line break
 abbrev pub IsShown : List ℕ → Type 0
@@ -49,25 +49,6 @@ pub record Texts : Type 0 where
 abbrev pub IsShownFile : Option File → Type 0
 IsShownFile None = Unit {0}
 IsShownFile (Some file) = IsShown file.path
-
--- ---- lists
-
-pub all-append : {X : Type 0} (P : X → Type 0) (xs ys : List X) → AllByRecursion P xs → AllByRecursion P ys → AllByRecursion P (xs ++ ys)
-all-append P [] ys first later = later
-all-append P (x ∷ xs) ys first later = (first.0, all-append P xs ys first.1 later)
-
-all-filter : {X : Type 0} (P : X → Type 0) (test : X → Bool) (xs : List X) → AllByRecursion P xs → AllByRecursion P (filter test xs)
-all-filter P test [] all = tt
-all-filter P test (x ∷ xs) all = by (test x) (all-filter P test xs all.1)
-  where
-    by : (b : Bool) → AllByRecursion P (filter test xs) → AllByRecursion P (cond b (x ∷ filter test xs) (filter test xs))
-    by true later = (all.0, later)
-    by false later = later
-
-all-map : {X Y : Type 0} (P : X → Type 0) (Q : Y → Type 0) (f : X → Y) (xs : List X)
-    → ((x : X) → P x → Q (f x)) → AllByRecursion P xs → AllByRecursion Q (map f xs)
-all-map P Q f [] each all = tt
-all-map P Q f (x ∷ xs) each all = (each x all.0, all-map P Q f xs each all.1)
 
 -- ---- files
 
@@ -107,56 +88,27 @@ kind-plain kind =
     cond_both (kind == code_of declares.Constructor) _ _ P (λ _. refl) (λ _.
     cond_both (kind == code_of declares.Field) _ _ P (λ _. refl) (λ _. refl))))))))
 
-place-plain : (path : List ℕ) (line column : ℕ) → IsShown path → is_plain (place_text path line column) ≡ true
-place-plain path line column shown =
-    let front : List ℕ = codes "  " ++ encode_utf8_all path in
-    let at_line : List ℕ = front ++ codes ":" ++ decimal line in
-    plain-append (at_line ++ codes ":") (decimal column)
-    (plain-append at_line (codes ":")
-    (plain-append (front ++ codes ":") (decimal line)
-    (plain-append front (codes ":") (plain-append (codes "  ") (encode_utf8_all path) refl shown) refl) (plain-decimal line))
-    refl)
-    (plain-decimal column)
-
-declared-plain : (row : Row) → IsShownRow row → is_plain (declared_text row) ≡ true
-declared-plain row shown =
-    let kind : List ℕ = codes " " ++ kind_text row.kind in
-    plain-append (kind ++ codes " ") (encode_utf8_all row.name)
-    (plain-append kind (codes " ") (plain-append (codes " ") (kind_text row.kind) refl (kind-plain row.kind)) refl) shown.name
-
-row-plain : (row : Row) → IsShownRow row → is_plain (name_place_text row ++ declared_text row) ≡ true
-row-plain row shown =
-    plain-append (name_place_text row) (declared_text row) (place-plain row.path row.line row.column shown.path) (declared-plain row shown)
+declared-plain : (row : Row) → IsShownRow row → is_plain (name_place_text row ++ declared_text row) ≡ true
+declared-plain row shown = simp (plain, shown.path, kind-plain row.kind, shown.name)
 
 found-goes_on : (row : Row) → IsShownRow row → GoesOn (found_line row)
-found-goes_on row shown = (refl, line-ends (name_place_text row ++ declared_text row) (row-plain row shown))
+found-goes_on row shown = (refl, line-ends (name_place_text row ++ declared_text row) (declared-plain row shown))
 
 level-goes_on : (found : LevelRow) → IsShownRow found.row → GoesOn (level_line found)
-level-goes_on found shown =
-    let front : List ℕ = name_place_text found.row ++ declared_text found.row ++ codes " level " in (
-      refl,
-      line-ends (front ++ decimal found.level)
-          (plain-append front (decimal found.level)
-          (plain-append (name_place_text found.row ++ declared_text found.row) (codes " level ") (row-plain found.row shown) refl)
-          (plain-decimal found.level)),
-    )
+level-goes_on found shown = (
+  refl,
+  line-ends (name_place_text found.row ++ declared_text found.row ++ codes " level " ++ decimal found.level)
+      (simp (plain, shown.path, kind-plain found.row.kind, shown.name)),
+)
 
 usage-goes_on : (name : List ℕ) (row : PlaceRow) → IsShown row.path × IsShown name → GoesOn (usage_line name row)
 usage-goes_on name row shown =
-    let at : List ℕ = place_text row.path row.line row.column in (
-      refl,
-      line-ends (at ++ codes " usage " ++ encode_utf8_all name)
-          (plain-append (at ++ codes " usage ") (encode_utf8_all name)
-          (plain-append at (codes " usage ") (place-plain row.path row.line row.column shown.0) refl) shown.1),
-    )
+    (refl, line-ends (place_text row.path row.line row.column ++ codes " usage " ++ encode_utf8_all name) (simp (plain, shown.0, shown.1)))
 
 key-goes_on : (row : PlaceRow) → IsShown row.path → GoesOn (key_line row)
 key-goes_on row shown =
-    let at : List ℕ = place_text row.path row.line row.column in (
-      refl,
-      subst EndsOnce (append_assoc at (codes " property") (codes "\n"))
-          (line-ends (at ++ codes " property") (plain-append at (codes " property") (place-plain row.path row.line row.column shown) refl)),
-    )
+    let at : List ℕ = place_text row.path row.line row.column in
+    (refl, subst EndsOnce (append_assoc at (codes " property") (codes "\n")) (line-ends (at ++ codes " property") (simp (plain, shown))))
 
 -- the places of a mask
 mask-plain : (mask : ℕ) → is_plain (mask_text mask) ≡ true
@@ -174,26 +126,20 @@ mask-plain mask = by (bit_and mask 1 == 0) (bit_and mask 2 == 0) (bit_and mask 4
 
 word-goes_on : (row : WordRow) → IsShown row.path → GoesOn (word_line row)
 word-goes_on row shown =
-    let front : List ℕ = codes "  " ++ encode_utf8_all row.path in (
-      refl,
-      line-ends (front ++ codes " " ++ mask_text row.mask)
-          (plain-append (front ++ codes " ") (mask_text row.mask)
-          (plain-append front (codes " ") (plain-append (codes "  ") (encode_utf8_all row.path) refl shown) refl) (mask-plain row.mask)),
-    )
+    (refl, line-ends (codes "  " ++ encode_utf8_all row.path ++ codes " " ++ mask_text row.mask) (simp (plain, shown, mask-plain row.mask)))
 
 -- the names of supers
 names-plain : (names : List (List ℕ)) → AllByRecursion IsShown names → is_plain (flat_map super_text names) ≡ true
 names-plain [] shown = refl
-names-plain (name ∷ names) shown =
-    plain-append (super_text name) (flat_map super_text names) (plain-append (codes " ") (encode_utf8_all name) refl shown.0) (names-plain names shown.1)
+names-plain (name ∷ names) shown = simp (plain, shown.0, names-plain names shown.1)
 
 supers-plain : (names : List (List ℕ)) → AllByRecursion IsShown names → is_plain (supers_text names) ≡ true
 supers-plain [] shown = refl
-supers-plain (name ∷ names) shown = plain-append (codes " :") (flat_map super_text (name ∷ names)) refl (names-plain (name ∷ names) shown)
+supers-plain (name ∷ names) shown = names-plain (name ∷ names) shown
 
 indent-plain : (depth : ℕ) → is_plain (indent depth) ≡ true
 indent-plain zero = refl
-indent-plain (suc depth) = plain-append (indent depth) (codes "  ") (indent-plain depth) refl
+indent-plain (suc depth) = simp (plain, indent-plain depth)
 
 -- a text that begins with a space, indented, begins with one
 indent-begins : (depth : ℕ) (rest : List ℕ) → (more : List ℕ) × (indent depth ++ space ∷ rest ≡ space ∷ more)
@@ -204,48 +150,27 @@ indent-begins (suc depth) rest =
 
 outline-goes_on : (row : Row) → IsShownRow row → GoesOn (outline_line row)
 outline-goes_on row shown =
-    let front : List ℕ = indent row.depth ++ name_place_text row in
-    let line : List ℕ = front ++ declared_text row ++ supers_text row.supers in
-    let ends : EndsOnce (line ++ codes "\n") = line-ends line
-    (plain-append (front ++ declared_text row) (supers_text row.supers)
-    (plain-append front (declared_text row) (plain-append (indent row.depth) (name_place_text row) (indent-plain row.depth)
-    (place-plain row.path row.line row.column shown.path)) (declared-plain row shown)) (supers-plain row.supers shown.supers)) in
-    begins (indent-begins row.depth (space ∷ encode_utf8_all row.path ++ codes ":" ++ decimal row.line ++ codes ":" ++ decimal row.column)) ends
-  where
-    behind : {more : List ℕ} (text a b c : List ℕ) → text ≡ space ∷ more → ((text ++ a) ++ b) ++ c ≡ space ∷ (((more ++ a) ++ b) ++ c)
-    behind text a b c is = ap (λ t. ((t ++ a) ++ b) ++ c) is
-
-    goes_on : (text more : List ℕ) → text ≡ space ∷ more → EndsOnce text → GoesOn text
-    goes_on text more is ends = subst GoesOn (sym is) (refl, subst EndsOnce is ends)
-
-    begins : (more : List ℕ) × (indent row.depth ++ name_place_text row ≡ space ∷ more) → EndsOnce (outline_line row) → GoesOn (outline_line row)
-    begins first ends =
-        goes_on (outline_line row) (((first.0 ++ declared_text row) ++ supers_text row.supers) ++ codes "\n")
-        (behind (indent row.depth ++ name_place_text row) (declared_text row) (supers_text row.supers) (codes "\n") first.1) ends
+    let line : List ℕ = indent row.depth ++ name_place_text row ++ declared_text row ++ supers_text row.supers in
+    let place : List ℕ = encode_utf8_all row.path ++ codes ":" ++ decimal row.line ++ codes ":" ++ decimal row.column in
+    let begins = indent-begins row.depth (space ∷ place) in
+    let is : line ++ codes "\n" ≡ space ∷ (((begins.0 ++ declared_text row) ++ supers_text row.supers) ++ codes "\n") =
+    ap (λ (t : List ℕ). ((t ++ declared_text row) ++ supers_text row.supers) ++ codes "\n") begins.1 in
+    subst GoesOn (sym is) (
+      refl,
+      subst EndsOnce is (line-ends line
+          (simp (plain, indent-plain row.depth, shown.path, kind-plain row.kind, shown.name, supers-plain row.supers shown.supers))),
+    )
 
 -- ---- what is found
-
-each-goes_on : {X : Type 0} (P : X → Type 0) (line : X → List ℕ) (xs : List X) → ((x : X) → P x → GoesOn (line x)) → AllByRecursion P xs
-    → AllByRecursion (λ x. GoesOn (line x)) xs
-each-goes_on P line [] each all = tt
-each-goes_on P line (x ∷ xs) each all = (each x all.0, each-goes_on P line xs each all.1)
 
 -- a line that says how much, and one for each row
 rows-end : {X : Type 0} (P : X → Type 0) (line : X → List ℕ) (rows : List X) → ((row : X) → P row → GoesOn (line row)) → AllByRecursion P rows
     → EndsOnce (count_line (length rows) ++ flat_map line rows)
-rows-end P line rows each all =
-    let head : List ℕ = codes "rows " ++ decimal (length rows) in
-    ends-then (head ++ codes "\n") (flat_map line rows)
-    (line-ends head (plain-append (codes "rows ") (decimal (length rows)) refl (plain-decimal (length rows))))
-    (goes_on-each line rows (each-goes_on P line rows each all))
+rows-end P line rows each all = lines-end P (codes "rows " ++ decimal (length rows)) line rows (simp plain) each all
 
 counts-end : (files docs unready : ℕ) → EndsOnce (counts_line files docs unready)
-counts-end files docs unready =
-    let last : List ℕ = codes " unready " ++ decimal unready in
-    plain-then (files_text files ++ open_text docs) (unready_text unready)
-    (plain-append (files_text files) (open_text docs) (plain-append (codes "status files ") (decimal files) refl (plain-decimal files))
-    (plain-append (codes " open ") (decimal docs) refl (plain-decimal docs)))
-    (line-ends last (plain-append (codes " unready ") (decimal unready) refl (plain-decimal unready)))
+counts-end files docs unready = plain-then (files_text files ++ open_text docs) (unready_text unready) (simp plain)
+    (line-ends (codes " unready " ++ decimal unready) (simp plain))
 
 module _ (texts : Texts) (world : World) (live : (id : ℕ) → IsShownFile (file_of world id)) where
   all_shown : AllByRecursion IsShownFile world.files
@@ -327,17 +252,21 @@ module _ (texts : Texts) (world : World) (live : (id : ℕ) → IsShownFile (fil
       by (Some file) shown = record { path = shown; name = is.name; supers = is.supers }
 
   -- what a question finds
-  abbrev pub EndsIfFound : Result Finding AskRefusal → Type 0
+  abbrev pub EndsIfFound : Result Finding NoAnswer → Type 0
   EndsIfFound (Ok finding) = EndsOnce (found_text finding)
   EndsIfFound (Err refusal) = Unit {0}
 
-  unless-ends : (lowest : Option ℕ) (finding : Finding) → EndsOnce (found_text finding) → EndsIfFound (unless_unready lowest finding)
-  unless-ends None finding ends = ends
-  unless-ends (Some file) finding ends = tt
+  unless-ends : (finding : Finding) → EndsOnce (found_text finding) → EndsIfFound (unless_unready (lowest_unready world) finding)
+  unless-ends finding ends = elim (lowest_unready world) as (λ lowest. EndsIfFound (unless_unready lowest finding)) [ None ↦ ends | Some file ↦ tt ]
 
-  rows_of-end : (fits : Stub → Bool) → EndsOnce (found_text (Rows (of_world Java (rows_in fits) world)))
-  rows_of-end fits = rows-end IsShownRow found_line (of_world Java (rows_in fits) world) found-goes_on
-      (of_files-all Java IsShownRow (rows_in fits) 1 world.files all_shown (rows_in-shown fits))
+  -- the rows of all files
+  files-end : {X : Type 0} (kind : FileKind) (P : X → Type 0) (line : X → List ℕ) (rows : ℕ → File → List X) → ((row : X) → P row → GoesOn (line row))
+      → ((id : ℕ) (file : File) → IsShown file.path → AllByRecursion P (rows id file))
+      → EndsOnce (count_line (length (of_world kind rows world)) ++ flat_map line (of_world kind rows world))
+  files-end kind P line rows goes_on each = rows-end P line (of_world kind rows world) goes_on (of_files-all kind P rows 1 world.files all_shown each)
+
+  found-end : (fits : Stub → Bool) → EndsIfFound (unless_unready (lowest_unready world) (Rows (of_world Java (rows_in fits) world)))
+  found-end fits = unless-ends _ (files-end Java IsShownRow found_line (rows_in fits) found-goes_on (rows_in-shown fits))
 
   outline-ends : (id : Option ℕ) → EndsIfFound (listing_reply world id)
   outline-ends None = tt
@@ -345,21 +274,18 @@ module _ (texts : Texts) (world : World) (live : (id : ℕ) → IsShownFile (fil
       outline-goes_on (all_rows-shown id (file_of world id) (live id))
 
   pub reply-ends : (q : Query) → EndsIfFound (reply world q)
-  reply-ends (query.Class name) = unless-ends (lowest_unready world) _ (rows_of-end (is_class name))
-  reply-ends (query.Supers name) = unless-ends (lowest_unready world) _ (rows_of-end (has_super name))
-  reply-ends (query.Method name) = unless-ends (lowest_unready world) _ (rows_of-end (is_method name))
-  reply-ends (query.Word name) = unless-ends (lowest_unready world) _
-      (rows-end (λ (row : WordRow). IsShown row.path) word_line (of_world Java (word_in name) world) word-goes_on
-      (of_files-all Java (λ (row : WordRow). IsShown row.path) (word_in name) 1 world.files all_shown (word_in-shown name)))
-  reply-ends (query.Usages name) = unless-ends (lowest_unready world) _
-      (rows-end (λ (row : PlaceRow). IsShown row.path × IsShown name) (usage_line name) (of_world Java (uses_in name) world) (usage-goes_on name)
-      (of_files-all Java (λ (row : PlaceRow). IsShown row.path × IsShown name) (uses_in name) 1 world.files all_shown (uses_in-shown name)))
-  reply-ends (query.Inheritors name) = unless-ends (lowest_unready world) _
+  reply-ends (query.Class name) = found-end (is_class name)
+  reply-ends (query.Supers name) = found-end (has_super name)
+  reply-ends (query.Method name) = found-end (is_method name)
+  reply-ends (query.Word name) =
+      unless-ends _ (files-end Java (λ (row : WordRow). IsShown row.path) word_line (word_in name) word-goes_on (word_in-shown name))
+  reply-ends (query.Usages name) = unless-ends _
+      (files-end Java (λ (row : PlaceRow). IsShown row.path × IsShown name) (usage_line name) (uses_in name) (usage-goes_on name) (uses_in-shown name))
+  reply-ends (query.Inheritors name) = unless-ends _
       (rows-end (λ (found : LevelRow). IsShownRow found.row) level_line (map (level_row world) (inheritors_of name (types_of world))) level-goes_on
       (all-map (λ (found : ℕ × Listing). TypeShown found.1) (λ (found : LevelRow). IsShownRow found.row) (level_row world) (inheritors_of name (types_of world))
       (λ found is. listed-shown found.1 is) (levels-shown (length (types_of world)) 1 (name ∷ []) (types_of world) types-shown)))
-  reply-ends (query.Key key) = unless-ends (lowest_unready world) _
-      (rows-end (λ (row : PlaceRow). IsShown row.path) key_line (of_world Properties (keys_in key) world) key-goes_on
-      (of_files-all Properties (λ (row : PlaceRow). IsShown row.path) (keys_in key) 1 world.files all_shown (keys_in-shown key)))
+  reply-ends (query.Key key) =
+      unless-ends _ (files-end Properties (λ (row : PlaceRow). IsShown row.path) key_line (keys_in key) key-goes_on (keys_in-shown key))
   reply-ends (query.Outline path) = outline-ends (id_at world path)
   reply-ends query.Status = counts-end (count_of is_some world) (count_of is_open world) (count_of is_unready world)

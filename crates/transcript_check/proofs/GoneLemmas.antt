@@ -1,5 +1,5 @@
 -- Which entry goes in beside others, from what the code found.
-use Rattle.std.proofs.Common.{ℕ, suc, zero, ◌≡◌, ◌<◌, Bool, true, false, cond, ◌||◌, eqb, List, [], ◌∷◌, length, get_or, take, drop, refl, sym, ap, ◌∙◌, subst, arith, Some, None, Option, Result, Ok, Err, IfOk}
+use Rattle.std.proofs.Common.{ℕ, suc, zero, ◌≡◌, ◌+◌, ◌<◌, Bool, true, false, cond, ◌||◌, eqb, List, [], ◌∷◌, length, get_or, take, drop, refl, sym, ap, ◌∙◌, subst, arith, Some, None, Option, Result, Ok, Err, IfOk}
 use Rattle.std.specs.Prelude.{option_map, slice_set}
 use Rattle.std.specs.List.{position}
 use Rattle.std.proofs.lemmas.Bool.{cond-true, cond-false}
@@ -71,13 +71,21 @@ module _ (world after : World) (seat : ℕ) (cursors : List Cursor) (text : List
       let first = position-Some (λ (c : Cursor). eqb c.seat seat) cursors place d found in
       went_there seat history cursors place d first.0 first.1 first.2
 
+  -- whether one beside it is in a settle
+  abbrev is_busy_beside : Bool
+  is_busy_beside = is_busy (take place cursors) || is_busy (drop (place + 1) cursors)
+
+  by_beside : (busy : Bool) → is_busy_beside ≡ busy → (history : List Entry)
+      → section_went seat history cursors ≡ cond busy None (option_map (set_at cursors place) (made_here history (get_or cursors place d)))
+  by_beside busy is history =
+      let next : suc place ≡ place + 1 = omega arith in
+      went_is history ∙ λ i. cond ((ap (λ (n : ℕ). is_busy (take place cursors) || is_busy (drop n cursors)) next ∙ is) i) None
+      (option_map (set_at cursors place) (made_here history (get_or cursors place d)))
+
   -- beside one that is in a settle none goes in
-  pub section_waits : (cursors' : List Cursor) → (is_busy (take place cursors) || is_busy (drop (suc place) cursors)) ≡ true
-      → HasSectionGone world after seat cursors cursors' text false
+  pub section_waits : (cursors' : List Cursor) → is_busy_beside ≡ true → HasSectionGone world after seat cursors cursors' text false
   section_waits cursors' busy = record {
-    is = λ history leads. subst (λ (o : Option Went). IsGoneAs o history after cursors' text false)
-        (sym (went_is history ∙ cond-true (is_busy (take place cursors) || is_busy (drop (suc place) cursors)) None
-        (option_map (set_at cursors place) (made_here history (get_or cursors place d))) busy)) refl;
+    is = λ history leads. subst (λ (o : Option Went). IsGoneAs o history after cursors' text false) (sym (by_beside true busy history)) refl;
   }
 
   made_at : (cursor' : Cursor) (made : Option Made) (history : List Entry) (went : Bool) → IsMadeAs made history after cursor' text went
@@ -86,15 +94,13 @@ module _ (world after : World) (seat : ℕ) (cursors : List Cursor) (text : List
   made_at cursor' (Some made) history went is = (is.0, λ t. ((is.1 t).0, ap (slice_set cursors place) (is.1 t).1))
 
   -- else it goes in where it is made
-  pub section_made : {E : Type 0} (cursor cursor' : Cursor) (result : Result Bool E)
-      → (is_busy (take place cursors) || is_busy (drop (suc place) cursors)) ≡ false → get_or cursors place d ≡ cursor
+  pub section_made : {E : Type 0} (cursor cursor' : Cursor) (result : Result Bool E) → is_busy_beside ≡ false → get_or cursors place d ≡ cursor
       → IfOk result (HasMadeNext world after cursor cursor' text)
       → IfOk result (HasSectionGone world after seat cursors (slice_set cursors place cursor') text)
   section_made cursor cursor' (Err e) quiet stands made = tt
   section_made cursor cursor' (Ok went) quiet stands made = record {
     is = λ history leads. subst (λ (o : Option Went). IsGoneAs o history after (slice_set cursors place cursor') text went)
-        (sym (went_is history ∙ cond-false (is_busy (take place cursors) || is_busy (drop (suc place) cursors)) None
-        (option_map (set_at cursors place) (made_here history (get_or cursors place d))) quiet))
+        (sym (by_beside false quiet history))
         (made_at cursor' (made_here history (get_or cursors place d)) history went
         (subst (λ (c : Cursor). IsMadeAs (made_here history c) history after cursor' text went) (sym stands) (made.is history leads)));
   }

@@ -1,13 +1,16 @@
 -- What the code found of the parts of a transcript is what the definition finds.
-use Rattle.std.proofs.Common.{ℕ, zero, suc, ◌≡◌, ◌+◌, false, List, [], ◌∷◌, ◌++◌, length, take, drop, min, refl, sym, ap, ◌∙◌, subst, length-append, arith, Some, Result, Ok, Err}
+use Rattle.std.proofs.Common.{ℕ, suc, ◌≡◌, ◌+◌, false, List, [], ◌∷◌, ◌++◌, length, take, drop, min, refl, sym, ap, ◌∙◌, subst, length-append, arith, Some, Result, Ok, Err, Option}
 use Rattle.std.specs.Prelude.{slice_get}
 use Rattle.std.proofs.lemmas.List.{take_all, take_min, drop_min, drop-drop}
 use Rattle.std.specs.List.{flat_map}
+use Rattle.write_history.specs.declared.entry.Entry.{Entry}
 use Rattle.write_history.specs.World.{World, empty_world}
 use Rattle.script_lang.specs.declared.line.Line.{Line}
 use Rattle.script_lang.specs.Parts.{Parts}
 use Rattle.transcripts.specs.declared.loaded.Loaded.{Loaded}
 use Rattle.transcripts.specs.Fits.{run_beside}
+use Rattle.transcript_check.proofs.ChoiceLemmas.{list_from, up_to}
+use Rattle.transcript_check.specs.declared.misfit.Misfit.{Misfit}
 use Rattle.transcript_check.specs.declared.stop.LineStop.{LineStop}
 use Rattle.transcript_check.specs.declared.stop.SideStop.{SideStop}
 use Rattle.transcript_check.specs.Section.{Cursor}
@@ -16,12 +19,6 @@ use Rattle.transcript_check.specs.Checked.{Came, sides_of}
 use Rattle.transcript_check.specs.Stops.{serial_or, phase_or}
 use Rattle.transcript_check.specs.Misfit.{line_misfit, side_misfit, left_misfit, last_misfit, ends_or, goes_on_or, begins_or, misfit_among}
 use Rattle.transcript_check.specs.Going.{IsReachedAs, HasReached, HasComeAs, HasComeAlone}
-
--- from the place of an element on, a list begins with it
-pub list_from : {A : Type 0} (xs : List A) (i : ℕ) (x : A) → slice_get xs i ≡ Some x → drop i xs ≡ x ∷ drop (suc i) xs
-list_from [] i x found = absurd (cc)
-list_from (y ∷ ys) zero x found = cc
-list_from (y ∷ ys) (suc i) x found = list_from ys i x found
 
 -- the texts of entries and of records that are left
 abbrev pub Texts : Type 0
@@ -66,24 +63,25 @@ module _ (loads : List Loaded) (script : Parts) (workers : ℕ) (entries records
       ∙ ap (phase_or sides [] (cursors_of 1 script.lanes came.records)) is.0 in
       subst (λ p. IsReachedAs came.history after p left) same (went.sides.is came.history (sym is.2))
 
+  -- so the misfit is what follows from there
+  beside : (misfit : Option Misfit) → ((came : Came) → told ≡ came.records → (reached : Result Reached SideStop) → IsReachedAs came.history after reached left
+      → misfit ≡ goes_on_or script entries records came.history came.records reached) → misfit ≡ misfit_among loads script workers entries records
+  beside misfit goes_on = by (serial_or 0 [] script.prelude loads entries records) (went.prelude.is [] refl)
+    where
+      by : (came : Result Came LineStop) → HasComeAs between came (Ok (made, told)) → misfit ≡ begins_or script workers entries records came
+      by (Err stop) is = absurd is
+      by (Ok came) is = goes_on came is.1 _ (on_from came is)
+
 -- where lanes and workers stop, that is the misfit
 pub sides_stop : (loads : List Loaded) (script : Parts) (workers : ℕ) (entries records made told : List (List ℕ)) (between after : World) (stop : SideStop)
     → SidesWent loads script workers entries records made told between after (Err stop)
     → Some (side_misfit script entries records told stop) ≡ misfit_among loads script workers entries records
 sides_stop loads script workers entries records made told between after stop went =
-    by (serial_or 0 [] script.prelude loads entries records) (went.prelude.is [] refl)
-  where
-    goes_on : (came : Came) → told ≡ came.records → (reached : Result Reached SideStop) → IsReachedAs came.history after reached (Err stop)
-        → Some (side_misfit script entries records told stop) ≡ goes_on_or script entries records came.history came.records reached
-    goes_on came same (Err other) is =
-        ap (λ (s : SideStop). Some (side_misfit script entries records told s)) is
-        ∙ ap (λ (rs : List (List ℕ)). Some (side_misfit script entries records rs other)) same
-    goes_on came same (Ok reached) is = absurd is
-
-    by : (came : Result Came LineStop) → HasComeAs between came (Ok (made, told))
-        → Some (side_misfit script entries records told stop) ≡ begins_or script workers entries records came
-    by (Err other) is = absurd is
-    by (Ok came) is = goes_on came is.1 _ (on_from loads script workers entries records made told between after (Err stop) went came is)
+    beside loads script workers entries records made told between after (Err stop) went (Some (side_misfit script entries records told stop))
+    (λ came same. elim [
+      | Err other ↦ λ is i. Some (side_misfit script entries records (same i) (is i))
+      | Ok reached ↦ λ is. absurd is
+    ])
 
 -- the last section decides behind them
 pub last_decides : (loads : List Loaded) (script : Parts) (workers : ℕ) (entries records made told : List (List ℕ)) (between after : World)
@@ -92,21 +90,12 @@ pub last_decides : (loads : List Loaded) (script : Parts) (workers : ℕ) (entri
     → HasComeAlone 0 script.last [] left later after closed rest
     → last_misfit entries records rest ≡ misfit_among loads script workers entries records
 last_decides loads script workers entries records made told between after left later closed rest went later_is last =
-    by (serial_or 0 [] script.prelude loads entries records) (went.prelude.is [] refl)
-  where
-    goes_on : (came : Came) → told ≡ came.records → (reached : Result Reached SideStop) → IsReachedAs came.history after reached (Ok left)
-        → last_misfit entries records rest ≡ goes_on_or script entries records came.history came.records reached
-    goes_on came same (Err stop) is = absurd is
-    goes_on came same (Ok reached) is =
-        let history = came.history ++ reached.added in
-        ends_as entries records closed _ rest (last.is history (sym is.1))
-        ∙ ap (λ es. ends_or entries records (serial_or 0 history script.last [] es later)) is.0
-        ∙ ap (λ rs. ends_or entries records (serial_or 0 history script.last [] reached.left rs)) (later_is ∙ ap (after_lanes script.lanes) same)
-
-    by : (came : Result Came LineStop) → HasComeAs between came (Ok (made, told))
-        → last_misfit entries records rest ≡ begins_or script workers entries records came
-    by (Err stop) is = absurd is
-    by (Ok came) is = goes_on came is.1 _ (on_from loads script workers entries records made told between after (Ok left) went came is)
+    beside loads script workers entries records made told between after (Ok left) went (last_misfit entries records rest) (λ came same. elim [
+      | Err stop ↦ λ is. absurd is
+      | Ok reached ↦ λ is. (let history : List Entry = came.history ++ reached.added in
+          ends_as entries records closed (serial_or 0 history script.last [] left later) rest (last.is history (sym is.1))
+          ∙ λ i. ends_or entries records (serial_or 0 history script.last [] (is.0 i) ((later_is ∙ ap (after_lanes script.lanes) same) i)))
+    ])
 
 -- the lines of the lanes from a place on are those of the lane that stands there, and of the later ones
 pub lines_from : (lanes : List (List Line)) (i : ℕ) (lane : List Line) → slice_get lanes i ≡ Some lane
@@ -118,12 +107,6 @@ lines_from lanes i lane found =
 -- what is behind so many more elements of a list, as far as it goes
 pub drop_on : {A : Type 0} (at n k : ℕ) (xs : List A) → k ≡ min n (length (drop at xs)) → drop (at + k) xs ≡ drop n (drop at xs)
 drop_on at n k xs few = ap (λ m. drop (at + m) xs) few ∙ sym (drop-drop (min n (length (drop at xs))) at xs) ∙ drop_min n (drop at xs)
-
--- the first lanes up to a place and the one there
-lanes_up_to : (lanes : List (List Line)) (i : ℕ) (lane : List Line) → slice_get lanes i ≡ Some lane → take (suc i) lanes ≡ take i lanes ++ lane ∷ []
-lanes_up_to [] i lane found = absurd (cc)
-lanes_up_to (first ∷ lanes) zero lane found = let same : first ≡ lane = cc in λ i. same i ∷ []
-lanes_up_to (first ∷ lanes) (suc i) lane found = ap (λ (ls : List (List Line)). first ∷ ls) (lanes_up_to lanes i lane found)
 
 -- behind one lane more
 after_more : (lanes : List (List Line)) (lane : List Line) (texts : List (List ℕ))
@@ -138,7 +121,7 @@ pub after_turn : (lanes : List (List Line)) (i : ℕ) (lane : List Line) (at k :
 after_turn lanes i lane at k texts found few so_far =
     let next : i + 1 ≡ suc i = omega arith in
     ap (λ (n : ℕ). after_lanes (take n lanes) texts) next
-    ∙ ap (λ (ls : List (List Line)). after_lanes ls texts) (lanes_up_to lanes i lane found)
+    ∙ ap (λ (ls : List (List Line)). after_lanes ls texts) (up_to lanes i lane (drop (suc i) lanes) (list_from lanes i lane found)).1
     ∙ after_more (take i lanes) lane texts
     ∙ ap (drop (length lane)) so_far
     ∙ sym (drop_on at (length lane) k texts few)
@@ -147,15 +130,6 @@ after_turn lanes i lane at k texts found few so_far =
 pub after_all : (lanes : List (List Line)) (count : ℕ) (texts later : List (List ℕ)) → count ≡ length lanes → later ≡ after_lanes (take count lanes) texts
     → later ≡ after_lanes lanes texts
 after_all lanes count texts later all is = is ∙ ap (λ (ls : List (List Line)). after_lanes ls texts) (take_all count lanes (omega arith))
-
--- behind the lanes up to a seat
-pub after_seat : (lanes : List (List Line)) (seat count len : ℕ) (texts : List (List ℕ)) → count ≡ min (length lanes) seat
-    → len ≡ length (after_lanes (take count lanes) texts) → len ≡ length (after_lanes (take seat lanes) texts)
-after_seat lanes seat count len texts few is =
-    let turned : count ≡ min seat (length lanes) = omega arith in
-    is
-    ∙ ap (λ (n : ℕ). length (after_lanes (take n lanes) texts)) turned
-    ∙ ap (λ (ls : List (List Line)). length (after_lanes ls texts)) (take_min seat lanes)
 
 -- the cursors of the lanes from a place on are that of the lane there, with its texts, and those of the later ones
 pub cursors_turn : (lanes : List (List Line)) (i : ℕ) (lane : List Line) (at k : ℕ) (texts : List (List ℕ)) → slice_get lanes i ≡ Some lane
@@ -176,9 +150,7 @@ pub alone_as : (seat : ℕ) (lines lines' : List Line) (loads : List Loaded) (en
     (rest rest' : Result Texts LineStop) → lines ≡ lines' → world ≡ world' → rest ≡ rest'
     → HasComeAlone seat lines loads entries records world after rest → HasComeAlone seat lines' loads entries records world' after rest'
 alone_as seat lines lines' loads entries records world world' after rest rest' l w r gone =
-    subst (HasComeAlone seat lines' loads entries records world' after) r
-    (subst (λ (w : World). HasComeAlone seat lines' loads entries records w after rest) w
-    (subst (λ (ls : List Line). HasComeAlone seat ls loads entries records world after rest) l gone))
+    subst (λ (p : List Line × World × Result Texts LineStop). HasComeAlone seat p.0 loads entries records p.1 after p.2) (λ i. (l i, w i, r i)) gone
 
 -- the same lanes, with the same end
 pub sides_as : (lanes workers : ℕ) (cursors : List Cursor) (entries : List (List ℕ)) (world after : World) (left left' : Result (List (List ℕ)) SideStop)

@@ -1,3 +1,4 @@
+pub mod ChoiceLemmas
 pub mod BlockLemmas
 pub mod OffsetLemmas
 pub mod PlainLemmas
@@ -26,8 +27,6 @@ pub mod ToldLemmas
 pub mod RoundLemmas
 pub mod GoneLemmas
 pub mod JudgeLemmas
-pub mod StepSeats
-pub mod SeatLemmas
 pub mod TakenLemmas
 pub mod ReachLemmas
 pub mod AloneLemmas

@@ -1,6 +1,6 @@
 -- What a section makes next.
-use Rattle.std.proofs.Common.{ℕ, ◌≡◌, ◌+◌, Bool, true, false, List, [], ◌∷◌, ◌++◌, length, refl, sym, ap, ◌∙◌, subst, Some, None, Option, ◌⊎◌, inl, inr}
-use Rattle.std.specs.Prelude.{◌&&◌, option_map, is_none, if◌then◌else◌, bytes_eq}
+use Rattle.std.proofs.Common.{ℕ, ◌≡◌, ◌+◌, Bool, true, false, List, [], ◌∷◌, length, refl, sym, ap, ◌∙◌, subst, Some, None, Option}
+use Rattle.std.specs.Prelude.{◌&&◌, is_none, if◌then◌else◌, bytes_eq}
 use Rattle.list_laws.proofs.BoolLemmas.{bool_cases}
 use Rattle.write_history.specs.declared.change.Change.{Change}
 use Rattle.write_history.specs.declared.entry.Entry.{Entry}
@@ -11,18 +11,18 @@ use Rattle.write_history.specs.Fold.{fold, list_refusal, ListRefusal}
 use Rattle.write_history.specs.Print.{entry_line}
 use Rattle.history_laws.proofs.FoldLemmas.{fold-append}
 use Rattle.history_laws.proofs.StampLemmas.{entries-fold}
-use Rattle.ide_calls.specs.Settle.{Settled, settled, entry_of, intake_of}
+use Rattle.write_history.specs.Settle.{Settled, settled, entry_of, intake_of}
 use Rattle.script_lang.specs.declared.command.Command.{Command}
 use Rattle.script_lang.specs.declared.command.Command.TheVariants as command
 use Rattle.script_lang.specs.declared.line.Line.{Line}
 use Rattle.transcripts.specs.declared.loaded.Loaded.TheVariants.{Nothing}
 use Rattle.transcripts.specs.declared.record.Answer.TheVariants.{Accepted, NotText, Refused}
 use Rattle.transcripts.specs.Serial.{Step, told as no_more, step_unless, changes_step, step_of}
+use Rattle.transcript_check.proofs.StepLemmas.{SettleGoes, over, full, goes, settle_goes, settle_steps}
 use Rattle.transcript_check.specs.Section.{Cursor, told_text, is_settle, made_by_line, line_step}
 use Rattle.transcript_check.specs.Here.{goes_in, HasGoneIn, IsTakenLowest, HasTakenLowest, HasEnteredSo, HasChangedBy, HasChanged, IsMadeAs, HasMadeNext}
-use Rattle.transcript_check.proofs.StepLemmas.{GoesByLowest}
 
-module _ (goes : GoesByLowest) (history : List Entry) (after : World) where
+module _ (history : List Entry) (after : World) where
   -- changes that aren't refused go in where their entry is printed so
   went_in : (cursor : Cursor) (text : List ℕ) (went : Bool) (seat number : ℕ) (changes : List Change) → list_refusal (fold history) changes ≡ None
       → HasGoneIn (fold history) after seat number changes text went
@@ -43,23 +43,19 @@ module _ (goes : GoesByLowest) (history : List Entry) (after : World) where
   settle_made : (cursor done : Cursor) (told went : Bool) (text : List ℕ) (seat number : ℕ)
       → IsTakenLowest (lowest_unready (fold history)) (fold history) after seat number text went
       → IsMadeAs (made_by_line true told cursor done (settled history seat number).added) history after cursor text went
-  settle_made cursor done told went text seat number h = by_lowest (lowest_unready (fold history)) refl h
+  settle_made cursor done told went text seat number h = by (settle_goes history seat number)
     where
       Is : Settled → Type 0
       Is s = IsMadeAs (made_by_line true told cursor done s.added) history after cursor text went
 
-      by_refusal : (id : ℕ) → lowest_unready (fold history) ≡ Some id → HasGoneIn (fold history) after seat number (intake_of (fold history) id) text went
-          → (r : Option ListRefusal) → list_refusal (fold history) (intake_of (fold history) id) ≡ r → Is (settled history seat number)
-      by_refusal id lowest gone None accepted =
-          subst Is (sym (goes.goes_on history seat number id lowest accepted)) (went_in cursor text went seat number (intake_of (fold history) id) accepted gone)
-      by_refusal id lowest gone (Some r) refused =
-          subst Is (sym (goes.ends history seat number id r.why lowest (ap (option_map (λ (x : ListRefusal). x.why)) refused)))
-          (not_in text went seat number (intake_of (fold history) id) r refused gone)
+      gone : {o : Option ℕ} → lowest_unready (fold history) ≡ o → IsTakenLowest o (fold history) after seat number text went
+      gone lowest = subst (λ (o : Option ℕ). IsTakenLowest o (fold history) after seat number text went) lowest h
 
-      by_lowest : (o : Option ℕ) → lowest_unready (fold history) ≡ o → IsTakenLowest o (fold history) after seat number text went
-          → Is (settled history seat number)
-      by_lowest None lowest gone = subst Is (sym (goes.over history seat number lowest)) gone
-      by_lowest (Some id) lowest gone = by_refusal id lowest gone (list_refusal (fold history) (intake_of (fold history) id)) refl
+      by : SettleGoes history seat number → Is (settled history seat number)
+      by (over lowest is) = subst Is (sym is) (gone lowest)
+      by (full id r lowest is_full refused is) = subst Is (sym is) (not_in text went seat number (intake_of (fold history) id) r refused (gone lowest))
+      by (goes id lowest few accepted is) =
+          subst Is (sym is) (went_in cursor text went seat number (intake_of (fold history) id) accepted (gone lowest))
 
   and_never : (a b : Bool) → (a && (false && b)) ≡ false
   and_never true b = refl
@@ -126,54 +122,28 @@ module _ (goes : GoesByLowest) (history : List Entry) (after : World) where
       by_command (command.Soft attempts query) no_settle h = h
 
 -- what a section makes next whose next line is a settle
-pub taken_next : GoesByLowest → (world after : World) (seat : ℕ) (line : Line) (later : List Line) (told : List ℕ) (rest : List (List ℕ))
+pub taken_next : (world after : World) (seat : ℕ) (line : Line) (later : List Line) (told : List ℕ) (rest : List (List ℕ))
     (settling : Bool) (text : List ℕ) (went : Bool) → is_settle line.command ≡ true → HasTakenLowest world after seat line.number text went
     → HasMadeNext world after (record { seat = seat; lines = line ∷ later; texts = told ∷ rest; settling = settling })
     (record { seat = seat; lines = line ∷ later; texts = told ∷ rest; settling = true }) text went
-taken_next goes world after seat line later told rest settling text went settles h = record {
-  is = λ history is. by_settle line.command settles refl history is;
+taken_next world after seat line later told rest settling text went settles h = record {
+  is = λ history is. (
+      let on_the_way : Cursor = record { seat = seat; lines = line ∷ later; texts = told ∷ rest; settling = true } in
+      let done : Cursor = record { seat = seat; lines = later; texts = rest; settling = false } in
+      let said : Bool = bytes_eq (told_text seat line.number (line_step history seat line).answer) told in
+      subst (λ (p : Bool × Step). IsMadeAs (made_by_line p.0 said on_the_way done p.1.added) history after on_the_way text went)
+      (λ i. (sym settles i, sym (settle_steps seat Nothing history line.number line.command settles) i))
+      (settle_made history after on_the_way done said went text seat line.number
+      (subst (λ (w : World). IsTakenLowest (lowest_unready w) w after seat line.number text went) (sym is) h.is)));
 }
-  where
-    on_the_way : Cursor
-    on_the_way = record { seat = seat; lines = line ∷ later; texts = told ∷ rest; settling = true }
-
-    done : Cursor
-    done = record { seat = seat; lines = later; texts = rest; settling = false }
-
-    by_settle : (c : Command) → is_settle c ≡ true → line.command ≡ c → (history : List Entry) → fold history ≡ world
-        → IsMadeAs
-        (made_by_line (is_settle line.command) (bytes_eq (told_text seat line.number (line_step history seat line).answer) told) on_the_way done
-        (line_step history seat line).added)
-        history after on_the_way text went
-    by_settle (command.Change change) s e history is = absurd (cc)
-    by_settle (command.Group changes) s e history is = absurd (cc)
-    by_settle (command.Load path) s e history is = absurd (cc)
-    by_settle (command.Ask query) s e history is = absurd (cc)
-    by_settle (command.Soft attempts query) s e history is = absurd (cc)
-    by_settle command.Settle s e history is =
-        let M : Command → Type 0 = λ c. IsMadeAs
-        (made_by_line (is_settle c) (bytes_eq (told_text seat line.number (step_of Nothing history seat line.number c).answer) told) on_the_way done
-        (step_of Nothing history seat line.number c).added)
-        history after on_the_way text went in
-        subst M (sym e)
-        (settle_made goes history after on_the_way done (bytes_eq (told_text seat line.number (step_of Nothing history seat line.number command.Settle).answer) told)
-        went text seat line.number (subst (λ (w : World). IsTakenLowest (lowest_unready w) w after seat line.number text went) (sym is) h.is))
 
 -- what a section makes next whose next line is none
-pub changed_next : GoesByLowest → (world after : World) (seat : ℕ) (line : Line) (later : List Line) (told : List ℕ) (rest : List (List ℕ))
+pub changed_next : (world after : World) (seat : ℕ) (line : Line) (later : List Line) (told : List ℕ) (rest : List (List ℕ))
     (settling : Bool) (text : List ℕ) (went : Bool) → is_settle line.command ≡ false → HasChanged world after seat line told text went
     → HasMadeNext world after (record { seat = seat; lines = line ∷ later; texts = told ∷ rest; settling = settling })
     (record { seat = seat; lines = later; texts = rest; settling = false }) text went
-changed_next goes world after seat line later told rest settling text went no_settle h = record {
-  is = λ history is. line_made goes history after line (record { seat = seat; lines = line ∷ later; texts = told ∷ rest; settling = true })
+changed_next world after seat line later told rest settling text went no_settle h = record {
+  is = λ history is. line_made history after line (record { seat = seat; lines = line ∷ later; texts = told ∷ rest; settling = true })
       (record { seat = seat; lines = later; texts = rest; settling = false }) told text went seat no_settle
       (subst (λ (w : World). HasChangedBy w after seat line.number line.command told text went) (sym is) h.is);
 }
-
--- a section without a line or without a text makes nothing
-pub nothing_next : (world after : World) (seat : ℕ) (lines : List Line) (texts : List (List ℕ)) (settling : Bool) (cursor' : Cursor) (text : List ℕ)
-    → (lines ≡ []) ⊎ (texts ≡ []) → HasMadeNext world after (record { seat = seat; lines = lines; texts = texts; settling = settling }) cursor' text false
-nothing_next world after seat [] texts settling cursor' text none = record { is = λ history is. refl }
-nothing_next world after seat (line ∷ lines) [] settling cursor' text none = record { is = λ history is. refl }
-nothing_next world after seat (line ∷ lines) (told ∷ texts) settling cursor' text (inl h) = absurd (cc)
-nothing_next world after seat (line ∷ lines) (told ∷ texts) settling cursor' text (inr h) = absurd (cc)

@@ -1,6 +1,7 @@
 -- Lanes and workers as a run's relation says them, and as sections side by side.
-use Rattle.std.proofs.Common.{ℕ, zero, suc, ◌≡◌, ◌+◌, ◌≤◌, ◌<◌, Bool, false, List, [], ◌∷◌, ◌++◌, length, take, drop, take-append-drop, refl, sym, ap, ◌∙◌, subst, append_assoc, arith, ⊎_elim, leb}
+use Rattle.std.proofs.Common.{ℕ, zero, suc, ◌≡◌, ◌+◌, ◌≤◌, ◌<◌, Bool, false, List, [], ◌∷◌, ◌++◌, length, take, drop, take-append-drop, refl, sym, ap, ◌∙◌, subst, append_assoc, arith, inl, inr, leb}
 use Rattle.std.specs.List.{All}
+use Rattle.std.proofs.Math.Seq.{take-append_seam, drop-append_seam}
 use Rattle.std.proofs.lemmas.List.{map-append}
 use Rattle.std.proofs.lemmas.Bool.{both_ways, and_parts, and_from, and_right, leb-true, le-leb, lt-leb, cases_lt}
 use Rattle.list_laws.proofs.FrontLemmas.{All-cons}
@@ -22,27 +23,18 @@ use Rattle.transcript_check.proofs.PhaseLemmas.{AllSeats}
 
 -- the front of a list, and what is behind it
 pub take_front : {X : Type 0} (xs ys : List X) (n : ℕ) → length xs ≡ n → take n (xs ++ ys) ≡ xs
-take_front [] ys zero h = refl
-take_front [] ys (suc n) h = absurd (omega arith)
-take_front (x ∷ xs) ys zero h = absurd (omega arith)
-take_front (x ∷ xs) ys (suc n) h = ap (λ zs. x ∷ zs) (take_front xs ys n (omega arith))
+take_front xs ys n is = ap (λ (k : ℕ). take k (xs ++ ys)) (sym is) ∙ take-append_seam xs ys
 
 pub drop_front : {X : Type 0} (xs ys : List X) (n : ℕ) → length xs ≡ n → drop n (xs ++ ys) ≡ ys
-drop_front [] ys zero h = refl
-drop_front [] ys (suc n) h = absurd (omega arith)
-drop_front (x ∷ xs) ys zero h = absurd (omega arith)
-drop_front (x ∷ xs) ys (suc n) h = drop_front xs ys n (omega arith)
-
-pub drop_behind : {X : Type 0} (xs ys : List X) → drop (length xs) (xs ++ ys) ≡ ys
-drop_behind xs ys = drop_front xs ys (length xs) refl
+drop_front xs ys n is = ap (λ (k : ℕ). drop k (xs ++ ys)) (sym is) ∙ drop-append_seam xs ys
 
 -- there is a text for each line
 texts_count : (beside : Bool) (history : List Entry) (seat len : ℕ) (lines : List Line) (texts : List (List ℕ)) (own : List Entry)
     → TextsFit beside history seat len lines texts own → length texts ≡ length lines
 texts_count beside history seat len [] texts own fits = ap length fits.0
-texts_count beside history seat len (line ∷ lines) texts own fits =
-    let rest = texts_count beside history seat fits.between lines fits.later fits.made_later fits.rest in
-    let all = ap length fits.texts_are in omega arith
+texts_count beside history seat len (line ∷ lines) [] own fits = absurd fits
+texts_count beside history seat len (line ∷ lines) (text ∷ texts) own fits =
+    ap suc (texts_count beside history seat fits.between lines texts fits.made_later fits.rest)
 
 -- from lanes to sections side by side
 pub record LanesAre (beside : Bool) (history here : List Entry) (seat : ℕ) (lanes : List (List Line)) (middle : List Entry)
@@ -147,10 +139,11 @@ workers_fit history low seat (suc count) entries workers = (
 workers_told : (history : List Entry) (low seat : ℕ) (entries : List Entry) (told : List Worked) → WorkersFit history low seat entries told
     → (s : ℕ) → seat ≤ s → s < seat + length told → AreWorkers s entries
 workers_told history low seat entries [] fit s above below = absurd (omega arith)
-workers_told history low seat entries (worked ∷ told) fit s above below = ⊎_elim
-    (λ (later : seat < s). workers_told history low (suc seat) entries told fit.1 s later (omega arith))
-    (λ (here : s ≤ seat). (let same : seat ≡ s = omega arith in
-    subst (λ (n : ℕ). AreWorkers n entries) same (record { intakes = fit.0.intakes; apart = fit.0.apart }))) (cases_lt seat s)
+workers_told history low seat entries (worked ∷ told) fit s above below = elim (cases_lt seat s) [
+  | inl later ↦ workers_told history low (suc seat) entries told fit.1 s later (omega arith)
+  | inr here ↦ (let same : seat ≡ s = omega arith in
+      subst (λ (n : ℕ). AreWorkers n entries) same (record { intakes = fit.0.intakes; apart = fit.0.apart }))
+]
 
 -- who has no seat here has made nothing
 pub none_outside : (sides : Sides) (seat : ℕ) (es : List Entry) → AllSeats sides es → is_seat sides seat ≡ false → made_by seat es ≡ []
@@ -161,12 +154,12 @@ none_outside sides seat (e ∷ es) seats outside =
 
 pub workers_are : (history : List Entry) (low : ℕ) (sides : Sides) (entries : List Entry) (told : List Worked) → length told ≡ sides.workers
     → AllSeats sides entries → WorkersFit history low (1 + sides.lanes) entries told → (s : ℕ) → sides.lanes < s → AreWorkers s entries
-workers_are history low sides entries told count seats fit s past = ⊎_elim
-    (λ (beyond : sides.lanes + sides.workers < s). (let none =
-    none_outside sides s entries seats (and_right (leb 1 s) (leb s (sides.lanes + sides.workers)) (lt-leb s (sides.lanes + sides.workers) beyond)) in
-    record {
-      intakes = subst (All (IsIntakeBy s)) (sym none) (λ k d less. absurd (omega arith));
-      apart = subst AreApart (sym none) (λ i j d less within. absurd (omega arith));
-    }))
-    (λ (within : s ≤ sides.lanes + sides.workers). workers_told history low (1 + sides.lanes) entries told fit s (omega arith) (omega arith))
-    (cases_lt (sides.lanes + sides.workers) s)
+workers_are history low sides entries told count seats fit s past = elim (cases_lt (sides.lanes + sides.workers) s) [
+  | inl beyond ↦ (let none =
+      none_outside sides s entries seats (and_right (leb 1 s) (leb s (sides.lanes + sides.workers)) (lt-leb s (sides.lanes + sides.workers) beyond)) in
+      record {
+        intakes = subst (All (IsIntakeBy s)) (sym none) (λ k d less. absurd (omega arith));
+        apart = subst AreApart (sym none) (λ i j d less within. absurd (omega arith));
+      })
+  | inr within ↦ workers_told history low (1 + sides.lanes) entries told fit s (omega arith) (omega arith)
+]

@@ -13,16 +13,17 @@ use Rattle.script_lang.specs.Parts.{Parts}
 use Rattle.transcripts.specs.declared.loaded.Loaded.{Loaded}
 use Rattle.transcripts.specs.Serial.{step_of, first_load, later_loads}
 use Rattle.transcripts.specs.Play.{IsTranscriptOf}
+use Rattle.transcript_check.proofs.ChoiceLemmas.{is_none-true}
 use Rattle.transcript_check.specs.declared.misfit.Misfit.{Misfit}
 use Rattle.transcript_check.specs.declared.misfit.Misfit.TheVariants as misfit
-use Rattle.transcript_check.specs.declared.result.Verdict.TheVariants.{Good, Bad}
+use Rattle.transcript_check.specs.declared.result.Verdict.TheVariants.{Good}
 use Rattle.transcript_check.specs.declared.stop.LineStop.{LineStop}
 use Rattle.transcript_check.specs.declared.stop.SideStop.{SideStop}
 use Rattle.transcript_check.specs.declared.stop.SideStop.TheVariants as side
 use Rattle.transcript_check.specs.Blocks.{blocks_of}
 use Rattle.transcript_check.specs.Texts.{history_line}
 use Rattle.transcript_check.specs.Reading.{seat_in}
-use Rattle.transcript_check.specs.Section.{Cursor, is_over}
+use Rattle.transcript_check.specs.Section.{is_nil, Cursor, is_over}
 use Rattle.transcript_check.specs.Phase.{Sides, Went, Reached, is_seat, next_went, all_told, reached, phase_from, cursors_of, after_lanes}
 use Rattle.transcript_check.specs.Checked.{Came, line_so, serial_from, ends_so, goes_on_so, begins_so, sides_of, are_checked}
 use Rattle.transcript_check.specs.Verdict.{are_told, entries_among, are_blocks_of, verdict_of, told_verdict, Judges}
@@ -57,23 +58,12 @@ all_over (cursor ∷ cursors) =
 
 reached_ok : (added : List Entry) (cursors : List Cursor) (left : List (List ℕ)) → result_ok (reached_or added cursors left) ≡ reached added cursors left
 reached_ok added cursors left =
-    by (find waits cursors) ∙ ap (λ (b : Bool). cond b (Some there) None) (all_over cursors)
-  where
-    there : Reached
-    there = record { added = added; left = left }
-
-    stops : Cursor → Result Reached SideStop
-    stops c = Err (side.Line (waits_at c left))
-
-    by : (o : Option Cursor) → result_ok (option_map_or stops o (Ok there)) ≡ cond (is_none o) (Some there) None
-    by None = refl
-    by (Some c) = refl
-
--- a choice between two ways
-either : (b : Bool) (go stay : Result Reached SideStop) (goes stays : Option Reached) → result_ok go ≡ goes → result_ok stay ≡ stays
-    → result_ok (cond b go stay) ≡ cond b goes stays
-either true go stay goes stays g s = g
-either false go stay goes stays g s = s
+    let there : Reached = record { added = added; left = left } in
+    let stops : Cursor → Result Reached SideStop = λ c. Err (side.Line (waits_at c left)) in
+    elim (find waits cursors) as (λ o. result_ok (option_map_or stops o (Ok there)) ≡ cond (is_none o) (Some there) None) [
+      | None ↦ refl
+      | Some c ↦ refl
+    ] ∙ ap (λ (b : Bool). cond b (Some there) None) (all_over cursors)
 
 -- lanes and workers go where they don't stop
 pub phase_ok : (sides : Sides) (added : List Entry) (cursors : List Cursor) (texts : List (List ℕ))
@@ -84,26 +74,23 @@ phase_ok sides added cursors (text ∷ texts) =
     let on : Went → Option Reached = λ w. phase_from sides (added ++ w.entry ∷ []) w.cursors texts in
     let stop : SideStop = side.Entry (seat_in text) (length (text ∷ texts)) in
     let next : Option Went = next_went sides added (all_told sides added cursors) text in
-    either (is_seat sides (seat_in text)) (option_map_or on_or next (Err stop)) (reached_or added (all_told sides added cursors) (text ∷ texts))
-    (option_and_then on next) (reached added (all_told sides added cursors) (text ∷ texts))
-    (chosen on_or on stop (λ w. phase_ok sides (added ++ w.entry ∷ []) w.cursors texts) next)
-    (reached_ok added (all_told sides added cursors) (text ∷ texts))
+    let stay : Result Reached SideStop = reached_or added (all_told sides added cursors) (text ∷ texts) in
+    let stays : Option Reached = reached added (all_told sides added cursors) (text ∷ texts) in
+    elim (is_seat sides (seat_in text)) as (λ b. result_ok (cond b (option_map_or on_or next (Err stop)) stay) ≡ cond b (option_and_then on next) stays) [
+      | true ↦ chosen on_or on stop (λ w. phase_ok sides (added ++ w.entry ∷ []) w.cursors texts) next
+      | false ↦ reached_ok added (all_told sides added cursors) (text ∷ texts)
+    ]
 
 -- THE WHOLE
 
-left_so : (entries records : List (List ℕ)) (came : Came) → is_none (left_misfit entries records came.entries came.records) ≡ ends_so (Some came)
-left_so entries records came = by came.entries came.records
-  where
-    by : (made told : List (List ℕ)) → is_none (left_misfit entries records made told)
-        ≡ ends_so (Some (record { history = came.history; entries = made; records = told }))
-    by [] [] = refl
-    by [] (text ∷ told) = refl
-    by (text ∷ made) [] = refl
-    by (text ∷ made) (other ∷ told) = refl
+left_so : (entries records made told : List (List ℕ)) → is_none (left_misfit entries records made told) ≡ (is_nil made && is_nil told)
+left_so entries records [] [] = refl
+left_so entries records [] (text ∷ told) = refl
+left_so entries records (text ∷ made) told = refl
 
 ends_ok : (entries records : List (List ℕ)) (came : Result Came LineStop) → is_none (ends_or entries records came) ≡ ends_so (result_ok came)
 ends_ok entries records (Err stop) = refl
-ends_ok entries records (Ok came) = left_so entries records came
+ends_ok entries records (Ok came) = left_so entries records came.entries came.records
 
 goes_on_ok : (script : Parts) (entries records : List (List ℕ)) (opening : List Entry) (told : List (List ℕ)) (reached : Result Reached SideStop)
     → is_none (goes_on_or script entries records opening told reached) ≡ goes_on_so script opening told (result_ok reached)
@@ -130,26 +117,22 @@ among_ok loads script workers entries records =
 
 told_ok : (loads : List Loaded) (script : Parts) (workers count : ℕ) (first : List ℕ) (others : List (List ℕ))
     → is_none (misfit_told loads script workers count first others) ≡ are_told loads script workers count first others
-told_ok loads script workers count first others = by (bytes_eq (history_line count) first)
-  where
-    by : (b : Bool) → is_none (cond b (misfit_among loads script workers (take count others) (drop count others)) (Some (misfit.History count)))
-        ≡ (b && are_checked loads script workers (take count others) (drop count others))
-    by true = among_ok loads script workers (take count others) (drop count others)
-    by false = refl
+told_ok loads script workers count first others =
+    elim (bytes_eq (history_line count) first) as (λ b.
+    is_none (cond b (misfit_among loads script workers (take count others) (drop count others)) (Some (misfit.History count)))
+    ≡ (b && are_checked loads script workers (take count others) (drop count others))) [
+      | true ↦ among_ok loads script workers (take count others) (drop count others)
+      | false ↦ refl
+    ]
 
 -- bytes have no misfit exactly where the verdict on them is good
 pub misfit_ok : (loads : List Loaded) (script : Parts) (workers : ℕ) (bytes : List ℕ)
     → is_none (misfit_of loads script workers bytes) ≡ verdict_of loads script workers bytes
-misfit_ok loads script workers bytes = by (blocks_of bytes)
-  where
-    by : (blocks : List (List ℕ)) → is_none (misfit_in loads script workers blocks) ≡ are_blocks_of loads script workers blocks
-    by [] = refl
-    by (first ∷ others) = told_ok loads script workers (entries_among script others) first others
-
--- nothing is none
-none_is : {A : Type 0} (o : Option A) → is_none o ≡ true → o ≡ None
-none_is None none = refl
-none_is (Some x) none = absurd (cc)
+misfit_ok loads script workers bytes =
+    elim (blocks_of bytes) as (λ blocks. is_none (misfit_in loads script workers blocks) ≡ are_blocks_of loads script workers blocks) [
+      | [] ↦ refl
+      | first ∷ others ↦ told_ok loads script workers (entries_among script others) first others
+    ]
 
 -- what is found is none exactly where the bytes are a transcript
 found_none : (loads : List Loaded) (script : Parts) (workers : ℕ) (bytes : List ℕ) (found : Option Misfit)
@@ -158,7 +141,7 @@ found_none : (loads : List Loaded) (script : Parts) (workers : ℕ) (bytes : Lis
     → found ≡ misfit_of loads script workers bytes → (found ≡ None) ↔ IsTranscriptOf loads script workers bytes
 found_none loads script workers bytes found sound complete is = (
   λ none. sound (sym (misfit_ok loads script workers bytes) ∙ ap is_none (sym is ∙ none)),
-  λ transcript. is ∙ none_is (misfit_of loads script workers bytes) (misfit_ok loads script workers bytes ∙ complete transcript),
+  λ transcript. is ∙ is_none-true (misfit_of loads script workers bytes) (misfit_ok loads script workers bytes ∙ complete transcript),
 )
 
 -- the same of a result
@@ -182,7 +165,6 @@ judges files script workers bytes found finds = record {
   good = by found finds.none;
 }
   where
-    by : (o : Option Misfit) → (o ≡ None) ↔ IsTranscriptOf finds.loads script workers bytes
-        → (told_verdict (is_none o) ≡ Good) ↔ IsTranscriptOf finds.loads script workers bytes
+    by : {T : Type 0} (o : Option Misfit) → (o ≡ None) ↔ T → (told_verdict (is_none o) ≡ Good) ↔ T
     by None none = (λ good. none.0 refl, λ transcript. refl)
-    by (Some m) none = (λ good. (let never : Bad ≡ Good = good in absurd (cc)), λ transcript. (let never : Some m ≡ None = none.1 transcript in absurd (cc)))
+    by (Some m) none = (λ good. absurd (cc), λ transcript. (let never : Some m ≡ None = none.1 transcript in absurd (cc)))

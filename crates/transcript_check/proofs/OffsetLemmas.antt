@@ -1,18 +1,11 @@
 -- Where a block begins.
 use Rattle.std.proofs.Common.{ℕ, zero, suc, ◌≡◌, ◌+◌, List, [], ◌∷◌, ◌++◌, length, take, drop, refl, sym, ap, ◌∙◌, length-append, take-append-drop, arith}
 use Rattle.std.specs.List.{concat}
+use Rattle.std.proofs.lemmas.List.{append-nil}
+use Rattle.std.proofs.lemmas.List.Folds.{concat-append}
 use Rattle.transcript_check.specs.Blocks.{blocks_of, first_len}
+use Rattle.transcript_check.proofs.ChoiceLemmas.{up_to}
 use Rattle.transcript_check.proofs.BlockLemmas.{blocks-first}
-
--- one block more
-one_more : (blocks : List (List ℕ)) (i : ℕ) (block : List ℕ) (rest : List (List ℕ)) → drop i blocks ≡ block ∷ rest
-    → (drop (suc i) blocks ≡ rest) × (take (suc i) blocks ≡ take i blocks ++ block ∷ [])
-one_more [] zero block rest is = absurd (cc)
-one_more [] (suc i) block rest is = absurd (cc)
-one_more (first ∷ blocks) zero block rest is = (let later : blocks ≡ rest = cc in later, let same : first ≡ block = cc in λ j. same j ∷ [])
-one_more (first ∷ blocks) (suc i) block rest is =
-    let later = one_more blocks i block rest is in
-    (later.0, ap (λ (bs : List (List ℕ)). first ∷ bs) later.1)
 
 -- no block is left
 none_more : (blocks : List (List ℕ)) (i : ℕ) → drop i blocks ≡ [] → (drop (suc i) blocks ≡ []) × (take (suc i) blocks ≡ take i blocks)
@@ -25,12 +18,7 @@ none_more (first ∷ blocks) (suc i) is =
 
 -- the bytes of one block more
 joined_more : (blocks : List (List ℕ)) (block : List ℕ) → length (concat (blocks ++ block ∷ [])) ≡ length (concat blocks) + length block
-joined_more [] block = length-append block [] ∙ (omega arith)
-joined_more (first ∷ blocks) block =
-    let rest = joined_more blocks block in
-    let long = length-append first (concat (blocks ++ block ∷ [])) in
-    let short = length-append first (concat blocks) in
-    omega arith
+joined_more blocks block = simp (concat-append, length-append, append-nil)
 
 -- one block more is passed, or none is left
 pub offset_turn : (bytes : List ℕ) (i : ℕ) (left later : List ℕ) → later ≡ drop (first_len left) left → blocks_of left ≡ drop i (blocks_of bytes)
@@ -50,7 +38,7 @@ offset_turn bytes i (byte ∷ rest) later is so_far passed =
     let next : i + 1 ≡ suc i = omega arith in
     let left : List ℕ = byte ∷ rest in
     let block : List ℕ = take (first_len left) left in
-    let more = one_more (blocks_of bytes) i block (blocks_of (drop (first_len left) left)) (sym so_far ∙ blocks-first byte rest) in
+    let more = up_to (blocks_of bytes) i block (blocks_of (drop (first_len left) left)) (sym so_far ∙ blocks-first byte rest) in
     let joined = joined_more (take i (blocks_of bytes)) block in
     let long = ap length (take-append-drop (first_len left) left) in
     let parts = length-append block (drop (first_len left) left) in

@@ -1,21 +1,21 @@
 -- Sections and workers side by side lead from one history to another exactly where each fits.
-use Rattle.std.proofs.Common.{ℕ, suc, ◌≡◌, ◌≢◌, ◌+◌, ◌^◌, ◌≤◌, ◌<◌, Bool, true, false, cond, not, ◌&&◌, List, [], ◌∷◌, ◌++◌, length, refl, sym, ap, ◌∙◌, subst, append_assoc, length-append, arith, Option, Some, None, inr, ⊎_elim, leb}
+use Rattle.std.proofs.Common.{ℕ, suc, ◌≡◌, ◌≢◌, ◌+◌, ◌^◌, ◌≤◌, ◌<◌, Bool, true, false, not, ◌&&◌, List, [], ◌∷◌, ◌++◌, length, refl, sym, ap, ◌∙◌, subst, append_assoc, length-append, arith, Option, Some, None, inl, inr, leb}
 use Rattle.std.specs.Prelude.{bytes_eq, is_none}
 use Rattle.std.specs.List.{All, list_all}
 use Rattle.std.specs.Option.{option_and_then}
-use Rattle.std.proofs.lemmas.Option.{option_and_then_some}
+use Rattle.std.proofs.lemmas.Option.{option_and_then_some, cond_some}
 use Rattle.std.proofs.lemmas.Slice.Eq.{bytes_eq-Decides}
 use Rattle.std.proofs.lemmas.List.{append-nil}
 use Rattle.std.proofs.lemmas.Bool.{cond-true, cond-false, and_parts, and_from, leb-true, leb-false, le-leb, lt-leb, not-true, not_from_false, cases_lt}
 use Rattle.list_laws.specs.Fronts.{IsFront}
-use Rattle.list_laws.proofs.BoolLemmas.{bool_cases}
+use Rattle.transcript_check.proofs.ChoiceLemmas.{is_none-true, chosen}
 use Rattle.write_history.specs.declared.change.Change.TheVariants.{Intake}
 use Rattle.write_history.specs.declared.entry.Entry.{Entry}
 use Rattle.write_history.specs.World.{file_of}
 use Rattle.write_history.specs.Effect.{stamp_of}
-use Rattle.write_history.specs.Fold.{ListRefusal, fold, list_refusal, IsLegal}
+use Rattle.write_history.specs.Fold.{fold, list_refusal, IsLegal}
 use Rattle.write_history.specs.Print.{entry_line}
-use Rattle.ide_calls.specs.Settle.{entry_of, intake_entry}
+use Rattle.write_history.specs.Settle.{entry_of, intake_entry}
 use Rattle.transcripts.specs.Fits.{made_by}
 use Rattle.transcript_check.specs.Reading.{seat_in, file_in}
 use Rattle.transcript_check.specs.Section.{Cursor, is_over}
@@ -25,8 +25,7 @@ use Rattle.transcript_check.specs.Phase.{Sides, Went, Reached, is_seat, is_busy,
 use Rattle.transcript_check.specs.Checked.{entry_texts}
 use Rattle.transcript_check.proofs.ReadLemmas.{seat-read, file-read}
 use Rattle.transcript_check.proofs.Texts.{text_is}
-use Rattle.transcript_check.proofs.StepLemmas.{GoesByLowest}
-use Rattle.transcript_check.proofs.CursorLemmas.{AreFew, one_more, none_some, some_some}
+use Rattle.transcript_check.proofs.CursorLemmas.{AreFew, one_more}
 use Rattle.transcript_check.proofs.WorkerLemmas.{MayMake, WorkersFrom, taken_anew, not_taken}
 use Rattle.transcript_check.proofs.SideLemmas.{CursorsFit, AreSeated, AllStop, all_told_fits, others_forth, others_back, section_forth, went_back, all_over_back, all_over_forth}
 
@@ -55,19 +54,17 @@ record EntryWent (sides : Sides) (added : List Entry) (told : List Cursor) (seat
       → CursorsFit beside history (sides.before ++ added ++ w.entry ∷ []) w.cursors es
       → CursorsFit beside history (sides.before ++ added) told (w.entry ∷ es)
 
-module _ (laws : GoesByLowest) (sides : Sides) where
+module _ (sides : Sides) where
   -- where all is over
   ends : (added : List Entry) (cursors : List Cursor) (left : List (List ℕ)) (r : Reached) → reached added (all_told sides added cursors) left ≡ Some r
       → PhaseGoes sides added cursors left r
-  ends added cursors left r h = bool_cases (list_all is_over (all_told sides added cursors))
-      (λ (b : Bool). (list_all is_over (all_told sides added cursors) ≡ b) → cond b (Some (record { added = added; left = left })) None ≡ Some r
-      → PhaseGoes sides added cursors left r)
-      (λ _ over g. (
+  ends added cursors left r h =
       let here : List Entry = sides.before ++ added in
       let same : here ++ [] ≡ here = append-nil here in
-      let told = all_told_fits laws sides.beside here here cursors ([], sym same) in
-      let fits : CursorsFit sides.beside here here cursors [] = told.back [] (all_over_back laws sides.beside here (all_told sides added cursors) over) in
-      subst (PhaseGoes sides added cursors left) (some_some g) (record {
+      let told = all_told_fits sides.beside here here cursors ([], sym same) in
+      let over = cond_some (list_all is_over (all_told sides added cursors)) (record { added = added; left = left }) r h in
+      let fits : CursorsFit sides.beside here here cursors [] = told.back [] (all_over_back sides.beside here (all_told sides added cursors) over.0) in
+      subst (PhaseGoes sides added cursors left) over.1 (record {
         behind = [];
         added_is = sym (append-nil added);
         texts_are = refl;
@@ -75,22 +72,19 @@ module _ (laws : GoesByLowest) (sides : Sides) where
         seats = tt;
         workers = tt;
         lawful = λ legal. subst IsLegal (sym same) legal;
-      })))
-      (λ _ over g. absurd (none_some g)) refl h
+      })
 
   worker_is : (added : List Entry) (told : List Cursor) (seat file : ℕ) (w : Went) → AreSeated 1 (suc sides.lanes) told → sides.lanes < seat
       → worker_went (sides.before ++ added) added seat file told ≡ Some w → EntryWent sides added told seat w
-  worker_is added told seat file w seated past h = bool_cases (not (is_busy told) && may_take (sides.before ++ added) added seat file)
-      (λ (b : Bool). (not (is_busy told) && may_take (sides.before ++ added) added seat file) ≡ b
-      → cond b (Some (record { entry = intake_entry (sides.before ++ added) seat 0 file; cursors = told })) None ≡ Some w → EntryWent sides added told seat w)
-      (λ _ holds g. (
+  worker_is added told seat file w seated past h =
       let here : List Entry = sides.before ++ added in
       let e : Entry = intake_entry here seat 0 file in
       let stamp : ℕ = stamp_of (file_of (fold here) file) in
-      let parts = and_parts (not (is_busy told)) (may_take here added seat file) holds in
+      let goes = cond_some (not (is_busy told) && may_take here added seat file) (record { entry = e; cursors = told }) w h in
+      let parts = and_parts (not (is_busy told)) (may_take here added seat file) goes.0 in
       let may = and_parts (is_none (list_refusal (fold here) e.changes)) (not (has_taken file stamp (made_by seat added))) parts.1 in
       let quiet = not-true (is_busy told) parts.0 in
-      subst (EntryWent sides added told seat) (some_some g) (record {
+      subst (EntryWent sides added told seat) goes.1 (record {
         seat_is = refl;
         seated = seated;
         accepted = is_none-true (list_refusal (fold here) e.changes) may.0;
@@ -98,37 +92,31 @@ module _ (laws : GoesByLowest) (sides : Sides) where
           intake = record { file = file; stamp = stamp; is = refl };
           anew = taken_anew file stamp (made_by seat added) (not-true (has_taken file stamp (made_by seat added)) may.1);
         };
-        back = λ beside history es front fits. others_back laws beside history here 1 (suc sides.lanes) told e es seated (inr past) quiet fits;
-      })))
-      (λ _ fails g. absurd (none_some g)) refl h
-    where
-      is_none-true : (o : Option ListRefusal) → is_none o ≡ true → o ≡ None
-      is_none-true None h = refl
-      is_none-true (Some r) h = absurd cc
+        back = λ beside history es front fits. others_back beside history here 1 (suc sides.lanes) told e es seated (inr past) quiet fits;
+      })
 
   seat_is : (added : List Entry) (told : List Cursor) (seat : ℕ) (text : List ℕ) (w : Went) → AreSeated 1 (suc sides.lanes) told
       → seat_went sides added told seat text ≡ Some w → EntryWent sides added told seat w
-  seat_is added told seat text w seated = bool_cases (leb seat sides.lanes)
-      (λ (b : Bool). cond b (section_went seat (sides.before ++ added) told) (worker_went (sides.before ++ added) added seat (file_in text) told) ≡ Some w
-      → EntryWent sides added told seat w)
-      (λ lane h. (
-      let goes = went_back laws (sides.before ++ added) 1 (suc sides.lanes) seat told w seated h in
-      let within = leb-true seat sides.lanes lane in
-      record {
-        seat_is = goes.seat_is;
-        seated = goes.seated;
-        accepted = goes.lawful;
-        may = λ past. (let is = goes.seat_is in absurd (omega arith));
-        back = goes.back;
-      }))
-      (λ other h. worker_is added told seat (file_in text) w seated (leb-false seat sides.lanes other) h)
+  seat_is added told seat text w seated h =
+      let here : List Entry = sides.before ++ added in
+      elim (chosen (leb seat sides.lanes) (section_went seat here told) (worker_went here added seat (file_in text) told) h) [
+        | inl lane ↦ (let goes = went_back here 1 (suc sides.lanes) seat told w seated lane.1 in
+            let within = leb-true seat sides.lanes lane.0 in
+            record {
+              seat_is = goes.seat_is;
+              seated = goes.seated;
+              accepted = goes.lawful;
+              may = λ past. (let is = goes.seat_is in absurd (omega arith));
+              back = goes.back;
+            })
+        | inr other ↦ worker_is added told seat (file_in text) w seated (leb-false seat sides.lanes other.0) other.1
+      ]
 
   -- the entry that goes in is printed so
   printed_is : (here : List Entry) (text : List ℕ) (v w : Went) → printed_so here text v ≡ Some w → (v ≡ w) × (entry_line (length here + 1) v.entry ≡ text)
-  printed_is here text v w h = bool_cases (bytes_eq (entry_line (length here + 1) v.entry) text)
-      (λ (b : Bool). (bytes_eq (entry_line (length here + 1) v.entry) text ≡ b) → cond b (Some v) None ≡ Some w
-      → (v ≡ w) × (entry_line (length here + 1) v.entry ≡ text))
-      (λ _ same g. (some_some g, text_is (entry_line (length here + 1) v.entry) text same)) (λ _ other g. absurd (none_some g)) refl h
+  printed_is here text v w h =
+      let is = cond_some (bytes_eq (entry_line (length here + 1) v.entry) text) v w h in
+      (is.1, text_is (entry_line (length here + 1) v.entry) text is.0)
 
   -- one entry before those that follow it
   joins : (added : List Entry) (cursors told : List Cursor) (text : List ℕ) (texts : List (List ℕ)) (w : Went) (r : Reached)
@@ -160,26 +148,24 @@ module _ (laws : GoesByLowest) (sides : Sides) where
 
   pub sound : (texts : List (List ℕ)) (added : List Entry) (cursors : List Cursor) (r : Reached) → AreSeated 1 (suc sides.lanes) cursors
       → phase_from sides added cursors texts ≡ Some r → PhaseGoes sides added cursors texts r
-  sound [] added cursors r seated = ends added cursors [] r
-  sound (text ∷ texts) added cursors r seated = bool_cases (is_seat sides (seat_in text))
-      (λ (b : Bool). cond b (option_and_then (λ (w : Went). phase_from sides (added ++ w.entry ∷ []) w.cursors texts)
-      (next_went sides added (all_told sides added cursors) text)) (reached added (all_told sides added cursors) (text ∷ texts)) ≡ Some r
-      → PhaseGoes sides added cursors (text ∷ texts) r)
-      (λ seat h. option_and_then_some (λ (w : Went). phase_from sides (added ++ w.entry ∷ []) w.cursors texts)
-      (next_went sides added (all_told sides added cursors) text) r h
-      (λ w goes later. option_and_then_some (printed_so (sides.before ++ added) text)
-      (seat_went sides added (all_told sides added cursors) (seat_in text) text) w goes
-      (λ v is prints. (
+  sound [] added cursors r seated h = ends added cursors [] r h
+  sound (text ∷ texts) added cursors r seated h =
       let here : List Entry = sides.before ++ added in
       let told : List Cursor = all_told sides added cursors in
-      let printed = printed_is here text v w prints in
-      let told_seated = (all_told_fits laws sides.beside here here cursors ([], sym (append-nil here))).seated 1 (suc sides.lanes) seated in
-      let went : EntryWent sides added told (seat_in text) w = seat_is added told (seat_in text) text w told_seated
-      (subst (λ (x : Went). seat_went sides added told (seat_in text) text ≡ Some x) printed.0 is) in
-      joins added cursors told text texts w r (λ history es front fits. (all_told_fits laws sides.beside history here cursors front).back es fits) seat went
-      (ap (λ (x : Went). entry_line (length here + 1) x.entry) (sym printed.0) ∙ printed.1)
-      (sound texts (added ++ w.entry ∷ []) w.cursors r went.seated later)))))
-      (λ other h. ends added cursors (text ∷ texts) r h)
+      let on : Went → Option Reached = λ w. phase_from sides (added ++ w.entry ∷ []) w.cursors texts in
+      elim (chosen (is_seat sides (seat_in text)) (option_and_then on (next_went sides added told text)) (reached added told (text ∷ texts)) h) [
+        | inl seat ↦ option_and_then_some on (next_went sides added told text) r seat.1
+            (λ w goes later. option_and_then_some (printed_so here text) (seat_went sides added told (seat_in text) text) w goes
+            (λ v is prints. (
+            let printed = printed_is here text v w prints in
+            let told_seated = (all_told_fits sides.beside here here cursors ([], sym (append-nil here))).seated 1 (suc sides.lanes) seated in
+            let went : EntryWent sides added told (seat_in text) w = seat_is added told (seat_in text) text w told_seated
+            (subst (λ (x : Went). seat_went sides added told (seat_in text) text ≡ Some x) printed.0 is) in
+            joins added cursors told text texts w r (λ history es front fits. (all_told_fits sides.beside history here cursors front).back es fits) seat.0 went
+            (ap (λ (x : Went). entry_line (length here + 1) x.entry) (sym printed.0) ∙ printed.1)
+            (sound texts (added ++ w.entry ∷ []) w.cursors r went.seated later))))
+        | inr other ↦ ends added cursors (text ∷ texts) r other.1
+      ]
 
 -- what stands where a phase ends: no text, or that of an entry of another seat
 abbrev pub StopsBefore : Sides → List (List ℕ) → Type 0
@@ -193,7 +179,7 @@ record NextGoes (sides : Sides) (added : List Entry) (told : List Cursor) (histo
   seated : AreSeated 1 (suc sides.lanes) behind
   fits : CursorsFit sides.beside history (sides.before ++ added ++ e ∷ []) behind es
 
-module _ (laws : GoesByLowest) (sides : Sides) (small : sides.lanes + sides.workers < 2 ^ 64) (history : List Entry) (few : AreFew history)
+module _ (sides : Sides) (small : sides.lanes + sides.workers < 2 ^ 64) (history : List Entry) (few : AreFew history)
     (legal : IsLegal history) where
   -- where all fits the end of the history, all is over
   over_is : (added : List Entry) (cursors : List Cursor) (left : List (List ℕ)) → history ≡ sides.before ++ added
@@ -201,8 +187,8 @@ module _ (laws : GoesByLowest) (sides : Sides) (small : sides.lanes + sides.work
       → reached added (all_told sides added cursors) left ≡ Some (record { added = added; left = left })
   over_is added cursors left whole fits =
       let here : List Entry = sides.before ++ added in
-      let told = all_told_fits laws sides.beside here here cursors ([], sym (append-nil here)) in
-      let over = all_over_forth laws sides.beside here (all_told sides added cursors) told.stops
+      let told = all_told_fits sides.beside here here cursors ([], sym (append-nil here)) in
+      let over = all_over_forth sides.beside here (all_told sides added cursors) told.stops
       (told.forth (subst AreFew whole few) [] (subst (λ (es : List Entry). CursorsFit sides.beside es here cursors []) whole fits)) in
       cond-true (list_all is_over (all_told sides added cursors)) (Some (record { added = added; left = left })) None over
 
@@ -240,7 +226,7 @@ module _ (laws : GoesByLowest) (sides : Sides) (small : sides.lanes + sides.work
       let reads : file_in text ≡ file = ap (λ (x : Entry). file_in (entry_line (length here + 1) x)) e_is
       ∙ file-read (length here + 1) e.seat 0 file stamp known in
       let made : intake_entry here e.seat 0 file ≡ e = ap (λ (n : ℕ). entry_of e.seat 0 (Intake file n ∷ [])) (sym there.1) ∙ sym e_is in
-      let others = others_forth laws sides.beside history here 1 (suc sides.lanes) told e es seated (inr past) stops whole fits in
+      let others = others_forth sides.beside history here 1 (suc sides.lanes) told e es seated (inr past) stops whole fits in
       let anew : has_taken file (stamp_of (file_of (fold here) file)) (made_by e.seat added) ≡ false =
       not_taken file (stamp_of (file_of (fold here) file)) (made_by e.seat added)
       (subst (λ (n : ℕ). All (λ (d : Entry). d.changes ≢ Intake file n ∷ []) (made_by e.seat added)) there.1
@@ -273,7 +259,7 @@ module _ (laws : GoesByLowest) (sides : Sides) (small : sides.lanes + sides.work
       let text : List ℕ = entry_line (length here + 1) e in
       let long = ap length whole in
       let long' = length-append here (e ∷ es) in
-      let goes = section_forth laws sides.beside history here 1 (suc sides.lanes) told e es seated above (omega arith) stops whole fits in
+      let goes = section_forth sides.beside history here 1 (suc sides.lanes) told e es seated above (omega arith) stops whole fits in
       record {
         behind = goes.behind;
         goes = printed_goes added told goes.behind e (omega arith) seat_small
@@ -291,8 +277,10 @@ module _ (laws : GoesByLowest) (sides : Sides) (small : sides.lanes + sides.work
       let range = and_parts (leb 1 e.seat) (leb e.seat (sides.lanes + sides.workers)) seat in
       let above = leb-true 1 e.seat range.0 in
       let within = leb-true e.seat (sides.lanes + sides.workers) range.1 in
-      ⊎_elim (λ (past : sides.lanes < e.seat). worker_goes added told e es whole seated stops past (omega arith) (may past) fits)
-      (λ (lane : e.seat ≤ sides.lanes). section_goes added told e es whole seated stops above lane (omega arith) fits) (cases_lt sides.lanes e.seat)
+      elim (cases_lt sides.lanes e.seat) [
+        | inl past ↦ worker_goes added told e es whole seated stops past (omega arith) (may past) fits
+        | inr lane ↦ section_goes added told e es whole seated stops above lane (omega arith) fits
+      ]
 
   pub complete : (behind added : List Entry) (cursors : List Cursor) (left : List (List ℕ)) → history ≡ sides.before ++ added ++ behind
       → AreSeated 1 (suc sides.lanes) cursors → StopsBefore sides left → AllSeats sides behind → WorkersFrom sides.lanes added behind
@@ -317,7 +305,7 @@ module _ (laws : GoesByLowest) (sides : Sides) (small : sides.lanes + sides.work
       let text : List ℕ = entry_line (length here + 1) e in
       let texts : List (List ℕ) = entry_texts (length here + 1 + 1) behind ++ left in
       let told : List Cursor = all_told sides added cursors in
-      let told_fit = all_told_fits laws sides.beside history here cursors (e ∷ behind, whole) in
+      let told_fit = all_told_fits sides.beside history here cursors (e ∷ behind, whole) in
       let range = and_parts (leb 1 e.seat) (leb e.seat (sides.lanes + sides.workers)) seats.0 in
       let within = leb-true e.seat (sides.lanes + sides.workers) range.1 in
       let long = ap length whole in

@@ -20,11 +20,6 @@ is_plain bytes = is_free line_break bytes
 is_other : (byte : ℕ) → not (byte == line_break) ≡ true → byte ≢ line_break
 is_other byte passes = λ e. let at : not (line_break == line_break) ≡ true = subst (λ n. not (n == line_break) ≡ true) e passes in cc
 
--- one text behind another
-pub plain-append : (front back : List ℕ) → is_plain front ≡ true → is_plain back ≡ true → is_plain (front ++ back) ≡ true
-plain-append front back plain rest =
-    list_all-append (λ byte. not (byte == line_break)) front back ∙ ap (λ b. b && is_plain back) plain ∙ rest
-
 -- a byte before a text
 free-cons : (other byte : ℕ) (bytes : List ℕ) → byte ≢ other → is_free other bytes ≡ true → is_free other (byte ∷ bytes) ≡ true
 free-cons other byte bytes differs free = ap (λ b. not b && is_free other bytes) (ne_eqb byte other differs) ∙ free
@@ -51,6 +46,9 @@ free-decimal other low n = free-digits other low 64 n [] refl
 -- so it has no line break
 pub plain-decimal : (n : ℕ) → is_plain (decimal n) ≡ true
 plain-decimal n = free-decimal line_break (omega arith) n
+
+-- a text is plain where its pieces are
+pub ruleset plain = (list_all-append, plain-decimal)
 
 -- what begins with another byte than a space
 pub record BeginsOtherwise (text : List ℕ) : Type 0 where
@@ -129,18 +127,24 @@ pub line-ends : (text : List ℕ) → is_plain text ≡ true → EndsOnce (text 
 line-ends text plain = plain-then text (codes "\n") plain refl
 
 -- a text that ends once, and what goes on behind it
-pub ends-then : (text rest : List ℕ) → EndsOnce text → GoesOn rest → EndsOnce (text ++ rest)
+ends-then : (text rest : List ℕ) → EndsOnce text → GoesOn rest → EndsOnce (text ++ rest)
 ends-then [] rest never goes_on = absurd never
 ends-then (byte ∷ []) [] ends goes_on = ends
 ends-then (byte ∷ []) (next ∷ rest) ends goes_on = ((λ _. goes_on.0), goes_on.1)
 ends-then (byte ∷ next ∷ text) rest ends goes_on = (ends.0, ends-then (next ∷ text) rest ends.1 goes_on)
 
 -- lines that go on, and others
-pub goes_on-append : (text rest : List ℕ) → GoesOn text → GoesOn rest → GoesOn (text ++ rest)
+goes_on-append : (text rest : List ℕ) → GoesOn text → GoesOn rest → GoesOn (text ++ rest)
 goes_on-append [] rest first later = later
 goes_on-append (byte ∷ text) rest first later = (first.0, ends-then (byte ∷ text) rest first.1 later)
 
 -- a line for each of some things
-pub goes_on-each : {X : Type 0} (line : X → List ℕ) (xs : List X) → AllByRecursion (λ x. GoesOn (line x)) xs → GoesOn (flat_map line xs)
-goes_on-each line [] each = tt
-goes_on-each line (x ∷ xs) each = goes_on-append (line x) (flat_map line xs) each.0 (goes_on-each line xs each.1)
+goes_on-each : {X : Type 0} (P : X → Type 0) (line : X → List ℕ) (xs : List X) → ((x : X) → P x → GoesOn (line x)) → AllByRecursion P xs
+    → GoesOn (flat_map line xs)
+goes_on-each P line [] each all = tt
+goes_on-each P line (x ∷ xs) each all = goes_on-append (line x) (flat_map line xs) (each x all.0) (goes_on-each P line xs each all.1)
+
+-- a line, and behind it one for each of some things
+pub lines-end : {X : Type 0} (P : X → Type 0) (head : List ℕ) (line : X → List ℕ) (xs : List X) → is_plain head ≡ true
+    → ((x : X) → P x → GoesOn (line x)) → AllByRecursion P xs → EndsOnce (head ++ codes "\n" ++ flat_map line xs)
+lines-end P head line xs plain each all = ends-then (head ++ codes "\n") (flat_map line xs) (line-ends head plain) (goes_on-each P line xs each all)

@@ -5,7 +5,7 @@ use Rattle.std.specs.List.{find, position}
 use Rattle.std.proofs.lemmas.List.Quantifiers.{position-Some}
 use Rattle.std.specs.Option.{option_and_then, option_map_or}
 use Rattle.std.proofs.lemmas.List.{append-nil}
-use Rattle.std.proofs.lemmas.Bool.{false≢true, cond-true, cond-false, le-leb, lt-leb}
+use Rattle.std.proofs.lemmas.Bool.{cond-true, cond-false, le-leb, lt-leb}
 use Rattle.list_laws.proofs.BoolLemmas.{bool_cases}
 use Rattle.list_laws.proofs.PositionLemmas.{position-None}
 use Rattle.write_history.specs.declared.entry.Entry.{Entry}
@@ -15,7 +15,7 @@ use Rattle.write_history.specs.Fold.{fold, list_refusal}
 use Rattle.write_history.specs.Print.{entry_line}
 use Rattle.history_laws.proofs.FoldLemmas.{fold-append}
 use Rattle.history_laws.proofs.StampLemmas.{entries-fold}
-use Rattle.ide_calls.specs.Settle.{intake_of, intake_entry}
+use Rattle.write_history.specs.Settle.{intake_of, intake_entry}
 use Rattle.transcripts.specs.Fits.{made_by}
 use Rattle.transcript_check.specs.Reading.{seat_in, file_in}
 use Rattle.transcript_check.specs.Section.{Cursor, told_here}
@@ -28,29 +28,29 @@ use Rattle.transcript_check.specs.Here.{goes_in, AreToldAll}
 use Rattle.transcript_check.specs.Going.{IsReachedAs, HasReached}
 use Rattle.transcript_check.specs.Taken.{Taking, AreKept}
 use Rattle.transcript_check.specs.Sides.{IsGoneAs, HasSectionGone, HasWorkerGone, IsNextGone, HasSeatGone}
-use Rattle.transcript_check.proofs.SeatLemmas.{IsSeated, section_seated}
+use Rattle.transcript_check.proofs.SideLemmas.{section_seated}
 use Rattle.transcript_check.proofs.TakenLemmas.{kept_none, kept_beside, kept_more}
 
 -- THE NEXT ENTRY
 
 -- the entry of a section
 section_next : (lanes seat : ℕ) (before added : List Entry) (after : World) (taken : List Taking) (cursors' : List Cursor) (text : List ℕ) (went : Bool)
-    → seat ≤ lanes → AreKept lanes taken added → (o : Option Went) → IsSeated seat o → IsGoneAs o (before ++ added) after cursors' text went
+    → seat ≤ lanes → AreKept lanes taken added → (o : Option Went) → ((w : Went) → o ≡ Some w → w.entry.seat ≡ seat)
+    → IsGoneAs o (before ++ added) after cursors' text went
     → IsNextGone (option_and_then (printed_so (before ++ added) text) o) lanes before added after taken cursors' went
 section_next lanes seat before added after taken cursors' text went below kept None seated gone = gone
 section_next lanes seat before added after taken cursors' text went below kept (Some w) seated gone =
-    let here : List Entry = before ++ added in
-    let printed : Bool = bytes_eq (entry_line (length here + 1) w.entry) text in
-    bool_cases printed (λ (b : Bool). (printed ≡ b) → IsNextGone (cond b (Some w) None) lanes before added after taken cursors' went)
-    (λ _ so. (
+    bool_cases (bytes_eq (entry_line (length (before ++ added) + 1) w.entry) text)
+    (λ (b : Bool). IsNextGone (cond b (Some w) None) lanes before added after taken cursors' went)
+    (λ so. (
     let goes : went ≡ true = gone.0 ∙ so in
     let parts = gone.1 goes in (
       goes,
       parts.0 ∙ ap fold (append_assoc before added (w.entry ∷ [])),
       parts.1,
-      kept_beside lanes taken added w.entry (subst (λ (n : ℕ). n ≤ lanes) (sym seated) below) kept,
+      kept_beside lanes taken added w.entry (subst (λ (n : ℕ). n ≤ lanes) (sym (seated w refl)) below) kept,
     )))
-    (λ _ otherwise. gone.0 ∙ otherwise) refl
+    (λ otherwise. gone.0 ∙ otherwise)
 
 -- the code asks in another order than the definition
 asked_apart : (f : Went → Option Went) (w : Went) (P : Option Went → Type 0) (went quiet lawful anew printed : Bool) → f w ≡ cond printed (Some w) None
@@ -101,8 +101,7 @@ lane_gone lanes seat world after taken cursors cursors' text (Ok went) below gon
       let here : List Entry = sides.before ++ added in
       let within : leb (seat_in text) sides.lanes ≡ true = (λ i. leb (named i) (own i)) ∙ le-leb seat lanes below in
       let same : seat_went sides added cursors (seat_in text) text ≡ section_went seat here cursors =
-      cond-true (leb (seat_in text) sides.lanes) (section_went (seat_in text) here cursors) (worker_went here added (seat_in text) (file_in text) cursors) within
-      ∙ ap (λ (n : ℕ). section_went n here cursors) named in
+      λ i. cond (within i) (section_went (named i) here cursors) (worker_went here added (named i) (file_in text) cursors) in
       subst (λ (o : Option Went). IsNextGone (option_and_then (printed_so here text) o) lanes sides.before added after taken cursors' went) (sym same)
       (section_next lanes seat sides.before added after taken cursors' text went below kept (section_went seat here cursors)
       (section_seated seat here cursors) (gone.is here leads)));
@@ -118,8 +117,7 @@ worker_gone lanes seat world after taken taken' cursors text (Ok went) past gone
       let here : List Entry = sides.before ++ added in
       let beyond : leb (seat_in text) sides.lanes ≡ false = (λ i. leb (named i) (own i)) ∙ lt-leb seat lanes past in
       let same : seat_went sides added cursors (seat_in text) text ≡ worker_went here added seat (file_in text) cursors =
-      cond-false (leb (seat_in text) sides.lanes) (section_went (seat_in text) here cursors) (worker_went here added (seat_in text) (file_in text) cursors) beyond
-      ∙ ap (λ (n : ℕ). worker_went here added n (file_in text) cursors) named in
+      λ i. cond (beyond i) (section_went (named i) here cursors) (worker_went here added (named i) (file_in text) cursors) in
       subst (λ (o : Option Went). IsNextGone (option_and_then (printed_so here text) o) lanes sides.before added after taken' cursors went) (sym same)
       (worker_next lanes seat (file_in text) sides.before added after taken taken' cursors text went past kept
       (subst (λ (w : World). HasWorkerGone w after taken taken' seat (file_in text) cursors text went) (sym leads) gone)));
@@ -157,52 +155,44 @@ told_is : (sides : Sides) (added : List Entry) (cursors : List Cursor) (texts : 
 told_is sides added cursors [] = refl
 told_is sides added cursors (text ∷ texts) = refl
 
--- where the next text is of a seat here, all goes by the next entry
-by_next : (sides : Sides) (start cursors : List Cursor) (entries later : List (List ℕ)) (text : List ℕ) (now : World) (taken : List Taking)
-    (way : HasGoneOn sides start cursors entries (text ∷ later) now taken) (next : Option Went) → is_seat sides (seat_in text) ≡ true
-    → next_went sides way.added cursors text ≡ next
-    → phase_or sides [] start entries ≡ option_map_or (λ (w : Went). phase_or sides (way.added ++ w.entry ∷ []) w.cursors later) next
-    (Err (side.Entry (seat_in text) (length (text ∷ later))))
-by_next sides start cursors entries later text now taken way next here is =
-    let on : Went → Result Reached SideStop = λ w. phase_or sides (way.added ++ w.entry ∷ []) w.cursors later in
-    let stop : Result Reached SideStop = Err (side.Entry (seat_in text) (length (text ∷ later))) in
-    way.goes
-    ∙ cond-true (is_seat sides (seat_in text)) (option_map_or on (next_went sides way.added cursors text) stop)
-    (reached_or way.added cursors (text ∷ later)) here
-    ∙ ap (λ (o : Option Went). option_map_or on o stop) is
+module _ (sides : Sides) (start cursors cursors' : List Cursor) (entries later : List (List ℕ)) (text : List ℕ) (now after : World)
+    (taken taken' : List Taking) (went : Bool) (way : HasGoneOn sides start cursors entries (text ∷ later) now taken)
+    (here : is_seat sides (seat_in text) ≡ true) where
+  -- where the next text is of a seat here, all goes by the next entry
+  by_next : (next : Option Went) → next_went sides way.added cursors text ≡ next
+      → phase_or sides [] start entries ≡ option_map_or (λ (w : Went). phase_or sides (way.added ++ w.entry ∷ []) w.cursors later) next
+      (Err (side.Entry (seat_in text) (length (text ∷ later))))
+  by_next next is =
+      let on : Went → Result Reached SideStop = λ w. phase_or sides (way.added ++ w.entry ∷ []) w.cursors later in
+      let stop : Result Reached SideStop = Err (side.Entry (seat_in text) (length (text ∷ later))) in
+      way.goes ∙ λ i. cond (here i) (option_map_or on (is i) stop) (reached_or way.added cursors (text ∷ later))
 
--- the next entry went in, and all go behind what is told there
-goes_on : (sides : Sides) (start cursors cursors' told : List Cursor) (entries later : List (List ℕ)) (text : List ℕ) (now after : World)
-    (taken taken' : List Taking) (went : Bool) (way : HasGoneOn sides start cursors entries (text ∷ later) now taken) (next : Option Went)
-    → is_seat sides (seat_in text) ≡ true → next_went sides way.added cursors text ≡ next
-    → IsNextGone next sides.lanes sides.before way.added after taken' cursors' went → went ≡ true → AreToldAll sides.beside after cursors' told
-    → HasGoneOn sides start told entries later after taken'
-goes_on sides start cursors cursors' told entries later text now after taken taken' went way None here is gone goes all = absurd (false≢true (sym gone ∙ goes))
-goes_on sides start cursors cursors' told entries later text now after taken taken' went way (Some w) here is gone goes all =
-    let added : List Entry = way.added ++ w.entry ∷ [] in
-    let history : List Entry = sides.before ++ added in
-    record {
-      added = added;
-      leads = gone.1;
-      goes = by_next sides start cursors entries later text now taken way (Some w) here is
-          ∙ told_is sides added w.cursors later
-          ∙ ap (λ (cs : List Cursor). told_phase sides added cs later)
-          (ap (map (told_here sides.beside history)) (sym gone.2) ∙ sym (all.is history (sym gone.1)));
-      kept = gone.3;
-    }
+  -- the next entry went in, and all go behind what is told there
+  goes_on : (told : List Cursor) (next : Option Went) → next_went sides way.added cursors text ≡ next
+      → IsNextGone next sides.lanes sides.before way.added after taken' cursors' went → went ≡ true → AreToldAll sides.beside after cursors' told
+      → HasGoneOn sides start told entries later after taken'
+  goes_on told None is gone goes all = absurd (cc)
+  goes_on told (Some w) is gone goes all =
+      let added : List Entry = way.added ++ w.entry ∷ [] in
+      let history : List Entry = sides.before ++ added in
+      record {
+        added = added;
+        leads = gone.1;
+        goes = by_next (Some w) is
+            ∙ told_is sides added w.cursors later
+            ∙ ap (λ (cs : List Cursor). told_phase sides added cs later)
+            (ap (map (told_here sides.beside history)) (sym gone.2) ∙ sym (all.is history (sym gone.1)));
+        kept = gone.3;
+      }
 
--- it doesn't go in
-stays_here : (sides : Sides) (start cursors cursors' : List Cursor) (entries later : List (List ℕ)) (text : List ℕ) (now after : World)
-    (taken taken' : List Taking) (went : Bool) (way : HasGoneOn sides start cursors entries (text ∷ later) now taken) (next : Option Went)
-    → is_seat sides (seat_in text) ≡ true → next_went sides way.added cursors text ≡ next
-    → IsNextGone next sides.lanes sides.before way.added after taken' cursors' went → went ≡ false
-    → IsReachedAs sides.before after (phase_or sides [] start entries) (Err (side.Entry (seat_in text) (length (text ∷ later))))
-stays_here sides start cursors cursors' entries later text now after taken taken' went way None here is gone stays =
-    let stop : SideStop = side.Entry (seat_in text) (length (text ∷ later)) in
-    subst (λ (r : Result Reached SideStop). IsReachedAs sides.before after r (Err stop))
-    (sym (by_next sides start cursors entries later text now taken way None here is)) refl
-stays_here sides start cursors cursors' entries later text now after taken taken' went way (Some w) here is gone stays =
-    absurd (false≢true (sym stays ∙ gone.0))
+  -- it doesn't go in
+  stays_here : (next : Option Went) → next_went sides way.added cursors text ≡ next
+      → IsNextGone next sides.lanes sides.before way.added after taken' cursors' went → went ≡ false
+      → IsReachedAs sides.before after (phase_or sides [] start entries) (Err (side.Entry (seat_in text) (length (text ∷ later))))
+  stays_here None is gone stays =
+      subst (λ (r : Result Reached SideStop). IsReachedAs sides.before after r (Err (side.Entry (seat_in text) (length (text ∷ later)))))
+      (sym (by_next None is)) refl
+  stays_here (Some w) is gone stays = let never : true ≡ false = sym gone.0 ∙ stays in absurd (cc)
 
 module _ (beside : Bool) (lanes workers : ℕ) (start : List Cursor) (entries : List (List ℕ)) (world : World) where
   -- where all begins
@@ -243,7 +233,7 @@ module _ (beside : Bool) (lanes workers : ℕ) (start : List Cursor) (entries : 
       is = λ before leads. (
           let sides : Sides = sides_behind beside lanes workers before in
           let h = way_is before leads in
-          goes_on sides start cursors cursors' told entries later text now after taken taken' went h (next_went sides h.added cursors text) here.1 refl
+          goes_on sides start cursors cursors' entries later text now after taken taken' went h here.1 told (next_went sides h.added cursors text) refl
           (next_is before leads) goes all);
     }
 
@@ -255,49 +245,10 @@ module _ (beside : Bool) (lanes workers : ℕ) (start : List Cursor) (entries : 
           let sides : Sides = sides_behind beside lanes workers before in
           let h = way_is before leads in
           let many : count ≡ length (text ∷ later) = counted ∙ ap length stands in
-          subst (λ (n : ℕ). IsReachedAs before after (phase_or sides [] start entries) (Err (side.Entry n count))) (sym here.0)
-          (subst (λ (n : ℕ). IsReachedAs before after (phase_or sides [] start entries) (Err (side.Entry (seat_in text) n))) (sym many)
-          (stays_here sides start cursors cursors' entries later text now after taken taken' went h (next_went sides h.added cursors text) here.1 refl
-          (next_is before leads) stays)));
+          subst (λ (p : ℕ × ℕ). IsReachedAs before after (phase_or sides [] start entries) (Err (side.Entry p.0 p.1))) (λ i. (sym here.0 i, sym many i))
+          (stays_here sides start cursors cursors' entries later text now after taken taken' went h here.1 (next_went sides h.added cursors text) refl
+          (next_is before leads) stays));
     }
-
-  -- what is left where no text is of a seat here: all is over, or a section waits
-  over_as : (before added : List Entry) (now : World) (left : List (List ℕ)) → now ≡ fold (before ++ added) → (o : Option Cursor)
-      → IsReachedAs before now (option_map_or (λ (c : Cursor). Err (side.Line (waits_at c left))) o (Ok (record { added = added; left = left })))
-      (option_map_or (λ (c : Cursor). Err (side.Line (waits_at c left))) o (Ok left))
-  over_as before added now left leads None = (refl, leads)
-  over_as before added now left leads (Some c) = refl
-
-  module _ (now : World) (taken : List Taking) (cursors : List Cursor) (told : Result (List (List ℕ)) SideStop) where
-    over_from : (left : List (List ℕ)) → told ≡ left_or cursors left
-        → ((before added : List Entry) → told_phase (sides_behind beside lanes workers before) added cursors left ≡ reached_or added cursors left)
-        → AreOnTheWay beside lanes workers start cursors entries left world now taken → HasReached beside lanes workers start entries world now told
-    over_from left told_is ends way = record {
-      is = λ before leads. (
-          let h = way.is before leads in
-          subst (λ (r : Result Reached SideStop). IsReachedAs before now r told) (sym (h.goes ∙ ends before h.added))
-          (subst (λ (t : Result (List (List ℕ)) SideStop). IsReachedAs before now (reached_or h.added cursors left) t) (sym told_is)
-          (over_as before h.added now left h.leads (find waits cursors))));
-    }
-
-    -- no text is left
-    pub over_end : told ≡ left_or cursors [] → AreOnTheWay beside lanes workers start cursors entries [] world now taken
-        → HasReached beside lanes workers start entries world now told
-    over_end told_is way = over_from [] told_is (λ before added. refl) way
-
-    -- the next text is of no seat here
-    pub over_before : (text : List ℕ) (later left : List (List ℕ)) → left ≡ text ∷ later → told ≡ left_or cursors left
-        → (leb 1 (seat_in text) && leb (seat_in text) (lanes + workers)) ≡ false
-        → AreOnTheWay beside lanes workers start cursors entries left world now taken → HasReached beside lanes workers start entries world now told
-    over_before text later left stands told_is none way =
-        over_from left told_is
-        (λ before added. (
-        let sides : Sides = sides_behind beside lanes workers before in
-        let next : Result Reached SideStop = option_map_or (λ (w : Went). phase_or sides (added ++ w.entry ∷ []) w.cursors later)
-        (next_went sides added cursors text) (Err (side.Entry (seat_in text) (length (text ∷ later)))) in
-        subst (λ (l : List (List ℕ)). told_phase sides added cursors l ≡ reached_or added cursors l) (sym stands)
-        (cond-false (is_seat sides (seat_in text)) next (reached_or added cursors (text ∷ later)) none)))
-        way
 
 -- THE FIRST SECTION THAT WAITS
 

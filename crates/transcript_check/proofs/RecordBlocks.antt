@@ -13,19 +13,17 @@ use Rattle.write_history.specs.declared.refusal.Refusal.TheVariants as why
 use Rattle.write_history.specs.Changes.{NamesPaths}
 use Rattle.write_history.specs.Path.{is_path}
 use Rattle.write_history.specs.Print.{why_text, entry_line}
-use Rattle.write_history.specs.World.{World, File, file_of}
+use Rattle.write_history.specs.World.{File, file_of}
 use Rattle.write_history.specs.Fold.{fold, ListRefusal, IsLegal}
 use Rattle.history_laws.proofs.FoldLemmas.{IsLegal-split}
 use Rattle.history_laws.proofs.NamedLemmas.{named_lawful, live_lawful}
-use Rattle.ide_calls.specs.Settle.{settled}
+use Rattle.write_history.specs.Settle.{settled}
 use Rattle.script_lang.specs.declared.command.Command.{Command}
 use Rattle.script_lang.specs.declared.command.Command.TheVariants as command
 use Rattle.script_lang.specs.declared.line.Line.{Line}
 use Rattle.script_lang.specs.Parts.{Parts}
 use Rattle.query_engine.specs.declared.answer.Answer.{Answer as Finding}
-use Rattle.query_engine.specs.declared.answer.AskRefusal.{AskRefusal}
-use Rattle.query_engine.specs.declared.answer.AskRefusal.TheVariants as refused
-use Rattle.query_engine.specs.Reply.{reply}
+use Rattle.query_engine.specs.Reply.{NoAnswer, no_such_file, not_ready, reply}
 use Rattle.query_engine.specs.Listed.{path_at}
 use Rattle.queries.specs.declared.query.Query.{Query}
 use Rattle.transcripts.specs.Worked.{Worked}
@@ -34,16 +32,17 @@ use Rattle.transcripts.specs.declared.loaded.Loaded.TheVariants as loaded
 use Rattle.transcripts.specs.declared.record.Answer.{Answer}
 use Rattle.transcripts.specs.declared.record.Answer.TheVariants.{Accepted, Refused, NotText, TooLong, Smart, NotReady, Found, Cancelled}
 use Rattle.transcripts.specs.declared.record.Record.{Record}
-use Rattle.transcripts.specs.Serial.{Ended, Step, step_unless, create_of, settle_answer, answer_of, refused_answer, step_of, first_load, later_loads}
-use Rattle.transcripts.specs.Fits.{Mark, mark_at, IsDone, Fits, SectionFits, LanesFit, RunFits, made_by, run_beside}
+use Rattle.transcripts.specs.Serial.{Ended, Step, step_unless, create_of, settle_answer, answer_of, step_of, first_load, later_loads}
+use Rattle.transcripts.specs.Fits.{Mark, mark_at, Fits, SectionFits, LanesFit, RunFits, made_by, run_beside}
 use Rattle.transcripts.specs.Transcript.{place_of_refusal, prefix_text, answer_text, record_text, entry_lines, transcript_of}
 use Rattle.transcript_check.specs.Blocks.{blocks_of, EndsOnce, IsBlock}
 use Rattle.transcript_check.specs.Checked.{entry_texts, record_texts}
 use Rattle.transcript_check.specs.Texts.{history_line, texts_of}
 use Rattle.transcript_check.proofs.EntryBlocks.{entry-block, plain-path}
 use Rattle.transcript_check.proofs.BlockLemmas.{blocks-of-texts}
-use Rattle.transcript_check.proofs.PlainLemmas.{is_plain, plain-append, plain-decimal, plain-then, line-ends, begins-decimal, begins-more, begins-with_no_space}
-use Rattle.transcript_check.proofs.FoundBlocks.{IsShown, IsShownFile, Texts, EndsIfFound, reply-ends, all-append}
+use Rattle.transcript_check.proofs.PlainLemmas.{is_plain, plain, plain-then, line-ends, begins-decimal, begins-more, begins-with_no_space}
+use Rattle.transcript_check.proofs.ChoiceLemmas.{all-append}
+use Rattle.transcript_check.proofs.FoundBlocks.{IsShown, IsShownFile, Texts, EndsIfFound, reply-ends}
 
 -- ---- legal histories
 
@@ -62,7 +61,8 @@ entries-shown [] named = tt
 entries-shown (entry ∷ entries) named = ((λ position. entry-block position entry named.0), entries-shown entries named.1)
 
 legal-blocks : (entries : List Entry) → IsLegal entries → AllByRecursion (λ entry. (position : ℕ) → IsBlock (entry_line position entry)) entries
-legal-blocks entries legal = entries-shown entries (recursion_from_All (λ (entry : Entry). All (NamesPaths (λ path. is_path path ≡ true)) entry.changes) entries (named_lawful entries legal))
+legal-blocks entries legal = entries-shown entries
+    (recursion_from_All (λ (entry : Entry). All (NamesPaths (λ path. is_path path ≡ true)) entry.changes) entries (named_lawful entries legal))
 
 -- ---- answers
 
@@ -72,69 +72,47 @@ why-plain why.PathTaken = refl
 why-plain why.BadPath = refl
 why-plain why.NotOpen = refl
 why-plain why.AlreadyOpen = refl
-why-plain (why.BadRange len) = plain-append (codes "bad-range ") (decimal len) refl (plain-decimal len)
+why-plain (why.BadRange len) = simp plain
 why-plain why.Unsaved = refl
 why-plain why.Uncommitted = refl
 why-plain why.Conflict = refl
 why-plain why.FilesFull = refl
 why-plain why.DocsFull = refl
-why-plain (why.TextFull count) = plain-append (codes "text-full ") (decimal count) refl (plain-decimal count)
-why-plain (why.Stale made present) =
-    let front : List ℕ = codes "stale " ++ decimal made in
-    plain-append (front ++ codes " ") (decimal present)
-    (plain-append front (codes " ") (plain-append (codes "stale ") (decimal made) refl (plain-decimal made)) refl)
-    (plain-decimal present)
+why-plain (why.TextFull count) = simp plain
+why-plain (why.Stale made present) = simp plain
 why-plain why.HistoryFull = refl
 why-plain why.OutOfMemory = refl
 
 place-plain : (place : Option ℕ) → is_plain (place_of_refusal place) ≡ true
 place-plain None = refl
-place-plain (Some place) =
-    plain-append (codes "in " ++ decimal place) (codes " ") (plain-append (codes "in ") (decimal place) refl (plain-decimal place)) refl
+place-plain (Some place) = simp plain
 
 -- a word and a number, in a line
 numbered-ends : (word : List ℕ) (n : ℕ) → is_plain word ≡ true → EndsOnce (word ++ decimal n ++ codes "\n")
-numbered-ends word n plain = line-ends (word ++ decimal n) (plain-append word (decimal n) plain (plain-decimal n))
+numbered-ends word n shown = line-ends (word ++ decimal n) (simp (plain, shown))
 
 refused-ends : (at : ℕ) (place : Option ℕ) (refusal : Refusal) → EndsOnce (answer_text (Refused at place refusal))
 refused-ends at place refusal =
-    let front : List ℕ = codes "refused " ++ place_of_refusal place in
-    line-ends (front ++ why_text refusal)
-    (plain-append front (why_text refusal) (plain-append (codes "refused ") (place_of_refusal place) refl (place-plain place)) (why-plain refusal))
-
-accepted-ends : (at : ℕ) → EndsOnce (answer_text (Accepted at))
-accepted-ends at = line-ends (codes "accepted") refl
-
-smart-ends : (at : ℕ) → EndsOnce (answer_text (Smart at))
-smart-ends at = line-ends (codes "smart") refl
-
-not_ready-ends : (at : ℕ) (path : List ℕ) → IsShown path → EndsOnce (answer_text (NotReady at path))
-not_ready-ends at path shown = line-ends (codes "not-ready " ++ encode_utf8_all path) (plain-append (codes "not-ready ") (encode_utf8_all path) refl shown)
-
-at-plain : (at : ℕ) → is_plain (codes "at " ++ decimal at ++ codes " ") ≡ true
-at-plain at = plain-append (codes "at " ++ decimal at) (codes " ") (plain-append (codes "at ") (decimal at) refl (plain-decimal at)) refl
+    line-ends (codes "refused " ++ place_of_refusal place ++ why_text refusal) (simp (plain, place-plain place, why-plain refusal))
 
 prefix-plain : (answer : Answer) → is_plain (prefix_text answer) ≡ true
-prefix-plain (Accepted at) = at-plain at
-prefix-plain (Refused at place refusal) = at-plain at
+prefix-plain (Accepted at) = simp plain
+prefix-plain (Refused at place refusal) = simp plain
 prefix-plain (NotText at) = refl
 prefix-plain (TooLong count) = refl
-prefix-plain (Smart at) = at-plain at
-prefix-plain (NotReady at path) = at-plain at
-prefix-plain (Found at finding) = at-plain at
+prefix-plain (Smart at) = simp plain
+prefix-plain (NotReady at path) = simp plain
+prefix-plain (Found at finding) = simp plain
 prefix-plain (Cancelled sighted) = refl
 
 -- a record whose answer ends once is one block
 pub record-block : (reply : Record) → EndsOnce (answer_text reply.answer) → IsBlock (record_text reply)
-record-block reply ends =
-    let front : List ℕ = decimal reply.line ++ codes " " in
-    record {
-      begins = begins-with_no_space (begins-more (answer_text reply.answer)
-          (begins-more (prefix_text reply.answer) (begins-more (codes " ") (begins-decimal reply.line))));
-      ends = plain-then (front ++ prefix_text reply.answer) (answer_text reply.answer)
-          (plain-append front (prefix_text reply.answer) (plain-append (decimal reply.line) (codes " ") (plain-decimal reply.line) refl)
-          (prefix-plain reply.answer)) ends;
-    }
+record-block reply ends = record {
+  begins = begins-with_no_space (begins-more (answer_text reply.answer)
+      (begins-more (prefix_text reply.answer) (begins-more (codes " ") (begins-decimal reply.line))));
+  ends = plain-then (decimal reply.line ++ codes " " ++ prefix_text reply.answer) (answer_text reply.answer)
+      (simp (plain, prefix-plain reply.answer)) ends;
+}
 
 -- ---- steps
 
@@ -144,7 +122,7 @@ AnswerEnds answer = EndsOnce (answer_text answer)
 
 unless-ends : (refusal : Option ListRefusal) (told_place : ℕ → Option ℕ) (history : List Entry) (entry : Entry)
     → AnswerEnds (step_unless refusal told_place history entry).answer
-unless-ends None told_place history entry = accepted-ends (length history + 1)
+unless-ends None told_place history entry = line-ends (codes "accepted") refl
 unless-ends (Some refusal) told_place history entry = refused-ends (length history) (told_place refusal.place) refusal.why
 
 create-ends : (history : List Entry) (seat line : ℕ) (path : List ℕ) (load : Loaded) → AnswerEnds (create_of history seat line path load).answer
@@ -154,31 +132,23 @@ create-ends history seat line path (loaded.TooLong count) = numbered-ends (codes
 create-ends history seat line path loaded.Nothing = numbered-ends (codes "not-text ") 0 refl
 
 settle-ends : (at : ℕ) (refusal : Option Refusal) → AnswerEnds (settle_answer at refusal)
-settle-ends at None = smart-ends at
+settle-ends at None = line-ends (codes "smart") refl
 settle-ends at (Some refusal) = refused-ends at None refusal
 
-path_at-shown : (world : World) (file : ℕ) → IsShownFile (file_of world file) → IsShown (path_at world file)
-path_at-shown world file shown = by (file_of world file) shown
-  where
-    by : (file : Option File) → IsShownFile file → IsShown (option_map_or (λ (f : File). f.path) file [])
-    by None shown = refl
-    by (Some file) shown = shown
+path-shown : (file : Option File) → IsShownFile file → IsShown (option_map_or (λ (f : File). f.path) file [])
+path-shown None shown = refl
+path-shown (Some file) shown = shown
 
 module _ (texts : Texts) where
   asked-ends : (start : List Entry) → IsLegal start → (query : Query) → AnswerEnds (answer_of (fold start) (length start) (reply (fold start) query))
   asked-ends start legal query = by (reply (fold start) query) (reply-ends texts (fold start) (live-shown start legal) query)
     where
-      refused-so : (refusal : AskRefusal) → AnswerEnds (refused_answer (fold start) (length start) refusal)
-      refused-so refused.NoSuchFile = refused-ends (length start) None why.NoSuchFile
-      refused-so (refused.NotReady file) = not_ready-ends (length start) (path_at (fold start) file)
-          (path_at-shown (fold start) file (live-shown start legal file))
-      refused-so refused.Cancelled = refused-ends (length start) None why.OutOfMemory
-      refused-so refused.OutOfMemory = refused-ends (length start) None why.OutOfMemory
-
-      by : (result : Result Finding AskRefusal) → EndsIfFound texts (fold start) (live-shown start legal) result
+      by : (result : Result Finding NoAnswer) → EndsIfFound texts (fold start) (live-shown start legal) result
           → AnswerEnds (answer_of (fold start) (length start) result)
       by (Ok finding) ends = ends
-      by (Err refusal) ends = refused-so refusal
+      by (Err no_such_file) ends = refused-ends (length start) None why.NoSuchFile
+      by (Err (not_ready file)) ends = line-ends (codes "not-ready " ++ encode_utf8_all (path_at (fold start) file))
+          (path-shown (file_of (fold start) file) (live-shown start legal file))
 
   -- what a command is answered behind a legal history ends once
   pub step-ends : (load : Loaded) (start : List Entry) → IsLegal start → (seat line : ℕ) (command : Command)
@@ -194,16 +164,12 @@ module _ (texts : Texts) where
 
   -- ---- sections
 
-  done-ends : (history : List Entry) (seat : ℕ) (line : Line) (load : Loaded) (low : Mark) (own : List Entry) (answer : Answer) (high : Mark)
-      → IsLegal history → IsDone history seat line load low own answer high → AnswerEnds answer
-  done-ends history seat line load low own answer high legal done =
+  fits-end : (beside : Bool) (history : List Entry) (seat : ℕ) (line : Line) (load : Loaded) (low : Mark) (own : List Entry) (answer : Answer) (high : Mark)
+      → IsLegal history → Fits beside history seat line load low own answer high → AnswerEnds answer
+  fits-end beside history seat line load low own answer high legal (inl done) =
       let whole : IsLegal ((done.start ++ own) ++ done.stands.0) = subst IsLegal done.stands.1 legal in
       let start : IsLegal done.start = (IsLegal-split done.start own (IsLegal-split (done.start ++ own) done.stands.0 whole).0).0 in
       subst AnswerEnds (ap (λ step. step.answer) done.step) (step-ends load done.start start seat line.number line.command)
-
-  fits-end : (beside : Bool) (history : List Entry) (seat : ℕ) (line : Line) (load : Loaded) (low : Mark) (own : List Entry) (answer : Answer) (high : Mark)
-      → IsLegal history → Fits beside history seat line load low own answer high → AnswerEnds answer
-  fits-end beside history seat line load low own answer high legal (inl done) = done-ends history seat line load low own answer high legal done
   fits-end beside history seat line load low own answer high legal (inr (side, given)) =
       subst AnswerEnds (sym given.told) (numbered-ends (codes "cancelled ") given.sighted.attempts refl)
 

@@ -1,155 +1,140 @@
 -- A section that goes alone: it fits, a history stays legal, and its texts are those of its entries and records.
-use Rattle.std.proofs.Common.{ℕ, ◌≡◌, ◌+◌, Bool, false, cond, List, [], ◌∷◌, ◌++◌, length, refl, sym, ap, ◌∙◌, append_assoc, length-append, arith, inl, Option, Some, None}
+use Rattle.std.proofs.Common.{ℕ, ◌≡◌, ◌+◌, false, List, [], ◌∷◌, ◌++◌, length, refl, sym, ap, ◌∙◌, append_assoc, length-append, subst, arith, inl, Option, Some, None}
 use Rattle.std.specs.Prelude.{bytes_eq}
 use Rattle.std.specs.Option.{option_and_then}
 use Rattle.std.proofs.lemmas.Option.{option_and_then_some}
 use Rattle.std.proofs.lemmas.Slice.Eq.{bytes_eq-Decides}
 use Rattle.std.proofs.lemmas.Bool.{cond-true}
-use Rattle.list_laws.proofs.BoolLemmas.{bool_cases}
 use Rattle.write_history.specs.Print.{entry_line}
 use Rattle.transcript_check.specs.Section.{told_text}
 use Rattle.transcript_check.specs.Checked.{entry_texts, record_texts, texts_behind, Came, line_so, serial_from}
 use Rattle.transcript_check.proofs.Texts.{text_is}
-use Rattle.transcript_check.proofs.CursorLemmas.{none_some, some_some}
+use Rattle.transcript_check.proofs.ChoiceLemmas.{if_some}
 use Rattle.std.proofs.lemmas.List.{append-nil}
 use Rattle.write_history.specs.declared.entry.Entry.{Entry}
 use Rattle.write_history.specs.Fold.{IsLegal}
 use Rattle.script_lang.specs.declared.line.Line.{Line}
 use Rattle.transcripts.specs.declared.loaded.Loaded.{Loaded}
 use Rattle.transcripts.specs.declared.record.Record.{Record}
-use Rattle.transcripts.specs.Serial.{Step, Done, step_of, done_from, first_load, later_loads}
+use Rattle.transcripts.specs.Serial.{Step, step_of, done_from, first_load, later_loads}
 use Rattle.transcripts.specs.Fits.{Mark, SectionFits}
-use Rattle.transcript_check.proofs.StepLemmas.{GoesByLowest, step_is}
+use Rattle.transcript_check.proofs.StepLemmas.{step_is}
 
 -- texts that begin with others
-pub behind_is : (wanted texts left : List (List ℕ)) → texts_behind wanted texts ≡ Some left → texts ≡ wanted ++ left
-behind_is [] texts left h = some_some h
-behind_is (first ∷ wanted) [] left h = absurd cc
-behind_is (first ∷ wanted) (text ∷ texts) left h = bool_cases (bytes_eq first text)
-    (λ (b : Bool). (bytes_eq first text ≡ b) → cond b (texts_behind wanted texts) None ≡ Some left → text ∷ texts ≡ first ∷ wanted ++ left)
-    (λ _ same g. λ i. sym (text_is first text same) i ∷ behind_is wanted texts left g i) (λ _ other g. absurd (no_text g)) refl h
-  where
-    no_text : {ts : List (List ℕ)} → None ≡ Some ts → ⊥
-    no_text h = cc
+behind_is : (wanted texts left : List (List ℕ)) → texts_behind wanted texts ≡ Some left → texts ≡ wanted ++ left
+behind_is [] texts left h = cc
+behind_is (first ∷ wanted) [] left h = absurd (cc)
+behind_is (first ∷ wanted) (text ∷ texts) left h =
+    let parts = if_some (bytes_eq first text) (texts_behind wanted texts) h in
+    λ i. sym (text_is first text parts.0) i ∷ behind_is wanted texts left parts.1 i
 
-pub is_behind : (wanted left : List (List ℕ)) → texts_behind wanted (wanted ++ left) ≡ Some left
+is_behind : (wanted left : List (List ℕ)) → texts_behind wanted (wanted ++ left) ≡ Some left
 is_behind [] left = refl
 is_behind (first ∷ wanted) left =
     cond-true (bytes_eq first first) (texts_behind wanted (wanted ++ left)) None ((bytes_eq-Decides first first).1 refl) ∙ is_behind wanted left
+
+-- what was found of a line, and what is left: its record has the text, and the texts of entries begin with its own
+pub went_so : (history : List Entry) (seat number : ℕ) (step : Step) (text : List ℕ) (entries left : List (List ℕ))
+    → line_so history seat number step text entries ≡ Some left
+    → (text ≡ told_text seat number step.answer) × (entries ≡ entry_texts (length history + 1) step.added ++ left)
+went_so history seat number step text entries left h =
+    let first : List (List ℕ) = entry_texts (length history + 1) step.added in
+    let parts = if_some (bytes_eq (told_text seat number step.answer) text) (texts_behind first entries) h in
+    (sym (text_is (told_text seat number step.answer) text parts.0), behind_is first entries left parts.1)
+
+-- where they do, that is found
+pub goes_so : (history : List Entry) (seat number : ℕ) (step : Step) (left : List (List ℕ))
+    → line_so history seat number step (told_text seat number step.answer) (entry_texts (length history + 1) step.added ++ left) ≡ Some left
+goes_so history seat number step left =
+    let text : List ℕ = told_text seat number step.answer in
+    let first : List (List ℕ) = entry_texts (length history + 1) step.added in
+    cond-true (bytes_eq text text) (texts_behind first (first ++ left)) None ((bytes_eq-Decides text text).1 refl) ∙ is_behind first left
 
 -- the texts of entries one after another
 pub entry_texts-append : (n m : ℕ) (xs ys : List Entry) → m ≡ n + length xs → entry_texts n (xs ++ ys) ≡ entry_texts n xs ++ entry_texts m ys
 entry_texts-append n m [] ys is = let same : n ≡ m = omega arith in ap (λ (k : ℕ). entry_texts k ys) same
 entry_texts-append n m (x ∷ xs) ys is = ap (λ (ts : List (List ℕ)). entry_line n x ∷ ts) (entry_texts-append (n + 1) m xs ys (omega arith))
 
--- What going through the lines of a section leads to is a section that fits the history that it leads to. It is checked line by line exactly where
+-- the same of what was made behind a history, before other texts
+pub texts_on : (start made own : List Entry) (left : List (List ℕ)) → entry_texts (length start + 1) (made ++ own) ++ left
+    ≡ entry_texts (length start + 1) made ++ (entry_texts (length (start ++ made) + 1) own ++ left)
+texts_on start made own left =
+    let long = length-append start made in
+    ap (λ (ts : List (List ℕ)). ts ++ left) (entry_texts-append (length start + 1) (length (start ++ made) + 1) made own (omega arith))
+    ∙ append_assoc (entry_texts (length start + 1) made) (entry_texts (length (start ++ made) + 1) own) left
+
+-- What going through the lines of a section makes is a section that fits the history that it leads to. It is checked line by line exactly where
 -- the texts begin with those of its own entries and records
-pub record SerialFits (seat : ℕ) (lines : List Line) (loads : List Loaded) (start : List Entry) (earlier : List Record)
-    (whole : List Entry) (told : List Record) : Type 0 where
+pub record SerialFits (seat : ℕ) (lines : List Line) (loads : List Loaded) (start : List Entry) : Type 0 where
   pub own : List Entry
   pub records : List Record
   pub high : Mark
-  pub whole_is : whole ≡ start ++ own
-  pub told_is : told ≡ earlier ++ records
-  pub fits : SectionFits false whole seat (record { seen = length start; sights = 0 }) lines loads records own high
-  pub legal : IsLegal start → IsLegal whole
+  pub made : (earlier : List Record) → done_from seat (record { history = start; records = earlier }) lines loads
+      ≡ record { history = start ++ own; records = earlier ++ records }
+  pub fits : SectionFits false (start ++ own) seat (record { seen = length start; sights = 0 }) lines loads records own high
+  pub legal : IsLegal start → IsLegal (start ++ own)
   pub goes : (left rest : List (List ℕ)) → serial_from seat start lines loads (entry_texts (length start + 1) own ++ left) (record_texts records ++ rest)
-      ≡ Some (record { history = whole; entries = left; records = rest })
+      ≡ Some (record { history = start ++ own; entries = left; records = rest })
   pub comes : (entries texts : List (List ℕ)) (came : Came) → serial_from seat start lines loads entries texts ≡ Some came
-      → (came.history ≡ whole) × (entries ≡ entry_texts (length start + 1) own ++ came.entries) × (texts ≡ record_texts records ++ came.records)
+      → (came.history ≡ start ++ own) × (entries ≡ entry_texts (length start + 1) own ++ came.entries) × (texts ≡ record_texts records ++ came.records)
 
--- what a section that was checked came to
-abbrev CameTo : List Entry → List Entry → ℕ → List Record → (entries texts : List (List ℕ)) → Came → Type 0
-CameTo whole own position told entries texts came =
-    (came.history ≡ whole) × (entries ≡ entry_texts position own ++ came.entries) × (texts ≡ record_texts told ++ came.records)
-
-comes_line : (seat : ℕ) (line : Line) (lines : List Line) (loads : List Loaded) (start own : List Entry) (told : List Record) (whole : List Entry)
-    → let step : Step = step_of (first_load loads) start seat line.number line.command in
-    ((entries texts : List (List ℕ)) (came : Came) → serial_from seat (start ++ step.added) lines (later_loads loads) entries texts ≡ Some came
-    → CameTo whole own (length (start ++ step.added) + 1) told entries texts came)
-    → (entries texts : List (List ℕ)) (came : Came) → serial_from seat start (line ∷ lines) loads entries texts ≡ Some came
-    → CameTo whole (step.added ++ own) (length start + 1) (record { seat = seat; line = line.number; answer = step.answer } ∷ told) entries texts came
-comes_line seat line lines loads start own told whole later entries [] came h = absurd (none_some h)
-comes_line seat line lines loads start own told whole later entries (text ∷ texts) came h =
-    let step : Step = step_of (first_load loads) start seat line.number line.command in
-    let on : List (List ℕ) → Option Came = λ left. serial_from seat (start ++ step.added) lines (later_loads loads) left texts in
-    let first : List (List ℕ) = entry_texts (length start + 1) step.added in
-    let long = length-append start step.added in
-    option_and_then_some on (line_so start seat line.number step text entries) came h (λ left is goes.
-    bool_cases (bytes_eq (told_text seat line.number step.answer) text)
-    (λ (b : Bool). (bytes_eq (told_text seat line.number step.answer) text ≡ b) → cond b (texts_behind first entries) None ≡ Some left
-    → CameTo whole (step.added ++ own) (length start + 1) (record {
-      seat = seat;
-      line = line.number;
-      answer = step.answer;
-    } ∷ told) entries (text ∷ texts) came)
-    (λ _ same g. (
-    let rest = later left texts came goes in (
-      rest.0,
-      behind_is first entries left g ∙ (ap (λ (es : List (List ℕ)). first ++ es) rest.1
-          ∙ (sym (append_assoc first (entry_texts (length (start ++ step.added) + 1) own) came.entries)
-          ∙ ap (λ (es : List (List ℕ)). es ++ came.entries)
-          (sym (entry_texts-append (length start + 1) (length (start ++ step.added) + 1) step.added own (omega arith))))),
-      λ i. sym (text_is (told_text seat line.number step.answer) text same) i ∷ rest.2 i,
-    )))
-    (λ _ other g. absurd (none_some g)) refl is)
-
-pub serial_fits : (laws : GoesByLowest) (seat : ℕ) (lines : List Line) (loads : List Loaded) (start : List Entry) (earlier : List Record)
-    → let done : Done = done_from seat (record { history = start; records = earlier }) lines loads in
-    SerialFits seat lines loads start earlier done.history done.records
-serial_fits laws seat [] loads start earlier = record {
-  own = [];
-  records = [];
-  high = record { seen = length start; sights = 0 };
-  whole_is = sym (append-nil start);
-  told_is = sym (append-nil earlier);
-  fits = (refl, refl, refl);
-  legal = λ legal. legal;
-  goes = λ left rest. refl;
-  comes = λ entries texts came h. (let is = some_some h in
-      (sym (ap (λ (x : Came). x.history) is), ap (λ (x : Came). x.entries) is, ap (λ (x : Came). x.records) is));
-}
-serial_fits laws seat (line ∷ lines) loads start earlier =
+pub serial_fits : (seat : ℕ) (lines : List Line) (loads : List Loaded) (start : List Entry) → SerialFits seat lines loads start
+serial_fits seat [] loads start =
+    let whole : start ≡ start ++ [] = sym (append-nil start) in
+    record {
+      own = [];
+      records = [];
+      high = record { seen = length start; sights = 0 };
+      made = λ earlier i. record { history = whole i; records = sym (append-nil earlier) i };
+      fits = (refl, refl, refl);
+      legal = subst IsLegal whole;
+      goes = λ left rest i. Some (record { history = whole i; entries = left; records = rest });
+      comes = λ entries texts came h. (let is : record { history = start; entries = entries; records = texts } ≡ came = cc in
+          (sym (ap (λ (c : Came). c.history) is) ∙ whole, ap (λ (c : Came). c.entries) is, ap (λ (c : Came). c.records) is));
+    }
+serial_fits seat (line ∷ lines) loads start =
     let step : Step = step_of (first_load loads) start seat line.number line.command in
     let reply : Record = record { seat = seat; line = line.number; answer = step.answer } in
-    let rest = serial_fits laws seat lines (later_loads loads) (start ++ step.added) (earlier ++ reply ∷ []) in
-    let on : List (List ℕ) → List (List ℕ) → Option Came = λ left records. serial_from seat (start ++ step.added) lines (later_loads loads) left records in
-    let long = length-append start step.added in
-    let split : entry_texts (length start + 1) (step.added ++ rest.own) ≡ entry_texts (length start + 1) step.added ++ entry_texts
-    (length (start ++ step.added) + 1) rest.own =
-    entry_texts-append (length start + 1) (length (start ++ step.added) + 1) step.added rest.own (omega arith) in
+    let here : List Entry = start ++ step.added in
+    let rest = serial_fits seat lines (later_loads loads) here in
+    let on : List (List ℕ) → List (List ℕ) → Option Came = λ left records. serial_from seat here lines (later_loads loads) left records in
+    let whole : here ++ rest.own ≡ start ++ (step.added ++ rest.own) = append_assoc start step.added rest.own in
     record {
       own = step.added ++ rest.own;
       records = reply ∷ rest.records;
       high = rest.high;
-      whole_is = rest.whole_is ∙ append_assoc start step.added rest.own;
-      told_is = rest.told_is ∙ append_assoc earlier (reply ∷ []) rest.records;
+      made = λ earlier. (
+          rest.made (earlier ++ reply ∷ []) ∙ λ i. record { history = whole i; records = append_assoc earlier (reply ∷ []) rest.records i });
       fits = record {
         answer = step.answer;
         made = step.added;
-        between = record { seen = length (start ++ step.added); sights = 0 };
+        between = record { seen = length here; sights = 0 };
         later = rest.records;
         made_later = rest.own;
         records_are = refl;
         own_is = refl;
-        first = inl (record { start = start; late = omega arith; stands = (rest.own, rest.whole_is); step = refl; seen = refl; sights = omega arith });
-        rest = rest.fits;
+        first = inl (record { start = start; late = omega arith; stands = (rest.own, sym whole); step = refl; seen = refl; sights = omega arith });
+        rest = subst (λ (es : List Entry). SectionFits false es seat (record { seen = length here; sights = 0 }) lines (later_loads loads) rest.records
+            rest.own rest.high) whole rest.fits;
       };
-      legal = λ legal. rest.legal ((step_is laws seat (first_load loads) start line.number line.command).legal legal);
+      legal = λ legal. subst IsLegal whole (rest.legal ((step_is seat (first_load loads) start line.number line.command).legal legal));
       goes = λ left others. (
-          let text : List ℕ = told_text seat line.number step.answer in
-          let behind : List (List ℕ) = entry_texts (length (start ++ step.added) + 1) rest.own ++ left in
-          let records : List (List ℕ) = record_texts rest.records ++ others in
-          ap (λ (es : List (List ℕ)). option_and_then (λ (l : List (List ℕ)). on l records) (line_so start seat line.number step text (es ++ left))) split
-          ∙ (ap (λ (es : List (List ℕ)). option_and_then (λ (l : List (List ℕ)). on l records) (line_so start seat line.number step text es))
-          (append_assoc (entry_texts (length start + 1) step.added) (entry_texts (length (start ++ step.added) + 1) rest.own) left)
-          ∙ (ap (option_and_then (λ (l : List (List ℕ)). on l records))
-          (cond-true (bytes_eq text text) (texts_behind (entry_texts (length start + 1) step.added) (entry_texts (length start + 1) step.added ++ behind))
-          None
-          ((bytes_eq-Decides text text).1 refl) ∙ is_behind (entry_texts (length start + 1) step.added) behind)
-          ∙ rest.goes left others)));
-      comes = comes_line seat line lines loads start rest.own rest.records (done_from seat (record {
-        history = start ++ step.added;
-        records = earlier ++ reply ∷ [];
-      }) lines (later_loads loads)).history rest.comes;
+          let then : Option (List (List ℕ)) → Option Came = option_and_then (λ (l : List (List ℕ)). on l (record_texts rest.records ++ others)) in
+          ap (λ (es : List (List ℕ)). then (line_so start seat line.number step (told_text seat line.number step.answer) es))
+          (texts_on start step.added rest.own left)
+          ∙ ap then (goes_so start seat line.number step (entry_texts (length here + 1) rest.own ++ left))
+          ∙ rest.goes left others
+          ∙ λ i. Some (record { history = whole i; entries = left; records = others }));
+      comes = λ entries. elim [
+        | [] ↦ λ came h. absurd (cc)
+        | text ∷ texts ↦ λ came h. option_and_then_some (λ (l : List (List ℕ)). on l texts) (line_so start seat line.number step text entries) came h
+            (λ left is goes. (
+            let parts = went_so start seat line.number step text entries left is in
+            let later = rest.comes left texts came goes in (
+              later.0 ∙ whole,
+              parts.1 ∙ ap (λ (es : List (List ℕ)). entry_texts (length start + 1) step.added ++ es) later.1
+                  ∙ sym (texts_on start step.added rest.own came.entries),
+              λ i. parts.0 i ∷ later.2 i,
+            )))
+      ];
     }

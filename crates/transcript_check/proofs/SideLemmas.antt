@@ -1,17 +1,18 @@
 -- Sections side by side: each fits what is behind them all.
-use Rattle.std.proofs.Common.{ℕ, suc, ◌≡◌, ◌≤◌, ◌<◌, Bool, true, false, cond, List, [], ◌∷◌, ◌++◌, map, refl, sym, ap, ◌∙◌, subst, arith, Option, Some, None, ◌⊎◌, inl, inr, ⊎_elim, eqb}
+use Rattle.std.proofs.Common.{ℕ, suc, ◌≡◌, ◌≤◌, ◌<◌, Bool, true, false, List, [], ◌∷◌, ◌++◌, map, refl, sym, ap, ◌∙◌, subst, arith, Option, Some, None, ◌⊎◌, inl, inr, eqb}
 use Rattle.std.specs.Prelude.{option_map}
 use Rattle.std.specs.List.{list_all}
-use Rattle.std.proofs.lemmas.Bool.{cond-true, cond-false, eqb-true, eqb-false, or_parts, or_from, and_parts, and_from, cases_lt}
+use Rattle.std.proofs.lemmas.Bool.{cond-true, cond-false, eqb-true, eqb-false, or_parts, or_from, and_parts, and_from}
 use Rattle.list_laws.specs.Fronts.{IsFront}
 use Rattle.list_laws.proofs.BoolLemmas.{bool_cases}
+use Rattle.transcript_check.proofs.ChoiceLemmas.{chosen, unless_some}
 use Rattle.write_history.specs.declared.entry.Entry.{Entry}
 use Rattle.write_history.specs.Fold.{fold, list_refusal}
 use Rattle.transcripts.specs.Fits.{made_by}
 use Rattle.transcript_check.specs.Section.{Cursor, Made, told_here, is_over, made_here}
 use Rattle.transcript_check.specs.Phase.{Went, is_busy, went_first, went_later, section_went}
-use Rattle.transcript_check.proofs.StepLemmas.{GoesByLowest, made_by-own, made_by-other}
-use Rattle.transcript_check.proofs.CursorLemmas.{StateFits, CursorFits, StopsAt, AreFew, told_fits, other_forth, other_back, own_forth, own_back, made_seat, made_lawful, over_back, over_forth, none_some, some_some}
+use Rattle.transcript_check.proofs.StepLemmas.{made_by-own, made_by-other}
+use Rattle.transcript_check.proofs.CursorLemmas.{StateFits, CursorFits, StopsAt, AreFew, told_fits, other_forth, other_back, own_forth, own_back, made_seat, made_lawful, over_back, over_forth}
 
 -- each section fits what is behind `here`
 abbrev pub CursorsFit : Bool → List Entry → List Entry → List Cursor → List Entry → Type 0
@@ -37,10 +38,12 @@ seats_rise first past [] seated = omega arith
 seats_rise first past (c ∷ cs) seated = let rest = seats_rise (suc first) past cs seated.1 in omega arith
 
 none_later : (first past seat : ℕ) → IsNoneOf first past seat → IsNoneOf (suc first) past seat
-none_later first past seat none = ⊎_elim (λ (h : seat < first). inl (omega arith)) (λ (h : past ≤ seat). inr h) none
+none_later first past seat (inl h) = inl (omega arith)
+none_later first past seat (inr h) = inr h
 
 none_first : (first past seat : ℕ) → first < past → IsNoneOf first past seat → seat ≡ first → ⊥
-none_first first past seat below none same = ⊎_elim (λ (h : seat < first). absurd (omega arith)) (λ (h : past ≤ seat). absurd (omega arith)) none
+none_first first past seat below (inl h) same = absurd (omega arith)
+none_first first past seat below (inr h) same = absurd (omega arith)
 
 -- sections behind all records that are told here
 pub record ToldAll (beside : Bool) (history here : List Entry) (cursors told : List Cursor) : Type 0 where
@@ -49,12 +52,12 @@ pub record ToldAll (beside : Bool) (history here : List Entry) (cursors told : L
   pub seated : (first past : ℕ) → AreSeated first past cursors → AreSeated first past told
   pub stops : AllStop beside here told
 
-module _ (laws : GoesByLowest) (beside : Bool) (history : List Entry) where
+module _ (beside : Bool) (history : List Entry) where
   pub all_told_fits : (here : List Entry) (cursors : List Cursor) → IsFront here history
       → ToldAll beside history here cursors (map (told_here beside here) cursors)
   all_told_fits here [] front = record { forth = λ few behind fits. tt; back = λ behind fits. tt; seated = λ first past seated. seated; stops = tt }
   all_told_fits here (c ∷ cs) front =
-      let one = told_fits laws beside history c.seat here c.settling c.lines c.texts front in
+      let one = told_fits beside history c.seat here c.settling c.lines c.texts front in
       let rest = all_told_fits here cs front in
       let told : Cursor = told_here beside here c in
       record {
@@ -80,7 +83,7 @@ module _ (laws : GoesByLowest) (beside : Bool) (history : List Entry) where
   others_forth here first past (c ∷ cs) e es seated none stops parts fits =
       let rise = seats_rise (suc first) past cs seated.1 in
       let other : e.seat ≡ c.seat → ⊥ = λ same. none_first first past e.seat (omega arith) none (same ∙ seated.0) in
-      let one = other_forth laws beside history c.seat here c.settling c.lines c.texts e es (made_by c.seat es) stops.0 parts other
+      let one = other_forth beside history c.seat here c.settling c.lines c.texts e es (made_by c.seat es) stops.0 parts other
       (subst (CursorFits beside history here c) (made_by-other c.seat e es other) fits.0) in
       let rest = others_forth here (suc first) past cs e es seated.1 (none_later first past e.seat none) stops.1 parts fits.1 in (
         or_from c.settling (is_busy cs) one.0 rest.0,
@@ -96,7 +99,7 @@ module _ (laws : GoesByLowest) (beside : Bool) (history : List Entry) where
       let other : e.seat ≡ c.seat → ⊥ = λ same. none_first first past e.seat (omega arith) none (same ∙ seated.0) in
       let parts = or_parts c.settling (is_busy cs) quiet in (
         subst (CursorFits beside history here c) (sym (made_by-other c.seat e es other))
-            (other_back laws beside history c.seat here c.settling c.lines c.texts e (made_by c.seat es) parts.0 fits.0),
+            (other_back beside history c.seat here c.settling c.lines c.texts e (made_by c.seat es) parts.0 fits.0),
         others_back here (suc first) past cs e es seated.1 (none_later first past e.seat none) parts.1 fits.1,
       )
 
@@ -115,7 +118,7 @@ module _ (laws : GoesByLowest) (beside : Bool) (history : List Entry) where
       (λ (b : Bool). SectionGoes here first past (c ∷ cs) e es)
       (λ yes. (
       let same : c.seat ≡ e.seat = eqb-true c.seat e.seat yes in
-      let one = own_forth laws beside history c.seat here c.settling c.lines c.texts e es stops.0 parts (sym same) fits.0 in
+      let one = own_forth beside history c.seat here c.settling c.lines c.texts e es stops.0 parts (sym same) fits.0 in
       let rest = others_forth here (suc first) past cs e es seated.1 (inl (let at = seated.0 in omega arith)) stops.1 parts fits.1 in
       record {
         behind = one.cursor ∷ cs;
@@ -127,10 +130,10 @@ module _ (laws : GoesByLowest) (beside : Bool) (history : List Entry) where
       }))
       (λ fails. (
       let other : e.seat ≡ c.seat → ⊥ = λ same. eqb-false c.seat e.seat fails (sym same) in
-      let one = other_forth laws beside history c.seat here c.settling c.lines c.texts e es (made_by c.seat es) stops.0 parts other
+      let one = other_forth beside history c.seat here c.settling c.lines c.texts e es (made_by c.seat es) stops.0 parts other
       (subst (CursorFits beside history here c) (made_by-other c.seat e es other) fits.0) in
       let at = seated.0 in
-      let rest = section_forth here (suc first) past cs e es seated.1 (strictly first e.seat above (λ h. other (h ∙ sym at))) below stops.1 parts fits.1 in
+      let rest = section_forth here (suc first) past cs e es seated.1 (omega arith) below stops.1 parts fits.1 in
       record {
         behind = c ∷ rest.behind;
         goes = cond-false (eqb c.seat e.seat) (went_first cs (made_here here c)) (went_later c (section_went e.seat here cs)) fails
@@ -139,12 +142,9 @@ module _ (laws : GoesByLowest) (beside : Bool) (history : List Entry) where
         seated = (at, rest.seated);
         fits = (subst (λ (b : Bool). StateFits beside history (here ++ e ∷ []) c.seat b c.lines c.texts (made_by c.seat es)) (sym one.0) one.1, rest.fits);
       }))
-    where
-      strictly : (a b : ℕ) → a ≤ b → (b ≡ a → ⊥) → suc a ≤ b
-      strictly a b le ne = ⊎_elim (λ (h : a < b). omega arith) (λ (h : b ≤ a). absurd (ne (omega arith))) (cases_lt a b)
 
 -- what an entry of one of them is
-pub record SectionWent (laws : GoesByLowest) (here : List Entry) (first past seat : ℕ) (cursors : List Cursor) (w : Went) : Type 0 where
+pub record SectionWent (here : List Entry) (first past seat : ℕ) (cursors : List Cursor) (w : Went) : Type 0 where
   pub seat_is : w.entry.seat ≡ seat
   pub within : first ≤ seat
   pub below : seat < past
@@ -154,86 +154,93 @@ pub record SectionWent (laws : GoesByLowest) (here : List Entry) (first past sea
       → CursorsFit beside history (here ++ w.entry ∷ []) w.cursors es → CursorsFit beside history here cursors (w.entry ∷ es)
 
 -- an option that a function was taken over
-record Mapped {A B : Type 0} (f : A → B) (option : Option A) (b : B) : Type 0 where
-  value : A
-  is : option ≡ Some value
-  same : f value ≡ b
+mapped : {A B : Type 0} (f : A → B) (option : Option A) (b : B) → option_map f option ≡ Some b → (a : A) × (option ≡ Some a) × (f a ≡ b)
+mapped f None b h = absurd (cc)
+mapped f (Some a) b h = (a, refl, cc)
 
-mapped : {A B : Type 0} (f : A → B) (option : Option A) (b : B) → option_map f option ≡ Some b → Mapped f option b
-mapped f None b h = absurd (none_some h)
-mapped f (Some a) b h = record { value = a; is = refl; same = some_some h }
+-- the first section's own entry, and one of a later section
+own_went : (here : List Entry) (first past : ℕ) (c : Cursor) (cs : List Cursor) (w : Went) → AreSeated first past (c ∷ cs)
+    → went_first cs (made_here here c) ≡ Some w → SectionWent here first past c.seat (c ∷ cs) w
+own_went here first past c cs w seated goes =
+    let behind : Made → Went = λ m. record { entry = m.entry; cursors = m.cursor ∷ cs } in
+    let quiet = unless_some (is_busy cs) (option_map behind (made_here here c)) goes in
+    let step = mapped behind (made_here here c) w quiet.1 in
+    let m : Made = step.0 in
+    let keeps = made_seat true [] c.seat here c.lines c.texts m step.1 in
+    let rise = seats_rise (suc first) past cs seated.1 in
+    let begins = seated.0 in
+    subst (SectionWent here first past c.seat (c ∷ cs)) step.2 (record {
+      seat_is = keeps.1;
+      within = omega arith;
+      below = omega arith;
+      seated = (keeps.0 ∙ seated.0, seated.1);
+      lawful = made_lawful true [] c.seat here c.lines c.texts m step.1;
+      back = λ beside history es front fits. (
+        subst (CursorFits beside history here c) (sym (made_by-own c.seat m.entry es keeps.1))
+            (own_back beside history c.seat here c.settling c.lines c.texts m (made_by c.seat es) step.1 front
+            (subst (λ (n : ℕ). CursorFits beside history (here ++ m.entry ∷ []) m.cursor (made_by n es)) keeps.0 fits.0)),
+        others_back beside history here (suc first) past cs m.entry es seated.1 (inl (let is = keeps.1 in omega arith)) quiet.0 fits.1,
+      );
+    })
 
-pub went_back : (laws : GoesByLowest) (here : List Entry) (first past seat : ℕ) (cursors : List Cursor) (w : Went) → AreSeated first past cursors
-    → section_went seat here cursors ≡ Some w → SectionWent laws here first past seat cursors w
-went_back laws here first past seat [] w seated goes = absurd (none_some goes)
-went_back laws here first past seat (c ∷ cs) w seated goes = bool_cases (eqb c.seat seat)
-    (λ (b : Bool). cond b (went_first cs (made_here here c)) (went_later c (section_went seat here cs)) ≡ Some w
-    → SectionWent laws here first past seat (c ∷ cs) w)
-    (λ yes first_goes. own yes first_goes)
-    (λ fails later_goes. later (λ v is. went_back laws here (suc first) past seat cs v seated.1 is) fails later_goes) goes
-  where
-    own : eqb c.seat seat ≡ true → went_first cs (made_here here c) ≡ Some w → SectionWent laws here first past seat (c ∷ cs) w
-    own its = bool_cases (is_busy cs)
-        (λ (b : Bool). cond b None (option_map (λ (m : Made). record { entry = m.entry; cursors = m.cursor ∷ cs }) (made_here here c)) ≡ Some w
-        → SectionWent laws here first past seat (c ∷ cs) w)
-        (λ busy h. absurd (none_some h))
-        (λ quiet h. (
-        let step = mapped (λ (m : Made). record { entry = m.entry; cursors = m.cursor ∷ cs }) (made_here here c) w h in
-        let m : Made = step.value in
-        let at = eqb-true c.seat seat its in
-        let keeps = made_seat laws true [] c.seat here c.lines c.texts m step.is in
-        let rise = seats_rise (suc first) past cs seated.1 in
-        let begins = seated.0 in
-        subst (SectionWent laws here first past seat (c ∷ cs)) step.same (record {
-          seat_is = keeps.1 ∙ at;
-          within = omega arith;
-          below = omega arith;
-          seated = (keeps.0 ∙ seated.0, seated.1);
-          lawful = made_lawful laws true [] c.seat here c.lines c.texts m step.is;
-          back = λ beside history es front fits. (
-            subst (CursorFits beside history here c) (sym (made_by-own c.seat m.entry es keeps.1))
-                (own_back laws beside history c.seat here c.settling c.lines c.texts m (made_by c.seat es) step.is front
-                (subst (λ (n : ℕ). CursorFits beside history (here ++ m.entry ∷ []) m.cursor (made_by n es)) keeps.0 fits.0)),
-            others_back laws beside history here (suc first) past cs m.entry es seated.1
-                (inl (let is = keeps.1 in omega arith)) quiet fits.1,
-          );
-        })))
+later_went : (here : List Entry) (first past seat : ℕ) (c : Cursor) (cs : List Cursor) (w : Went) → AreSeated first past (c ∷ cs)
+    → ((v : Went) → section_went seat here cs ≡ Some v → SectionWent here (suc first) past seat cs v) → (c.seat ≡ seat → ⊥)
+    → went_later c (section_went seat here cs) ≡ Some w → SectionWent here first past seat (c ∷ cs) w
+later_went here first past seat c cs w seated others fails goes =
+    let behind : Went → Went = λ v. record { entry = v.entry; cursors = c ∷ v.cursors } in
+    let quiet = unless_some c.settling (option_map behind (section_went seat here cs)) goes in
+    let step = mapped behind (section_went seat here cs) w quiet.1 in
+    let rest = others step.0 step.1 in
+    let above : suc first ≤ seat = rest.within in
+    let other : step.0.entry.seat ≡ c.seat → ⊥ = λ same. fails (sym same ∙ rest.seat_is) in
+    subst (SectionWent here first past seat (c ∷ cs)) step.2 (record {
+      seat_is = rest.seat_is;
+      within = omega arith;
+      below = rest.below;
+      seated = (seated.0, rest.seated);
+      lawful = rest.lawful;
+      back = λ beside history es front fits. (
+        subst (CursorFits beside history here c) (sym (made_by-other c.seat step.0.entry es other))
+            (other_back beside history c.seat here c.settling c.lines c.texts step.0.entry (made_by c.seat es) quiet.0 fits.0),
+        rest.back beside history es front fits.1,
+      );
+    })
 
-    later : ((v : Went) → section_went seat here cs ≡ Some v → SectionWent laws here (suc first) past seat cs v) → eqb c.seat seat ≡ false
-        → went_later c (section_went seat here cs) ≡ Some w → SectionWent laws here first past seat (c ∷ cs) w
-    later others fails = bool_cases c.settling
-        (λ (b : Bool). (c.settling ≡ b) → cond b None
-        (option_map (λ (v : Went). record { entry = v.entry; cursors = c ∷ v.cursors }) (section_went seat here cs)) ≡ Some w
-        → SectionWent laws here first past seat (c ∷ cs) w)
-        (λ busy is h. absurd (none_some h))
-        (λ quiet is h. (
-        let step = mapped (λ (v : Went). record { entry = v.entry; cursors = c ∷ v.cursors }) (section_went seat here cs) w h in
-        let rest = others step.value step.is in
-        let above : suc first ≤ seat = rest.within in
-        let other : step.value.entry.seat ≡ c.seat → ⊥ = λ same. eqb-false c.seat seat fails (sym same ∙ rest.seat_is) in
-        subst (SectionWent laws here first past seat (c ∷ cs)) step.same (record {
-          seat_is = rest.seat_is;
-          within = omega arith;
-          below = rest.below;
-          seated = (seated.0, rest.seated);
-          lawful = rest.lawful;
-          back = λ beside history es front fits. (
-            subst (CursorFits beside history here c) (sym (made_by-other c.seat step.value.entry es other))
-                (other_back laws beside history c.seat here c.settling c.lines c.texts step.value.entry (made_by c.seat es) quiet fits.0),
-            rest.back beside history es front fits.1,
-          );
-        }))) refl
+pub went_back : (here : List Entry) (first past seat : ℕ) (cursors : List Cursor) (w : Went) → AreSeated first past cursors
+    → section_went seat here cursors ≡ Some w → SectionWent here first past seat cursors w
+went_back here first past seat [] w seated goes = absurd (cc)
+went_back here first past seat (c ∷ cs) w seated goes =
+    elim (chosen (eqb c.seat seat) (went_first cs (made_here here c)) (went_later c (section_went seat here cs)) goes) [
+      | inl own ↦ subst (λ (n : ℕ). SectionWent here first past n (c ∷ cs) w) (eqb-true c.seat seat own.0) (own_went here first past c cs w seated own.1)
+      | inr later ↦ later_went here first past seat c cs w seated (λ v is. went_back here (suc first) past seat cs v seated.1 is)
+          (eqb-false c.seat seat later.0) later.1
+    ]
+
+-- the entry of the section with a seat has it
+pub section_seated : (seat : ℕ) (history : List Entry) (cursors : List Cursor) (w : Went) → section_went seat history cursors ≡ Some w
+    → w.entry.seat ≡ seat
+section_seated seat history [] w goes = absurd (cc)
+section_seated seat history (c ∷ cs) w goes =
+    let first : Made → Went = λ m. record { entry = m.entry; cursors = m.cursor ∷ cs } in
+    let behind : Went → Went = λ v. record { entry = v.entry; cursors = c ∷ v.cursors } in
+    elim (chosen (eqb c.seat seat) (went_first cs (made_here history c)) (went_later c (section_went seat history cs)) goes) [
+      | inl own ↦ (let step = mapped first (made_here history c) w (unless_some (is_busy cs) (option_map first (made_here history c)) own.1).1 in
+          ap (λ (x : Went). x.entry.seat) (sym step.2) ∙ (made_seat true [] c.seat history c.lines c.texts step.0 step.1).1 ∙ eqb-true c.seat seat own.0)
+      | inr later ↦ (let step = mapped behind (section_went seat history cs) w
+          (unless_some c.settling (option_map behind (section_went seat history cs)) later.1).1 in
+          ap (λ (x : Went). x.entry.seat) (sym step.2) ∙ section_seated seat history cs step.0 step.1)
+    ]
 
 -- at the end of a history each section fits it where it is over
-pub all_over_back : (laws : GoesByLowest) (beside : Bool) (here : List Entry) (cursors : List Cursor) → list_all is_over cursors ≡ true
+pub all_over_back : (beside : Bool) (here : List Entry) (cursors : List Cursor) → list_all is_over cursors ≡ true
     → CursorsFit beside here here cursors []
-all_over_back laws beside here [] over = tt
-all_over_back laws beside here (c ∷ cs) over =
+all_over_back beside here [] over = tt
+all_over_back beside here (c ∷ cs) over =
     let parts = and_parts (is_over c) (list_all is_over cs) over in
-    (over_back laws beside here c.seat c here parts.0, all_over_back laws beside here cs parts.1)
+    (over_back beside here c.seat here c.settling c.lines c.texts parts.0, all_over_back beside here cs parts.1)
 
-pub all_over_forth : (laws : GoesByLowest) (beside : Bool) (here : List Entry) (cursors : List Cursor) → AllStop beside here cursors
+pub all_over_forth : (beside : Bool) (here : List Entry) (cursors : List Cursor) → AllStop beside here cursors
     → CursorsFit beside here here cursors [] → list_all is_over cursors ≡ true
-all_over_forth laws beside here [] stops fits = refl
-all_over_forth laws beside here (c ∷ cs) stops fits = and_from (is_over c) (list_all is_over cs)
-    (over_forth laws beside here c.seat c.settling c.lines c.texts stops.0 fits.0) (all_over_forth laws beside here cs stops.1 fits.1)
+all_over_forth beside here [] stops fits = refl
+all_over_forth beside here (c ∷ cs) stops fits = and_from (is_over c) (list_all is_over cs)
+    (over_forth beside here c.seat c.settling c.lines c.texts stops.0 fits.0) (all_over_forth beside here cs stops.1 fits.1)

@@ -11,7 +11,7 @@ use Rattle.list_laws.proofs.BoolLemmas.{bool_cases}
 use Rattle.list_laws.proofs.FrontLemmas.{filter_more, filter_same}
 use Rattle.write_history.specs.declared.change.Change.TheVariants.{Intake}
 use Rattle.write_history.specs.declared.entry.Entry.{Entry}
-use Rattle.ide_calls.specs.Settle.{entry_of}
+use Rattle.write_history.specs.Settle.{entry_of}
 use Rattle.transcripts.specs.Fits.{made_by}
 use Rattle.transcript_check.specs.Phase.{is_intake_at, has_taken}
 use Rattle.transcript_check.specs.Taken.{Taking, is_taking, is_among, AreKept}

@@ -1,11 +1,11 @@
 -- A section by the texts of its records: what `SectionFits` says, without what isn't printed.
-use Rattle.std.proofs.Common.{ℕ, ◌≡◌, ◌+◌, ◌≤◌, Bool, true, List, [], ◌∷◌, ◌++◌, length, map, refl, sym, ap, ◌∙◌, subst, arith, ◌⊎◌, inl, inr, ⊎_elim}
+use Rattle.std.proofs.Common.{ℕ, ◌≡◌, ◌+◌, ◌≤◌, Bool, true, List, [], ◌∷◌, ◌++◌, length, map, refl, sym, ap, ◌∙◌, subst, arith, ◌⊎◌, inl, inr}
 use Rattle.std.specs.Prelude.{bytes_eq}
 use Rattle.std.proofs.lemmas.Slice.Eq.{bytes_eq-Decides}
 use Rattle.list_laws.specs.Fronts.{IsFront}
 use Rattle.write_history.specs.declared.entry.Entry.{Entry}
 use Rattle.queries.specs.declared.query.Query.{Query}
-use Rattle.ide_calls.specs.Sighting.{Sighting}
+use Rattle.transcripts.specs.Sighting.{Sighting}
 use Rattle.script_lang.specs.declared.command.Command.{Command}
 use Rattle.script_lang.specs.declared.command.Command.TheVariants as command
 use Rattle.script_lang.specs.declared.line.Line.{Line}
@@ -13,7 +13,7 @@ use Rattle.transcripts.specs.declared.loaded.Loaded.TheVariants.{Nothing}
 use Rattle.transcripts.specs.declared.record.Answer.{Answer}
 use Rattle.transcripts.specs.declared.record.Answer.TheVariants.{Cancelled}
 use Rattle.transcripts.specs.declared.record.Record.{Record}
-use Rattle.transcripts.specs.Fits.{Mark, IsDone, IsGivenUp, Fits, SectionFits}
+use Rattle.transcripts.specs.Fits.{Mark, IsGivenUp, Fits, SectionFits}
 use Rattle.transcripts.specs.Transcript.{record_text}
 use Rattle.transcript_check.specs.Section.{line_step, told_text, given_up, tells_given_up}
 
@@ -42,24 +42,33 @@ abbrev pub TextFits : Bool → List Entry → ℕ → Line → ℕ → List Entr
 TextFits beside history seat line len made text between =
     DoneLate history seat line len made text between ⊎ ((beside ≡ true) × WasGivenUp seat line len made text between)
 
--- the first text fits, and the others
-pub record FirstFits (First : List Entry → List ℕ → ℕ → Type 0) (Rest : List (List ℕ) → List Entry → ℕ → Type 0)
-    (texts : List (List ℕ)) (own : List Entry) : Type 0 where
-  pub text : List ℕ
+-- what stands for the first text fits, and what stands for the others
+pub record FirstFits (First Rest : List Entry → ℕ → Type 0) (own : List Entry) : Type 0 where
   pub made : List Entry
   pub between : ℕ
-  pub later : List (List ℕ)
   pub made_later : List Entry
-  pub texts_are : texts ≡ text ∷ later
   pub own_is : own ≡ made ++ made_later
-  pub first : First made text between
-  pub rest : Rest later made_later between
+  pub first : First made between
+  pub rest : Rest made_later between
+
+-- the first fits in another way, and the others as before
+pub first_as : {P Q R : List Entry → ℕ → Type 0} {own : List Entry} → (fits : FirstFits P R own) → Q fits.made fits.between → FirstFits Q R own
+first_as fits first = record {
+  made = fits.made;
+  between = fits.between;
+  made_later = fits.made_later;
+  own_is = fits.own_is;
+  first = first;
+  rest = fits.rest;
+}
 
 -- the texts of a section's records fit the history from so many entries on, of which these are its own
 abbrev pub TextsFit : Bool → List Entry → ℕ → ℕ → List Line → List (List ℕ) → List Entry → Type 0
 TextsFit beside history seat len [] texts own = (texts ≡ []) × (own ≡ [])
-TextsFit beside history seat len (line ∷ lines) texts own =
-    FirstFits (TextFits beside history seat line len) (λ later made_later between. TextsFit beside history seat between lines later made_later) texts own
+TextsFit beside history seat len (line ∷ lines) [] own = ⊥
+TextsFit beside history seat len (line ∷ lines) (text ∷ texts) own =
+    FirstFits (λ made between. TextFits beside history seat line len made text between)
+    (λ made_later between. TextsFit beside history seat between lines texts made_later) own
 
 pub text_is : (xs ys : List ℕ) → bytes_eq xs ys ≡ true → xs ≡ ys
 text_is xs ys = (bytes_eq-Decides xs ys).0
@@ -71,11 +80,10 @@ soft_told seat number attempts query c is =
     subst (λ (d : Command). tells_given_up seat number d (told_text seat number (given_up seat attempts)) ≡ true) (sym is)
     ((bytes_eq-Decides (told_text seat number (given_up seat attempts)) (told_text seat number (given_up seat attempts))).1 refl)
 
-given_text : (seat : ℕ) (line : Line) (low high : Mark) (made : List Entry) (answer : Answer) → IsGivenUp seat line low made answer high
+given_text : {seat : ℕ} {line : Line} {low high : Mark} {made : List Entry} {answer : Answer} → IsGivenUp seat line low made answer high
     → WasGivenUp seat line low.seen made (record_text (record { seat = seat; line = line.number; answer = answer })) high.seen
-given_text seat line low high made answer given =
-    let same : told_text seat line.number answer ≡ told_text seat line.number (given_up seat given.attempts) =
-    ap (told_text seat line.number) given.told ∙ ap (λ (n : ℕ). told_text seat line.number (given_up seat n)) given.allowed in
+given_text {seat} {line} given =
+    let same = ap (told_text seat line.number) given.told ∙ ap (λ (n : ℕ). told_text seat line.number (given_up seat n)) given.allowed in
     record {
       told = subst (λ (t : List ℕ). tells_given_up seat line.number line.command t ≡ true) (sym same)
           (soft_told seat line.number given.attempts given.query line.command given.soft);
@@ -83,34 +91,27 @@ given_text seat line low high made answer given =
       between_is = given.seen;
     }
 
-done_text : (history : List Entry) (seat : ℕ) (line : Line) (low high : Mark) (made : List Entry) (answer : Answer)
-    → IsDone history seat line Nothing low made answer high
-    → DoneLate history seat line low.seen made (record_text (record { seat = seat; line = line.number; answer = answer })) high.seen
-done_text history seat line low high made answer done = record {
-  start = done.start;
-  late = done.late;
-  done = record { answer = answer; stands = done.stands; step = done.step; told = refl };
-  between_is = done.seen;
-}
-
 pub texts_of_section : (beside : Bool) (history : List Entry) (seat : ℕ) (low high : Mark) (lines : List Line) (records : List Record) (own : List Entry)
     → SectionFits beside history seat low lines [] records own high
     → TextsFit beside history seat low.seen lines (map record_text records) own
 texts_of_section beside history seat low high [] records own fits = (ap (map record_text) fits.0, fits.1)
-texts_of_section beside history seat low high (line ∷ lines) records own fits = record {
-  text = record_text (record { seat = seat; line = line.number; answer = fits.answer });
-  made = fits.made;
-  between = fits.between.seen;
-  later = map record_text fits.later;
-  made_later = fits.made_later;
-  texts_are = ap (map record_text) fits.records_are;
-  own_is = fits.own_is;
-  first = ⊎_elim (λ (done : IsDone history seat line Nothing low fits.made fits.answer fits.between).
-      inl (done_text history seat line low fits.between fits.made fits.answer done))
-      (λ (given : (beside ≡ true) × IsGivenUp seat line low fits.made fits.answer fits.between).
-      inr (given.0, given_text seat line low fits.between fits.made fits.answer given.1)) fits.first;
-  rest = texts_of_section beside history seat fits.between high lines fits.later fits.made_later fits.rest;
-}
+texts_of_section beside history seat low high (line ∷ lines) records own fits =
+    subst (λ (rs : List Record). TextsFit beside history seat low.seen (line ∷ lines) (map record_text rs) own) (sym fits.records_are) (record {
+      made = fits.made;
+      between = fits.between.seen;
+      made_later = fits.made_later;
+      own_is = fits.own_is;
+      first = elim fits.first [
+        | inl done ↦ inl (record {
+          start = done.start;
+          late = done.late;
+          done = record { answer = fits.answer; stands = done.stands; step = done.step; told = refl };
+          between_is = done.seen;
+        })
+        | inr given ↦ inr (given.0, given_text given.1)
+      ];
+      rest = texts_of_section beside history seat fits.between high lines fits.later fits.made_later fits.rest;
+    })
 
 -- and back: the records can be told so, whatever the sights at the beginning
 pub record RecordsFit (beside : Bool) (history : List Entry) (seat len sights : ℕ) (lines : List Line) (texts : List (List ℕ))
@@ -145,10 +146,22 @@ gave_up seat number (command.Load path) text told = absurd cc
 gave_up seat number command.Settle text told = absurd cc
 gave_up seat number (command.Ask query) text told = absurd cc
 
-record_given : (beside : Bool) (history : List Entry) (seat : ℕ) (line : Line) (len sights : ℕ) (made : List Entry) (text : List ℕ) (between : ℕ)
-    → beside ≡ true
-    → WasGivenUp seat line len made text between → RecordFits beside history seat line len sights made text between
-record_given beside history seat line len sights made text between is given =
+record_fits : (beside : Bool) (history : List Entry) (seat : ℕ) (line : Line) (len sights : ℕ) (made : List Entry) (text : List ℕ) (between : ℕ)
+    → TextFits beside history seat line len made text between → RecordFits beside history seat line len sights made text between
+record_fits beside history seat line len sights made text between (inl late) = record {
+  answer = late.done.answer;
+  later_sights = sights;
+  fits = inl (record {
+    start = late.start;
+    late = late.late;
+    stands = late.done.stands;
+    step = late.done.step;
+    seen = late.between_is;
+    sights = omega arith;
+  });
+  text_is = late.done.told;
+}
+record_fits beside history seat line len sights made text between (inr (is, given)) =
     let gave : GaveUp seat line text = gave_up seat line.number line.command text given.told in
     let sighted : Sighting = record { seat = seat; attempts = gave.attempts; before = sights; after = sights + gave.attempts } in
     record {
@@ -174,33 +187,14 @@ record_given beside history seat line len sights made text between is given =
       text_is = gave.told;
     }
 
-record_done : (beside : Bool) (history : List Entry) (seat : ℕ) (line : Line) (len sights : ℕ) (made : List Entry) (text : List ℕ) (between : ℕ)
-    → DoneLate history seat line len made text between → RecordFits beside history seat line len sights made text between
-record_done beside history seat line len sights made text between late = record {
-  answer = late.done.answer;
-  later_sights = sights;
-  fits = inl (record {
-    start = late.start;
-    late = late.late;
-    stands = late.done.stands;
-    step = late.done.step;
-    seen = late.between_is;
-    sights = omega arith;
-  });
-  text_is = late.done.told;
-}
-
 pub section_of_texts : (beside : Bool) (history : List Entry) (seat len sights : ℕ) (lines : List Line) (texts : List (List ℕ)) (own : List Entry)
     → TextsFit beside history seat len lines texts own → RecordsFit beside history seat len sights lines texts own
 section_of_texts beside history seat len sights [] texts own fits =
     record { records = []; high = record { seen = len; sights = sights }; fits = (refl, fits.1, refl); texts_are = sym fits.0 }
-section_of_texts beside history seat len sights (line ∷ lines) texts own fits =
-    let first : RecordFits beside history seat line len sights fits.made fits.text fits.between =
-    ⊎_elim (λ (late : DoneLate history seat line len fits.made fits.text fits.between).
-    record_done beside history seat line len sights fits.made fits.text fits.between late)
-    (λ (given : (beside ≡ true) × WasGivenUp seat line len fits.made fits.text fits.between).
-    record_given beside history seat line len sights fits.made fits.text fits.between given.0 given.1) fits.first in
-    let rest = section_of_texts beside history seat fits.between first.later_sights lines fits.later fits.made_later fits.rest in
+section_of_texts beside history seat len sights (line ∷ lines) [] own fits = absurd fits
+section_of_texts beside history seat len sights (line ∷ lines) (text ∷ texts) own fits =
+    let first = record_fits beside history seat line len sights fits.made text fits.between fits.first in
+    let rest = section_of_texts beside history seat fits.between first.later_sights lines texts fits.made_later fits.rest in
     record {
       records = record { seat = seat; line = line.number; answer = first.answer } ∷ rest.records;
       high = rest.high;
@@ -215,5 +209,5 @@ section_of_texts beside history seat len sights (line ∷ lines) texts own fits 
         first = first.fits;
         rest = rest.fits;
       };
-      texts_are = (λ i. first.text_is i ∷ rest.texts_are i) ∙ sym fits.texts_are;
+      texts_are = λ i. first.text_is i ∷ rest.texts_are i;
     }

@@ -1,5 +1,5 @@
 -- Bytes are found good exactly where they are a transcript.
-use Rattle.std.proofs.Common.{ℕ, suc, ◌≡◌, ◌+◌, ◌≤◌, ◌<◌, ◌^◌, Bool, true, false, List, [], ◌∷◌, ◌++◌, length, take, drop, take-append-drop, length-take, refl, sym, ap, ◌∙◌, subst, length-append, arith}
+use Rattle.std.proofs.Common.{ℕ, suc, ◌≡◌, ◌+◌, ◌<◌, ◌^◌, Bool, true, false, List, [], ◌∷◌, ◌++◌, length, take, drop, take-append-drop, refl, sym, ap, ◌∙◌, subst, length-append, arith}
 use Rattle.std.specs.Prelude.{bytes_eq}
 use Rattle.std.specs.List.{concat, flat_map}
 use Rattle.std.proofs.lemmas.Slice.Eq.{bytes_eq-Decides}
@@ -15,47 +15,49 @@ use Rattle.transcripts.specs.Serial.{Ended, run_of, later_loads}
 use Rattle.transcripts.specs.Fits.{Mark, SectionFits, LanesFit, RunFits}
 use Rattle.transcripts.specs.Play.{PlaysWith, IsTranscriptOf}
 use Rattle.transcripts.specs.Transcript.{transcript_of}
+use Rattle.transcript_check.proofs.BlockLemmas.{blocks-joined}
+use Rattle.transcript_check.proofs.RecordBlocks.{texts-joined}
+use Rattle.transcript_check.proofs.CheckedLemmas.{checked_sound}
 use Rattle.transcript_check.specs.Blocks.{blocks_of}
 use Rattle.transcript_check.specs.Texts.{history_line, texts_of}
 use Rattle.transcript_check.specs.Checked.{entry_texts, record_texts, are_checked, AreTextsOfRun}
 use Rattle.transcript_check.specs.Verdict.{are_told, entries_among, are_blocks_of, verdict_of}
 use Rattle.transcript_check.proofs.Texts.{text_is}
 use Rattle.transcript_check.proofs.MiddleLemmas.{take_front, drop_front}
-use Rattle.std.proofs.lemmas.List.{length-map}
+use Rattle.std.proofs.lemmas.List.{length-map, length-take-le}
 use Rattle.transcripts.specs.Transcript.{record_text}
 
--- What holds of cutting: blocks joined are the bytes, and a transcript is its texts joined, into which it is cut
-pub record Cuts : Type 0 where
-  pub joined : (bytes : List ℕ) → concat (blocks_of bytes) ≡ bytes
-  pub texts_joined : (ended : Ended) → concat (texts_of ended) ≡ transcript_of ended
-  pub cut : (loads : List Loaded) (script : Parts) (told : List Worked) (ended : Ended) → RunFits loads script told ended
-      → blocks_of (transcript_of ended) ≡ texts_of ended
+-- a transcript is cut into its texts
+abbrev pub IsCut : Type 0
+IsCut = (loads : List Loaded) (script : Parts) (told : List Worked) (ended : Ended) → RunFits loads script told ended
+    → blocks_of (transcript_of ended) ≡ texts_of ended
 
--- What holds of checked texts: they are those of a run, and all those of a run are checked; a run alone is one on one thread
-pub record Checks : Type 0 where
-  pub sound : (loads : List Loaded) (script : Parts) (workers : ℕ) (entries records : List (List ℕ))
-      → are_checked loads script workers entries records ≡ true → AreTextsOfRun loads script workers entries records
-  pub complete : (loads : List Loaded) (script : Parts) (workers : ℕ) (entries records : List (List ℕ)) → AreOfScript script → workers < 2 ^ 32
-      → AreTextsOfRun loads script workers entries records → are_checked loads script workers entries records ≡ true
-  pub alone : (loads : List Loaded) (script : Parts) (ended : Ended) → script.lanes ≡ [] → RunFits loads script [] ended → ended ≡ run_of loads script
+-- a run without lanes and workers is the one on one thread
+abbrev pub IsAlone : Type 0
+IsAlone = (loads : List Loaded) (script : Parts) (ended : Ended) → script.lanes ≡ [] → RunFits loads script [] ended → ended ≡ run_of loads script
 
-length-entry_texts : (position : ℕ) (entries : List Entry) → length (entry_texts position entries) ≡ length entries
+-- all texts of a run are checked
+abbrev pub AreAllChecked : Type 0
+AreAllChecked = (loads : List Loaded) (script : Parts) (workers : ℕ) (entries records : List (List ℕ)) → AreOfScript script → workers < 2 ^ 32
+    → AreTextsOfRun loads script workers entries records → are_checked loads script workers entries records ≡ true
+
+pub length-entry_texts : (position : ℕ) (entries : List Entry) → length (entry_texts position entries) ≡ length entries
 length-entry_texts position [] = refl
 length-entry_texts position (e ∷ entries) = ap suc (length-entry_texts (position + 1) entries)
 
 -- a run without workers is alone where it has no lanes
-plays : Checks → (loads : List Loaded) (script : Parts) (workers : ℕ) (told : List Worked) (ended : Ended) → length told ≡ workers
+plays : IsAlone → (loads : List Loaded) (script : Parts) (workers : ℕ) (told : List Worked) (ended : Ended) → length told ≡ workers
     → RunFits loads script told ended
     → PlaysWith loads script workers told ended
-plays checks loads script workers told ended count fits = record { count = count; fits = fits; alone = λ none nobody. alone told (count ∙ nobody) none fits }
+plays serial loads script workers told ended count fits = record { count = count; fits = fits; alone = λ none nobody. alone told (count ∙ nobody) none fits }
   where
     alone : (told : List Worked) → length told ≡ 0 → script.lanes ≡ [] → RunFits loads script told ended → ended ≡ run_of loads script
-    alone [] nobody none fits = checks.alone loads script ended none fits
+    alone [] nobody none fits = serial loads script ended none fits
     alone (worked ∷ told) nobody none fits = absurd (omega arith)
 
-pub verdict_sound : Cuts → Checks → (loads : List Loaded) (script : Parts) (workers : ℕ) (bytes : List ℕ) → verdict_of loads script workers bytes ≡ true
+pub verdict_sound : IsAlone → (loads : List Loaded) (script : Parts) (workers : ℕ) (bytes : List ℕ) → verdict_of loads script workers bytes ≡ true
     → IsTranscriptOf loads script workers bytes
-verdict_sound cuts checks loads script workers bytes good = by (blocks_of bytes) refl good
+verdict_sound serial loads script workers bytes good = by (blocks_of bytes) refl good
   where
     by : (blocks : List (List ℕ)) → blocks_of bytes ≡ blocks → are_blocks_of loads script workers blocks ≡ true → IsTranscriptOf loads script workers bytes
     by [] is h = absurd (both_ways false refl h)
@@ -64,8 +66,8 @@ verdict_sound cuts checks loads script workers bytes good = by (blocks_of bytes)
         let entries : List (List ℕ) = take count others in
         let records : List (List ℕ) = drop count others in
         let parts = and_parts (bytes_eq (history_line count) first) (are_checked loads script workers entries records) h in
-        let run = checks.sound loads script workers entries records parts.1 in
-        let long : length entries ≡ count = length-take-below count others (omega arith) in
+        let run = checked_sound loads script workers entries records parts.1 in
+        let long : length entries ≡ count = length-take-le count others (omega arith) in
         let history : length run.ended.history ≡ count = sym (length-entry_texts 1 run.ended.history) ∙ (ap length (sym run.entries_are) ∙ long) in
         let blocks_are : first ∷ others ≡ texts_of run.ended =
         λ i. (sym (text_is (history_line count) first parts.0) ∙ ap history_line (sym history)) i
@@ -73,12 +75,9 @@ verdict_sound cuts checks loads script workers bytes good = by (blocks_of bytes)
         record {
           told = run.told;
           ended = run.ended;
-          played = plays checks loads script workers run.told run.ended run.count run.fits;
-          printed = sym (cuts.joined bytes) ∙ (ap concat (is ∙ blocks_are) ∙ cuts.texts_joined run.ended);
+          played = plays serial loads script workers run.told run.ended run.count run.fits;
+          printed = sym (blocks-joined bytes) ∙ ap concat (is ∙ blocks_are) ∙ texts-joined run.ended;
         }
-      where
-        length-take-below : (n : ℕ) (xs : List (List ℕ)) → n ≤ length xs → length (take n xs) ≡ n
-        length-take-below n xs le = omega (arith, length-take n xs)
 
 -- there is a record for each line
 section_count : (beside : Bool) (history : List Entry) (seat : ℕ) (low high : Mark) (lines : List Line) (loads : List Loaded) (records : List Record)
@@ -111,20 +110,20 @@ run_count loads script told ended fits =
     let c = length-append script.prelude lines in
     let d = length-append (script.prelude ++ lines) script.last in omega arith
 
-pub verdict_complete : Cuts → Checks → (loads : List Loaded) (script : Parts) (workers : ℕ) (bytes : List ℕ) → AreOfScript script → workers < 2 ^ 32
+pub verdict_complete : IsCut → AreAllChecked → (loads : List Loaded) (script : Parts) (workers : ℕ) (bytes : List ℕ) → AreOfScript script → workers < 2 ^ 32
     → IsTranscriptOf loads script workers bytes → verdict_of loads script workers bytes ≡ true
-verdict_complete cuts checks loads script workers bytes are few is =
+verdict_complete cut complete loads script workers bytes are few is =
     let ended : Ended = is.ended in
     let fits : RunFits loads script is.told ended = is.played.fits in
     let entries : List (List ℕ) = entry_texts 1 ended.history in
     let records : List (List ℕ) = record_texts (ended.records ++ ended.last) in
-    let blocks : blocks_of bytes ≡ texts_of ended = ap blocks_of is.printed ∙ cuts.cut loads script is.told ended fits in
+    let blocks : blocks_of bytes ≡ texts_of ended = ap blocks_of is.printed ∙ cut loads script is.told ended fits in
     let told = run_count loads script is.told ended fits in
     let texts : length records ≡ length (ended.records ++ ended.last) = length-map (ended.records ++ ended.last) record_text in
     let made = length-entry_texts 1 ended.history in
     let all = length-append entries records in
     let count : entries_among script (entries ++ records) ≡ length ended.history = omega arith in
-    let checked : are_checked loads script workers entries records ≡ true = checks.complete loads script workers entries records are few
+    let checked : are_checked loads script workers entries records ≡ true = complete loads script workers entries records are few
     (record { told = is.told; ended = ended; count = is.played.count; fits = fits; entries_are = refl; records_are = refl }) in
     let good : are_told loads script workers (length ended.history) (history_line (length ended.history)) (entries ++ records) ≡ true =
     and_from (bytes_eq (history_line (length ended.history)) (history_line (length ended.history)))

@@ -2,7 +2,7 @@
 use Rattle.std.proofs.Common.{ℕ, suc, ◌≡◌, ◌≢◌, ◌<◌, true, false, List, [], ◌∷◌, ◌++◌, length, get_or, refl, sym, ap, ◌∙◌, subst, append_assoc, length-append, arith, eqb}
 use Rattle.std.specs.List.{All, AllPairs}
 use Rattle.std.proofs.Math.Seq.{get_or-append_seam}
-use Rattle.std.proofs.lemmas.List.{get_or_append_left}
+use Rattle.std.proofs.lemmas.List.{append-nil, get_or_append_left}
 use Rattle.std.proofs.lemmas.List.Elements.{All-append, filter-append}
 use Rattle.std.proofs.lemmas.List.Quantifiers.{all_pairs_push}
 use Rattle.std.proofs.lemmas.Bool.{false≢true, eqb-true, eq-eqb, both_ways, or_parts, or_from, and_parts, and_from, false_from_ne_true}
@@ -75,11 +75,7 @@ workers_push seat added e workers may = bool_cases (eqb e.seat seat) (λ b. AreW
 
 pub workers_all : (lanes : ℕ) (added es : List Entry) → ((seat : ℕ) → lanes < seat → AreWorkers seat added) → WorkersFrom lanes added es
     → (seat : ℕ) → lanes < seat → AreWorkers seat (added ++ es)
-workers_all lanes added [] workers from seat past = subst (AreWorkers seat) (sym (nil_right added)) (workers seat past)
-  where
-    nil_right : (xs : List Entry) → xs ++ [] ≡ xs
-    nil_right [] = refl
-    nil_right (x ∷ xs) = ap (λ (ys : List Entry). x ∷ ys) (nil_right xs)
+workers_all lanes added [] workers from seat past = subst (AreWorkers seat) (sym (append-nil added)) (workers seat past)
 workers_all lanes added (e ∷ es) workers from seat past =
     subst (AreWorkers seat) (append_assoc added (e ∷ []) es)
     (workers_all lanes (added ++ e ∷ []) es

@@ -10,7 +10,7 @@ use Rattle.write_history.specs.World.{World, lowest_unready}
 use Rattle.write_history.specs.Effect.{max_entries}
 use Rattle.write_history.specs.Fold.{fold, list_refusal, after_list, ListRefusal}
 use Rattle.write_history.specs.Print.{entry_line}
-use Rattle.ide_calls.specs.Settle.{entry_of, intake_of}
+use Rattle.write_history.specs.Settle.{entry_of, intake_of}
 use Rattle.query_engine.specs.Reply.{reply}
 use Rattle.script_lang.specs.declared.command.Command.{Command}
 use Rattle.script_lang.specs.declared.command.Command.TheVariants as command

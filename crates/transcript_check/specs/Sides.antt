@@ -5,7 +5,7 @@ use Rattle.write_history.specs.World.{World, file_of}
 use Rattle.write_history.specs.Effect.{stamp_of}
 use Rattle.write_history.specs.Fold.{fold, after_list}
 use Rattle.write_history.specs.Print.{entry_line}
-use Rattle.ide_calls.specs.Settle.{intake_of}
+use Rattle.write_history.specs.Settle.{intake_of}
 use Rattle.transcript_check.specs.Reading.{seat_in}
 use Rattle.transcript_check.specs.Section.{Cursor}
 use Rattle.transcript_check.specs.Phase.{Sides, Went, is_busy, section_went, next_went}

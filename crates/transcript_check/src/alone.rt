@@ -15,7 +15,6 @@ use crate::block::Block;
 use crate::cursor::{change_so, take_lowest_so};
 use crate::stop::LineStop;
 use crate::told::is_answered_so;
-use ide_calls::laws::a_settle_goes_by_the_lowest;
 use ide_text::{Name, SharedText};
 use replay::Replay;
 use script_lang::{Command, Line};
@@ -107,7 +106,6 @@ fn settle_so(
     ensures { IfOk result (λ went. HasGone (λ history. settle_step history seat line.now.number)
         seat line.now.number text.now made.old replay.old replay.new (left_where went made.new)) }
 {
-    a_settle_goes_by_the_lowest();
     while settle_goes_on(replay) {
         if !take_next_so(alloc, replay, seat, line.number, made)? {
             return Ok(false);
@@ -220,7 +218,6 @@ fn plain_so(
     ensures { IfOk result (λ went. HasGone (λ history. line_step history seat line.now)
         seat line.now.number text.now made.old replay.old replay.new (left_where went made.new)) }
 {
-    a_settle_goes_by_the_lowest();
     if is_answered_so(alloc, replay, seat, line, text)? {
         return Ok(true);
     }

@@ -9,7 +9,6 @@ ghost use Rattle.transcript_check.specs.Here.{HasToldOne, IsToldAll, HasMadeNext
 use crate::block::Block;
 use crate::entering::{enter_so, take_so};
 use crate::told::is_told_here;
-use ide_calls::laws::a_settle_goes_by_the_lowest;
 use replay::Replay;
 use script_lang::{Command, Line};
 use std::alloc::{AllocError, Global};
@@ -93,7 +92,6 @@ impl<'a> Cursor<'a> {
     ) -> Result<bool, AllocError>
         ensures { IfOk result (HasMadeNext replay.old replay.new self.old self.new text.now) }
     {
-        a_settle_goes_by_the_lowest();
         let seat = self.seat;
         let lines = self.lines;
         let texts = self.texts;

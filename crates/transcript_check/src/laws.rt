@@ -17,8 +17,7 @@ ghost use Rattle.transcript_check.specs.Misfit.{misfit_among, misfit_of};
 ghost use Rattle.transcript_check.specs.Meaning.{DiffersFromRun, StopsAtLine, StopsBeside};
 ghost use Rattle.transcript_check.specs.Verdict.{verdict_of};
 
-use crate::blocks::{blocks_join, transcripts_are_cut};
-use ide_calls::laws::a_settle_goes_by_the_lowest;
+use crate::blocks::transcripts_are_cut;
 use transcripts::laws::{a_run_alone_is_serial, a_section_alone_is_serial};
 
 /// Texts of entries and records that are checked are those of a run of the script, and all those of a run are checked.
@@ -29,7 +28,6 @@ pub fn checked_texts_are_those_of_a_run()
         → AreOfScript script → workers < 2 ^ 32 → AreTextsOfRun loads script workers entries records
         → are_checked loads script workers entries records ≡ true }
 {
-    a_settle_goes_by_the_lowest();
     a_section_alone_is_serial();
 }
 
@@ -43,7 +41,6 @@ pub fn a_verdict_is_good_for_transcripts_alone()
 {
     checked_texts_are_those_of_a_run();
     a_run_alone_is_serial();
-    blocks_join();
     transcripts_are_cut();
 }
 

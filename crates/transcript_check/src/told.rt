@@ -7,7 +7,6 @@ ghost use Rattle.transcript_check.specs.Here.{IsToldIn, head_in, tells_in};
 
 use crate::answering::answer_here;
 use crate::block::Block;
-use ide_calls::laws::a_settle_goes_by_the_lowest;
 use replay::Replay;
 use script_lang::{Command, Line};
 use std::alloc::{AllocError, Global};
@@ -28,7 +27,6 @@ pub(crate) fn is_told_here(
     requires no_load { IsNoLoad line.now.command }
     ensures { IfOk result (IsToldIn beside replay.now seat line.now text.now) }
 {
-    a_settle_goes_by_the_lowest();
     if is_left(alloc, beside, line, text)? {
         return Ok(true);
     }

@@ -2,4 +2,3 @@ pub mod LoadsLemmas
 pub mod PrintLemmas
 pub mod SectionLemmas
 pub mod RunLemmas
-pub mod SettleLemmas

@@ -46,10 +46,6 @@ pub record HasAsked {T : Type 0} (asks : T → List ℕ → T → Type 0) (old :
   pub paths_are : paths_of lines ≡ front ++ paths_of (drop i lines)
   pub asked : AsksEach asks old front new
 
--- before the first line
-pub has_asked_none : {T : Type 0} (asks : T → List ℕ → T → Type 0) (old : T) (lines : List Line) → HasAsked asks old lines 0 old
-has_asked_none asks old lines = record { front = []; paths_are = refl; asked = refl }
-
 -- one line more
 pub has_asked_turn : {T : Type 0} (asks : T → List ℕ → T → Type 0) → IsAskedInTurn asks → (old mid new : T) (lines : List Line) (line : Line) (i : ℕ)
     → i < length lines → line ≡ get_or lines i line → HasAsked asks old lines i mid → AsksEach asks mid (paths_asked line.command) new

@@ -1,8 +1,8 @@
 -- Printing the entries of a history, one after another.
-use Rattle.std.proofs.Common.{ℕ, suc, codes, ◌≡◌, ◌+◌, ◌-◌, List, ◌∷◌, ◌++◌, drop, ap, sym, ◌∙◌, subst, arith, append_assoc, slice_get, Some}
+use Rattle.std.proofs.Common.{ℕ, ◌≡◌, ◌+◌, ◌-◌, List, ◌∷◌, ◌++◌, drop, ap, sym, ◌∙◌, subst, arith, append_assoc, slice_get, Some}
 use Rattle.write_history.specs.declared.entry.Entry.{Entry}
 use Rattle.write_history.specs.Print.{entry_line}
-use Rattle.transcripts.specs.Transcript.{entry_lines, indent}
+use Rattle.transcripts.specs.Transcript.{entry_lines}
 use Rattle.std.proofs.lemmas.List.{drop_more}
 use Rattle.std.proofs.lemmas.Option.{slice_get_within, get_or_from_slice_get}
 
@@ -21,13 +21,6 @@ entries_turn out new line all entries n entry is grown printed rest =
     ap (λ bs. bs ++ entry_lines (n + 1 + 1) (drop (n + 1) entries)) (grown ∙ ap (λ l. out ++ l) printed)
     ∙ append_assoc out (entry_line (n + 1) entry) (entry_lines (n + 1 + 1) (drop (n + 1) entries))
     ∙ sym (ap (λ es. out ++ entry_lines (n + 1) es) here) ∙ rest
-
--- two more spaces
-pub indent-more : (depth : ℕ) → indent (depth + 1) ≡ indent depth ++ codes "  "
-indent-more depth = ap indent (one_more depth)
-  where
-    one_more : (n : ℕ) → n + 1 ≡ suc n
-    one_more n = omega arith
 
 -- three pieces, one after another
 pub three_pieces : (out a b c out1 out2 out3 : List ℕ) → out1 ≡ out ++ a → out2 ≡ out1 ++ b → out3 ≡ out2 ++ c → out3 ≡ out ++ (a ++ b ++ c)

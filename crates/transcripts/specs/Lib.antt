@@ -15,8 +15,7 @@ pub use Rattle.write_history.specs.World
 pub use Rattle.write_history.specs.Effect
 pub use Rattle.write_history.specs.Fold
 pub use Rattle.query_engine.specs.declared.answer.Answer
-pub use Rattle.query_engine.specs.declared.answer.AskRefusal
-pub use Rattle.index_workers.specs.Settle
+pub use Rattle.write_history.specs.Settle
 pub use Rattle.index_workers.specs.Sighting
 pub use Rattle.index_workers.specs.Work
 pub use Rattle.index_workers.specs.declared.worked.Worked

@@ -8,16 +8,14 @@ use Rattle.write_history.specs.declared.refusal.Refusal.TheVariants as why
 use Rattle.write_history.specs.Path.{is_path}
 use Rattle.write_history.specs.World.{World}
 use Rattle.write_history.specs.Fold.{fold, list_refusal, ListRefusal}
-use Rattle.index_workers.specs.Settle.{entry_of, settled}
+use Rattle.write_history.specs.Settle.{entry_of, settled}
 use Rattle.script_lang.specs.declared.command.Command.{Command}
 use Rattle.script_lang.specs.declared.command.Command.TheVariants as command
 use Rattle.script_lang.specs.declared.line.Line.{Line}
 use Rattle.script_lang.specs.Parts.{Parts}
 use Rattle.queries.specs.declared.query.Query.{Query}
 use Rattle.query_engine.specs.declared.answer.Answer.{Answer as Finding}
-use Rattle.query_engine.specs.declared.answer.AskRefusal.{AskRefusal}
-use Rattle.query_engine.specs.declared.answer.AskRefusal.TheVariants as refused
-use Rattle.query_engine.specs.Reply.{reply}
+use Rattle.query_engine.specs.Reply.{NoAnswer, no_such_file, not_ready, reply}
 use Rattle.query_engine.specs.Listed.{path_at}
 use Rattle.transcripts.specs.declared.loaded.Loaded.{Loaded}
 use Rattle.transcripts.specs.declared.loaded.Loaded.TheVariants as loaded
@@ -75,17 +73,11 @@ settle_step history seat line = record {
   answer = settle_answer (length (history ++ (settled history seat line).added)) (settled history seat line).refused;
 }
 
--- why a question was refused, told at a prefix; the last two aren't among the answers of the definition
-abbrev pub refused_answer : World → ℕ → AskRefusal → Answer
-refused_answer world at refused.NoSuchFile = Refused at None why.NoSuchFile
-refused_answer world at (refused.NotReady file) = NotReady at (path_at world file)
-refused_answer world at refused.Cancelled = Refused at None why.OutOfMemory
-refused_answer world at refused.OutOfMemory = Refused at None why.OutOfMemory
-
--- what a question is answered
-abbrev pub answer_of : World → ℕ → Result Finding AskRefusal → Answer
+-- what a question is answered, told at a prefix
+abbrev pub answer_of : World → ℕ → Result Finding NoAnswer → Answer
 answer_of world at (Ok finding) = Found at finding
-answer_of world at (Err refusal) = refused_answer world at refusal
+answer_of world at (Err no_such_file) = Refused at None why.NoSuchFile
+answer_of world at (Err (not_ready file)) = NotReady at (path_at world file)
 
 -- a question adds nothing
 abbrev pub query_step : List Entry → Query → Step

@@ -4,6 +4,7 @@ pub mod World
 pub mod Changes
 pub mod Effect
 pub mod Fold
+pub mod Settle
 pub mod Stamps
 pub mod Counts
 -- The kept history and its print

@@ -11,5 +11,5 @@ returns-clause-ok g c =
     let h = looked_by c.args.seat c.args.hint _ _ _ c.state.result.now.world c.look_at-found.result
     (read_once _ _ _ _ read.3 c.leave.ensures.view (advances_on _ _ _ read.4 c.leave.ensures.advances) c.share.ensures.stands.1)
     (ap (λ (x : View Entry). x.seen) c.leave.ensures.view) (c.state.ensures ∙ c.share.ensures.stands.0)
-    c.histories_go_on.ensures.entries c.look_at-found.ensures in
+    c.look_at-found.ensures in
     search (rules, h)

@@ -9,7 +9,6 @@ loop-preserved g c =
     let before = c.loop.invariant in
     let made = c.take_lowest_in.ensures in
     let turn = rw c.in-Ok-Taken.field-0-is at c.in-Ok-Taken.ensures.ok in
-    let goes = c.a_settle_goes_by_the_lowest.ensures.goes_on in
     record {
       can = tt;
       ends = tt;
@@ -18,21 +17,20 @@ loop-preserved g c =
       own = made.advances.number ∙ before.own;
       ahead = c.in-Ok-Taken.ensures.ahead;
       advances = advances_on _ _ _ before.advances made.advances;
-      whole = λ x refused rest. before.whole x refused (turn_on c.args.seat c.args.line _ _ turn goes x refused rest);
-      part = λ x rest. before.part x (part_on c.args.seat c.args.line _ _ turn goes x rest);
+      whole = λ x refused rest. before.whole x refused (turn_on c.args.seat c.args.line _ _ turn x refused rest);
+      part = λ x rest. before.part x (part_on c.args.seat c.args.line _ _ turn x rest);
     }
 
 pub returns-in-Ok-Smart-clause-ok : goal.returns-in-Ok-Smart-clause-ok
 returns-in-Ok-Smart-clause-ok g c =
     let found = rw c.in-Ok-Smart.field-0-is at c.in-Ok-Smart.ensures.ok in
-    let through = smart_on c.a_settle_goes_by_the_lowest.ensures.over c.args.seat c.args.line c.in-Ok-Smart.at _ _ found in
+    let through = smart_on c.args.seat c.args.line c.in-Ok-Smart.at _ _ found in
     record { done = c.loop.invariant.whole _ None through.done; whole = through.whole; smart = through.smart }
 
 pub returns-in-Ok-Full-clause-err : goal.returns-in-Ok-Full-clause-err
 returns-in-Ok-Full-clause-err g c =
     let found = rw c.in-Ok-Full.field-0-is at c.in-Ok-Full.ensures.ok in
-    let law = c.unready_files_have_an_order.ensures.lowest in
-    let filled = end_on c.a_settle_goes_by_the_lowest.ensures.ends law c.args.seat c.args.line c.in-Ok-Full.at _ _ found in
+    let filled = end_on c.args.seat c.args.line c.in-Ok-Full.at _ _ found in
     record { done = c.loop.invariant.whole _ (Some why.HistoryFull) filled.done; whole = filled.whole; full = filled.full }
 
 pub returns-in-Err-clause-err : goal.returns-in-Err-clause-err

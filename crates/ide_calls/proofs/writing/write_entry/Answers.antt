@@ -21,5 +21,5 @@ returns-in-Ok-clause-legal g c = subst IsLegal (sym (ap (λ v. v.seen) (entered 
 pub returns-in-Ok-clause-few : goal.returns-in-Ok-clause-few
 returns-in-Ok-clause-few g c =
     let learns = c.write.ensures.claimed.learns in
-    few_own c.histories_go_on.ensures.entries (view_of c.args.pass.now) _ c.args.entry _ (learns.mine c.args.entry.seat c.requires.own)
+    few_own (view_of c.args.pass.now) _ c.args.entry _ (learns.mine c.args.entry.seat c.requires.own)
     (learns.current c.requires.current) c.requires.ready.entries (entered g c)

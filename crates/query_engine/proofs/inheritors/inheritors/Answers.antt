@@ -8,8 +8,8 @@ use Rattle.query_engine.specs.Inheritors.{inheritors_of}
 use Rattle.query_engine.specs.Reply.{types_of, level_row}
 use Rattle.query_engine.proofs.LevelRowLemmas.{rows_found, found_ahead}
 use Rattle.query_engine.proofs.LookLemmas.{looked_unseen}
-use Rattle.query_engine.proofs.RepliedLemmas.{dumb_replied, early_replied, whole_replied, first_may, few_may}
-use Rattle.query_engine.proofs.TypesLemmas.{types_sorted, types_placed}
+use Rattle.query_engine.proofs.RepliedLemmas.{dumb_replied, early_replied, whole_replied}
+use Rattle.query_engine.proofs.TypesLemmas.{first_may, few_may, types_sorted, types_placed}
 use Rattle.query_engine.proofs.inheritors.inheritors.Goals as goal
 
 -- what was found stands ahead

@@ -1,13 +1,9 @@
-use Rattle.std.proofs.Common.{◌≡◌, [], ◌∷◌, length, refl, ap, sym, subst, List, ℕ, le_refl, ◌∙◌, arith, rules}
+use Rattle.std.proofs.Common.{length, refl, ap, sym, subst, List, ℕ, le_refl, ◌∙◌, arith, rules}
+use Rattle.std.proofs.lemmas.List.{nil_from_length}
 use Rattle.query_engine.specs.Reply.{types_of}
 use Rattle.query_engine.specs.Search.{AskedEach, HasAsked, asked_supers}
 use Rattle.query_engine.proofs.PaceLemmas.{paces_none, paces_on, paces_as}
 use Rattle.query_engine.proofs.search.ask_each.Goals as goal
-
--- a list of no length
-none_of : {X : Type 0} (xs : List X) → length xs ≡ 0 → xs ≡ []
-none_of [] none = refl
-none_of (x ∷ xs) none = absurd (omega (arith, none))
 
 pub loop-name-init : goal.loop-name-init
 loop-name-init g c =
@@ -59,7 +55,7 @@ returns-clause-each g c =
     let was = c.loop-name.search in
     c.loop-name.invariant.each was.asked was.reached
     (subst (λ (names : List (List ℕ)). AskedEach (types_of c.args.state.now.world) c.args.level names was.asked was.reached was.asked was.reached)
-    (sym (none_of _ (sym c.loop-name.invariant.long ∙ c.in-None.ensures.steps.0))) (refl, refl))
+    (sym (nil_from_length _ (sym c.loop-name.invariant.long ∙ c.in-None.ensures.steps.0))) (refl, refl))
 
 pub returns-clause-paced : goal.returns-clause-paced
 returns-clause-paced g c = c.loop-name.invariant.paced

@@ -4,7 +4,8 @@ use Rattle.query_engine.specs.Inheritors.{Listing}
 use Rattle.query_engine.specs.Search.{asked_supers}
 use Rattle.query_engine.proofs.CostLemmas.{cost_more, cost_same}
 use Rattle.query_engine.proofs.PaceLemmas.{paces_none, paces_wanting, paces_met}
-use Rattle.query_engine.proofs.SearchLemmas.{asked_new, asked_again, not_true, not_false}
+use Rattle.std.proofs.lemmas.Bool.{not-true, not-false}
+use Rattle.query_engine.proofs.SearchLemmas.{asked_new, asked_again}
 use Rattle.query_engine.proofs.TypesLemmas.{namers_are}
 use Rattle.query_engine.proofs.search.ask_types.Goals as goal
 
@@ -17,7 +18,7 @@ returns-then-branch-clause-asked g c =
     let world = c.args.state.now.world in
     let name = c.args.name.now in
     asked_new c.meet_each.result (types_of world) c.args.level name c.args.search.now.asked c.args.search.now.reached c.add.new.self c.meet_each.new.reached c.super_rows-found.result
-    (not_true _ (sym c.if-branch.true ∙ c.in_ok-add.ensures.fresh)) c.in_ok-add.ensures.asks
+    (not-true _ (sym c.in_ok-add.ensures.fresh ∙ c.if-branch.true)) c.in_ok-add.ensures.asks
     (c.super_rows-found.ensures.ready c.requires.smart ∙ namers_are name world) c.meet_each.ensures.reached
 
 pub returns-then-branch-clause-paced : goal.returns-then-branch-clause-paced
@@ -28,17 +29,16 @@ returns-then-branch-clause-paced g c =
     (length c.super_rows-found.result) c.args.search.now.asked c.args.search.now.met c.add.new.self c.meet_each.new.met _ _
     (subst (λ (walk : List Listing). length walk + asked_supers (types_of world) c.args.search.now.asked ≤ asked_supers (types_of world) c.add.new.self)
     (sym (c.super_rows-found.ensures.ready c.requires.smart ∙ namers_are name world))
-    (cost_more c.args.search.now.asked c.add.new.self name c.in_ok-add.ensures.asks (not_true _ (sym c.if-branch.true ∙ c.in_ok-add.ensures.fresh))
+    (cost_more c.args.search.now.asked c.add.new.self name c.in_ok-add.ensures.asks (not-true _ (sym c.in_ok-add.ensures.fresh ∙ c.if-branch.true))
     (types_of world)))
     c.meet_each.ensures.met c.meet_each.ensures.looked
 
 pub returns-else-branch-clause-asked : goal.returns-else-branch-clause-asked
 returns-else-branch-clause-asked g c =
     asked_again (types_of c.args.state.now.world) c.args.level c.args.name.now c.args.search.now.asked c.args.search.now.reached c.add.new.self
-    (not_false _ (sym c.if-branch.false ∙ c.in_ok-add.ensures.fresh)) c.in_ok-add.ensures.asks
+    (not-false _ (sym c.in_ok-add.ensures.fresh ∙ c.if-branch.false)) c.in_ok-add.ensures.asks
 
 pub returns-else-branch-clause-paced : goal.returns-else-branch-clause-paced
 returns-else-branch-clause-paced g c =
     paces_none _ _ g.W.Watch.stays (types_of c.args.state.now.world) tt c.args.search.now.asked c.args.search.now.met c.add.new.self c.args.watch.now
-    (cost_same c.args.search.now.asked c.add.new.self c.args.name.now c.in_ok-add.ensures.asks
-    (not_false _ (sym c.if-branch.false ∙ c.in_ok-add.ensures.fresh)) (types_of c.args.state.now.world))
+    (cost_same c.args.search.now.asked c.add.new.self c.args.name.now c.in_ok-add.ensures.asks (types_of c.args.state.now.world))

@@ -1,6 +1,7 @@
-use Rattle.std.proofs.Common.{◌≡◌, ◌≤◌, ℕ, List, [], ◌∷◌, length, refl, ap, sym, subst, ◌∙◌, le_refl, arith, rules}
+use Rattle.std.proofs.Common.{◌≡◌, ◌≤◌, ℕ, List, [], ◌∷◌, length, refl, ap, sym, subst, ◌∙◌, le_refl, rules}
 use Rattle.std.specs.Vec.{vec_len}
 use Rattle.std.proofs.lemmas.Bool.{eqb-true}
+use Rattle.std.proofs.lemmas.List.{nil_from_length}
 use Rattle.query_engine.specs.Reply.{types_of}
 use Rattle.query_engine.specs.Search.{Reached, AskedEach, IsFound, asked_supers}
 use Rattle.query_engine.proofs.FinishLemmas.{IsBefore, before_first, before_next, found_all}
@@ -12,11 +13,6 @@ use Rattle.query_engine.proofs.search.search_types.Goals as goal
 -- no name is asked for before the first
 none_asked : (asked : List (List ℕ)) → asked ≡ [] → (f : List (List ℕ) → ℕ) → f [] ≤ f asked
 none_asked asked none f = subst (λ (a : List (List ℕ)). f [] ≤ f a) (sym none) (le_refl (f []))
-
--- a list of no length
-none_of : {X : Type 0} (xs : List X) → length xs ≡ 0 → xs ≡ []
-none_of [] none = refl
-none_of (x ∷ xs) none = absurd (omega (arith, none))
 
 pub loop-level-init : goal.loop-level-init
 loop-level-init g c =
@@ -35,7 +31,7 @@ returns-then-is_empty-clause-found g c =
     let types = types_of c.args.state.now.world in
     let name = c.args.name.now in
     let same : vec_len c.take_next-names.result ≡ length c.take_next-names.result.items = search rules in
-    let none : c.loop-level.search.reached.next ≡ [] = sym c.take_next-names.ensures.names ∙ none_of _ (sym same ∙ eqb-true _ 0 (sym c.if-is_empty.ensures)) in
+    let none : c.loop-level.search.reached.next ≡ [] = sym c.take_next-names.ensures.names ∙ nil_from_length _ (sym same ∙ eqb-true _ 0 (sym c.if-is_empty.ensures)) in
     subst (IsFound types name) (sym (ap (λ (r : Reached). r.seen) c.take_next-names.ensures.rest))
     (found_all types name c.loop-level.level c.loop-level.search.asked c.loop-level.search.reached.seen
     (subst (λ (names : List (List ℕ)). IsBefore types name c.loop-level.level names c.loop-level.search.asked c.loop-level.search.reached.seen) none c.loop-level.invariant.before))

@@ -11,8 +11,8 @@ use Rattle.query_engine.specs.Reply.{of_world, uses_in}
 use Rattle.query_engine.specs.Listed.{AreLive, has_code}
 use Rattle.query_engine.proofs.FoundLemmas.{live_found}
 use Rattle.query_engine.proofs.LookLemmas.{looked_unseen}
-use Rattle.query_engine.proofs.RepliedLemmas.{dumb_replied, early_replied, whole_replied, dumb_uses}
-use Rattle.query_engine.proofs.UsageLemmas.{uses_may, used_given}
+use Rattle.query_engine.proofs.RepliedLemmas.{dumb_replied, early_replied, whole_replied}
+use Rattle.query_engine.proofs.UsageLemmas.{dumb_uses, uses_may, used_given}
 use Rattle.query_engine.proofs.usages.usages.Goals as goal
 
 -- the files in which the name is found are live

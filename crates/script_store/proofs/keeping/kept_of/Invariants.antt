@@ -1,4 +1,4 @@
-use Rattle.std.proofs.Common.{◌≡◌, ◌≤◌, [], length, drop}
+use Rattle.std.proofs.Common.{◌≡◌, ◌≤◌, length, drop}
 use Rattle.script_store.specs.Indexed.{with_files, entries_of}
 use Rattle.script_store.proofs.keeping.kept_of.Given as goal
 

@@ -28,9 +28,9 @@ returns-then-not-branch c =
     let counted : length c.made.inside.left.now ≡ length c.loop-at.made = ap length left in
     other_line c.args.seat c.args.lines.now c.args.loads.now c.args.entries.now c.args.records.now c.args.replay.now c.loop-at.at c.index-lines-at.result
     (option_map (λ (l : Bor Loaded). l.now) c.get-in-loop-at.result) c.in-Some.text.now c.loop-at.made c.line_so.new.made c.loop-at.replay c.line_so.new.replay
-    c.line_so.new.replay c.in_ok-line_so.field-0 _ c.loop-at-test.true c.index-lines-at.is load_is record_is c.if-not-branch.true
+    c.in_ok-line_so.field-0 c.loop-at-test.true c.index-lines-at.is load_is record_is c.in_ok-line_so.ensures c.loop-at.invariant.comes
+    c.line_so.new.replay _ c.if-not-branch.true
     (stop_here c.args.seat c.index-lines-at.result c.loop-at.made c.args.records.now c.loop-at.at (length c.made.inside.left.now) _ refl counted)
-    c.in_ok-line_so.ensures c.loop-at.invariant.comes
 
 pub loop-at-preserved : goal.loop-at-preserved
 loop-at-preserved c =
@@ -42,8 +42,8 @@ loop-at-preserved c =
     record {
       comes = next_line c.args.seat c.args.lines.now c.args.loads.now c.args.entries.now c.args.records.now c.args.replay.now c.loop-at.at
           c.index-lines-at.result (option_map (λ (l : Bor Loaded). l.now) c.get-in-loop-at.result) c.in-Some.text.now c.loop-at.made c.line_so.new.made
-          c.loop-at.replay c.line_so.new.replay c.in_ok-line_so.field-0 c.loop-at-test.true c.index-lines-at.is load_is record_is c.if-not-branch.false
-          c.in_ok-line_so.ensures c.loop-at.invariant.comes;
+          c.loop-at.replay c.line_so.new.replay c.in_ok-line_so.field-0 c.loop-at-test.true c.index-lines-at.is load_is record_is
+          c.in_ok-line_so.ensures c.loop-at.invariant.comes c.if-not-branch.false;
       within = omega arith;
     }
 

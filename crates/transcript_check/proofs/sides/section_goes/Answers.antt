@@ -16,22 +16,13 @@ returns-in_default c =
 
 pub returns-then-is_busy_beside : goal.returns-then-is_busy_beside
 returns-then-is_busy_beside c =
-    let place : ℕ = c.in-Some.place in
-    let found : position (λ (s : Cursor). eqb s.seat c.args.seat) c.args.cursors.now ≡ Some place = search rules in
-    let next : place + 1 ≡ suc place = omega arith in
-    let busy : (is_busy (take place c.args.cursors.now) || is_busy (drop (suc place) c.args.cursors.now)) ≡ true =
-    subst (λ (n : ℕ). (is_busy (take place c.args.cursors.now) || is_busy (drop n c.args.cursors.now)) ≡ true) next
-    (sym c.is_busy_beside.ensures ∙ c.if-is_busy_beside.true) in
-    section_waits c.args.replay.now c.args.replay.now c.args.seat c.args.cursors.now c.args.text.now place no_section found c.args.cursors.now busy
+    let found : position (λ (s : Cursor). eqb s.seat c.args.seat) c.args.cursors.now ≡ Some c.in-Some.place = search rules in
+    section_waits c.args.replay.now c.args.replay.now c.args.seat c.args.cursors.now c.args.text.now c.in-Some.place no_section found c.args.cursors.now
+    (sym c.is_busy_beside.ensures ∙ c.if-is_busy_beside.true)
 
 pub returns : goal.returns
 returns c =
-    let place : ℕ = c.in-Some.place in
-    let found : position (λ (s : Cursor). eqb s.seat c.args.seat) c.args.cursors.now ≡ Some place = search rules in
-    let next : place + 1 ≡ suc place = omega arith in
-    let quiet : (is_busy (take place c.args.cursors.now) || is_busy (drop (suc place) c.args.cursors.now)) ≡ false =
-    subst (λ (n : ℕ). (is_busy (take place c.args.cursors.now) || is_busy (drop n c.args.cursors.now)) ≡ false) next
-    (sym c.is_busy_beside.ensures ∙ c.if-is_busy_beside.false) in
-    let cursor : Cursor = get_or c.args.cursors.now place c.index-cursors-place.result in
-    section_made c.args.replay.now c.make.new.replay c.args.seat c.args.cursors.now c.args.text.now place c.index-cursors-place.result found cursor
-    c.make.new.self c.make.result quiet refl c.make.ensures
+    let found : position (λ (s : Cursor). eqb s.seat c.args.seat) c.args.cursors.now ≡ Some c.in-Some.place = search rules in
+    section_made c.args.replay.now c.make.new.replay c.args.seat c.args.cursors.now c.args.text.now c.in-Some.place c.index-cursors-place.result found
+    (get_or c.args.cursors.now c.in-Some.place c.index-cursors-place.result) c.make.new.self c.make.result
+    (sym c.is_busy_beside.ensures ∙ c.if-is_busy_beside.false) refl c.make.ensures

@@ -7,24 +7,12 @@ pub returns-then-not-branch : goal.returns-then-not-branch
 returns-then-not-branch c =
     let left : c.in_ok-is_left.field-0 ≡ false = search rules in
     let otherwise : c.in_ok-holds_here.field-0 ≡ false = search rules in
-    told_so
-    (record {
-      over = c.a_settle_goes_by_the_lowest.ensures.over;
-      ends = c.a_settle_goes_by_the_lowest.ensures.ends;
-      goes_on = c.a_settle_goes_by_the_lowest.ensures.goes_on;
-    })
-    c.args.beside c.args.replay.now c.args.seat c.args.line.now c.args.text.now false
+    told_so c.args.beside c.args.replay.now c.args.seat c.args.line.now c.args.text.now false
     (sym (c.in_ok-is_left.ensures c.args.seat) ∙ left)
     (sym (not_told c.args.replay.now c.args.seat c.args.line.now c.args.text.now c.requires.no_load (sym c.in_ok-holds_here.ensures ∙ otherwise)))
 
 pub returns : goal.returns
 returns c =
     let left : c.in_ok-is_left.field-0 ≡ false = search rules in
-    all_told_so
-    (record {
-      over = c.a_settle_goes_by_the_lowest.ensures.over;
-      ends = c.a_settle_goes_by_the_lowest.ensures.ends;
-      goes_on = c.a_settle_goes_by_the_lowest.ensures.goes_on;
-    })
-    c.args.beside c.args.replay.now c.args.seat c.args.line.now c.args.text.now c.is_answered_so.result
+    all_told_so c.args.beside c.args.replay.now c.args.seat c.args.line.now c.args.text.now c.is_answered_so.result
     (sym (c.in_ok-is_left.ensures c.args.seat) ∙ left) c.is_answered_so.ensures

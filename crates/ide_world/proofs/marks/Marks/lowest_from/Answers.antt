@@ -19,25 +19,15 @@ returns-in_err-id-clause-none c =
     subst (λ m. IfNone c.from_residual.result ((id : ℕ) → from ≤ id → is_on m id ≡ false)) c.self.view_is
     (subst (λ r. IfNone r ((id : ℕ) → from ≤ id → unwrap_or (lookup (is_at (nat_cmp id)) es) false ≡ false)) (sym c.from_residual.ensures) (none_on_from from es nothing))
 
-pub returns-clause-on : goal.returns-clause-on
-returns-clause-on c =
+pub returns : goal.returns
+returns c =
     let from = c.args.from in
     let es = c.self.inside.ids.entries in
     let h : option_map deref_pair c.find.result ≡ find (λ e. e.1) (from_on from es) = find_from_yields_List (λ e. e.1) _ _ c.find.result c.find.ensures.ran (YieldsList-from_rest (from_on from es) (c.range.ensures.between tt)) (λ x b q k. search (rules, tests)) in
     let first = first_entry_from from es (c.in_ok-id.id.now, c.in_ok-id.field-0-1.now) c.range.ensures.ordered (sym h ∙ ap (option_map deref_pair) c.in_ok-id.was) in
-    subst (λ m. is_on m c.in_ok-id.id.now ≡ true) c.self.view_is (ap (λ o. unwrap_or o false) first.on)
-
-pub returns-clause-within : goal.returns-clause-within
-returns-clause-within c =
-    let from = c.args.from in
-    let es = c.self.inside.ids.entries in
-    let h : option_map deref_pair c.find.result ≡ find (λ e. e.1) (from_on from es) = find_from_yields_List (λ e. e.1) _ _ c.find.result c.find.ensures.ran (YieldsList-from_rest (from_on from es) (c.range.ensures.between tt)) (λ x b q k. search (rules, tests)) in
-    (first_entry_from from es (c.in_ok-id.id.now, c.in_ok-id.field-0-1.now) c.range.ensures.ordered (sym h ∙ ap (option_map deref_pair) c.in_ok-id.was)).within
-
-pub returns-clause-first : goal.returns-clause-first
-returns-clause-first c =
-    let from = c.args.from in
-    let es = c.self.inside.ids.entries in
-    let h : option_map deref_pair c.find.result ≡ find (λ e. e.1) (from_on from es) = find_from_yields_List (λ e. e.1) _ _ c.find.result c.find.ensures.ran (YieldsList-from_rest (from_on from es) (c.range.ensures.between tt)) (λ x b q k. search (rules, tests)) in
-    let first = first_entry_from from es (c.in_ok-id.id.now, c.in_ok-id.field-0-1.now) c.range.ensures.ordered (sym h ∙ ap (option_map deref_pair) c.in_ok-id.was) in
-    subst (λ m. (other : ℕ) → from ≤ other → other < c.in_ok-id.id.now → is_on m other ≡ false) c.self.view_is first.before
+    record {
+      on = subst (λ m. is_on m c.in_ok-id.id.now ≡ true) c.self.view_is (ap (λ o. unwrap_or o false) first.on);
+      within = first.within;
+      first = subst (λ m. (other : ℕ) → from ≤ other → other < c.in_ok-id.id.now → is_on m other ≡ false) c.self.view_is first.before;
+      none = tt;
+    }

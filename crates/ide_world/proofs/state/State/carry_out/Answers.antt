@@ -1,92 +1,57 @@
-use Rattle.std.proofs.Common.{◌+◌, ◌*◌, ◌≤◌, length, sym, ap, subst, ◌∙◌, arith}
-use Rattle.std.specs.Prelude.{is_some, IsSome, IfSome, if◌then◌else◌, nat_lt}
-use Rattle.vfs_core.specs.Held.{HasRowRoom, HasPathRoom}
+use Rattle.std.proofs.Common.{◌≤◌, length, sym, ap, subst, ◌∙◌, arith}
+use Rattle.std.specs.Prelude.{IsSome}
 use Rattle.document_buf.specs.Held.{document_of, room_of}
 use Rattle.ide_world.specs.DocEdits.{IsDocEditFit}
 use Rattle.ide_world.specs.Step.{after_step}
-use Rattle.ide_world.specs.RowEdits.{put_row}
-use Rattle.list_laws.specs.Rows.{one_if}
 use Rattle.ide_world.specs.Room.{Room, KeepsRoom, room_before_step}
 use Rattle.ide_world.specs.Lawful.{IsLawfulStep}
-use Rattle.ide_world.proofs.WorldLemmas.{rows_known, document_here, new_row_room, may_have, marks_some, marks_few, rows_left, carried_out, world_after, kept_after}
+use Rattle.ide_world.proofs.WorldLemmas.{rows_known, document_here, new_row_room, may_have, marks_some, marks_few, rows_left, world_after, kept_after}
 use Rattle.ide_world.proofs.RoomLemmas.{chars_left}
 use Rattle.ide_world.proofs.state.State.carry_out.Goals as goal
 
 pub apply_row-row-requires-clause-within : goal.apply_row-row-requires-clause-within
 apply_row-row-requires-clause-within c =
-    let h = rows_known c.self.inside.files c.self.inside.docs c.self.inside.layers c.self.inside.unready c.self.inside.entries c.args.step c.self.invariant
-    (subst (λ s. IsLawfulStep s.world c.args.step) (sym c.self.view_is) c.requires.lawful) in
-    omega (arith, h, ap (λ rows. length rows) c.draw_if.ensures.rows)
+    let known = rows_known c.self.inside c.args.self.now c.args.step c.self.view_is c.self.invariant c.requires.lawful in
+    omega (arith, known, ap (λ rows. length rows) c.draw_if.ensures.rows)
 
 pub apply_row-row-requires-clause-made : goal.apply_row-row-requires-clause-made
 apply_row-row-requires-clause-made c =
-    new_row_room c.self.inside.files c.self.inside.docs c.self.inside.layers c.self.inside.unready c.self.inside.entries c.args.step c.self.invariant
-    (subst (λ s. IsLawfulStep s.world c.args.step) (sym c.self.view_is) c.requires.lawful)
-    c.draw_if.new.files c.draw_if.ensures.rows c.draw_if.ensures.keeps.rows
-    (subst (λ s. HasRowRoom s.room.files (one_if (is_some (put_row c.args.step.row)))) (sym c.self.view_is) c.requires.rows)
+    new_row_room c.self.inside c.args.self.now c.args.step c.self.view_is c.self.invariant c.requires.lawful
+    c.draw_if.new.files c.draw_if.ensures.rows c.draw_if.ensures.keeps.rows c.requires.rows
 
 pub apply_row-row-requires-clause-path : goal.apply_row-row-requires-clause-path
 apply_row-row-requires-clause-path c =
-    may_have c.self.inside.files c.self.inside.docs c.self.inside.layers c.self.inside.unready c.self.inside.entries c.args.step c.self.invariant
-    (subst (λ s. IsLawfulStep s.world c.args.step) (sym c.self.view_is) c.requires.lawful)
-    c.draw_if.new.files c.draw_if.ensures.rows c.draw_if.ensures.keeps.paths
-    (subst (λ s. IfSome (put_row c.args.step.row) (λ row. HasPathRoom s.room.files row.path)) (sym c.self.view_is) c.requires.room.path)
+    may_have c.self.inside c.args.self.now c.args.step c.self.view_is c.self.invariant c.requires.lawful
+    c.draw_if.new.files c.draw_if.ensures.rows c.draw_if.ensures.keeps.paths c.requires.room.path
 
 pub apply_document-requires-clause-fit : goal.apply_document-requires-clause-fit
 apply_document-requires-clause-fit c =
-    let lawful = subst (λ s. IsLawfulStep s.world c.args.step) (sym c.self.view_is) c.requires.lawful in
     subst (IsDocEditFit c.args.step.doc)
-    (document_here c.self.inside.files c.self.inside.docs c.self.inside.layers c.self.inside.unready c.self.inside.entries c.args.step c.self.invariant lawful)
-    lawful.doc
+    (document_here c.self.inside c.args.self.now c.args.step c.self.view_is c.self.invariant c.requires.lawful)
+    (subst (λ s. IsLawfulStep s.world c.args.step) (sym c.self.view_is) c.requires.lawful).doc
 
 pub set-requires-clause-some : goal.set-requires-clause-some
-set-requires-clause-some c =
-    marks_some c.self.inside.files c.self.inside.docs c.self.inside.layers c.self.inside.unready c.self.inside.entries c.args.step c.self.invariant
-    (subst (λ s. IsLawfulStep s.world c.args.step) (sym c.self.view_is) c.requires.lawful)
+set-requires-clause-some c = marks_some c.self.inside c.args.self.now c.args.step c.self.view_is c.self.invariant c.requires.lawful
 
 pub set-requires-clause-few : goal.set-requires-clause-few
-set-requires-clause-few c =
-    let h = marks_few c.self.inside.files c.self.inside.docs c.self.inside.layers c.self.inside.unready c.self.inside.entries c.args.step c.self.invariant
-    (subst (λ s. IsLawfulStep s.world c.args.step) (sym c.self.view_is) c.requires.lawful) in
-    omega (arith, h)
+set-requires-clause-few c = omega (arith, marks_few c.self.inside c.args.self.now c.args.step c.self.view_is c.self.invariant c.requires.lawful)
 
 pub invariant_of-self : goal.invariant_of-self
 invariant_of-self c =
-    let i = c.self.inside in
-    let lawful = subst (λ s. IsLawfulStep s.world c.args.step) (sym c.self.view_is) c.requires.lawful in
-    let stamps = subst (λ s. s.world.next_stamp + 1 ≤ 64 * s.world.entries + 1) (sym c.self.view_is) c.requires.stamps in
-    kept_after i.files i.docs i.layers i.unready i.entries c.args.step c.self.invariant lawful
-    c.apply_row-row.new.files c.apply_document.new.docs c.apply_index-index.new.layers c.set.new.self
-    (carried_out i.files c.draw_if.new.files c.apply_row-row.new.files i.docs c.apply_document.new.docs i.layers c.apply_index-index.new.layers i.unready c.set.new.self
-    c.args.step c.is_unready_file-is_unready.result
-    c.draw_if.ensures.rows c.draw_if.ensures.next c.apply_row-row.ensures.rows c.apply_row-row.ensures.made c.apply_row-row.ensures.next
-    c.apply_document.ensures.documents c.apply_document.ensures.open c.apply_index-index.ensures.base c.apply_index-index.ensures.overlay
-    c.is_unready_file-is_unready.ensures c.set.ensures.each c.set.ensures.count)
-    stamps
+    kept_after c.self.inside c.args.self.now c.args.step c.self.view_is c.self.invariant c.requires.lawful
+    c.draw_if.new.files c.apply_row-row.new.files c.apply_document.new.docs c.apply_index-index.new.layers c.set.new.self c.is_unready_file-is_unready.result
+    (assumption c) c.requires.stamps
 
 pub returns-clause-world : goal.returns-clause-world
 returns-clause-world c =
-    let i = c.self.inside in
-    let lawful = subst (λ s. IsLawfulStep s.world c.args.step) (sym c.self.view_is) c.requires.lawful in
-    let stamps = subst (λ s. s.world.next_stamp + 1 ≤ 64 * s.world.entries + 1) (sym c.self.view_is) c.requires.stamps in
-    world_after i.files i.docs i.layers i.unready i.entries c.args.step c.self.invariant lawful
-    c.apply_row-row.new.files c.apply_document.new.docs c.apply_index-index.new.layers c.set.new.self
-    (carried_out i.files c.draw_if.new.files c.apply_row-row.new.files i.docs c.apply_document.new.docs i.layers c.apply_index-index.new.layers i.unready c.set.new.self
-    c.args.step c.is_unready_file-is_unready.result
-    c.draw_if.ensures.rows c.draw_if.ensures.next c.apply_row-row.ensures.rows c.apply_row-row.ensures.made c.apply_row-row.ensures.next
-    c.apply_document.ensures.documents c.apply_document.ensures.open c.apply_index-index.ensures.base c.apply_index-index.ensures.overlay
-    c.is_unready_file-is_unready.ensures c.set.ensures.each c.set.ensures.count)
-    stamps
-    ∙ ap (λ s. after_step s.world c.args.step) c.self.view_is
+    world_after c.self.inside c.args.self.now c.args.step c.self.view_is c.self.invariant c.requires.lawful
+    c.draw_if.new.files c.apply_row-row.new.files c.apply_document.new.docs c.apply_index-index.new.layers c.set.new.self c.is_unready_file-is_unready.result
+    (assumption c)
 
 pub returns-clause-rows : goal.returns-clause-rows
-returns-clause-rows c = λ count room.
-    let i = c.self.inside in
-    let lawful = subst (λ s. IsLawfulStep s.world c.args.step) (sym c.self.view_is) c.requires.lawful in
-    rows_left i.files i.docs i.layers i.unready i.entries c.args.step c.self.invariant lawful c.apply_row-row.new.files
-    (c.apply_row-row.ensures.made ∙ ap (λ rows. if nat_lt (length rows) c.args.step.id then c.args.step.id else length rows) c.draw_if.ensures.rows)
-    (omega (arith, c.draw_if.ensures.keeps.rows, c.apply_row-row.ensures.keeps.rows))
-    count (subst (λ s. HasRowRoom s.room.files (one_if (is_some (put_row c.args.step.row)) + count)) (sym c.self.view_is) room)
+returns-clause-rows c =
+    rows_left c.self.inside c.args.self.now c.args.step c.self.view_is c.self.invariant c.requires.lawful c.draw_if.new.files c.apply_row-row.new.files
+    c.draw_if.ensures.rows c.apply_row-row.ensures.made (omega (arith, c.draw_if.ensures.keeps.rows, c.apply_row-row.ensures.keeps.rows))
 
 pub returns-clause-chars : goal.returns-clause-chars
 returns-clause-chars c = λ id n wide room open'.

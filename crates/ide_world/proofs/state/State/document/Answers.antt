@@ -4,7 +4,8 @@ use Rattle.vfs_core.specs.Held.{row_of}
 use Rattle.document_buf.specs.Held.{document_of, HeldDoc}
 use Rattle.write_history.specs.World.{file_of}
 use Rattle.ide_world.specs.Step.{document_part}
-use Rattle.ide_world.proofs.WorldLemmas.{document_part-joined, file_of-world}
+use Rattle.ide_world.proofs.StepLemmas.{document_part-joined}
+use Rattle.ide_world.proofs.WorldLemmas.{file_of-world}
 use Rattle.ide_world.proofs.ReaderLemmas.{document-copied}
 use Rattle.ide_world.proofs.state.State.document.Goals as goal
 

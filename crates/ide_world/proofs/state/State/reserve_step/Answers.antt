@@ -27,21 +27,9 @@ invariant_of-self-2 c =
 pub returns-in_err-reserve_index-clause-keeps : goal.returns-in_err-reserve_index-clause-keeps
 returns-in_err-reserve_index-clause-keeps c =
     let new : Room = record { files = c.reserve_path.new.files; docs = c.reserve_document.new.docs; layers = c.reserve_index.new.layers; marks = c.self.inside.unready } in
-    subst (λ s. KeepsRoom s.room new) c.self.view_is record {
-      paths = c.reserve_path.ensures.keeps.paths;
-      places = c.reserve_document.ensures.keeps.places;
-      parts = c.reserve_index.ensures.keeps;
-      layers = c.reserve_index.ensures.keeps_place;
-      marks = λ id had. had;
-    }
+    subst (λ s. KeepsRoom s.room new) c.self.view_is (assumption c)
 
 pub returns-clause-keeps : goal.returns-clause-keeps
 returns-clause-keeps c =
     let new : Room = record { files = c.reserve_path.new.files; docs = c.reserve_document.new.docs; layers = c.reserve_index.new.layers; marks = c.reserve.new.self } in
-    subst (λ s. KeepsRoom s.room new) c.self.view_is record {
-      paths = c.reserve_path.ensures.keeps.paths;
-      places = c.reserve_document.ensures.keeps.places;
-      parts = c.reserve_index.ensures.keeps;
-      layers = c.reserve_index.ensures.keeps_place;
-      marks = c.reserve.ensures.keeps;
-    }
+    subst (λ s. KeepsRoom s.room new) c.self.view_is (assumption c)

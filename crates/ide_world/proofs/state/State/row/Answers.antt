@@ -3,7 +3,8 @@ use Rattle.vfs_core.specs.Held.{row_of}
 use Rattle.document_buf.specs.Held.{document_of}
 use Rattle.write_history.specs.World.{file_of}
 use Rattle.ide_world.specs.Step.{row_part}
-use Rattle.ide_world.proofs.WorldLemmas.{row_part-joined, file_of-world}
+use Rattle.ide_world.proofs.StepLemmas.{row_part-joined}
+use Rattle.ide_world.proofs.WorldLemmas.{file_of-world}
 use Rattle.ide_world.proofs.state.State.row.Goals as goal
 
 pub returns : goal.returns

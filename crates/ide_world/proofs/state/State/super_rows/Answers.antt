@@ -1,28 +1,15 @@
-use Rattle.std.proofs.Common.{length, refl, ap, ◌∙◌}
+use Rattle.std.proofs.Common.{refl}
 use Rattle.dumb_mode.specs.declared.kind.FileKind.TheVariants.{Java}
-use Rattle.document_buf.specs.Held.{document_of}
-use Rattle.overlay_index.specs.Parts.{Parts, parts_of}
-use Rattle.overlay_index.specs.Found.{values_of}
+use Rattle.overlay_index.specs.Parts.{Parts}
 use Rattle.overlay_index.specs.Named.{names_super}
-use Rattle.ide_world.specs.Held.{Held}
-use Rattle.ide_world.specs.Found.{shown, kept_of, stubs_in}
-use Rattle.ide_world.specs.State.{files_from}
-use Rattle.ide_world.proofs.FoundLemmas.{java_rows, walk_shown, ready_shown, shown_to}
+use Rattle.ide_world.specs.Found.{stubs_in}
+use Rattle.ide_world.proofs.FoundLemmas.{walked}
 use Rattle.ide_world.proofs.state.State.super_rows.Goals as goal
 
-pub returns-clause-shown : goal.returns-clause-shown
-returns-clause-shown c =
-    let i = c.self.inside in
+pub returns : goal.returns
+returns c =
     let name = c.args.name.now in
-    let files = files_from (document_of i.docs) 1 i.files.rows in
-    c.super_rows.ensures (length files) (shown_to i.layers files c.self.invariant.index)
-    ∙ walk_shown Java (λ (p : Parts). p.supers) name (stubs_in (names_super name)) (c.a_path_has_one_kind.ensures Java) refl
-    (java_rows (λ kind text. values_of name (parts_of kind text).supers) (stubs_in (names_super name))
-    (λ text. c.a_name_finds_its_subtypes.ensures.java text name) (λ text. c.a_name_finds_its_subtypes.ensures.properties text name)) i.layers files c.self.invariant.index
-    ∙ ap (λ (s : Held). shown Java (λ id. values_of name (kept_of s id).supers) (stubs_in (names_super name)) s.world) c.self.view_is
-
-pub returns-clause-ready : goal.returns-clause-ready
-returns-clause-ready c = λ none.
-    let name = c.args.name.now in
-    returns-clause-shown c
-    ∙ ready_shown Java (λ id. values_of name (kept_of c.args.self.now id).supers) (stubs_in (names_super name)) c.args.self.now.world.files none
+    let gives = walked Java (λ (p : Parts). p.supers) name (stubs_in (names_super name)) (c.a_path_has_one_kind.ensures Java) refl
+    (λ text. c.a_name_finds_its_subtypes.ensures.java text name) (λ text. c.a_name_finds_its_subtypes.ensures.properties text name)
+    c.self.inside c.args.self.now c.self.view_is c.self.invariant _ c.super_rows.ensures in
+    record { shown = gives.0; ready = gives.1 }

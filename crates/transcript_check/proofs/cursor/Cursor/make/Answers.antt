@@ -11,15 +11,7 @@ returns-then-is_settle c =
     let lines : c.self.inside.lines.now ≡ c.in-Some.line.now ∷ c.in-Some.later.now = search rules in
     let texts : c.self.inside.texts.now ≡ c.in-Some-split_first.told.now ∷ c.in-Some-split_first.rest.now = search rules in
     let settles : is_settle c.in-Some.line.now.command ≡ true = search rules in
-    all_taken
-    (record {
-      over = c.a_settle_goes_by_the_lowest.ensures.over;
-      ends = c.a_settle_goes_by_the_lowest.ensures.ends;
-      goes_on = c.a_settle_goes_by_the_lowest.ensures.goes_on;
-    })
-    c.args.replay.now c.take_lowest_so.new.replay c.self.inside.seat c.self.inside.lines.now c.in-Some.later.now
-    c.self.inside.texts.now c.in-Some-split_first.rest.now c.self.inside.settling c.in-Some.line.now c.in-Some-split_first.told.now
-    c.args.self.now c.args.text.now c.take_lowest_so.result c.self.view_is lines texts settles c.take_lowest_so.ensures
+    all_taken c.args.replay.now c.take_lowest_so.new.replay c.args.text.now c.take_lowest_so.result c.self.view_is lines texts settles c.take_lowest_so.ensures
 
 pub invariant_of-self-2 : goal.invariant_of-self-2
 invariant_of-self-2 c =
@@ -31,12 +23,4 @@ returns c =
     let lines : c.self.inside.lines.now ≡ c.in-Some.line.now ∷ c.in-Some.later.now = search rules in
     let texts : c.self.inside.texts.now ≡ c.in-Some-split_first.told.now ∷ c.in-Some-split_first.rest.now = search rules in
     let no_settle : is_settle c.in-Some.line.now.command ≡ false = search rules in
-    all_changed
-    (record {
-      over = c.a_settle_goes_by_the_lowest.ensures.over;
-      ends = c.a_settle_goes_by_the_lowest.ensures.ends;
-      goes_on = c.a_settle_goes_by_the_lowest.ensures.goes_on;
-    })
-    c.args.replay.now c.change_so.new.replay c.self.inside.seat c.self.inside.lines.now c.in-Some.later.now
-    c.self.inside.texts.now c.in-Some-split_first.rest.now c.self.inside.settling c.in-Some.line.now c.in-Some-split_first.told.now
-    c.args.self.now c.args.text.now c.change_so.result c.self.view_is lines texts no_settle c.change_so.ensures
+    all_changed c.args.replay.now c.change_so.new.replay c.args.text.now c.change_so.result c.self.view_is lines texts no_settle c.change_so.ensures
