@@ -49,7 +49,8 @@ declarations (`stub_tree`), the stages of a listing (`decl_parser`), tokens (`ja
 | which declarations a question asks for; the types that come from a name, level by level | `is_class`, `has_super`, `is_method`; `inheritors_of` | `query_engine/specs/Fits.antt`; `Inheritors.antt` |
 | the answer to a question in a world: it lists the shown texts anew | `reply` | `query_engine/specs/Reply.antt` |
 | what a settle adds to a history | `settled` | `write_history/specs/Settle.antt` |
-| what one command adds behind a history and is answered; one thread | `step_of`; `run_of` | `transcripts/specs/Serial.antt` |
+| the steps of a serial run: what changes, a settle and a question add behind a history, and their answers | `changes_step`, `settle_step`; `query_step` | `write_history/specs/Serial.antt`; `query_engine/specs/Reply.antt` |
+| what one command adds behind a history and is answered, by these steps; one thread | `step_of`; `run_of` | `transcripts/specs/Serial.antt` |
 | one record of a run beside others; a section; lanes; workers; the whole run | `IsDone`, `IsGivenUp`; `SectionFits`; `LanesFit`; `WorkerFits`; `RunFits` | `transcripts/specs/Fits.antt` |
 | what was read for the loads | `AreLoadsOf` | `transcripts/specs/Loads.antt` |
 | the bytes that print a history and records | `transcript_of`; `entry_line` | `transcripts/specs/Transcript.antt`; `write_history/specs/Print.antt` |

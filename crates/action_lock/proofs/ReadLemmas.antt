@@ -30,9 +30,6 @@ counted_on n = by_order (ltb n 18446744073709551615) refl
 pub found_mark : (sights found : ℕ) (b : Bool) → b ≡ has_pending found → b ≡ true → HasRisen sights (sights_after sights found)
 found_mark sights found b is e = rw (sym is ∙ e) (counted_on sights)
 
-pub found_none : (sights found : ℕ) (b : Bool) → b ≡ has_pending found → b ≡ false → sights_after sights found ≡ sights
-found_none sights found b is e = rw (sym is ∙ e) refl
-
 module _ {E : Type 0} where
   pub looked_once : (v : View E) (found : ℕ) → HasLooked v (looked found v)
   looked_once v found = record { same = refl; looks = omega arith; checks = omega arith; sights = sighted v.sights found }

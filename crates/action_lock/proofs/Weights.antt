@@ -45,14 +45,6 @@ opened_weighs places h p k within = by_test (eqb k places) refl
         λ i. record { visitors = 0; writers = same i; pendings = (sym one ∙ same) i; readers = 0; holders = same i }
     by_test false e = refl
 
--- one place more is marked
-pub marked_next : (k : ℕ) → marked (k + 1) ≡ Marking (k + 1)
-marked_next k = ap (λ b. if b then Out else Marking (k + 1)) (ne_eqb (k + 1) 0 (λ e. omega arith))
-
--- a place that isn't the last is opened
-pub opened_next : (places k : ℕ) → k < places → opened places k ≡ Opening k
-opened_next places k l = ap (λ b. if b then Writing places else Opening k) (ne_eqb k places (λ e. omega arith))
-
 module _ {E : Type 0} where
   -- each view has one of the places
   pub own_within : (v : View E) (places : ℕ) → 0 < places → ((n : ℕ) → v.number ≡ Some n → v.places ≡ places) → own_place v.places v.number < places

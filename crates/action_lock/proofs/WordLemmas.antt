@@ -15,12 +15,6 @@ turn_set n e = eqb-true (n % 2) 1 e
 pub turn_clear : (n : ℕ) → has_turn n ≡ false → n % 2 ≡ 0
 turn_clear n e = below_two n e
 
-pub pending_set : (n : ℕ) → has_pending n ≡ true → n / 4 % 2 ≡ 1
-pending_set n e = eqb-true (n / 4 % 2) 1 e
-
-pub pending_clear : (n : ℕ) → has_pending n ≡ false → n / 4 % 2 ≡ 0
-pending_clear n e = below_two (n / 4) e
-
 pub or_odd : (n : ℕ) → n % 2 ≡ 1 → bit_or n 1 ≡ n
 or_odd n odd = or_step n 1 ∙ (let e : bit_or (n / 2) 0 ≡ n / 2 = or_zero_r (n / 2) in omega arith)
 

@@ -41,7 +41,8 @@ impl<H: Home> ActionLock<H> {
         places: u32,
     ) -> Result<(ActionLock<H>, Pass<H>), AllocFailed<H>>
         requires { H.stands home [] }
-        ensures ok { IfOk result (λ made. IsPassOf made.0 made.1 × (view_of made.1 ≡ first_view (places_for places))) }
+        ensures ok { IfOk result
+            (λ made. IsPassOf made.0 made.1 × (view_of made.1 ≡ first_view (places_for places))) }
         ensures err { IfErr result (λ failed. failed.value ≡ home) }
     {
         let places = places_for(places);
@@ -79,10 +80,13 @@ impl<H: Home> ActionLock<H> {
         requires pass { IsPassOf self.now pass.old }
         requires leads { (view_of pass.old).number ≡ Some 0 }
         ensures pass { IsPassOf self.now pass.new × IsSamePass pass.old pass.new }
-        ensures ok { IfOk result (λ new.
-            IsPassOf self.now new × ((view_of pass.old).drawn < 65536) × (view_of pass.new ≡ splitting (view_of pass.old)) × (view_of new ≡ split_off (view_of pass.old))) }
-        ensures full { IfErr result (λ refusal.
-            (refusal ≡ SplitRefusal.Full 65536) × ((view_of pass.old).drawn ≡ 65536) × (view_of pass.new ≡ view_of pass.old)) }
+        ensures ok { IfOk result
+            (λ new. IsPassOf self.now new × ((view_of pass.old).drawn < 65536)
+            × (view_of pass.new ≡ splitting (view_of pass.old))
+            × (view_of new ≡ split_off (view_of pass.old))) }
+        ensures full { IfErr result
+            (λ refusal. (refusal ≡ SplitRefusal.Full 65536) × ((view_of pass.old).drawn ≡ 65536)
+            × (view_of pass.new ≡ view_of pass.old)) }
     {
         if pass.drawn == NUMBERS {
             return Err(SplitRefusal::Full { drawn: NUMBERS });
@@ -185,7 +189,9 @@ fn shares_of<H: Home>(
     places: u32,
 ) -> Result<Vec<Slot<H, H::Share>>, AllocError>
     ensures many { IfOk result (λ slots. length slots.items ≡ places) }
-    ensures keeps { IfOk result (λ slots. (entries : List H.Entry) → H.stands home.now entries → All (MayKeep H.share_stands entries) slots.items) }
+    ensures keeps { IfOk result
+        (λ slots. (entries : List H.Entry) → H.stands home.now entries
+        → All (MayKeep H.share_stands entries) slots.items) }
     ensures shares { IfOk result (λ slots. All HasNoHome slots.items) }
 {
     let mut slots = Vec::new(alloc);
@@ -204,7 +210,10 @@ fn push_share<H: Home>(
     home: &H,
     slots: &mut Vec<Slot<H, H::Share>>,
 ) -> Result<(), AllocError>
-    ensures ok { OnOk result ((share : H.Share) × (slots.new.items ≡ slots.old.items ++ Share share ∷ []) × ((entries : List H.Entry) → H.stands home.now entries → H.share_stands share entries)) }
+    ensures ok { OnOk result
+        ((share : H.Share) × (slots.new.items ≡ slots.old.items ++ Share share ∷ [])
+        × ((entries : List H.Entry) → H.stands home.now entries
+        → H.share_stands share entries)) }
     ensures err { OnErr result (slots.new.items ≡ slots.old.items) }
 {
     let share = home.share(alloc)?;
@@ -227,7 +236,8 @@ fn discard<H, S: Drop>(mut slots: Vec<Slot<H, S>>)
 
 /// The home value, which stands behind shares; these are let go.
 fn home_behind<H, S: Drop>(mut slots: Vec<Slot<H, S>>) -> H
-    requires { (home : H) × (shares : List (Slot H S)) × All HasNoHome shares × (slots.items ≡ shares ++ Home home ∷ []) }
+    requires { (home : H) × (shares : List (Slot H S)) × All HasNoHome shares
+        × (slots.items ≡ shares ++ Home home ∷ []) }
     ensures { (shares : List (Slot H S)) × (slots.items ≡ shares ++ Home result ∷ []) }
 {
     let home = slots.pop().unwrap().into_home();

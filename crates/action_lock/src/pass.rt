@@ -81,7 +81,8 @@ impl<H: Home> Pass<H> {
     /// Gives the share of a read out.
     pub(crate) fn let_go(&mut self) -> H::Share
         requires { (share : H.Share) × (self.old.share ≡ Some share) }
-        ensures { (self.old.share ≡ Some result) × (self.new.share ≡ None) × (self.new.seat ≡ self.old.seat) }
+        ensures { (self.old.share ≡ Some result) × (self.new.share ≡ None)
+            × (self.new.seat ≡ self.old.seat) }
     {
         self.share.take().unwrap()
     }

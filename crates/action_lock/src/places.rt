@@ -31,7 +31,8 @@ impl<H: Home> ActionLock<H> {
     pub(crate) fn shut_first<R: Wait>(&self, rt: &R, pass: &mut Pass<H>) -> H
         requires { IsWriting self.now pass.old (Marking (view_of pass.old).places) [] }
         ensures same { IsSamePass pass.old pass.new }
-        ensures shuts { IsWriting self.now pass.new (Shutting 1) (shut_hand (view_of pass.new).places 1) }
+        ensures shuts { IsWriting self.now pass.new (Shutting 1)
+            (shut_hand (view_of pass.new).places 1) }
         ensures learns { Learns H.number_of (view_of pass.old) (view_of pass.new).seen }
         ensures view { view_of pass.new ≡ shutting (view_of pass.new).seen (view_of pass.old) }
         ensures stands { H.stands result (view_of pass.new).seen }
@@ -47,11 +48,15 @@ impl<H: Home> ActionLock<H> {
 
     /// Empties the slots that come with the first place, and gives the home value.
     fn empty_first(&self, pass: &mut Pass<H>) -> H
-        requires { (home : H) × (kept : Slot H H.Share) × HasNoHome kept × IsWriting self.now pass.old (Shutting 1) (((view_of pass.old).places, Home home) ∷ (0, kept) ∷ []) }
+        requires { (home : H) × (kept : Slot H H.Share) × HasNoHome kept
+            × IsWriting self.now pass.old (Shutting 1)
+            (((view_of pass.old).places, Home home) ∷ (0, kept) ∷ []) }
         ensures same { IsSamePass pass.old pass.new }
-        ensures shuts { IsWriting self.now pass.new (Shutting 1) (shut_hand (view_of pass.new).places 1) }
+        ensures shuts { IsWriting self.now pass.new (Shutting 1)
+            (shut_hand (view_of pass.new).places 1) }
         ensures view { view_of pass.new ≡ view_of pass.old }
-        ensures home { (kept : Slot H H.Share) × (pass.old.seat.me.1 ≡ ((view_of pass.old).places, Home result) ∷ (0, kept) ∷ []) }
+        ensures home { (kept : Slot H H.Share)
+            × (pass.old.seat.me.1 ≡ ((view_of pass.old).places, Home result) ∷ (0, kept) ∷ []) }
     {
         let shared = &self.table.shared;
         let behind = pass.places();
@@ -65,9 +70,11 @@ impl<H: Home> ActionLock<H> {
 
     /// Shuts the other places, each as soon as its readers have left. May block.
     pub(crate) fn shut_others<R: Wait>(&self, rt: &R, pass: &mut Pass<H>)
-        requires { IsWriting self.now pass.old (Shutting 1) (shut_hand (view_of pass.old).places 1) }
+        requires { IsWriting self.now pass.old (Shutting 1)
+            (shut_hand (view_of pass.old).places 1) }
         ensures same { IsSamePass pass.old pass.new }
-        ensures writes { IsWriting self.now pass.new (Writing (view_of pass.new).places) (shut_hand (view_of pass.new).places (view_of pass.new).places) }
+        ensures writes { IsWriting self.now pass.new (Writing (view_of pass.new).places)
+            (shut_hand (view_of pass.new).places (view_of pass.new).places) }
         ensures view { with_phase Out (view_of pass.new) ≡ with_phase Out (view_of pass.old) }
     {
         for place in 1..pass.places() {
@@ -78,9 +85,11 @@ impl<H: Home> ActionLock<H> {
     /// Shuts a place behind the first as soon as its readers have left, and lets go what it kept. May block.
     fn shut_at<R: Wait>(&self, rt: &R, pass: &mut Pass<H>, place: usize)
         requires within { (0 < place) × (place < (view_of pass.old).places) }
-        requires shuts { IsWriting self.now pass.old (Shutting place) (shut_hand (view_of pass.old).places place) }
+        requires shuts { IsWriting self.now pass.old (Shutting place)
+            (shut_hand (view_of pass.old).places place) }
         ensures same { IsSamePass pass.old pass.new }
-        ensures shuts { IsWriting self.now pass.new (Shutting (place + 1)) (shut_hand (view_of pass.new).places (place + 1)) }
+        ensures shuts { IsWriting self.now pass.new (Shutting (place + 1))
+            (shut_hand (view_of pass.new).places (place + 1)) }
         ensures view { with_phase Out (view_of pass.new) ≡ with_phase Out (view_of pass.old) }
     {
         for _ in rt.forever() {
@@ -96,7 +105,8 @@ impl<H: Home> ActionLock<H> {
 
     /// Lays the home value into the slot that was emptied last.
     pub(crate) fn lay(&self, pass: &mut Pass<H>, home: H)
-        requires { IsWriting self.now pass.old (Writing (view_of pass.old).places) (shut_hand (view_of pass.old).places (view_of pass.old).places) }
+        requires { IsWriting self.now pass.old (Writing (view_of pass.old).places)
+            (shut_hand (view_of pass.old).places (view_of pass.old).places) }
         ensures same { IsSamePass pass.old pass.new }
         ensures writes { Writes self.now pass.new }
         ensures hand { InHand pass.new home }
@@ -113,7 +123,8 @@ impl<H: Home> ActionLock<H> {
     fn lift(&self, pass: &mut Pass<H>) -> H
         requires { Writes self.now pass.old }
         ensures same { IsSamePass pass.old pass.new }
-        ensures shuts { IsWriting self.now pass.new (Writing (view_of pass.new).places) (shut_hand (view_of pass.new).places (view_of pass.new).places) }
+        ensures shuts { IsWriting self.now pass.new (Writing (view_of pass.new).places)
+            (shut_hand (view_of pass.new).places (view_of pass.new).places) }
         ensures hand { InHand pass.old result }
         ensures view { view_of pass.new ≡ view_of pass.old }
     {
@@ -143,7 +154,8 @@ impl<H: Home> ActionLock<H> {
 
     /// What a place is to keep: a share of the home value, or nothing where there is no memory.
     fn kept_of(&self, home: &H) -> Slot<H, H::Share>
-        ensures { (entries : List H.Entry) → H.stands home.now entries → MayKeep H.share_stands entries result }
+        ensures { (entries : List H.Entry) → H.stands home.now entries
+            → MayKeep H.share_stands entries result }
     {
         match home.share(self.alloc) {
             Ok(share) => Slot::Share(share),
@@ -155,9 +167,11 @@ impl<H: Home> ActionLock<H> {
     fn open_at(&self, pass: &mut Pass<H>, place: usize, home: &H)
         requires within { (0 < place) × (place < (view_of pass.old).places) }
         requires stands { H.stands home.now (view_of pass.old).seen }
-        requires shuts { IsWriting self.now pass.old (opened (view_of pass.old).places (place + 1)) (shut_hand (view_of pass.old).places (place + 1)) }
+        requires shuts { IsWriting self.now pass.old (opened (view_of pass.old).places (place + 1))
+            (shut_hand (view_of pass.old).places (place + 1)) }
         ensures same { IsSamePass pass.old pass.new }
-        ensures opens { IsWriting self.now pass.new (opened (view_of pass.new).places place) (shut_hand (view_of pass.new).places place) }
+        ensures opens { IsWriting self.now pass.new (opened (view_of pass.new).places place)
+            (shut_hand (view_of pass.new).places place) }
         ensures view { with_phase Out (view_of pass.new) ≡ with_phase Out (view_of pass.old) }
     {
         let shared = &self.table.shared;
@@ -169,7 +183,8 @@ impl<H: Home> ActionLock<H> {
     /// Opens the first place, and gives the home value back.
     fn open_first(&self, pass: &mut Pass<H>, home: H)
         requires stands { H.stands home (view_of pass.old).seen }
-        requires shuts { IsWriting self.now pass.old (opened (view_of pass.old).places 1) (shut_hand (view_of pass.old).places 1) }
+        requires shuts { IsWriting self.now pass.old (opened (view_of pass.old).places 1)
+            (shut_hand (view_of pass.old).places 1) }
         ensures same { IsSamePass pass.old pass.new }
         ensures intends { Intends self.now pass.new }
         ensures view { view_of pass.new ≡ with_phase Out (view_of pass.old) }

@@ -32,9 +32,13 @@ impl<H: Home> Pass<H> {
         lock: &'a ActionLock<H>,
     ) -> Result<Reading<'a, H>, ReadRefusal>
         requires { IsOut lock.now self.old }
-        ensures* refused { sem 𝓛 (rests_if_refused H.row H.Entry.row H.Share.row H.Home lock.now self.entry result) }
+        ensures* refused { sem 𝓛
+            (rests_if_refused H.row H.Entry.row H.Share.row H.Home lock.now self.entry result) }
         ensures same_reference { IfOk result (λ it. loan_of it ≡ self.entry.ghost_name) }
-        ensures ok { IfOk result (λ it. IsReading it × (lock_of it ≡ lock.now) × IsSamePass self.old (pass_of it) × HasRead H.number_of phase.Reading (view_of self.old) (view_of (pass_of it)) × Advances (view_of self.old) (view_of (pass_of it))) }
+        ensures ok { IfOk result
+            (λ it. IsReading it × (lock_of it ≡ lock.now) × IsSamePass self.old (pass_of it)
+            × HasRead H.number_of phase.Reading (view_of self.old) (view_of (pass_of it))
+            × Advances (view_of self.old) (view_of (pass_of it))) }
     {
         lock.try_enter(alloc, self)?;
         Ok(Reading { lock, pass: self })
@@ -48,9 +52,14 @@ impl<H: Home> Pass<H> {
         lock: &'a ActionLock<H>,
     ) -> Result<Reading<'a, H>, AllocError>
         requires { IsOut lock.now self.old }
-        ensures* refused { sem 𝓛 (rests_if_no_memory H.row H.Entry.row H.Share.row H.Home lock.now self.entry result) }
+        ensures* refused { sem 𝓛
+            (rests_if_no_memory H.row H.Entry.row H.Share.row H.Home lock.now self.entry result) }
         ensures same_reference { IfOk result (λ it. loan_of it ≡ self.entry.ghost_name) }
-        ensures ok { IfOk result (λ it. IsReading it × (lock_of it ≡ lock.now) × IsSamePass self.old (pass_of it) × HasWaited (HasRead H.number_of phase.Reading) (view_of self.old) (view_of (pass_of it)) × Advances (view_of self.old) (view_of (pass_of it))) }
+        ensures ok { IfOk result
+            (λ it. IsReading it × (lock_of it ≡ lock.now) × IsSamePass self.old (pass_of it)
+            × HasWaited (HasRead H.number_of phase.Reading) (view_of self.old)
+            (view_of (pass_of it))
+            × Advances (view_of self.old) (view_of (pass_of it))) }
     {
         lock.enter_waiting(rt, alloc, self)?;
         Ok(Reading { lock, pass: self })
@@ -74,7 +83,8 @@ impl<'a, H: Home> Reading<'a, H> {
         ensures same { GoesOn self.new × IsSameRead self.old self.new }
         ensures reads { IsReading self.old → IsReading self.new }
         ensures share { kept_share self.new ≡ kept_share self.old }
-        ensures view { view_of (pass_of self.new) ≡ checked (view_of (pass_of self.new)).last (view_of (pass_of self.old)) }
+        ensures view { view_of (pass_of self.new)
+            ≡ checked (view_of (pass_of self.new)).last (view_of (pass_of self.old)) }
         ensures kept { (view_of (pass_of self.old)).sights ≤ (view_of (pass_of self.new)).sights }
         ensures found { result ≡ has_pending (view_of (pass_of self.new)).last }
     {
@@ -113,7 +123,8 @@ impl<'a, H: Home> Reading<'a, H> {
         requires { IsReading self }
         ensures out { IsOut (lock_of self.entry) self.exit.1.0.now }
         ensures same { IsSamePass (pass_of self.entry) self.exit.1.0.now }
-        ensures view { view_of self.exit.1.0.now ≡ with_phase phase.Out (view_of (pass_of self.entry)) }
+        ensures view { view_of self.exit.1.0.now
+            ≡ with_phase phase.Out (view_of (pass_of self.entry)) }
         ensures advances { Advances (view_of (pass_of self.entry)) (view_of self.exit.1.0.now) }
     {
         let Reading { lock, pass } = self;

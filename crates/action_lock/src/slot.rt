@@ -5,8 +5,11 @@ ghost use Rattle.action_lock.specs.Slots.{HasNoHome};
 
 /// A value of a slot: the home value, the share that a place keeps, or nothing.
 pub enum Slot<H, S> {
+    /// The value under the lock.
     Home(H),
+    /// The share that a place keeps.
     Share(S),
+    /// Nothing: what stood here is in use, or no share is kept.
     Empty,
 }
 

@@ -37,7 +37,8 @@ impl<H: Home> ActionLock<H> {
         requires { IsAt self.now pass.old Out }
         ensures same { IsSamePass pass.old pass.new }
         ensures share { pass.new.share ≡ pass.old.share }
-        ensures told { EntersAt H.number_of H.share_stands (has_pending result) (has_turn result) pass.old.seat.me result pass.new.seat.me }
+        ensures told { EntersAt H.number_of H.share_stands (has_pending result)
+            (has_turn result) pass.old.seat.me result pass.new.seat.me }
     {
         let shared = &self.table.shared;
         let word = word_at(pass.place());
@@ -147,8 +148,12 @@ impl<H: Home> ActionLock<H> {
     pub(crate) fn try_enter(&self, alloc: Global, pass: &mut Pass<H>) -> Result<(), ReadRefusal>
         requires { IsOut self.now pass.old }
         ensures same { IsSamePass pass.old pass.new }
-        ensures ok { OnOk result (IsInside self.now pass.new × HasRead H.number_of Reading (view_of pass.old) (view_of pass.new)) }
-        ensures err { IfErr result (λ refusal. IsOut self.now pass.new × IsRefused H.number_of refusal (view_of pass.old) (view_of pass.new)) }
+        ensures ok { OnOk result
+            (IsInside self.now pass.new
+            × HasRead H.number_of Reading (view_of pass.old) (view_of pass.new)) }
+        ensures err { IfErr result
+            (λ refusal. IsOut self.now pass.new
+            × IsRefused H.number_of refusal (view_of pass.old) (view_of pass.new)) }
     {
         let found = self.enter(pass);
         if has_pending(found) {
@@ -183,8 +188,12 @@ impl<H: Home> ActionLock<H> {
     ) -> Result<(), AllocError>
         requires { IsOut self.now pass.old }
         ensures same { IsSamePass pass.old pass.new }
-        ensures ok { OnOk result (IsInside self.now pass.new × HasWaited (HasRead H.number_of Reading) (view_of pass.old) (view_of pass.new)) }
-        ensures err { OnErr result (IsOut self.now pass.new × HasWaited (HasFailed H.number_of) (view_of pass.old) (view_of pass.new)) }
+        ensures ok { OnOk result
+            (IsInside self.now pass.new
+            × HasWaited (HasRead H.number_of Reading) (view_of pass.old) (view_of pass.new)) }
+        ensures err { OnErr result
+            (IsOut self.now pass.new
+            × HasWaited (HasFailed H.number_of) (view_of pass.old) (view_of pass.new)) }
     {
         for _ in rt.forever() {
             match self.try_enter(alloc, pass) {

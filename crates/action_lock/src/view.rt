@@ -3,6 +3,7 @@ use std::collections::LinkedList;
 
 /// What the seat does.
 pub enum Phase {
+    /// It neither reads nor writes, and has no turn.
     Out,
     /// It has the turn of its place and the share that the place keeps, to read.
     Entering,
@@ -10,6 +11,7 @@ pub enum Phase {
     Lacking,
     /// It has the turn of its place, and gives it back.
     Backing,
+    /// It reads by a share.
     Reading,
     /// It has set the pending mark of so many places, from the first on.
     Marking(u32),
@@ -21,8 +23,11 @@ pub enum Phase {
 
 /// What a pass that was met has left.
 pub struct Ended<E> {
+    /// The number that it had.
     pub number: u32,
+    /// The entries that it made.
     pub entries: LinkedList<E>,
+    /// How often it found the pending mark.
     pub sights: u64,
 }
 
@@ -30,18 +35,23 @@ pub struct Ended<E> {
 pub struct View<E> {
     /// How many places the lock has.
     pub places: u32,
+    /// Its number, once it has been given one.
     pub number: Option<u32>,
     /// Of number 0: how many numbers were given, its own included.
     pub drawn: u64,
+    /// What it does.
     pub phase: Phase,
+    /// Whether it has the intent to write.
     pub intent: bool,
     /// What it has seen is the whole history until it releases its intent.
     pub current: bool,
+    /// The history as far as it has seen it.
     pub seen: LinkedList<E>,
     /// The entries that it made.
     pub mine: LinkedList<E>,
     /// What a join has left to be told.
     pub olds: LinkedList<LinkedList<E>>,
+    /// What the passes that it met have left.
     pub ended: LinkedList<Ended<E>>,
     /// How often it found the pending mark.
     pub sights: u64,

@@ -44,7 +44,8 @@ impl<H: Home> ActionLock<H> {
         requires marks { IsWriting self.now pass.old (marked place) [] }
         ensures same { IsSamePass pass.old pass.new }
         ensures share { pass.new.share ≡ pass.old.share }
-        ensures view { pass.new.seat.me ≡ (with_phase (Marking (place + 1)) (view_of pass.old), []) }
+        ensures view { pass.new.seat.me
+            ≡ (with_phase (Marking (place + 1)) (view_of pass.old), []) }
     {
         let shared = &self.table.shared;
         shared.fetch_add::<Mark>(&mut pass.seat, word_at(place), PENDING);
@@ -65,7 +66,8 @@ impl<H: Home> ActionLock<H> {
     /// A place behind the first is shut, if no reader is in by it. Whether it was.
     pub(crate) fn shut(&self, pass: &mut Pass<H>, place: usize) -> bool
         requires within { (0 < place) × (place < (view_of pass.old).places) }
-        requires shuts { IsWriting self.now pass.old (Shutting place) (shut_hand (view_of pass.old).places place) }
+        requires shuts { IsWriting self.now pass.old (Shutting place)
+            (shut_hand (view_of pass.old).places place) }
         ensures same { IsSamePass pass.old pass.new }
         ensures share { pass.new.share ≡ pass.old.share }
         ensures told { ShutsAt result place pass.old.seat.me pass.new.seat.me }
@@ -81,7 +83,9 @@ impl<H: Home> ActionLock<H> {
         requires added { HasAdded pass.old }
         ensures same { IsSamePass pass.old pass.new }
         ensures share { pass.new.share ≡ pass.old.share }
-        ensures view { (home : H) (entry : H.Entry) → InHand pass.old home → H.stands home ((view_of pass.old).seen ++ entry ∷ []) → pass.new.seat.me ≡ (placing entry (view_of pass.old), pass.old.seat.me.1) }
+        ensures view { (home : H) (entry : H.Entry) → InHand pass.old home
+            → H.stands home ((view_of pass.old).seen ++ entry ∷ [])
+            → pass.new.seat.me ≡ (placing entry (view_of pass.old), pass.old.seat.me.1) }
     {
         let shared = &self.table.shared;
         shared.fetch_add::<Place<H>>(&mut pass.seat, COUNT, 1);
@@ -90,10 +94,17 @@ impl<H: Home> ActionLock<H> {
     /// A place behind the first is opened, with what it is to keep.
     pub(crate) fn open(&self, pass: &mut Pass<H>, place: usize)
         requires within { (0 < place) × (place < (view_of pass.old).places) }
-        requires opens { (kept : Slot H H.Share) × MayKeep H.share_stands (view_of pass.old).seen kept × IsWriting self.now pass.old (opened (view_of pass.old).places (place + 1)) ((place, kept) ∷ shut_hand (view_of pass.old).places place) }
+        requires opens { (kept : Slot H H.Share)
+            × MayKeep H.share_stands (view_of pass.old).seen kept
+            × IsWriting self.now pass.old (opened (view_of pass.old).places (place + 1))
+            ((place, kept) ∷ shut_hand (view_of pass.old).places place) }
         ensures same { IsSamePass pass.old pass.new }
         ensures share { pass.new.share ≡ pass.old.share }
-        ensures view { pass.new.seat.me ≡ (with_phase (Opening place) (view_of pass.old), shut_hand (view_of pass.old).places place) }
+        ensures view { pass.new.seat.me
+            ≡ (
+              with_phase (Opening place) (view_of pass.old),
+              shut_hand (view_of pass.old).places place,
+            ) }
     {
         let shared = &self.table.shared;
         shared.store::<Open>(&mut pass.seat, word_at(place), 0);
@@ -101,8 +112,10 @@ impl<H: Home> ActionLock<H> {
 
     /// The first place is opened, with what it is to keep, and the home value is given back.
     pub(crate) fn end(&self, pass: &mut Pass<H>)
-        requires { (home : H) × (kept : Slot H H.Share) × H.stands home (view_of pass.old).seen × MayKeep H.share_stands (view_of pass.old).seen kept
-            × IsWriting self.now pass.old (opened (view_of pass.old).places 1) (((view_of pass.old).places, Home home) ∷ (0, kept) ∷ []) }
+        requires { (home : H) × (kept : Slot H H.Share) × H.stands home (view_of pass.old).seen
+            × MayKeep H.share_stands (view_of pass.old).seen kept
+            × IsWriting self.now pass.old (opened (view_of pass.old).places 1)
+            (((view_of pass.old).places, Home home) ∷ (0, kept) ∷ []) }
         ensures same { IsSamePass pass.old pass.new }
         ensures share { pass.new.share ≡ pass.old.share }
         ensures view { pass.new.seat.me ≡ (with_phase Out (view_of pass.old), []) }

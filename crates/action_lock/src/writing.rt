@@ -20,8 +20,10 @@ impl<H: Home> Pass<H> {
     pub fn try_intent(&mut self, lock: &ActionLock<H>) -> Result<(), IntentRefusal>
         requires { IsPassOf lock.now self.old }
         ensures same { IsSamePass self.old self.new }
-        ensures ok { OnOk result (Intends lock.now self.new × (view_of self.new ≡ with_intent (view_of self.old))) }
-        ensures held { OnErr result (IsPassOf lock.now self.new × (view_of self.new ≡ held_up (view_of self.old))) }
+        ensures ok { OnOk result
+            (Intends lock.now self.new × (view_of self.new ≡ with_intent (view_of self.old))) }
+        ensures held { OnErr result
+            (IsPassOf lock.now self.new × (view_of self.new ≡ held_up (view_of self.old))) }
         ensures advances { Advances (view_of self.old) (view_of self.new) }
     {
         if lock.take(self) {
@@ -67,7 +69,8 @@ impl<H: Home> Pass<H> {
     /// The home value that the pass has in its hand.
     pub fn home_mut<'a>(&'a mut self, lock: &'a ActionLock<H>) -> &'a mut H
         requires { Writes lock.now self.old }
-        ensures* writes_back { sem 𝓛 (lends_home H.row H.Entry.row H.Share.row H.Home self.entry result) }
+        ensures* writes_back { sem 𝓛
+            (lends_home H.row H.Entry.row H.Share.row H.Home self.entry result) }
         ensures value { InHand self.old result.now }
     {
         let last = self.places() - 1;
@@ -85,7 +88,9 @@ impl<H: Home> Pass<H> {
         requires added { HasAdded self.old }
         ensures same { IsSamePass self.old self.new }
         ensures intends { Intends lock.now self.new }
-        ensures view { (home : H) (entry : H.Entry) → InHand self.old home → H.stands home ((view_of self.old).seen ++ entry ∷ []) → view_of self.new ≡ finished entry (view_of self.old) }
+        ensures view { (home : H) (entry : H.Entry) → InHand self.old home
+            → H.stands home ((view_of self.old).seen ++ entry ∷ [])
+            → view_of self.new ≡ finished entry (view_of self.old) }
         ensures advances { Advances (view_of self.old) (view_of self.new) }
     {
         lock.place(self);

@@ -50,6 +50,7 @@ pub enum Request {
 pub enum WordsRefusal {
     /// The words are outside the grammar, or ask for help.
     Usage,
+    /// Memory ran out.
     OutOfMemory,
 }
 
@@ -67,7 +68,8 @@ impl From<AllocError> for WordsRefusal {
 /// What the words ask for. The first of them is the program's name.
 pub fn request_of(alloc: Global, words: &[String]) -> Result<Request, WordsRefusal>
     ensures ok { IfOk result (λ request. request_of (map string_bytes words.now) ≡ Some request) }
-    ensures usage { result ≡ Err WordsRefusal.Usage → request_of (map string_bytes words.now) ≡ None }
+    ensures usage { result ≡ Err WordsRefusal.Usage
+        → request_of (map string_bytes words.now) ≡ None }
     ensures in_range { IfOk result IsInRange }
 {
     let Ok(command) = command(alloc) else {
@@ -172,7 +174,8 @@ fn path_in(alloc: Global, options: &ArgMatches<'_>, name: &str) -> Result<Option
 
 /// The word that an option or an argument has.
 fn text_in<'a>(options: &ArgMatches<'a>, name: &str) -> Option<&'a str>
-    ensures { option_map (λ word. word.now) result ≡ text_in (rows_of (found_of options.now)) name.now }
+    ensures { option_map (λ word. word.now) result
+        ≡ text_in (rows_of (found_of options.now)) name.now }
 {
     options.get_str(name)
 }

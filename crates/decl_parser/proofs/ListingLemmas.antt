@@ -1,5 +1,5 @@
 -- What a level lists, and what an item lists.
-use Rattle.std.proofs.Common.{◌≡◌, ℕ, suc, ◌-◌, ◌<◌, ◌≤◌, true, false, List, [], ◌∷◌, ◌++◌, refl, sym, ap, ◌∙◌, arith, append_assoc}
+use Rattle.std.proofs.Common.{◌≡◌, ℕ, suc, ◌-◌, ◌<◌, ◌≤◌, true, false, List, [], ◌∷◌, ◌++◌, refl, sym, ap, ◌∙◌, arith}
 use Rattle.std.specs.Prelude.{Option, None, Some}
 use Rattle.std.specs.List.{flat_map}
 use Rattle.stub_tree.specs.declared.stub.Stub.{Stub}
@@ -7,7 +7,7 @@ use Rattle.stub_tree.specs.Stub.{is_type}
 use Rattle.stub_tree.specs.Lawful.{max_depth}
 use Rattle.decl_parser.specs.Node.{Node}
 use Rattle.decl_parser.specs.declared.declaration.Holder.{Holder}
-use Rattle.decl_parser.specs.Unit.{Unit, Item, units_of, items_of}
+use Rattle.decl_parser.specs.Unit.{Unit, units_of, items_of}
 use Rattle.decl_parser.specs.Header.{header_of}
 use Rattle.decl_parser.specs.Rule.{Declaration, declaration_of}
 use Rattle.decl_parser.specs.Listing.{stub_of, constants_at, units_of_items, item_stubs, level_stubs, stubs_at}
@@ -25,12 +25,6 @@ stubs_at-level text depth below holder us shallow next =
     let left : suc max_depth - depth ≡ suc (suc max_depth - suc depth) = omega arith in
     ap (λ n. level_stubs text n depth holder us) left
     ∙ ap (λ n. constants_at text depth holder us ++ flat_map (item_stubs text depth (stubs_at text n) holder) (items_of (units_of_items holder us))) (sym next)
-
--- one item more was listed
-pub stubs-turn : (F : Item → List Stub) (before after : List Stub) (item : Item) (items others : List Item) → items ≡ item ∷ others
-    → after ≡ before ++ F item → after ++ flat_map F others ≡ before ++ flat_map F items
-stubs-turn F before after item items others is more =
-    ap (λ l. l ++ flat_map F others) more ∙ append_assoc before (F item) (flat_map F others) ∙ sym (ap (λ l. before ++ flat_map F l) is)
 
 -- an item that declares nothing lists nothing
 pub item_stubs-none : (text : List ℕ) (depth : ℕ) (members : Option Holder → List Unit → List Stub) (holder : Option Holder) (header body : List Node)

@@ -20,7 +20,8 @@ fn part_of(text: &Text, node: &Node) -> Part
     ensures ordered { result.from ≤ result.to }
     ensures inside { result.to ≤ length text.now }
     ensures few { length text.now ≤ max_chars }
-    ensures characters { take (result.to - result.from) (drop result.from text.now) ≡ name_of text.now node.now }
+    ensures characters { take (result.to - result.from) (drop result.from text.now)
+        ≡ name_of text.now node.now }
 {
     let from = node.at().min(text.len());
     let len = node.len().min(text.len() - from);
@@ -65,7 +66,8 @@ pub(crate) fn same_characters(text: &Text, left: &Node, right: &Node) -> bool
 
 /// The character of a node at a place, if it has so many.
 fn char_of(text: &Text, node: &Node, at: u32) -> Option<char>
-    ensures some { IfSome result (λ c. drop at (name_of text.now node.now) ≡ c ∷ drop (suc at) (name_of text.now node.now)) }
+    ensures some { IfSome result
+        (λ c. drop at (name_of text.now node.now) ≡ c ∷ drop (suc at) (name_of text.now node.now)) }
     ensures none { IfNone result (drop at (name_of text.now node.now) ≡ []) }
     ensures few { OnSome result (at < max_chars) }
 {

@@ -21,8 +21,10 @@ pub(crate) struct EnumBody<'a> {
 /// The constants of the body of an enum, and what follows them.
 #[tactic(auto, unfolding(crate::specs::Rule::constants_after, crate::specs::Unit::behind_semicolon))]
 pub(crate) fn enum_body<'a>(alloc: Global, level: &'a [Node]) -> Result<EnumBody<'a>, AllocError>
-    ensures constants { IfOk result (λ body. body.constants.items ≡ constants_after [] (units_of level.now)) }
-    ensures behind { IfOk result (λ body. units_of body.behind.now ≡ behind_semicolon (units_of level.now)) }
+    ensures constants { IfOk result
+        (λ body. body.constants.items ≡ constants_after [] (units_of level.now)) }
+    ensures behind { IfOk result
+        (λ body. units_of body.behind.now ≡ behind_semicolon (units_of level.now)) }
 {
     let mut constants = Vec::new(alloc);
     let mut piece = Vec::new(alloc);

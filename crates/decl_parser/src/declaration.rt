@@ -37,8 +37,9 @@ pub(crate) fn declaration_of<'a>(
     holder: &Option<Holder>,
     header: &'a [Node],
 ) -> Option<Found<'a>>
-    ensures { MatchOption result (declaration_of text.now holder.now header.now ≡ None) (λ d.
-        declaration_of text.now holder.now header.now ≡ Some (record { kind = d.kind; name = d.name; behind = d.behind.now })) }
+    ensures { MatchOption result (declaration_of text.now holder.now header.now ≡ None)
+        (λ d. declaration_of text.now holder.now header.now
+        ≡ Some (record { kind = d.kind; name = d.name; behind = d.behind.now })) }
 {
     if let Some(head) = type_head(header) {
         return named_type(head.kind, head.behind);
@@ -60,8 +61,9 @@ pub(crate) fn declaration_of<'a>(
 
 /// The type of this kind, if its name follows.
 fn named_type<'a>(kind: StubKind, behind: &'a [Node]) -> Option<Found<'a>>
-    ensures { MatchOption result (named_type kind behind.now ≡ None) (λ d.
-        named_type kind behind.now ≡ Some (record { kind = d.kind; name = d.name; behind = d.behind.now })) }
+    ensures { MatchOption result (named_type kind behind.now ≡ None)
+        (λ d. named_type kind behind.now
+        ≡ Some (record { kind = d.kind; name = d.name; behind = d.behind.now })) }
 {
     match behind.split_first() {
         Some((name, behind)) if name.is_identifier() => Some(Found {

@@ -42,7 +42,8 @@ fn add_token(
     requires short { length text.now ≤ max_chars }
     requires room { vec_len nodes.old < vec_capacity nodes.old }
     requires few { vec_len nodes.old < max_chars }
-    ensures step { OnOk result (step text.now (record { nodes = nodes.old.items; unclosed = unclosed.old }) token
+    ensures step { OnOk result
+        (step text.now (record { nodes = nodes.old.items; unclosed = unclosed.old }) token
         ≡ record { nodes = nodes.new.items; unclosed = unclosed.new }) }
     ensures room { vec_capacity nodes.new ≡ vec_capacity nodes.old }
     ensures len { vec_len nodes.new ≤ vec_len nodes.old + 1 }
@@ -69,7 +70,8 @@ fn add_token(
 #[tactic(auto, unfolding(crate::specs::Forest::close))]
 fn close_group(nodes: &mut Vec<Node>, unclosed: &mut OpenBrackets, bracket: Bracket)
     requires few { vec_len nodes.old ≤ max_chars }
-    ensures closed { close bracket nodes.old.items unclosed.old ≡ record { nodes = nodes.new.items; unclosed = unclosed.new } }
+    ensures closed { close bracket nodes.old.items unclosed.old
+        ≡ record { nodes = nodes.new.items; unclosed = unclosed.new } }
     ensures room { vec_capacity nodes.new ≡ vec_capacity nodes.old }
     ensures len { vec_len nodes.new ≡ vec_len nodes.old }
 {

@@ -25,9 +25,13 @@ pub(crate) fn first_item<'a>(
     level: &'a [Node],
 ) -> Result<Option<FirstItem<'a>>, AllocError>
     ensures none { IfOk result (λ item. IfNone item (items_of (units_of level.now) ≡ [])) }
-    ensures some { IfOk result (λ item. IfSome item (λ i. items_of (units_of level.now)
-        ≡ record { header = i.header.items; body = i.body.now } ∷ items_of (units_of i.behind.now))) }
-    ensures fewer { IfOk result (λ item. IfSome item (λ i. length i.behind.now < length level.now)) }
+    ensures some { IfOk result
+        (λ item. IfSome item
+        (λ i. items_of (units_of level.now)
+        ≡ record { header = i.header.items; body = i.body.now } ∷ items_of
+        (units_of i.behind.now))) }
+    ensures fewer { IfOk result
+        (λ item. IfSome item (λ i. length i.behind.now < length level.now)) }
 {
     let mut header = Vec::new(alloc);
     let mut rest = level;

@@ -45,11 +45,13 @@ pub fn supers_are_identifiers()
 
 /// Comments count for nothing: the forest of groups, from which the listing is made, is that of the other tokens.
 pub fn comments_count_for_nothing()
-    ensures { (text : List ℕ) (tokens : List Token) → forest_of text (filter (λ t. not (is_comment t)) tokens) ≡ forest_of text tokens }
+    ensures { (text : List ℕ) (tokens : List Token)
+        → forest_of text (filter (λ t. not (is_comment t)) tokens) ≡ forest_of text tokens }
 {}
 
 /// Where no unit at the top of a text is one of the words that may declare a type, the text lists no type, at any depth.
 pub fn types_are_declared_by_their_words()
-    ensures { (text : List ℕ) → All (λ u. DeclaresNoType u.node) (units_of (forest_of text (tokens_of text)))
+    ensures { (text : List ℕ)
+        → All (λ u. DeclaresNoType u.node) (units_of (forest_of text (tokens_of text)))
         → All (λ s. is_type s ≡ false) (listing_of text) }
 {}

@@ -45,7 +45,9 @@ fn add_level(
     stubs: &mut Vec<Stub>,
 ) -> Result<(), AllocError>
     requires { depth ≤ max_depth + 1 }
-    ensures { OnOk result (stubs.new.items ≡ stubs.old.items ++ stubs_at text.now depth holder.now (units_of level.now)) }
+    ensures { OnOk result
+        (stubs.new.items ≡ stubs.old.items
+        ++ stubs_at text.now depth holder.now (units_of level.now)) }
 {
     if depth > MAX_DEPTH {
         return Ok(());
@@ -70,8 +72,10 @@ fn add_item(
     stubs: &mut Vec<Stub>,
 ) -> Result<(), AllocError>
     requires { depth ≤ max_depth }
-    ensures { OnOk result (stubs.new.items ≡ stubs.old.items
-        ++ item_stubs text.now depth (stubs_at text.now (depth + 1)) holder.now (record { header = header.items; body = body.now })) }
+    ensures { OnOk result
+        (stubs.new.items ≡ stubs.old.items
+        ++ item_stubs text.now depth (stubs_at text.now (depth + 1)) holder.now
+        (record { header = header.items; body = body.now })) }
 {
     let header = header_of(alloc, header)?;
     let Some(found) = declaration_of(text, holder, &header) else {
@@ -100,8 +104,11 @@ fn add_constants<'a>(
     holder: &Option<Holder>,
     stubs: &mut Vec<Stub>,
 ) -> Result<&'a [Node], AllocError>
-    ensures added { OnOk result (stubs.new.items ≡ stubs.old.items ++ constants_at text.now depth holder.now (units_of level.now)) }
-    ensures items { IfOk result (λ rest. units_of rest.now ≡ units_of_items holder.now (units_of level.now)) }
+    ensures added { OnOk result
+        (stubs.new.items ≡ stubs.old.items
+        ++ constants_at text.now depth holder.now (units_of level.now)) }
+    ensures items { IfOk result
+        (λ rest. units_of rest.now ≡ units_of_items holder.now (units_of level.now)) }
 {
     let Some(holder) = holder else {
         return Ok(level);
@@ -122,7 +129,8 @@ fn push_constants(
     constants: &[Node],
     stubs: &mut Vec<Stub>,
 ) -> Result<(), AllocError>
-    ensures { OnOk result (stubs.new.items ≡ stubs.old.items ++ map (constant_stub text.now depth) constants.now) }
+    ensures { OnOk result
+        (stubs.new.items ≡ stubs.old.items ++ map (constant_stub text.now depth) constants.now) }
 {
     for name in constants {
         let constant = Found {

@@ -18,7 +18,8 @@ pub(crate) struct TypeHead<'a> {
 /// What declares a type in a header, if anything does.
 #[tactic(auto, unfolding(crate::specs::Rule::type_after))]
 pub(crate) fn type_head<'a>(header: &'a [Node]) -> Option<TypeHead<'a>>
-    ensures { MatchOption result (type_head header.now ≡ None) (λ t. type_head header.now ≡ Some (t.kind, t.behind.now)) }
+    ensures { MatchOption result (type_head header.now ≡ None)
+        (λ t. type_head header.now ≡ Some (t.kind, t.behind.now)) }
 {
     let mut before = Role::Other;
     let mut rest = header;

@@ -23,7 +23,8 @@ pub(crate) fn word_role(text: &Text, token: &Token) -> Role
 /// What the first of these words that a token spells is to the rules; an identifier, if it spells none.
 fn role_among(text: &Text, token: &Token, words: &[(&str, Role)]) -> Role
     requires { token.now.at + token.now.len ≤ length text.now }
-    ensures { result ≡ role_among (λ w. w.0.now) (λ w. w.1) words.now (characters_of text.now token.now) }
+    ensures { result
+        ≡ role_among (λ w. w.0.now) (λ w. w.1) words.now (characters_of text.now token.now) }
 {
     match text.ascii() {
         Some(ascii) => {
@@ -57,7 +58,8 @@ fn has_bytes(word: &str, bytes: &[u8]) -> bool
 /// The same of a token in any text.
 fn role_of_token(text: &Text, token: &Token, words: &[(&str, Role)]) -> Role
     requires { token.now.at + token.now.len ≤ length text.now }
-    ensures { result ≡ role_among (λ w. w.0.now) (λ w. w.1) words.now (characters_of text.now token.now) }
+    ensures { result
+        ≡ role_among (λ w. w.0.now) (λ w. w.1) words.now (characters_of text.now token.now) }
 {
     for entry in words {
         if spells(text, token, entry.0) {

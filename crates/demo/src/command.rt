@@ -8,7 +8,9 @@ use std::alloc::AllocError;
 /// What is done with a file.
 #[derive(Clone, Copy)]
 pub enum Verb {
+    /// It is made, with that text.
     Create,
+    /// It is given another text.
     Write,
 }
 
@@ -37,9 +39,13 @@ impl Verb {
 /// A file gets the text of a class that extends its parent and has one method.
 #[derive(Clone, Copy)]
 pub struct Command {
+    /// What is done with the file.
     pub verb: Verb,
+    /// The number in the names of file and class.
     pub file: u32,
+    /// The number in the name of the class that is extended.
     pub parent: u32,
+    /// The number in the method's name.
     pub method: u32,
 }
 

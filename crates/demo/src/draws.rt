@@ -5,6 +5,7 @@ ghost use Rattle.demo.specs.Draws.{after_draw, number_of};
 /// Numbers below 32,768, drawn one after another.
 #[derive(Drop)]
 pub struct Draws {
+    /// What the next draw is made from, below 2^31 once one was drawn.
     pub state: u32,
 }
 

@@ -6,7 +6,8 @@ ghost use Rattle.demo.specs.Script.{demo_bytes, max_len};
 /// A demo has a creation for each file, and each of its edits once.
 pub fn demos_have_their_commands()
     ensures creates { (seed : ℕ) (files : ℕ) → length (creates seed files) ≡ files }
-    ensures edits { (state : ℕ) (files : ℕ) (edited : ℕ) → length (edits state files edited) ≡ edited }
+    ensures edits { (state : ℕ) (files : ℕ) (edited : ℕ)
+        → length (edits state files edited) ≡ edited }
 {}
 
 /// A demo is no longer than a script may be.

@@ -42,7 +42,8 @@ fn push_prelude(script: &mut Vec<u8>, commands: &[Command]) -> Result<(), AllocE
 
 /// Adds the lines of the commands on files with an odd number.
 fn push_first_lane(script: &mut Vec<u8>, commands: &[Command]) -> Result<(), AllocError>
-    ensures { OnOk result (script.new.items ≡ script.old.items ++ lines_of (filter is_of_first_lane commands.now)) }
+    ensures { OnOk result
+        (script.new.items ≡ script.old.items ++ lines_of (filter is_of_first_lane commands.now)) }
 {
     for command in commands {
         if command.file % 2 == 1 {
@@ -54,7 +55,8 @@ fn push_first_lane(script: &mut Vec<u8>, commands: &[Command]) -> Result<(), All
 
 /// Adds the lines of the commands on files with an even number.
 fn push_second_lane(script: &mut Vec<u8>, commands: &[Command]) -> Result<(), AllocError>
-    ensures { OnOk result (script.new.items ≡ script.old.items ++ lines_of (filter is_of_second_lane commands.now)) }
+    ensures { OnOk result
+        (script.new.items ≡ script.old.items ++ lines_of (filter is_of_second_lane commands.now)) }
 {
     for command in commands {
         if command.file % 2 != 1 {

@@ -1,20 +1,29 @@
 -- A script whose lanes write different files: every run has the summary of the run on one thread.
-use Rattle.demo_runs.proofs.Words.{ℕ, zero, suc, ◌≡◌, ◌⊎◌, inl, inr, ⊎_elim, ◌+◌, ◌<◌, ◌≤◌, false, List, [], ◌∷◌, ◌++◌, length, map, refl, ap, sym, ◌∙◌}
-use Rattle.demo_runs.proofs.Words.{subst, arith, append_assoc, length-append, ◌==◌, Option, option_map, AllByRecursion, flat_map, cases_lt}
-use Rattle.demo_runs.proofs.Words.{append_cancel_left, length-map, recursion_from_All, All-from_recursion, All-append, All-filter, IsFront, front_shorter}
-use Rattle.demo_runs.proofs.Words.{front_length, front_all, Entry, World, File, next_id, max_entries, fold, IsLegal, IsLegal-split, Line, Parts, Worked}
-use Rattle.demo_runs.proofs.Words.{IsIntakeBy, Done, Ended, done_from, lanes_from, before_last, last_from, run_of, mark_at, SectionFits, WorkerFits}
-use Rattle.demo_runs.proofs.Words.{WorkersFit, made_by, RunFits, summary_text, summary_of, Edit, create_line, write_line, ask_line, settle_line, IsAmong}
-use Rattle.demo_runs.proofs.Words.{WritesApart, bare_at, IsLive, IsEdit, writes, takes, acted, acts}
+use Rattle.demo_runs.proofs.Words.{answer_text, Smart, ℕ, zero, suc, ◌≡◌, ◌⊎◌, inl, inr, ⊎_elim, ◌+◌, ◌<◌, ◌≤◌, false, List, [], ◌∷◌, ◌++◌, length, map, refl}
+use Rattle.demo_runs.proofs.Words.{ap, sym, ◌∙◌, subst, arith, append_assoc, length-append, ◌==◌, AllByRecursion, flat_map, cases_lt, append_cancel_left}
+use Rattle.demo_runs.proofs.Words.{length-map, recursion_from_All, All-from_recursion, All-append, All-filter, IsFront, front_shorter, front_length, front_all}
+use Rattle.demo_runs.proofs.Words.{Entry, World, File, next_id, max_entries, fold, IsLegal, IsLegal-split, Line, Record, Mark, IsIntakeBy, Done, RunEnd}
+use Rattle.demo_runs.proofs.Words.{done_from, before_last, last_from, run_of, mark_at, SectionFits, WorkerFits, WorkersFit, made_by, IsSeatOf, RunFits}
+use Rattle.demo_runs.proofs.Words.{summary_text, summary_of, Edit, create_line, write_line, ask_line, settle_line, IsAmong, WritesApart, IsLive, IsEdit, takes}
+use Rattle.demo_runs.proofs.Words.{acted, acts}
+use Rattle.script_lang.specs.Parts.{Parts}
+use Rattle.transcripts.specs.Worked.{Worked}
+use Rattle.transcripts.specs.declared.loaded.Loaded.{Loaded}
 use Rattle.std.proofs.lemmas.List.Sums.{fold-append}
-use Rattle.demo_runs.proofs.LawLemmas.{IsSerialAlone}
-use Rattle.demo_runs.proofs.ListLemmas.{all_weaker, by_seats, count_to, count_next, count_none, seats_bound}
+use Rattle.demo_runs.proofs.ListLemmas.{all_weaker, by_seats, count_none, seats_bound}
 use Rattle.demo_runs.proofs.StepLemmas.{goes_on, stays_all, live_on}
 use Rattle.demo_runs.proofs.PreludeLemmas.{HasMade, begun_empty, prelude_makes}
-use Rattle.demo_runs.proofs.LaneLemmas.{write_entry, write_accepted, IsWriteBy, IsAccepted, IsLane, section_made, writes_edit, lane_goes_in}
+use Rattle.demo_runs.proofs.LaneLemmas.{write_entry, write_accepted, IsWriteBy, IsAccepted, IsLane, section_made, is_edit, writes_edit, AreLive, still_live}
+use Rattle.demo_runs.proofs.LaneLemmas.{GoesIn, lane_goes_in}
 use Rattle.demo_runs.proofs.OfferLemmas.{offers_of, length-offers_of, offered_of, IsOffered, AllOffered, all_offered, few_taken}
 use Rattle.demo_runs.proofs.MiddleLemmas.{Leaves, OthersLeave, by_one, WriteOthers, lane_leaves, all_leave, one_apart}
-use Rattle.demo_runs.proofs.LastLemmas.{shown, same_shown, smart_text, all_told, last_told}
+use Rattle.demo_runs.proofs.LastLemmas.{same_shown, all_told, last_told}
+
+-- the law of `transcripts` on which this rests: a section alone is serial
+abbrev pub IsSerialAlone : Type 0
+IsSerialAlone = (seat : ℕ) (low high : Mark) (lines : List Line) (loads : List Loaded) (earlier records : List Record) (start own : List Entry)
+    → low.seen ≡ length start → SectionFits false (start ++ own) seat low lines loads records own high
+    → done_from seat (record { history = start; records = earlier }) lines loads ≡ record { history = start ++ own; records = earlier ++ records }
 
 -- the worker with a seat
 worker_at : (history : List Entry) (low : ℕ) (entries : List Entry) (workers : List Worked) (first seat : ℕ) → first ≤ seat
@@ -40,7 +49,7 @@ module _ (alone : IsSerialAlone) (script : Parts) (apart : WritesApart script) w
 
   -- ---- what a run leaves behind the prelude and before the last section
 
-  module _ (told : List Worked) (few_told : length told ≤ 8) (ended : Ended) (fits : RunFits [] parts told ended) where
+  module _ (told : List Worked) (few_told : length told ≤ 8) (ended : RunEnd) (fits : RunFits [] parts told ended) where
     abbrev opening : List Entry
     opening = fits.opening
 
@@ -57,65 +66,57 @@ module _ (alone : IsSerialAlone) (script : Parts) (apart : WritesApart script) w
         ≡ record { history = opening; records = fits.prelude_records }
     opened = alone 0 (mark_at 0) fits.prelude_end (map create_line apart.creations) [] [] fits.prelude_records [] opening refl fits.prelude
 
-    begun : HasMade (IsAmong apart.creations) [] opening (0 + length apart.creations)
+    begun : HasMade (IsAmong apart.creations) [] opening (length apart.creations)
     begun = rw (sym (ap (λ (d : Done). d.history) opened))
-        (prelude_makes apart.creations [] [] 0 begun_empty (omega (arith, apart.few_files)) apart.lawful)
+        (prelude_makes apart.creations [] [] begun_empty (omega (arith, apart.few_files)) apart.lawful)
 
     few_begun : (length opening ≤ 10000) × (next_id (fold opening) ≤ 10001)
-    few_begun = (omega (arith, begun.begun.few, apart.few_files), omega (arith, begun.begun.ids, apart.few_files))
+    few_begun = (omega (arith, begun.few, apart.few_files), omega (arith, begun.begun.ids, begun.few, apart.few_files))
 
-    are_live : (edits : List Edit) → AllByRecursion (λ (edit : Edit). IsAmong apart.creations edit.path) edits
-        → AllByRecursion (λ (edit : Edit). IsLive (fold opening) edit.path) edits
-    are_live edits among = all_weaker (λ (edit : Edit). IsAmong apart.creations edit.path) (λ (edit : Edit). IsLive (fold opening) edit.path)
-        (λ edit is. begun.live edit.path (inr is)) edits among
+    are_live : (edits : List Edit) → AllByRecursion (λ (edit : Edit). IsAmong apart.creations edit.path) edits → AreLive opening edits
+    are_live = all_weaker _ _ (λ edit is. begun.live edit.path (inr is))
 
     -- ---- the entries of each seat
 
     ones : IsLane (opening ++ middle) 1 (length opening) apart.first (made_by 1 middle)
-    ones = section_made (opening ++ middle) 1 (length opening) _ apart.first (mark_at (length opening)) fits.lanes.own_records (made_by 1 middle)
-        fits.lanes.high (omega arith) fits.lanes.fits
+    ones = section_made (opening ++ middle) 1 (length opening) _ apart.first _ _ _ _ (omega arith) fits.lanes.fits
 
     twos : IsLane (opening ++ middle) 2 (length opening) apart.second (made_by 2 middle)
-    twos = section_made (opening ++ middle) 2 (length opening) _ apart.second (mark_at (length opening)) fits.lanes.rest.own_records (made_by 2 middle)
-        fits.lanes.rest.high (omega arith) fits.lanes.rest.fits
+    twos = section_made (opening ++ middle) 2 (length opening) _ apart.second _ _ _ _ (omega arith) fits.lanes.rest.fits
 
     worker : (seat : ℕ) → 3 ≤ seat → seat ≤ seats → (w : Worked) × WorkerFits (opening ++ middle) (length opening) seat middle w
     worker seat late to = worker_at (opening ++ middle) (length opening) middle told 3 seat late (omega (arith, to)) fits.worked
 
-    intakes : (seat : ℕ) → 3 ≤ seat → seat ≤ seats → AllByRecursion (IsIntakeBy seat) (made_by seat middle)
-    intakes seat late to = recursion_from_All (IsIntakeBy seat) (made_by seat middle) (worker seat late to).1.intakes
-
-    -- what holds of each seat's entries, the two lanes' and the workers'
+    -- what holds for each seat, the two lanes' and the workers'
     by_seat : (P : ℕ → Type 0) → P 1 → P 2 → ((seat : ℕ) → 3 ≤ seat → seat ≤ seats → P seat) → (seat : ℕ) → 1 ≤ seat → seat ≤ seats → P seat
     by_seat P one two others zero from to = absurd (omega arith)
     by_seat P one two others (suc zero) from to = one
     by_seat P one two others (suc (suc zero)) from to = two
     by_seat P one two others (suc (suc (suc n))) from to = others (suc (suc (suc n))) (omega arith) to
 
-    of_lane : (seat : ℕ) → seat ≤ 2 → AllByRecursion (IsWriteBy seat) (made_by seat middle) → AllByRecursion IsEdit (made_by seat middle)
-    of_lane seat lane are = all_weaker (IsWriteBy seat) IsEdit (λ entry by. writes (omega (arith, lane, ap (λ (e : Entry). e.seat) by.is)) by.edit.path
-        by.edit.text (ap (λ (e : Entry). e.changes) by.is)) (made_by seat middle) are
+    -- what holds of each lane's entries and of any intake
+    by_kind : (P : Entry → Type 0) → AllByRecursion P (made_by 1 middle) → AllByRecursion P (made_by 2 middle)
+        → ((seat : ℕ) (entry : Entry) → IsIntakeBy seat entry → P entry) → AllByRecursion P middle
+    by_kind P one two intake = by_seats P seats middle (recursion_from_All (λ (e : Entry). IsSeatOf seats e.seat) middle fits.seats)
+        (by_seat (λ seat. AllByRecursion P (made_by seat middle)) one two (λ seat late to. all_weaker (IsIntakeBy seat) P (intake seat) (made_by seat middle)
+        (recursion_from_All (IsIntakeBy seat) (made_by seat middle) (worker seat late to).1.intakes)))
 
     edits : AllByRecursion IsEdit middle
-    edits = by_seats IsEdit seats middle fits.seats (by_seat (λ seat. AllByRecursion IsEdit (made_by seat middle))
-        (of_lane 1 (omega arith) ones.are) (of_lane 2 (omega arith) twos.are)
-        (λ seat late to. all_weaker (IsIntakeBy seat) IsEdit (λ entry by. takes by.file by.stamp (ap (λ (e : Entry). e.changes) by.is)) (made_by seat middle)
-        (intakes seat late to)))
+    edits = by_kind IsEdit (all_weaker _ _ (is_edit 1 (omega arith)) _ ones.are) (all_weaker _ _ (is_edit 2 (omega arith)) _ twos.are)
+        (λ seat entry by. subst IsEdit (sym by.is) (takes by.file by.stamp refl))
 
     -- ---- there are few of them
 
     offered : AllOffered (offers_of (fold opening)) middle
     offered = all_offered middle opening (offers_of (fold opening)) edits legal (offered_of (fold opening))
 
-    few_writes : count_to 2 middle ≤ 50000
-    few_writes = omega (arith, count_next 1 middle, count_next 0 middle, count_none seats middle fits.seats, ones.few, twos.few, apart.few_edits)
-
     few_worked : (seat : ℕ) → 3 ≤ seat → seat ≤ seats → length (made_by seat middle) ≤ 60001
     few_worked seat late to =
         let worked = (worker seat late to).1 in
         let own = All-filter (λ e. e.seat == seat) (IsOffered offered.list) middle (All-from_recursion (IsOffered offered.list) middle offered.are) in
         let few = few_taken seat (made_by seat middle) offered.list worked.intakes worked.apart own in
-        omega (arith, few, offered.count, length-offers_of (fold opening), few_begun.1, few_writes)
+        let none = count_none seats middle fits.seats in
+        omega (arith, few, offered.count, length-offers_of (fold opening), few_begun.1, none, ones.few, twos.few, apart.few_edits)
 
     few_middle : length middle ≤ 600010
     few_middle =
@@ -133,41 +134,36 @@ module _ (alone : IsSerialAlone) (script : Parts) (apart : WritesApart script) w
         = front.1 ∙ ap (λ (l : List Entry). l ++ front.0) behind.1 ∙ append_assoc opening own front.0 in
         let part : IsFront own middle = (front.0, append_cancel_left opening middle (own ++ front.0) whole) in
         let are = recursion_from_All IsEdit own (front_all IsEdit own middle part (All-from_recursion IsEdit middle edits)) in
-        let now : IsLegal (opening ++ own) = subst IsLegal behind.1 (IsLegal-split start front.0 (subst IsLegal front.1 legal)).0 in
-        let room : length (opening ++ own) < max_entries
-        = omega (arith, front_length start (opening ++ middle) front, ap length behind.1, length-append opening middle, few_middle, few_begun.0) in
-        rw behind.1 (write_accepted (opening ++ own) now edit.path edit.text (live_on own opening are now edit.path live) room)
+        let now = (IsLegal-split start front.0 (subst IsLegal front.1 legal)).0 in
+        let still : IsLive (fold start) edit.path = rw behind.1 (live_on own opening are (subst IsLegal behind.1 now) edit.path live) in
+        write_accepted start now edit.path edit.text still
+        (omega (arith, front_length start (opening ++ middle) front, length-append opening middle, few_middle, few_begun.0))
 
     ones_are : made_by 1 middle ≡ map (write_entry 1) apart.first
-    ones_are = ones.whole (all_weaker (λ (edit : Edit). IsLive (fold opening) edit.path) _ (accepted 1) apart.first (are_live apart.first apart.first_made))
+    ones_are = ones.whole (all_weaker _ _ (accepted 1) apart.first (are_live apart.first apart.first_made))
 
     twos_are : made_by 2 middle ≡ map (write_entry 2) apart.second
-    twos_are = twos.whole (all_weaker (λ (edit : Edit). IsLive (fold opening) edit.path) _ (accepted 2) apart.second (are_live apart.second apart.second_made))
+    twos_are = twos.whole (all_weaker _ _ (accepted 2) apart.second (are_live apart.second apart.second_made))
 
     -- ---- what files show behind the lanes
 
-    others_leave : (seat : ℕ) (path : List ℕ) → AllByRecursion (OthersLeave seat path) (made_by 1 middle)
-        → AllByRecursion (OthersLeave seat path) (made_by 2 middle) → AllByRecursion (OthersLeave seat path) middle
-    others_leave seat path first second = by_seats (OthersLeave seat path) seats middle fits.seats
-        (by_seat (λ n. AllByRecursion (OthersLeave seat path) (made_by n middle)) first second
-        (λ n late to. all_weaker (IsIntakeBy n) (OthersLeave seat path)
-        (λ entry by other file same. ap (λ (e : Entry). acted e.changes file) by.is) (made_by n middle) (intakes n late to)))
+    own : (seat : ℕ) (path : List ℕ) (entry : Entry) → IsWriteBy seat entry → OthersLeave seat path entry
+    own seat path entry by other = absurd (other (ap (λ (e : Entry). e.seat) by.is))
 
-    own : (seat : ℕ) (path : List ℕ) → AllByRecursion (IsWriteBy seat) (made_by seat middle) → AllByRecursion (OthersLeave seat path) (made_by seat middle)
-    own seat path are = all_weaker (IsWriteBy seat) (OthersLeave seat path) (λ e by other. absurd (other (ap (λ (x : Entry). x.seat) by.is))) _ are
+    spared : (seat : ℕ) (path : List ℕ) (n : ℕ) (entry : Entry) → IsIntakeBy n entry → OthersLeave seat path entry
+    spared seat path n entry by other file same = ap (λ (e : Entry). acted e.changes file) by.is
 
     by_lane : (file : File) → WriteOthers file.path apart.first ⊎ WriteOthers file.path apart.second
         → acts middle file ≡ acts (made_by 2 middle) (acts (made_by 1 middle) file)
     by_lane file (inr all) =
         let out = subst (AllByRecursion (Leaves file.path)) (sym twos_are) (lane_leaves 2 file.path apart.second all) in
-        let others = all_weaker (Leaves file.path) (OthersLeave 1 file.path) (λ e leaves k. leaves) (made_by 2 middle) out in
-        by_one 1 file.path middle edits (others_leave 1 file.path (own 1 file.path ones.are) others) file refl
-        ∙ sym (all_leave file.path (made_by 2 middle) out (acts (made_by 1 middle) file)
-        (stays_all (made_by 1 middle) (of_lane 1 (omega arith) ones.are) file).0)
+        let others = by_kind _ (all_weaker _ _ (own 1 file.path) _ ones.are) (all_weaker _ _ (λ e leaves k. leaves) _ out) (spared 1 file.path) in
+        by_one 1 file.path middle others file refl
+        ∙ sym (all_leave file.path (made_by 2 middle) out (acts (made_by 1 middle) file) (stays_all (made_by 1 middle) file).0)
     by_lane file (inl all) =
         let out = subst (AllByRecursion (Leaves file.path)) (sym ones_are) (lane_leaves 1 file.path apart.first all) in
-        let others = all_weaker (Leaves file.path) (OthersLeave 2 file.path) (λ e leaves k. leaves) (made_by 1 middle) out in
-        by_one 2 file.path middle edits (others_leave 2 file.path others (own 2 file.path twos.are)) file refl
+        let others = by_kind _ (all_weaker _ _ (λ e leaves k. leaves) _ out) (all_weaker _ _ (own 2 file.path) _ twos.are) (spared 2 file.path) in
+        by_one 2 file.path middle others file refl
         ∙ ap (acts (made_by 2 middle)) (sym (all_leave file.path (made_by 1 middle) out file refl))
 
     same_file : (file : File) → acts middle file ≡ acts lane_entries file
@@ -176,28 +172,19 @@ module _ (alone : IsSerialAlone) (script : Parts) (apart : WritesApart script) w
 
     -- ---- on one thread the writes of both lanes go in behind the prelude
 
+    first_in : GoesIn 1 opening fits.prelude_records apart.first
+    first_in = lane_goes_in apart.first 1 (omega arith) opening fits.prelude_records begun.begun.legal (omega (arith, few_begun.0, apart.few_edits))
+        (are_live apart.first apart.first_made)
+
     serial : ((before_last [] parts).history ≡ opening ++ lane_entries) × IsLegal (opening ++ lane_entries)
     serial =
         let w1 : List Entry = map (write_entry 1) apart.first in
-        let done : Done = done_from 1 (record { history = opening; records = fits.prelude_records }) (map write_line apart.first) [] in
-        let first_in = lane_goes_in apart.first 1 (omega arith) opening fits.prelude_records begun.begun.legal
-        (omega (arith, few_begun.0, apart.few_edits)) (are_live apart.first apart.first_made) in
-        let live = all_weaker (λ (edit : Edit). IsLive (fold opening) edit.path) (λ (edit : Edit). IsLive (fold (opening ++ w1)) edit.path)
-        (λ edit alive. live_on w1 opening (recursion_from_All IsEdit w1 (writes_edit 1 (omega arith) apart.first)) first_in.1 edit.path alive) apart.second
+        let live = still_live apart.second w1 opening (recursion_from_All IsEdit w1 (writes_edit 1 (omega arith) apart.first)) first_in.legal
         (are_live apart.second apart.second_made) in
-        let second_in = lane_goes_in apart.second 2 (omega arith) (opening ++ w1) done.records first_in.1
+        let second_in = lane_goes_in apart.second 2 (omega arith) (opening ++ w1) first_in.told first_in.legal
         (omega (arith, length-append opening w1, length-map apart.first (write_entry 1), few_begun.0, apart.few_edits)) live in
-        let regroup = append_assoc opening w1 (map (write_entry 2) apart.second) in (
-          ap (λ (d : Done). (lanes_from 1 d (map write_line apart.first ∷ map write_line apart.second ∷ [])).history) opened
-              ∙ ap (λ (h : List Entry). (done_from 2 (record { history = h; records = done.records }) (map write_line apart.second) []).history) first_in.0
-              ∙ second_in.0 ∙ regroup,
-          subst IsLegal regroup second_in.1,
-        )
-
-    few_lanes : length lane_entries ≤ 50000
-    few_lanes =
-        let both = length-append (map (write_entry 1) apart.first) (map (write_entry 2) apart.second) in
-        omega (arith, both, length-map apart.first (write_entry 1), length-map apart.second (write_entry 2), apart.few_edits)
+        let regroup = append_assoc opening w1 (map (write_entry 2) apart.second) in
+        (rw (opened, first_in.is, second_in.is) regroup, subst IsLegal regroup second_in.legal)
 
     -- ---- the last section
 
@@ -207,26 +194,21 @@ module _ (alone : IsSerialAlone) (script : Parts) (apart : WritesApart script) w
         let lanes_edit = recursion_from_All IsEdit lane_entries (All-append IsEdit (map (write_entry 1) apart.first) _
         (writes_edit 1 (omega arith) apart.first) (writes_edit 2 (omega arith) apart.second)) in
         let goes_serial = goes_on lane_entries opening lanes_edit serial.1 in
-        let mapped : (o : Option File) → option_map (acts middle) o ≡ option_map (acts lane_entries) o = λ o i. option_map (λ file. same_file file i) o in
-        let same : shown (fold (opening ++ middle)) ≡ shown (fold (opening ++ lane_entries))
-        = same_shown (fold (opening ++ middle)) (fold (opening ++ lane_entries)) (goes.ids ∙ sym goes_serial.ids)
-        (λ id. goes.files id ∙ mapped (bare_at (fold opening) id) ∙ sym (goes_serial.files id)) in
-        let lines : List Line = settle_line apart.settle ∷ map ask_line apart.questions in
-        let last = alone 0 fits.last_begins fits.last_end lines [] [] ended.last (opening ++ middle) fits.closing fits.last_behind
-        (subst (λ (h : List Entry). SectionFits false h 0 fits.last_begins lines [] ended.last fits.closing fits.last_end) fits.history fits.last) in
-        let room : length (opening ++ middle) + next_id (fold (opening ++ middle)) ≤ max_entries
-        = omega (arith, length-append opening middle, few_middle, few_begun, goes.ids) in
-        let room_serial : length (opening ++ lane_entries) + next_id (fold (opening ++ lane_entries)) ≤ max_entries
-        = omega (arith, length-append opening lane_entries, few_lanes, few_begun, goes_serial.ids) in
+        let same = same_shown opening (opening ++ middle) (opening ++ lane_entries) middle lane_entries goes goes_serial same_file in
+        let last = alone 0 fits.last_begins fits.last_end parts.last [] [] ended.last (opening ++ middle) fits.closing fits.last_behind
+        (subst (λ (h : List Entry). SectionFits false h 0 fits.last_begins parts.last [] ended.last fits.closing fits.last_end) fits.history fits.last) in
+        let room : length (opening ++ lane_entries) + next_id (fold (opening ++ lane_entries)) ≤ max_entries
+        = simp (length-append, length-map) (omega (arith, apart.few_edits, few_begun, goes_serial.ids)) in
         ap (λ (d : Done). flat_map summary_text d.records) (sym last)
-        ∙ last_told (opening ++ middle) legal room apart.settle apart.questions apart.of_all
-        ∙ ap (λ (w : World). smart_text ++ all_told w apart.questions) same
-        ∙ sym (last_told (opening ++ lane_entries) serial.1 room_serial apart.settle apart.questions apart.of_all)
-        ∙ ap (λ (h : List Entry). flat_map summary_text (last_from h lines).records) (sym serial.0)
+        ∙ last_told (opening ++ middle) legal (omega (arith, length-append opening middle, few_middle, few_begun, goes.ids))
+        apart.settle apart.questions apart.of_all
+        ∙ ap (λ (w : World). answer_text (Smart 0) ++ all_told w apart.questions) same
+        ∙ sym (last_told (opening ++ lane_entries) serial.1 room apart.settle apart.questions apart.of_all)
+        ∙ ap (λ (h : List Entry). flat_map summary_text (last_from h parts.last).records) (sym serial.0)
 
 -- every run of a script whose lanes write apart has the summary of the run on one thread
-pub writes_apart_agree : IsSerialAlone → (script : Parts) → WritesApart script → (told : List Worked) → length told ≤ 8 → (ended : Ended)
+pub writes_apart_agree : IsSerialAlone → (script : Parts) → WritesApart script → (told : List Worked) → length told ≤ 8 → (ended : RunEnd)
     → RunFits [] script told ended → summary_of ended ≡ summary_of (run_of [] script)
 writes_apart_agree alone script apart =
-    subst (λ (s : Parts). (told : List Worked) → length told ≤ 8 → (ended : Ended) → RunFits [] s told ended → summary_of ended ≡ summary_of (run_of [] s))
+    subst (λ (s : Parts). (told : List Worked) → length told ≤ 8 → (ended : RunEnd) → RunFits [] s told ended → summary_of ended ≡ summary_of (run_of [] s))
     (λ i. record { prelude = sym apart.prelude i; lanes = sym apart.lanes i; last = sym apart.last i }) (agree alone script apart)

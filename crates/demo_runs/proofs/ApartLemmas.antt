@@ -1,23 +1,40 @@
 -- The script of a demo has two lanes that write different files, all of which its prelude makes at lawful paths.
-use Rattle.demo_runs.proofs.Words.{ℕ, zero, suc, ◌≡◌, ◌≢◌, ◌⊎◌, inl, inr, ⊎_elim, ◌+◌, ◌%◌, ◌<◌, ◌≤◌, Bool, true, not, List, [], ◌∷◌, ◌++◌, length, map}
-use Rattle.demo_runs.proofs.Words.{filter, codes, decimal, refl, ap, sym, ◌∙◌, arith, length-append, ◌==◌, ◌&&◌, AllByRecursion, list_all, le-leb, cases_lt}
-use Rattle.demo_runs.proofs.Words.{and_parts, not-true, lt-ltb, append_cancel_left, append_cancel_right, recursion_from_All, All-filter, filter_passes}
-use Rattle.demo_runs.proofs.Words.{length-filter_both, is_path, is_barred, Line, Command, Verb, path_of, class_of, creates, Edit, write_line, IsAmong}
-use Rattle.demo_runs.proofs.Words.{WritesApart}
+use Rattle.demo_runs.proofs.Words.{ℕ, zero, suc, ◌≡◌, ◌≢◌, ◌⊎◌, inl, inr, ⊎_elim, ◌+◌, ◌*◌, ◌%◌, ◌<◌, ◌≤◌, Bool, true, not, List, [], ◌∷◌, ◌++◌, length, map}
+use Rattle.demo_runs.proofs.Words.{filter, codes, decimal, refl, ap, sym, ◌∙◌, arith, length-append, ◌==◌, ◌&&◌, All, AllByRecursion, list_all, le-leb}
+use Rattle.demo_runs.proofs.Words.{cases_lt, and_parts, not-true, lt-ltb, append_cancel_left, append_cancel_right, recursion_from_All, All-filter}
+use Rattle.demo_runs.proofs.Words.{filter_passes, is_path, is_barred, Line, Command, Verb, path_of, class_of, creates, Edit, write_line, IsAmong, WritesApart}
+use Rattle.demo_runs.proofs.Words.{mod-lt, All-nil, All-push, is_part, max_path, parts_of, create_of, edit_after, edits, is_of_first_lane, is_of_second_lane}
+use Rattle.demo_runs.proofs.Words.{edits_of, demo_parts, change_by, lines_from, first_lane, second_lane, first_lane_begins, second_lane_begins, last_begins}
+use Rattle.std.proofs.lemmas.List.Filters.{length-filter_both}
+use Rattle.std.specs.Cmp.Derive.{both_true}
+use Rattle.std.proofs.lemmas.Fmt.{decimal_injective}
+use Rattle.demo.specs.Draws.{draw_of, state_after}
 use Rattle.demo.specs.declared.command.Verb.TheVariants as verb
 use Rattle.queries.specs.declared.query.Query.TheVariants as query
 use Rattle.script_lang.specs.declared.command.Command.TheVariants as script
-use Rattle.std.specs.Cmp.Derive.{both_true}
-use Rattle.std.proofs.lemmas.Fmt.{decimal_injective}
-use Rattle.write_history.specs.Path.{is_part, max_path, parts_of}
-use Rattle.demo.specs.Draws.{state_after}
-use Rattle.demo.specs.Commands.{create_of, edits, is_of_first_lane, is_of_second_lane}
-use Rattle.demo.specs.Script.{edits_of}
-use Rattle.demo_runs.proofs.FileLemmas.{IsOneOf, creates_are, edits_are}
-use Rattle.demo_runs.proofs.TextLemmas.{weaker, path_text}
+use Rattle.demo_runs.proofs.TextLemmas.{path_text}
 use Rattle.demo_runs.proofs.ListLemmas.{all_weaker}
-use Rattle.demo_runs.specs.Parts.{demo_parts, change_by, lines_from}
-use Rattle.demo_runs.specs.Parts.{first_lane, second_lane, first_lane_begins, second_lane_begins, last_begins}
+
+-- ---- files
+
+-- a command has this verb, and its file is among so many
+record IsOneOf (v : Verb) (files : ℕ) (command : Command) : Type 0 where
+  is : command.verb ≡ v
+  from : 1 ≤ command.file
+  to : command.file ≤ files
+
+-- the creations make files from 1 on, and the edits go to them
+creates_are : (seed most files : ℕ) → files ≤ most → All (IsOneOf verb.Create most) (creates seed files)
+creates_are seed most zero few = All-nil (IsOneOf verb.Create most)
+creates_are seed most (suc before) few = All-push (IsOneOf verb.Create most) (creates seed before) (create_of seed (suc before))
+    (creates_are seed most before (omega arith)) (record { is = refl; from = omega arith; to = few })
+
+edits_are : (state files count : ℕ) → 0 < files → All (IsOneOf verb.Write files) (edits state files count)
+edits_are state files zero some = All-nil (IsOneOf verb.Write files)
+edits_are state files (suc before) some =
+    let drawn = mod-lt (draw_of state (suc (2 * before))) some in
+    All-push (IsOneOf verb.Write files) (edits state files before) (edit_after state files before) (edits_are state files before some)
+    (record { is = refl; from = omega arith; to = omega (arith, drawn) })
 
 -- ---- paths
 
@@ -41,9 +58,9 @@ path_lawful : (file : ℕ) → is_path (path_of file) ≡ true
 path_lawful file =
     let path : List ℕ = path_of file in
     let text = path_text is_name refl refl refl file in
-    let barred = weaker is_name (λ c. not (is_barred c)) (λ c e. (and_parts (not (is_barred c)) (not (c == 47)) e).0) path text.all in
+    let barred = path_text (λ c. not (is_barred c)) refl refl refl file in
     both_true (both_true (both_true (lt-ltb 0 (length path) (omega (arith, length-append (codes "G" ++ decimal file) (codes ".java"))))
-    (le-leb (length path) max_path (omega (arith, text.few)))) barred) (ap (list_all is_part) (one_part path text.all))
+    (le-leb (length path) max_path (omega (arith, text.few)))) barred.all) (ap (list_all is_part) (one_part path text.all))
 
 -- ---- their lines
 
@@ -128,6 +145,7 @@ module _ (created : (seed files : ℕ) → length (creates seed files) ≡ files
       let first_at : ℕ = first_lane_begins seed files + 1 in
       let second_at : ℕ = second_lane_begins seed files edited + 1 in
       let last_at : ℕ = last_begins seed files edited + 1 in
+      let both = length-filter_both is_of_first_lane is_of_second_lane (λ command. refl) (edits_of seed files edited) in
       let all_created = recursion_from_All (IsOneOf verb.Create files) (creates seed files) (creates_are seed files files (omega arith)) in
       record {
         creations = edits_at 1 (creates seed files);
@@ -149,12 +167,6 @@ module _ (created : (seed files : ℕ) → length (creates seed files) ≡ files
             (λ command is. all_at (IsIn is_of_second_lane) (λ path. path_of command.file ≢ path) (λ other also. apart command other is also) second_at second
             (in_lane is_of_second_lane)) first_at first (in_lane is_of_first_lane);
         few_files = omega (arith, length_at 1 (creates seed files), created seed files);
-        few_edits = omega (
-          arith,
-          length_at first_at first,
-          length_at second_at second,
-          length-filter_both is_of_first_lane is_of_second_lane (λ command. refl) (edits_of seed files edited),
-          drawn (state_after seed files) files edited,
-        );
+        few_edits = omega (arith, length_at first_at first, length_at second_at second, both, drawn (state_after seed files) files edited);
         of_all = (tt, (tt, (tt, tt)));
       }

@@ -2,10 +2,10 @@
 use Rattle.demo_runs.proofs.Words.{ℕ, ◌≡◌, ◌⊎◌, inl, inr, ◌+◌, ◌<◌, ◌≤◌, Bool, false, List, [], ◌∷◌, ◌++◌, length, get_or, map, refl, ap, sym, ◌∙◌, subst}
 use Rattle.demo_runs.proofs.Words.{arith, append_assoc, append-nil, length-append, Some, None, nat_le, Option, All, AllByRecursion, lt-leb, All-map, IsFront}
 use Rattle.demo_runs.proofs.Words.{front_trans, Write, Entry, World, file_of, id_at, max_entries, list_refusal, ListRefusal, fold, IsLegal, IsLegal-append}
-use Rattle.demo_runs.proofs.Words.{entries-fold, IsApart-fold, id_at-live, entry_of, Nothing, Answer, Record, Step, step_unless, done_from, Mark, Fits}
-use Rattle.demo_runs.proofs.Words.{SectionFits, Edit, write_line, IsLive, IsEdit, writes}
-use Rattle.script_lang.specs.declared.command.Command.TheVariants as command
-use Rattle.transcripts.specs.declared.record.Answer.TheVariants.{Accepted}
+use Rattle.demo_runs.proofs.Words.{entries-fold, IsApart-fold, id_at-live, entry_of, Record, CommandStep, step_unless, done_from, Mark, Fits, SectionFits, Edit}
+use Rattle.demo_runs.proofs.Words.{write_line, IsLive, IsEdit, writes, Accepted}
+use Rattle.transcripts.specs.declared.loaded.Loaded.TheVariants.{Nothing}
+use Rattle.transcripts.specs.declared.record.Answer.{Answer}
 use Rattle.demo_runs.proofs.ListLemmas.{all_weaker}
 use Rattle.demo_runs.proofs.StepLemmas.{of_bare, live_on}
 
@@ -45,23 +45,17 @@ module _ (history : List Entry) (seat floor : ℕ) where
 
   line_made : (beside : Bool) (edit : Edit) (low : Mark) (made : List Entry) (answer : Answer) (high : Mark) → floor ≤ low.seen
       → Fits beside history seat (write_line edit) Nothing low made answer high → MadeBy edit made × (floor ≤ high.seen)
-  line_made beside edit low made answer high late (inl done) = (
-    by_refusal (list_refusal (fold done.start) (Write edit.path edit.text ∷ [])) refl done.step,
-    omega (arith, late, done.late, done.seen, length-append done.start made),
-  )
+  line_made beside edit low made answer high late (inl done) =
+      (by_refusal _ refl (ap (λ (s : CommandStep). s.added) done.step), omega (arith, late, done.late, done.seen, length-append done.start made))
     where
       by_refusal : (refusal : Option ListRefusal) → list_refusal (fold done.start) (Write edit.path edit.text ∷ []) ≡ refusal
-          → step_unless refusal (λ place. None) done.start (write_entry seat edit) ≡ record { added = made; answer = answer } → MadeBy edit made
-      by_refusal None is step = inl (sym (ap (λ (s : Step). s.added) step))
-      by_refusal (Some refusal) is step = inr (
-        sym (ap (λ (s : Step). s.added) step),
-        λ accepted.
-            let front = front_trans done.start (done.start ++ made) history (made, refl) done.stands in
-            let e : Some refusal ≡ None = sym is ∙ accepted done.start front (omega (arith, late, done.late)) in
-            cc,
-      )
+          → (step_unless refusal (λ place. None) done.start (write_entry seat edit)).added ≡ made → MadeBy edit made
+      by_refusal None is step = inl (sym step)
+      by_refusal (Some refusal) is step =
+          let front = front_trans done.start (done.start ++ made) history (made, refl) done.stands in
+          inr (sym step, λ accepted. let e : Some refusal ≡ None = sym is ∙ accepted done.start front (omega (arith, late, done.late)) in cc)
   line_made beside edit low made answer high late (inr given) =
-      absurd (let soft : command.Change (Write edit.path edit.text) ≡ command.Soft given.1.attempts given.1.query = given.1.soft in cc)
+      absurd (let soft = given.1.soft in cc)
 
   -- ---- a lane
 
@@ -77,11 +71,8 @@ module _ (history : List Entry) (seat floor : ℕ) where
     few = omega (arith, rest.few);
     whole = λ accepted. ap (λ (l : List Entry). write_entry seat edit ∷ l) (rest.whole accepted.1);
   })
-  one_more edit edits made later (inr none) rest = rw none.0 (record {
-    are = rest.are;
-    few = omega (arith, rest.few);
-    whole = λ accepted. absurd (none.1 accepted.0);
-  })
+  one_more edit edits made later (inr none) rest =
+      rw none.0 (record { are = rest.are; few = omega (arith, rest.few); whole = λ accepted. absurd (none.1 accepted.0) })
 
   pub section_made : (beside : Bool) (edits : List Edit) (low : Mark) (records : List Record) (own : List Entry) (high : Mark) → floor ≤ low.seen
       → SectionFits beside history seat low (map write_line edits) [] records own high → IsLane edits own
@@ -93,26 +84,39 @@ module _ (history : List Entry) (seat floor : ℕ) where
 
 -- ---- on one thread
 
--- the entries of writes are one write each
+-- an entry of a write is one
+pub is_edit : (seat : ℕ) → seat ≤ 2 → (entry : Entry) → IsWriteBy seat entry → IsEdit entry
+is_edit seat lane entry by = subst IsEdit (sym by.is) (writes lane by.edit.path by.edit.text refl)
+
 pub writes_edit : (seat : ℕ) → seat ≤ 2 → (edits : List Edit) → All IsEdit (map (write_entry seat) edits)
 writes_edit seat lane edits = All-map IsEdit (write_entry seat) edits (λ k d l. writes lane (get_or edits k d).path (get_or edits k d).text refl)
 
+-- the files that are written are live
+abbrev pub AreLive : List Entry → List Edit → Type 0
+AreLive history edits = AllByRecursion (λ (edit : Edit). IsLive (fold history) edit.path) edits
+
+pub still_live : (edits : List Edit) (entries history : List Entry) → AllByRecursion IsEdit entries → IsLegal (history ++ entries)
+    → AreLive history edits → AreLive (history ++ entries) edits
+still_live edits entries history are legal = all_weaker _ _ (λ edit. live_on entries history are legal edit.path) edits
+
 -- what a lane leaves on one thread
-abbrev pub GoesIn : List Entry → ℕ → List Edit → List Entry → Type 0
-GoesIn history seat edits after = (after ≡ history ++ map (write_entry seat) edits) × IsLegal (history ++ map (write_entry seat) edits)
+pub record GoesIn (seat : ℕ) (history : List Entry) (records : List Record) (edits : List Edit) : Type 0 where
+  pub told : List Record
+  pub is : done_from seat (record { history = history; records = records }) (map write_line edits) []
+      ≡ record { history = history ++ map (write_entry seat) edits; records = told }
+  pub legal : IsLegal (history ++ map (write_entry seat) edits)
 
 -- on one thread each write of a lane goes in where the paths are live and there is room
 pub lane_goes_in : (edits : List Edit) (seat : ℕ) → seat ≤ 2 → (history : List Entry) (records : List Record) → IsLegal history
-    → length history + length edits ≤ max_entries → AllByRecursion (λ (edit : Edit). IsLive (fold history) edit.path) edits
-    → GoesIn history seat edits (done_from seat (record { history = history; records = records }) (map write_line edits) []).history
-lane_goes_in [] seat lane history records legal room live = (sym (append-nil history), rw (append-nil history) legal)
+    → length history + length edits ≤ max_entries → AreLive history edits → GoesIn seat history records edits
+lane_goes_in [] seat lane history records legal room live =
+    record { told = records; is = rw (append-nil history) refl; legal = rw (append-nil history) legal }
 lane_goes_in (edit ∷ edits) seat lane history records legal room live =
     let entry : Entry = write_entry seat edit in
     let accepted = write_accepted history legal edit.path edit.text live.0 (omega (arith, room)) in
-    let told : List Record = records ++ record { seat = seat; line = edit.number; answer = Accepted (length history + 1) } ∷ [] in
     let now : IsLegal (history ++ entry ∷ []) = IsLegal-append history entry legal accepted in
-    let still = all_weaker (λ (other : Edit). IsLive (fold history) other.path) (λ (other : Edit). IsLive (fold (history ++ entry ∷ [])) other.path)
-    (λ other alive. live_on (entry ∷ []) history (writes lane edit.path edit.text refl, tt) now other.path alive) edits live.1 in
-    let rest = lane_goes_in edits seat lane (history ++ entry ∷ []) told now (omega (arith, room, length-append history (entry ∷ []))) still in
+    let told : List Record = records ++ record { seat = seat; line = edit.number; answer = Accepted (length history + 1) } ∷ [] in
+    let rest = lane_goes_in edits seat lane (history ++ entry ∷ []) told now
+    (omega (arith, room, length-append history (entry ∷ []))) (still_live edits (entry ∷ []) history (writes lane edit.path edit.text refl, tt) now live.1) in
     let regroup = append_assoc history (entry ∷ []) (map (write_entry seat) edits) in
-    (rw (done_from, accepted, rest.0) regroup, subst IsLegal regroup rest.1)
+    record { told = rest.told; is = rw (done_from, accepted, rest.is, regroup) refl; legal = subst IsLegal regroup rest.legal }

@@ -1,8 +1,6 @@
 pub mod Words
 pub mod TextLemmas
-pub mod FileLemmas
 pub mod LineLemmas
-pub mod LawLemmas
 pub mod ListLemmas
 pub mod StepLemmas
 pub mod LaneLemmas

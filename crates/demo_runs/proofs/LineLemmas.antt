@@ -1,26 +1,25 @@
 -- The bytes of a demo spell its script, from its last line up to its first.
-use Rattle.demo_runs.proofs.Words.{ℕ, ◌≡◌, inl, inr, ◌+◌, ◌<◌, ◌≤◌, true, List, [], ◌∷◌, ◌++◌, length, drop, codes, IsTrue, refl, ap, sym, subst, arith}
-use Rattle.demo_runs.proofs.Words.{append_assoc, append-nil, ltb, list_all, and_parts, Change, Line, Command, Verb, path_of, class_of, creates}
-use Rattle.demo.specs.declared.command.Verb.TheVariants as verb
-use Rattle.queries.specs.declared.query.Query.TheVariants as query
-use Rattle.script_lang.specs.declared.command.Command.TheVariants as script
+use Rattle.demo_runs.proofs.Words.{ltb-true, ◌≢◌, ℕ, ◌≡◌, inl, inr, ◌+◌, ◌<◌, ◌≤◌, true, List, [], ◌∷◌, ◌++◌, length, codes, IsTrue, refl, ap, sym, subst}
+use Rattle.demo_runs.proofs.Words.{arith, append_assoc, All-weaker, AllPass-from_list_all, list_all-from_AllPass, append-nil, ltb, list_all, and_parts, Change}
+use Rattle.demo_runs.proofs.Words.{Line, Command, Verb, path_of, class_of, creates, add_assoc, word_of, demo_bytes, last_section, lines_of, max_len, is_ink}
+use Rattle.demo_runs.proofs.Words.{is_plain, in_quotes, SpellRest, IsReadBack, demo_parts, change_by, change_of, lines_from, first_lane, second_lane}
+use Rattle.demo_runs.proofs.Words.{first_lane_begins, second_lane_begins, last_begins}
 use Rattle.unicode_ident.proofs.IdentLemmas.{is_xid_start-ascii, is_xid_continue-ascii}
 use Rattle.java_tokens.specs.Identifier.{is_word}
-use Rattle.demo.specs.Line.{word_of}
-use Rattle.demo.specs.Script.{demo_bytes, last_section, lines_of, max_len}
-use Rattle.demo_runs.proofs.TextLemmas.{none_of, weaker, all_in, path_text, class_text}
 use Rattle.script_lang.specs.Fields.{space}
 use Rattle.script_lang.specs.Quotes.{quote}
-use Rattle.script_lang.specs.Forms.{IsQuoted, IsPath, Path, Word, Text, Spells, HasOneOf}
+use Rattle.script_lang.specs.Forms.{IsPath, Path, Text, Spells, HasOneOf}
 use Rattle.script_lang.specs.Tables.{change_forms}
-use Rattle.write_history.specs.declared.change.Change.TheVariants as change
-use Rattle.script_lang.specs.Grammar.{spaced, IsCommandLine, IsScript, Rest, whole}
-use Rattle.script_lang.specs.Printed.{is_ink, is_plain, in_quotes, SpellRest, IsReadBack}
+use Rattle.script_lang.specs.Grammar.{spaced, IsCommandLine, IsScript, Rest}
 use Rattle.script_lang.specs.Reading.{may_stand}
 use Rattle.script_lang.specs.declared.line.Section.{Section}
 use Rattle.script_lang.specs.declared.line.Section.TheVariants.{Prelude, Lane, Finally}
-use Rattle.demo_runs.specs.Parts.{demo_parts, change_by, change_of, lines_from, last_from}
-use Rattle.demo_runs.specs.Parts.{first_lane, second_lane, first_lane_begins, second_lane_begins, last_begins}
+use Rattle.demo_runs.specs.Parts.{last_from}
+use Rattle.demo.specs.declared.command.Verb.TheVariants as verb
+use Rattle.queries.specs.declared.query.Query.TheVariants as query
+use Rattle.script_lang.specs.declared.command.Command.TheVariants as script
+use Rattle.demo_runs.proofs.TextLemmas.{all_in, path_text, class_text}
+use Rattle.write_history.specs.declared.change.Change.TheVariants as change
 
 -- ---- the line of a command of the demo
 
@@ -30,7 +29,9 @@ body_of c = spaced (word_of c.verb ∷ path_of c.file ∷ in_quotes (class_of c)
 
 body_ink : (c : Command) → list_all is_ink (body_of c) ≡ true
 body_ink c =
-    let class = weaker is_plain is_ink (λ d e. (and_parts (is_ink d) _ e).0) (class_of c) (class_text c).all in
+    let plain = AllPass-from_list_all is_plain (class_of c) (class_text c).all in
+    let ink = All-weaker (λ d. is_plain d ≡ true) (λ d. is_ink d ≡ true) (λ d e. (and_parts (is_ink d) _ e).0) (class_of c) plain in
+    let class = list_all-from_AllPass is_ink (class_of c) ink in
     let path = (path_text is_ink refl refl refl c.file).all in
     all_in is_ink (word_of c.verb) _ (word c.verb) (all_in is_ink (path_of c.file) _ path (all_in is_ink (class_of c) (quote ∷ []) class refl))
   where
@@ -39,29 +40,23 @@ body_ink c =
     word verb.Write = refl
 
 body_is_command : IsReadBack → (c : Command) → IsCommandLine (body_of c) (script.Change (change_of c))
-body_is_command back c = inr (inr (inl (change_of c, refl, by_verb c.verb (back.text (class_of c) (class_text c).all (omega (arith, (class_text c).few))))))
+body_is_command back c = inr (inr (inl (change_of c, refl, by_verb c.verb)))
   where
-    is_path : IsPath (path_of c.file)
-    is_path = record { not_empty = (λ e. cc); no_space = none_of (ltb 32) space refl (path_of c.file) (path_text (ltb 32) refl refl refl c.file).all }
+    behind : (make : List ℕ → List ℕ → Change)
+        → Spells (Path ∷ Text ∷ []) make (space ∷ (path_of c.file ++ space ∷ in_quotes (class_of c))) (make (path_of c.file) (class_of c))
+    behind make =
+        let ink = AllPass-from_list_all (ltb 32) (path_of c.file) (path_text (ltb 32) refl refl refl c.file).all in
+        let path : IsPath (path_of c.file) = record {
+          not_empty = (λ e. cc);
+          no_space = All-weaker (λ d. ltb 32 d ≡ true) (λ d. d ≢ space) (λ d more e. absurd (omega (arith, ltb-true 32 d more, e))) (path_of c.file) ink;
+        } in
+        let quoted = back.text (class_of c) (class_text c).all (omega (arith, (class_text c).few)) in
+        let alone = ap (λ t. space ∷ t) (sym (append-nil (in_quotes (class_of c)))) in
+        (path_of c.file, _, path_of c.file, refl, (refl, path), (in_quotes (class_of c), [], class_of c, alone, quoted, (refl, refl)))
 
-    fields : List ℕ
-    fields = space ∷ (path_of c.file ++ space ∷ in_quotes (class_of c))
-
-    behind : {made : Change} (make : List ℕ → List ℕ → Change) → make (path_of c.file) (class_of c) ≡ made → IsQuoted (in_quotes (class_of c)) (class_of c)
-        → Spells (Path ∷ Text ∷ []) make fields made
-    behind make e quoted = (
-      path_of c.file,
-      space ∷ in_quotes (class_of c),
-      path_of c.file,
-      refl,
-      (refl, is_path),
-      (in_quotes (class_of c), [], class_of c, ap (λ t. space ∷ t) (sym (append-nil (in_quotes (class_of c)))), quoted, (refl, e)),
-    )
-
-    by_verb : (v : Verb) → IsQuoted (in_quotes (class_of c)) (class_of c)
-        → HasOneOf change_forms (spaced (word_of v ∷ path_of c.file ∷ in_quotes (class_of c) ∷ [])) (change_by v (path_of c.file) (class_of c))
-    by_verb verb.Create quoted = inl (fields, refl, behind change.Create refl quoted)
-    by_verb verb.Write quoted = inr (inl (fields, refl, behind change.Write refl quoted))
+    by_verb : (v : Verb) → HasOneOf change_forms (spaced (word_of v ∷ path_of c.file ∷ in_quotes (class_of c) ∷ [])) (change_by v (path_of c.file) (class_of c))
+    by_verb verb.Create = inl (_, refl, behind change.Create)
+    by_verb verb.Write = inr (inl (_, refl, behind change.Write))
 
 -- what is to come of a section and behind it
 abbrev coming : List Line → List (List Line) → List Line → Rest
@@ -85,58 +80,29 @@ spells_commands back (c ∷ cs) section number bytes lanes last stands spelled =
 
 -- ---- the script
 
--- `G` and an ASCII digit are a word
-first_is_word : IsTrue (is_word (codes "G0"))
-first_is_word = rw (is_xid_start-ascii 71 (omega arith), is_xid_continue-ascii 48 (omega arith)) refl
-
-second_is_word : IsTrue (is_word (codes "G1"))
-second_is_word = rw (is_xid_start-ascii 71 (omega arith), is_xid_continue-ascii 49 (omega arith)) refl
-
 spells_last : IsReadBack → (number : ℕ) → SpellRest Finally number (codes "settle\nstatus\nsupers G0\nsupers G1\n") (coming (last_from number) [] [])
 spells_last back number =
-    let fourth = back.command Finally (number + 3) (codes "supers G1") [] (script.Ask (query.Supers (codes "G1"))) (coming [] [] []) refl
-    (asks (codes "G1") second_is_word) refl (back.none Finally (number + 3 + 1)) in
-    let third = back.command Finally (number + 2) (codes "supers G0") (codes "supers G1\n") (script.Ask (query.Supers (codes "G0")))
-    (coming (drop 3 (last_from number)) [] []) refl (asks (codes "G0") first_is_word) refl (moved (number + 3) (number + 2 + 1) _ _ (omega arith) fourth) in
-    let second = back.command Finally (number + 1) (codes "status") (codes "supers G0\nsupers G1\n") (script.Ask query.Status)
-    (coming (drop 2 (last_from number)) [] []) refl (inr (inr (inr (inl (query.Status, refl, inl (refl, refl)))))) refl (moved (number + 2) (number + 1 + 1) _ _ (omega arith) third) in
-    back.command Finally number (codes "settle") (codes "status\nsupers G0\nsupers G1\n") script.Settle
-    (coming (drop 1 (last_from number)) [] []) refl (inl (refl, refl)) refl second
+    let fourth = back.command Finally (number + 1 + 1 + 1) (codes "supers G1") [] (script.Ask (query.Supers (codes "G1"))) (coming [] [] []) refl
+    (asks 49 (rw (is_xid_start-ascii 71 (omega arith), is_xid_continue-ascii 49 (omega arith)) refl)) refl (back.none Finally _) in
+    let third = back.command Finally (number + 1 + 1) (codes "supers G0") _ (script.Ask (query.Supers (codes "G0"))) _ refl
+    (asks 48 (rw (is_xid_start-ascii 71 (omega arith), is_xid_continue-ascii 48 (omega arith)) refl)) refl fourth in
+    let second = back.command Finally (number + 1) (codes "status") _ (script.Ask query.Status) _ refl
+    (inr (inr (inr (inl (query.Status, refl, inl (refl, refl)))))) refl third in
+    simp add_assoc at (back.command Finally number (codes "settle") _ script.Settle _ refl (inl (refl, refl)) refl second)
   where
-    asks : (name : List ℕ) → IsTrue (is_word name) → IsCommandLine (spaced (codes "supers" ∷ name ∷ [])) (script.Ask (query.Supers name))
-    asks name is =
-        let field : Spells (Word ∷ []) query.Supers (space ∷ name) (query.Supers name)
-        = (name, [], name, ap (λ t. space ∷ t) (sym (append-nil name)), (refl, is), (refl, refl)) in
-        inr (inr (inr (inl (query.Supers name, refl, inr (inr (inl (space ∷ name, refl, field)))))))
-
-    moved : (n m : ℕ) (bytes : List ℕ) (rest : Rest) → n ≡ m → SpellRest Finally n bytes rest → SpellRest Finally m bytes rest
-    moved n m bytes rest e = subst (λ k. SpellRest Finally k bytes rest) e
+    asks : (digit : ℕ) → IsTrue (is_word (71 ∷ digit ∷ [])) → IsCommandLine (codes "supers G" ++ digit ∷ []) (script.Ask (query.Supers (71 ∷ digit ∷ [])))
+    asks digit is = inr (inr (inr (inl (_, refl, inr (inr (inl (_, refl, (71 ∷ digit ∷ [], [], _, refl, (refl, is), (refl, refl)))))))))
 
 -- the bytes of a demo spell its script
 pub demo_is_script : IsReadBack
     → ((seed files edits : ℕ) → 0 < files → files ≤ 10000 → edits ≤ 50000 → length (demo_bytes seed files edits) ≤ max_len)
     → (seed files edits : ℕ) → 0 < files → files ≤ 10000 → edits ≤ 50000 → IsScript (demo_bytes seed files edits) (demo_parts seed files edits)
 demo_is_script back short seed files edits some few fits =
-    back.script (demo_bytes seed files edits) (demo_parts seed files edits) (short seed files edits some few fits) spelled
-  where
-    six_pieces : (a b d e f g : List ℕ) → a ++ (b ++ (d ++ (e ++ (f ++ g)))) ≡ a ++ b ++ d ++ e ++ f ++ g
-    six_pieces a b d e f g = simp append_assoc
-
-    spelled : SpellRest Prelude 1 (demo_bytes seed files edits) (whole (demo_parts seed files edits))
-    spelled =
-        let made = creates seed files in
-        let first = first_lane seed files edits in
-        let second = second_lane seed files edits in
-        let one = first_lane_begins seed files in
-        let two = second_lane_begins seed files edits in
-        let end = last_begins seed files edits in
-        let last = last_from (end + 1) in
-        let twos = lines_from (two + 1) second in
-        let finals = back.finally (Lane 2) end _ (coming last [] []) refl (spells_last back (end + 1)) in
-        let second_all = back.lane (Lane 1) (Lane 2) two _ (coming twos [] last) refl
-        (spells_commands back second (Lane 2) (two + 1) last_section [] last (λ c. refl) finals) in
-        let first_lines = spells_commands back first (Lane 1) (one + 1) _ (twos ∷ []) last (λ c. refl) second_all in
-        let first_all = back.lane Prelude (Lane 1) one _ (coming (lines_from (one + 1) first) (twos ∷ []) last) refl first_lines in
-        subst (λ bytes. SpellRest Prelude 1 bytes (whole (demo_parts seed files edits)))
-        (six_pieces (lines_of made) (codes "lane\n") (lines_of first) (codes "lane\n") (lines_of second) last_section)
-        (spells_commands back made Prelude 1 _ (lines_from (one + 1) first ∷ twos ∷ []) last (λ c. refl) first_all)
+    let one = first_lane_begins seed files in
+    let two = second_lane_begins seed files edits in
+    let end = last_begins seed files edits in
+    let last = back.finally (Lane 2) end _ _ refl (spells_last back (end + 1)) in
+    let second = spells_commands back (second_lane seed files edits) (Lane 2) (two + 1) last_section _ _ (λ c. refl) last in
+    let first = spells_commands back (first_lane seed files edits) (Lane 1) (one + 1) _ _ _ (λ c. refl) (back.lane (Lane 1) (Lane 2) two _ _ refl second) in
+    let all = spells_commands back (creates seed files) Prelude 1 _ _ _ (λ c. refl) (back.lane Prelude (Lane 1) one _ _ refl first) in
+    back.script (demo_bytes seed files edits) (demo_parts seed files edits) (short seed files edits some few fits) (simp append_assoc all)

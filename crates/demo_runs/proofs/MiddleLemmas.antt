@@ -1,6 +1,6 @@
 -- Lanes that write different files: what a file shows behind them is what the one lane that writes it makes of it.
 use Rattle.demo_runs.proofs.Words.{ℕ, ◌≡◌, ◌≢◌, ◌⊎◌, inl, inr, ⊎_elim, List, [], ◌∷◌, map, refl, ap, sym, ◌∙◌, ◌==◌, bytes_eq, AllByRecursion, bytes_decides}
-use Rattle.demo_runs.proofs.Words.{eqb-false, cond_both, not_from_Decides, bool_cases, Entry, File, made_by, Edit, IsEdit, acted, acts}
+use Rattle.demo_runs.proofs.Words.{eqb-false, cond_both, not_from_Decides, bool_cases, Entry, File, made_by, Edit, acted, acts}
 use Rattle.demo_runs.proofs.ListLemmas.{all_weaker}
 use Rattle.demo_runs.proofs.StepLemmas.{acted_there, stays_one}
 use Rattle.demo_runs.proofs.LaneLemmas.{write_entry}
@@ -14,13 +14,13 @@ abbrev pub OthersLeave : ℕ → List ℕ → Entry → Type 0
 OthersLeave seat path entry = entry.seat ≢ seat → Leaves path entry
 
 -- then it shows what those with this seat make of it
-pub by_one : (seat : ℕ) (path : List ℕ) (entries : List Entry) → AllByRecursion IsEdit entries → AllByRecursion (OthersLeave seat path) entries
+pub by_one : (seat : ℕ) (path : List ℕ) (entries : List Entry) → AllByRecursion (OthersLeave seat path) entries
     → (file : File) → file.path ≡ path → acts entries file ≡ acts (made_by seat entries) file
-by_one seat path [] edits others file same = refl
-by_one seat path (entry ∷ entries) edits others file same =
+by_one seat path [] others file same = refl
+by_one seat path (entry ∷ entries) others file same =
     cond_both (entry.seat == seat) (entry ∷ made_by seat entries) (made_by seat entries) (λ made. acts (entry ∷ entries) file ≡ acts made file)
-    (λ t. by_one seat path entries edits.1 others.1 (acted entry.changes file) ((stays_one entry edits.0 file).0 ∙ same))
-    (λ f. ap (acts entries) (others.0 (eqb-false entry.seat seat f) file same) ∙ by_one seat path entries edits.1 others.1 file same)
+    (λ t. by_one seat path entries others.1 (acted entry.changes file) ((stays_one entry.changes file).0 ∙ same))
+    (λ f. ap (acts entries) (others.0 (eqb-false entry.seat seat f) file same) ∙ by_one seat path entries others.1 file same)
 
 -- the edits write other paths
 abbrev pub WriteOthers : List ℕ → List Edit → Type 0

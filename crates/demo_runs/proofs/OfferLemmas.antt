@@ -1,14 +1,11 @@
 -- The intakes of a history are among few: one for each file that stood before, and one for each write.
 use Rattle.demo_runs.proofs.Words.{ℕ, ◌≡◌, ◌≢◌, ◌+◌, ◌<◌, ◌≤◌, List, [], ◌∷◌, ◌++◌, length, get_or, map, refl, ap, sym, ◌∙◌, subst, arith, append_assoc}
-use Rattle.demo_runs.proofs.Words.{length-append, None, All, AllByRecursion, Contains, eqb-true, le-leb, not-false, length-map, All-map}
-use Rattle.demo_runs.proofs.Words.{Contains-append_right, one_if, length-filter-cons, live_inside, Change, Write, Intake, Entry, World, file_of, next_id, Put}
-use Rattle.demo_runs.proofs.Words.{put_of, refusal_of, stamp_of, effect_of, fold, IsLegal, accepted_reasons, IsLegal-split, next_id-effect_of, entry_of}
-use Rattle.demo_runs.proofs.Words.{IsIntakeBy, AreApart, IsEdit, writes, takes}
-use Rattle.std.specs.List.{range_with_len}
-use Rattle.std.proofs.lemmas.List.{get_or-map}
-use Rattle.std.proofs.lemmas.List.FromFn.{get_or-map-range_with_len, length-map-range_with_len}
+use Rattle.demo_runs.proofs.Words.{length-append, None, All, AllByRecursion, Contains, eqb-true, not-false, length-map, All-map, Contains-append_right}
+use Rattle.demo_runs.proofs.Words.{live_inside, Change, Write, Intake, Entry, World, file_of, next_id, Put, put_of, refusal_of, stamp_of, fold, IsLegal}
+use Rattle.demo_runs.proofs.Words.{accepted_reasons, IsLegal-split, next_id-effect_of, entry_of, IsIntakeBy, AreApart, IsEdit, writes, takes, one_if, le-leb}
+use Rattle.demo_runs.proofs.Words.{range_with_len, get_or-map, get_or-map-range_with_len, length-map-range_with_len}
 use Rattle.demo_runs.proofs.StepLemmas.{placed, took, accepted_last}
-use Rattle.demo_runs.proofs.ListLemmas.{no_more, is_to, count_to}
+use Rattle.demo_runs.proofs.ListLemmas.{no_more, count_to, count_more}
 
 -- the file with an id at its stamp, of which an intake is an offer
 abbrev pub offer_of : World → ℕ → List ℕ
@@ -27,39 +24,46 @@ pub length-offers_of : (world : World) → length (offers_of world) ≡ next_id 
 length-offers_of world = length-map-range_with_len (offer_of world) 0 (next_id world)
 
 pub offered_of : (world : World) → AreOffered world (offers_of world)
-offered_of world id less = (
-  id,
-  omega (arith, less, length-offers_of world),
-  get_or-map-range_with_len (offer_of world) 0 (next_id world) id id (offer_of world id) less (omega arith),
-)
+offered_of world id less =
+    let there = get_or-map-range_with_len (offer_of world) 0 (next_id world) id id (offer_of world id) less (omega arith) in
+    (id, omega (arith, less, length-offers_of world), there)
 
 -- ---- one change
 
-module _ (world : World) (offers : List (List ℕ)) (are : AreOffered world offers) where
-  -- a write brings one offer at most, that of the file that it put
-  after_write : (path text : List ℕ) → refusal_of world (Write path text) ≡ None
-      → (more : List ℕ) × AreOffered (effect_of world (Write path text)) (more ∷ offers)
-  after_write path text accepted =
-      let put : Put = put_of world (Write path text) in
-      let more : List ℕ = put.id ∷ stamp_of put.file ∷ [] in (
-        more,
-        λ id less. placed world (Write path text) accepted id (λ o. Contains (more ∷ offers) (id ∷ stamp_of o ∷ []))
-            (λ same. (0, omega arith, ap (λ (n : ℕ). n ∷ stamp_of put.file ∷ []) (sym same)))
-            (λ other. Contains-append_right (more ∷ []) offers (offer_of world id)
-            (are id (omega (arith, less, next_id-effect_of world (Write path text) accepted)))),
-      )
+-- an intake that is accepted is offered
+intake_offered : (world : World) (offers : List (List ℕ)) → AreOffered world offers → (taken stamp : ℕ) → refusal_of world (Intake taken stamp) ≡ None
+    → Contains offers (taken ∷ stamp ∷ [])
+intake_offered world offers are taken stamp accepted =
+    let none = accepted_reasons world (Intake taken stamp) accepted in
+    rw (eqb-true stamp (stamp_of (file_of world taken)) (not-false _ none.1.0))
+    (are taken (omega (arith, (live_inside world.files taken (not-false _ none.0)).1)))
 
-  -- an intake brings none
-  after_intake : (taken stamp : ℕ) → refusal_of world (Intake taken stamp) ≡ None → AreOffered (effect_of world (Intake taken stamp)) offers
-  after_intake taken stamp accepted id less = rw (took stamp_of world taken stamp accepted (λ file. refl) id)
-      (are id (omega (arith, less, next_id-effect_of world (Intake taken stamp) accepted)))
+-- behind a legal history some more offers are all, one of a write and none of an intake
+record IsOfferedOn (offers : List (List ℕ)) (history : List Entry) (entry : Entry) : Type 0 where
+  more : List (List ℕ)
+  few : (entries : List Entry) → length more + count_to 2 entries ≤ count_to 2 (entry ∷ entries)
+  are : AreOffered (fold (history ++ entry ∷ [])) (more ++ offers)
 
-  -- and is offered
-  intake_offered : (taken stamp : ℕ) → refusal_of world (Intake taken stamp) ≡ None → Contains offers (taken ∷ stamp ∷ [])
-  intake_offered taken stamp accepted =
-      let none = accepted_reasons world (Intake taken stamp) accepted in
-      rw (eqb-true stamp (stamp_of (file_of world taken)) (not-false _ none.1.0))
-      (are taken (omega (arith, (live_inside world.files taken (not-false _ none.0)).1)))
+offered_on : (history : List Entry) (offers : List (List ℕ)) → AreOffered (fold history) offers → (entry : Entry) → IsLegal (history ++ entry ∷ [])
+    → IsEdit entry → IsOfferedOn offers history entry
+offered_on history offers are entry legal (writes lane path text one) =
+    let world : World = fold history in
+    let is = accepted_last history entry (Write path text) one legal in
+    let put : Put = put_of world (Write path text) in
+    let more : List (List ℕ) = (put.id ∷ stamp_of put.file ∷ []) ∷ [] in record {
+      more = more;
+      few = λ entries. omega (arith, count_more 2 entry entries, ap one_if (le-leb entry.seat 2 lane));
+      are = rw is.1 (λ id less. placed world (Write path text) is.0 id (λ o. Contains (more ++ offers) (id ∷ stamp_of o ∷ []))
+          (λ same. (0, omega arith, ap (λ (n : ℕ). n ∷ stamp_of put.file ∷ []) (sym same)))
+          (λ other. Contains-append_right more offers (offer_of world id) (are id (omega (arith, less, next_id-effect_of world (Write path text) is.0)))));
+    }
+offered_on history offers are entry legal (takes file stamp one) =
+    let is = accepted_last history entry (Intake file stamp) one legal in record {
+      more = [];
+      few = λ entries. omega (arith, count_more 2 entry entries);
+      are = rw is.1 (λ id less. rw (took stamp_of (fold history) file stamp is.0 (λ f. refl) id)
+          (are id (omega (arith, less, next_id-effect_of (fold history) (Intake file stamp) is.0))));
+    }
 
 -- ---- the intakes of entries
 
@@ -78,42 +82,20 @@ pub record AllOffered (before : List (List ℕ)) (entries : List Entry) : Type 0
 pub all_offered : (entries history : List Entry) (offers : List (List ℕ)) → AllByRecursion IsEdit entries → IsLegal (history ++ entries)
     → AreOffered (fold history) offers → AllOffered offers entries
 all_offered [] history offers edits legal are = record { list = offers; count = omega arith; keeps = λ offer h. h; are = tt }
-all_offered (entry ∷ entries) history offers edits legal are = by_kind (λ more offered. all_offered entries after more edits.1 later offered) edits.0
-  where
-    after : List Entry
-    after = history ++ entry ∷ []
-
-    later : IsLegal (after ++ entries)
-    later = subst IsLegal (sym (append_assoc history (entry ∷ []) entries)) legal
-
-    now : IsLegal after
-    now = (IsLegal-split after entries later).0
-
-    behind : (more : List (List ℕ)) → length more + count_to 2 entries ≤ count_to 2 (entry ∷ entries) → AllOffered (more ++ offers) entries
-        → AllOffered offers (entry ∷ entries)
-    behind more few rest =
-        let keeps : (offer : List ℕ) → Contains offers offer → Contains rest.list offer
-        = λ offer h. rest.keeps offer (Contains-append_right more offers offer h) in record {
-          list = rest.list;
-          count = omega (arith, rest.count, few, length-append more offers);
-          keeps = keeps;
-          are = (
-            λ file stamp one. keeps (file ∷ stamp ∷ [])
-                (intake_offered (fold history) offers are file stamp (accepted_last history entry (Intake file stamp) one now).0),
-            rest.are,
-          );
-        }
-
-    by_kind : ((more : List (List ℕ)) → AreOffered (fold after) more → AllOffered more entries) → IsEdit entry → AllOffered offers (entry ∷ entries)
-    by_kind others (writes lane path text one) =
-        let is = accepted_last history entry (Write path text) one now in
-        let next = after_write (fold history) offers are path text is.0 in
-        behind (next.0 ∷ []) (omega (arith, length-filter-cons (is_to 2) entry entries, ap one_if (le-leb entry.seat 2 lane)))
-        (others (next.0 ∷ offers) (subst (λ (w : World). AreOffered w (next.0 ∷ offers)) (sym is.1) next.1))
-    by_kind others (takes file stamp one) =
-        let is = accepted_last history entry (Intake file stamp) one now in
-        behind [] (omega (arith, length-filter-cons (is_to 2) entry entries)) (others offers
-        (subst (λ (w : World). AreOffered w offers) (sym is.1) (after_intake (fold history) offers are file stamp is.0)))
+all_offered (entry ∷ entries) history offers edits legal are =
+    let later : IsLegal ((history ++ entry ∷ []) ++ entries) = subst IsLegal (sym (append_assoc history (entry ∷ []) entries)) legal in
+    let now = (IsLegal-split (history ++ entry ∷ []) entries later).0 in
+    let on = offered_on history offers are entry now edits.0 in
+    let rest = all_offered entries (history ++ entry ∷ []) (on.more ++ offers) edits.1 later on.are in
+    let keeps : (offer : List ℕ) → Contains offers offer → Contains rest.list offer
+    = λ offer h. rest.keeps offer (Contains-append_right on.more offers offer h) in
+    let offered : IsOffered rest.list entry = λ file stamp one. keeps (file ∷ stamp ∷ [])
+    (intake_offered (fold history) offers are file stamp (accepted_last history entry (Intake file stamp) one now).0) in record {
+      list = rest.list;
+      count = omega (arith, rest.count, on.few entries, length-append on.more offers);
+      keeps = keeps;
+      are = (offered, rest.are);
+    }
 
 -- ---- a worker's intakes
 
@@ -126,8 +108,8 @@ taken_by changes = []
 pub few_taken : (seat : ℕ) (own : List Entry) (offers : List (List ℕ)) → All (IsIntakeBy seat) own → AreApart own → All (IsOffered offers) own
     → length own ≤ length offers
 few_taken seat own offers intakes apart offered =
-    let among = All-map (Contains offers) key own (λ k d l. rw (intakes k d l).is
-    (offered k d l (intakes k d l).file (intakes k d l).stamp (ap (λ (e : Entry). e.changes) (intakes k d l).is))) in
+    let among = All-map (Contains offers) key own (λ k d l.
+    let by = intakes k d l in rw by.is (offered k d l by.file by.stamp (ap (λ (e : Entry). e.changes) by.is))) in
     omega (arith, length-map own key, no_more (map key own) offers distinct among)
   where
     key : Entry → List ℕ
@@ -139,6 +121,6 @@ few_taken seat own offers intakes apart offered =
         let within : j < length own = omega (arith, inside, length-map own key) in
         let first = intakes i none (omega (arith, less, within)) in
         let second = intakes j none within in
-        let keys = sym (get_or-map key own i none d (omega (arith, less, within))) ∙ same ∙ get_or-map key own j none d within in
-        apart i j none less within (rw (first.is, second.is)
-        (ap (λ (offer : List ℕ). Intake (get_or offer 0 0) (get_or offer 1 0) ∷ []) (sym (ap key first.is) ∙ keys ∙ ap key second.is)))
+        let keys : first.file ∷ first.stamp ∷ [] ≡ second.file ∷ second.stamp ∷ [] = sym (ap key first.is)
+        ∙ sym (get_or-map key own i none d (omega (arith, less, within))) ∙ same ∙ get_or-map key own j none d within ∙ ap key second.is in
+        apart i j none less within (rw (first.is, second.is) (cc))

@@ -1,10 +1,11 @@
 -- What accepted writes and intakes make of what each file shows.
-use Rattle.demo_runs.proofs.Words.{ℕ, ◌≡◌, ◌≢◌, List, [], ◌∷◌, ◌++◌, refl, ap, sym, ◌∙◌, subst, arith, append_assoc, append-nil, Some, None, if◌then◌else◌}
-use Rattle.demo_runs.proofs.Words.{Option, option_map, bytes_eq, AllByRecursion, bytes_decides, false_from_ne_true, option_map_id, bool_cases, live_is_made}
-use Rattle.demo_runs.proofs.Words.{Change, Write, Intake, Entry, World, File, file_of, next_id, put_of, refusal_of, rewritten, taken_in, effect_of}
-use Rattle.demo_runs.proofs.Words.{list_refusal, counted, after_list, fold, IsLegal, files_made, Found, found, by_place, is_place, accepted_reasons}
-use Rattle.demo_runs.proofs.Words.{is_accepted, fold-append, IsLegal-split, list_accepted, next_id-effect_of, IsApart-fold, bare, bare_at, IsAt, IsLive}
-use Rattle.demo_runs.proofs.Words.{IsEdit, writes, takes, acted, acts}
+use Rattle.demo_runs.proofs.Words.{ℕ, ◌≡◌, ◌≢◌, List, [], ◌∷◌, ◌++◌, refl, ap, sym, ◌∙◌, subst, arith, append_assoc, append-nil, Some, None, Option, option_map}
+use Rattle.demo_runs.proofs.Words.{bytes_eq, AllByRecursion, bytes_decides, false_from_ne_true, option_map_id, cond_both, Change, Write, Intake, Entry, World}
+use Rattle.demo_runs.proofs.Words.{File, file_of, next_id, put_of, refusal_of, rewritten, taken_in, effect_of, list_refusal, counted, after_list, fold, IsLegal}
+use Rattle.demo_runs.proofs.Words.{Found, found, by_place, is_place, accepted_reasons, fold-append, IsLegal-split, list_accepted, next_id-effect_of}
+use Rattle.demo_runs.proofs.Words.{IsApart-fold, bare, bare_at, IsAt, IsLive, IsEdit, writes, takes, acted, acts}
+use Rattle.write_history.specs.Changes.{files_made}
+use Rattle.history_laws.proofs.ChangeLemmas.{is_accepted}
 
 -- ---- one change
 
@@ -39,11 +40,10 @@ took f world taken stamp accepted same id = placed world (Intake taken stamp) ac
 wrote : (history : List Entry) → IsLegal history → (path text : List ℕ) → refusal_of (fold history) (Write path text) ≡ None → (id : ℕ)
     → bare_at (effect_of (fold history) (Write path text)) id ≡ option_map (acted (Write path text ∷ [])) (bare_at (fold history) id)
 wrote history legal path text accepted id =
-    let made = live_is_made world.files old.id old.old old.found in
-    rw (old.is, old.found) (by_place world (record { id = old.id; file = Some (rewritten text world.next_stamp old.old); drawn = 1 }) id
-    (λ o. option_map bare o ≡ option_map (acted (Write path text ∷ [])) (bare_at world id)) made.0 (omega (arith, made.1))
-    (λ same. rw (same, old.found, (bytes_decides old.old.path path).1 old.same) refl)
-    (λ other. elsewhere (file_of world id) (λ file is same. other (IsApart-fold history legal id old.id file old.old is old.found (same ∙ sym old.same)))))
+    let is : (put_of world (Write path text)).id ≡ old.id = rw old.is refl in
+    placed world (Write path text) accepted id (λ o. option_map bare o ≡ option_map (acted (Write path text ∷ [])) (bare_at world id))
+    (λ same. rw (old.is, same ∙ is, old.found, (bytes_decides old.old.path path).1 old.same) refl) (λ other. elsewhere (file_of world id)
+    (λ file found_it same. other (IsApart-fold history legal id old.id file old.old found_it old.found (same ∙ sym old.same) ∙ sym is)))
   where
     world : World
     world = fold history
@@ -61,10 +61,9 @@ wrote history legal path text accepted id =
 -- an entry of one change, which a legal history ends with, is an accepted change
 pub accepted_last : (history : List Entry) (entry : Entry) (change : Change) → entry.changes ≡ change ∷ [] → IsLegal (history ++ entry ∷ [])
     → (refusal_of (fold history) change ≡ None) × (fold (history ++ entry ∷ []) ≡ counted (effect_of (fold history) change))
-accepted_last history entry change one legal = (
-  (list_accepted (fold history) change [] (sym (ap (list_refusal (fold history)) one) ∙ (IsLegal-split history (entry ∷ []) legal).1.0)).0,
-  fold-append history (entry ∷ []) ∙ ap (after_list (fold history)) one,
-)
+accepted_last history entry change one legal =
+    let accepted = sym (ap (list_refusal (fold history)) one) ∙ (IsLegal-split history (entry ∷ []) legal).1.0 in
+    ((list_accepted (fold history) change [] accepted).0, fold-append history (entry ∷ []) ∙ ap (after_list (fold history)) one)
 
 -- a history has gone on by these entries: no file is made, and each shows what they make of it
 pub record GoesOn (before after entries : List Entry) : Type 0 where
@@ -72,7 +71,8 @@ pub record GoesOn (before after entries : List Entry) : Type 0 where
   pub files : (id : ℕ) → bare_at (fold after) id ≡ option_map (acts entries) (bare_at (fold before) id)
 
 goes_on_by : (history : List Entry) (entry : Entry) → IsLegal (history ++ entry ∷ []) → (change : Change) → entry.changes ≡ change ∷ [] → files_made change ≡ 0
-    → (refusal_of (fold history) change ≡ None → (id : ℕ) → bare_at (effect_of (fold history) change) id ≡ option_map (acted (change ∷ [])) (bare_at (fold history) id))
+    → (refusal_of (fold history) change ≡ None → (id : ℕ)
+    → bare_at (effect_of (fold history) change) id ≡ option_map (acted (change ∷ [])) (bare_at (fold history) id))
     → GoesOn history (history ++ entry ∷ []) (entry ∷ [])
 goes_on_by history entry legal change one none shown =
     let is = accepted_last history entry change one legal in record {
@@ -108,17 +108,16 @@ goes_on (entry ∷ entries) history are legal =
 abbrev pub Stays : File → File → Type 0
 Stays old new = (new.path ≡ old.path) × (old.document ≡ None → new.document ≡ None)
 
-pub stays_one : (entry : Entry) → IsEdit entry → (file : File) → Stays file (acted entry.changes file)
-stays_one entry (writes lane path text one) file = rw one (bool_cases (bytes_eq file.path path) (λ b. Stays file (if b then rewritten text 0 file else file))
-    (λ t. (refl, λ closed. ap (option_map _) closed)) (λ f. (refl, λ closed. closed)))
-stays_one entry (takes id stamp one) file = rw one (refl, λ closed. closed)
+pub stays_one : (changes : List Change) (file : File) → Stays file (acted changes file)
+stays_one (Write path text ∷ changes) file = cond_both (bytes_eq file.path path) (rewritten text 0 file) file (Stays file)
+    (λ t. (refl, λ closed. ap (option_map _) closed)) (λ f. (refl, λ closed. closed))
+stays_one changes file = (refl, λ closed. closed)
 
-pub stays_all : (entries : List Entry) → AllByRecursion IsEdit entries → (file : File) → Stays file (acts entries file)
-stays_all [] are file = (refl, λ closed. closed)
-stays_all (entry ∷ entries) are file =
-    let first = stays_one entry are.0 file in
-    let rest = stays_all entries are.1 (acted entry.changes file) in
-    (rest.0 ∙ first.0, λ closed. rest.1 (first.1 closed))
+pub stays_all : (entries : List Entry) (file : File) → Stays file (acts entries file)
+stays_all [] file = (refl, λ closed. closed)
+stays_all (entry ∷ entries) file =
+    let first = stays_one entry.changes file in
+    let rest = stays_all entries (acted entry.changes file) in (rest.0 ∙ first.0, λ closed. rest.1 (first.1 closed))
 
 -- a path that is live stays so
 pub live_on : (entries history : List Entry) → AllByRecursion IsEdit entries → IsLegal (history ++ entries) → (path : List ℕ)
@@ -128,4 +127,4 @@ live_on entries history are legal path live =
   where
     stays : (o : Option File) → IsAt path o → IsAt path (option_map (acts entries) o)
     stays None is = absurd is
-    stays (Some file) is = let kept = stays_all entries are file in (kept.0 ∙ is.0, kept.1 is.1)
+    stays (Some file) is = let kept = stays_all entries file in (kept.0 ∙ is.0, kept.1 is.1)

@@ -15,8 +15,9 @@ use script_lang::laws::{
 pub fn a_demo_is_lawful()
     ensures script { (seed : ℕ) (files : ℕ) (edits : ℕ) → 0 < files → files ≤ 10000 → edits ≤ 50000
         → IsScript (demo_bytes seed files edits) (demo_parts seed files edits) }
-    ensures only { (seed : ℕ) (files : ℕ) (edits : ℕ) (script : Parts) → 0 < files → files ≤ 10000 → edits ≤ 50000
-        → IsScript (demo_bytes seed files edits) script → script ≡ demo_parts seed files edits }
+    ensures only { (seed : ℕ) (files : ℕ) (edits : ℕ) (script : Parts) → 0 < files → files ≤ 10000
+        → edits ≤ 50000 → IsScript (demo_bytes seed files edits) script
+        → script ≡ demo_parts seed files edits }
 {
     demos_are_short();
     printed_scripts_are_read_back();
@@ -25,8 +26,8 @@ pub fn a_demo_is_lawful()
 
 /// No line of a demo is refused.
 pub fn no_demo_is_refused()
-    ensures { (seed : ℕ) (files : ℕ) (edits : ℕ) (line : ℕ) → 0 < files → files ≤ 10000 → edits ≤ 50000
-        → IsRefused (demo_bytes seed files edits) (BadLine line) → ⊥ }
+    ensures { (seed : ℕ) (files : ℕ) (edits : ℕ) (line : ℕ) → 0 < files → files ≤ 10000
+        → edits ≤ 50000 → IsRefused (demo_bytes seed files edits) (BadLine line) → ⊥ }
 {
     a_demo_is_lawful();
     scripts_are_not_refused();

@@ -4,7 +4,7 @@ use Rattle.std.specs.Prelude.{filter, map, is_some, IsSome, option_map, if◌the
 use Rattle.std.specs.Vec.{with_item}
 use Rattle.std.proofs.lemmas.List.{length-set, length-map, set-get_or, get_or-set_other, get_or_default}
 use Rattle.std.proofs.lemmas.Bool.{false≢true}
-use Rattle.document_buf.specs.Held.{Held, HeldDoc, HasPlace, document_of, open_of}
+use Rattle.document_buf.specs.Held.{Held, HeldDoc, HasPlace, document_of}
 use Rattle.document_buf.specs.Document.{Document}
 use Rattle.document_buf.specs.Places.{IsHeld, held_of}
 use Rattle.document_buf.specs.declared.docs.Docs.TheInside.{Inside}
@@ -195,19 +195,3 @@ IsHeld-copied inside copied e n held =
       few = omega (arith, held.few, len);
       unnamed = none_of (get_or copied.docs.items 0 None) (same_document copied.docs.items inside.docs.items e 0 ∙ ap (option_map (λ doc. doc.document)) held.unnamed);
     }
-
--- two lists with the same documents at every place have as many
-alike_count : (xs ys : List (Option Document)) → ((id : ℕ) → get_or xs id None ≡ get_or ys id None) → length (filter is_some xs) ≡ length (filter is_some ys)
-alike_count [] [] h = refl
-alike_count [] (None ∷ ys) h = alike_count [] ys (λ id. h (suc id))
-alike_count [] (Some y ∷ ys) h = let e : get_or {A = Option Document} [] 0 None ≡ Some y = h 0 in absurd (cc)
-alike_count (None ∷ xs) [] h = alike_count xs [] (λ id. h (suc id))
-alike_count (Some x ∷ xs) [] h = let e : Some x ≡ get_or {A = Option Document} [] 0 None = h 0 in absurd (cc)
-alike_count (None ∷ xs) (None ∷ ys) h = alike_count xs ys (λ id. h (suc id))
-alike_count (Some x ∷ xs) (Some y ∷ ys) h = ap suc (alike_count xs ys (λ id. h (suc id)))
-alike_count (None ∷ xs) (Some y ∷ ys) h = let e : get_or (None ∷ xs) 0 None ≡ Some y = h 0 in absurd (cc)
-alike_count (Some x ∷ xs) (None ∷ ys) h = let e : Some x ≡ get_or (None ∷ ys) 0 None = h 0 in absurd (cc)
-
--- the number of open documents, of any list that has the document of each id at its place
-pub open_of-by_id : (held : Held) (docs : List (Option Document)) → ((id : ℕ) → document_of held id ≡ get_or docs id None) → open_of held ≡ length (filter is_some docs)
-open_of-by_id held docs h = count-documents held.places ∙ alike_count (documents held.places) docs (λ id. sym (document-at held.places id) ∙ h id)

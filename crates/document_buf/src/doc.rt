@@ -175,7 +175,8 @@ impl Doc {
         ensures document { self.new.document ≡ self.old.document }
         ensures ok { OnOk result (count ≤ self.new.spare) }
         ensures keeps { self.old.spare ≤ self.new.spare }
-        ensures most { self.new.spare ≤ max (max self.old.spare count) (max_chars - length self.old.document.text) }
+        ensures most { self.new.spare
+            ≤ max (max self.old.spare count) (max_chars - length self.old.document.text) }
     {
         let count = count as usize;
         if self.state.buffer.spare() < count {

@@ -65,7 +65,8 @@ impl Docs {
         ensures count { open_of self.new ≡ open_of self.old }
         ensures keeps { KeepsRoom self.old self.new }
         ensures place { OnOk result (HasPlace self.new id) }
-        ensures room { OnOk result (IsSome (document_of self.old id) → count ≤ room_of self.new id) }
+        ensures room { OnOk result
+            (IsSome (document_of self.old id) → count ≤ room_of self.new id) }
     {
         self.make_place(id)?;
         match &mut self.docs[id as usize] {
@@ -106,9 +107,11 @@ impl Docs {
     pub fn insert(&mut self, id: u32, at: u32, piece: &Text)
         requires is_open { IsSome (document_of self.old id) }
         requires inside { IfSome (document_of self.old id) (λ document. at ≤ length document.text) }
-        requires fits { IfSome (document_of self.old id) (λ document. length document.text + length piece.now ≤ max_chars) }
+        requires fits { IfSome (document_of self.old id)
+            (λ document. length document.text + length piece.now ≤ max_chars) }
         requires room { length piece.now ≤ room_of self.old id }
-        ensures documents { Becomes self.old self.new id (option_map (inserted at piece.now) (document_of self.old id)) }
+        ensures documents { Becomes self.old self.new id
+            (option_map (inserted at piece.now) (document_of self.old id)) }
         ensures room { room_of self.new id + length piece.now ≡ room_of self.old id }
         ensures keeps { KeepsRoomBut self.old self.new id }
         ensures count { open_of self.new ≡ open_of self.old }
@@ -125,7 +128,8 @@ impl Docs {
         requires is_open { IsSome (document_of self.old id) }
         requires ordered { from ≤ to }
         requires inside { IfSome (document_of self.old id) (λ document. to ≤ length document.text) }
-        ensures documents { Becomes self.old self.new id (option_map (erased from to) (document_of self.old id)) }
+        ensures documents { Becomes self.old self.new id
+            (option_map (erased from to) (document_of self.old id)) }
         ensures room { room_of self.new id ≡ room_of self.old id + (to - from) }
         ensures keeps { KeepsRoom self.old self.new }
         ensures count { open_of self.new ≡ open_of self.old }
@@ -140,7 +144,8 @@ impl Docs {
     /// time.
     pub fn commit(&mut self, id: u32, text: SharedText)
         requires { option_map (λ document. document.text) (document_of self.old id) ≡ Some text }
-        ensures documents { Becomes self.old self.new id (option_map committed (document_of self.old id)) }
+        ensures documents { Becomes self.old self.new id
+            (option_map committed (document_of self.old id)) }
         ensures keeps { KeepsRoom self.old self.new }
         ensures count { open_of self.new ≡ open_of self.old }
     {
@@ -153,7 +158,8 @@ impl Docs {
     /// Notes that the file has the text of its open document. Constant time.
     pub fn mark_saved(&mut self, id: u32)
         requires { IsSome (document_of self.old id) }
-        ensures documents { Becomes self.old self.new id (option_map marked_saved (document_of self.old id)) }
+        ensures documents { Becomes self.old self.new id
+            (option_map marked_saved (document_of self.old id)) }
         ensures keeps { KeepsRoom self.old self.new }
         ensures count { open_of self.new ≡ open_of self.old }
     {
@@ -167,7 +173,8 @@ impl Docs {
     /// Constant time.
     pub fn replace_text(&mut self, id: u32, other: Doc)
         requires { IsSome (document_of self.old id) }
-        ensures documents { Becomes self.old self.new id (option_map (replaced other.document.text) (document_of self.old id)) }
+        ensures documents { Becomes self.old self.new id
+            (option_map (replaced other.document.text) (document_of self.old id)) }
         ensures room { room_of self.new id ≡ other.spare }
         ensures keeps { KeepsRoomBut self.old self.new id }
         ensures count { open_of self.new ≡ open_of self.old }
@@ -207,7 +214,9 @@ impl Docs {
 
 /// The same document once more, or none.
 fn copy_of(doc: &Option<Doc>) -> Result<Option<Doc>, AllocError>
-    ensures { IfOk result (λ copy. option_map (λ held. held.document) copy ≡ option_map (λ held. held.document) doc.now) }
+    ensures { IfOk result
+        (λ copy. option_map (λ held. held.document) copy
+        ≡ option_map (λ held. held.document) doc.now) }
 {
     Ok(match doc {
         Some(doc) => Some(doc.copy()?),

@@ -163,7 +163,9 @@ impl GapBuffer {
     /// The same characters with a gap of another width, in memory for just as many. Linear in them.
     pub(crate) fn with_spare(&self, spare: usize) -> Result<GapBuffer, AllocError>
         requires { length (joined_of self.now) + spare < 2 ^ 33 }
-        ensures { IfOk result (λ made. made ≡ record { front = self.now.front; back = self.now.back; spare = spare }) }
+        ensures { IfOk result
+            (λ made. made
+            ≡ record { front = self.now.front; back = self.now.back; spare = spare }) }
     {
         let mut chars = Vec::with_capacity(self.alloc(), self.len() + spare)?;
         chars.extend_from_slice(self.front())?;

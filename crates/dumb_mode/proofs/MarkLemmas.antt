@@ -1,9 +1,8 @@
--- The lowest of ids that come one after another.
-use Rattle.std.proofs.Common.{◌≡◌, ℕ, true, false, Some, None, List, [], ◌∷◌, refl, ap, ltb, cond, arith, not, ◌||◌, IsTrue, sym, ◌∙◌, ◌↔◌}
+-- The lowest of ids, and where there is none.
+use Rattle.std.proofs.Common.{◌≡◌, ℕ, true, false, Some, None, List, [], ◌∷◌, refl, ap, cond, not, ◌||◌, IsTrue, sym, ◌∙◌, ◌↔◌}
 use Rattle.std.specs.Prelude.{Option, Bool}
 use Rattle.std.specs.List.{list_any}
 use Rattle.std.proofs.lemmas.Bool.{false≢true}
-use Rattle.std.proofs.lemmas.Bool.Decides.{nat_tests}
 use Rattle.dumb_mode.specs.Unready.{lower_of, lowest_unindexed, is_unready_mark}
 use Rattle.dumb_mode.specs.declared.mark.Mark.{Mark}
 
@@ -11,18 +10,6 @@ use Rattle.dumb_mode.specs.declared.mark.Mark.{Mark}
 abbrev pub lower_one : Option ℕ → Option ℕ → Option ℕ
 lower_one None other = other
 lower_one (Some id) other = Some (lower_of id other)
-
-two : (m a : ℕ) → cond (ltb a m) a m ≡ cond (ltb m a) m a
-two m a = grind (arith, nat_tests)
-
-three : (m a r : ℕ) → cond (ltb r (cond (ltb a m) a m)) r (cond (ltb a m) a m) ≡ cond (ltb (cond (ltb r m) r m) a) (cond (ltb r m) r m) a
-three m a r = grind (arith, nat_tests)
-
--- one more before the rest
-pub lower_turn : (m : ℕ) (lowest rest : Option ℕ) → lower_one (Some (lower_of m lowest)) rest ≡ lower_one lowest (Some (lower_of m rest))
-lower_turn m None rest = refl
-lower_turn m (Some a) None = ap Some (two m a)
-lower_turn m (Some a) (Some r) = ap Some (three m a r)
 
 -- none is unready where there is no lowest
 pub smart_none : (marks : List Mark) → list_any is_unready_mark marks ≡ false → lowest_unindexed marks ≡ None

@@ -83,10 +83,6 @@ module _ {K V : Type 0} where
   pub behind : (e : ℕ × List (K × V)) (es : List (ℕ × List (K × V))) → IsStrictlySortedBy nat_cmp (keys_of (e ∷ es)) → AllByRecursion (λ k. e.0 < k) (keys_of es)
   behind e es sorted = above_first e.0 (keys_of es) (sorted_head nat_cmp e.0 (keys_of es) sorted)
 
-  absent_above : (file : ℕ) (files : List (ℕ × List (K × V))) → AllByRecursion (λ k. file < k) (keys_of files) → lookup (is_at (nat_cmp file)) files ≡ None
-  absent_above file [] all = refl
-  absent_above file (e ∷ es) all = ap (λ o. cond (is_eq o) (Some e.1) (lookup (is_at (nat_cmp file)) es)) (cmp_less file e.0 all.0) ∙ absent_above file es all.1
-
   module _ (file : ℕ) where
     -- the rows after a file was given others
     pub replaced : (files : List (ℕ × List (K × V))) (new : List (K × V)) → IsStrictlySortedBy nat_cmp (keys_of files) → rows_of (insert_entry nat_cmp files file new) ≡ with_rows file new (rows_of files)

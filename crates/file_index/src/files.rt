@@ -74,7 +74,8 @@ impl<K: Ord, V: Place> Files<K, V> {
         requires rises { IsStrictlySortedBy nat_cmp ids.now }
         requires all { HasAllFiles K.eq key.now self.now ids.now }
         ensures rows { result ≡ rows_at K.eq key.now (rows_of self.now) }
-        ensures by_files { (others : List ℕ) → IsStrictlySortedBy nat_cmp others → HasAllFiles K.eq key.now self.now others
+        ensures by_files { (others : List ℕ) → IsStrictlySortedBy nat_cmp others
+            → HasAllFiles K.eq key.now self.now others
             → result ≡ walked K.eq key.now self.now others }
     {
         let _ = &self.slots;
@@ -106,7 +107,8 @@ impl<K: Ord, V: Place> Files<K, V> {
         requires { is_known file self.old ≡ true }
         ensures old { result ≡ rows_in_file file self.old }
         ensures rows { rows_of self.new ≡ with_rows file new (rows_of self.old) }
-        ensures each { (j : ℕ) → rows_in_file j self.new ≡ (if j == file then new else rows_in_file j self.old) }
+        ensures each { (j : ℕ)
+            → rows_in_file j self.new ≡ (if j == file then new else rows_in_file j self.old) }
         ensures stays { (j : ℕ) → is_known j self.old ≡ true → is_known j self.new ≡ true }
     {
         match write(&mut self.slots, file, new) {
@@ -122,7 +124,8 @@ impl<K: Ord, V: Place> Files<K, V> {
         V: Drop,
         ensures old { result ≡ rows_in_file file self.old }
         ensures rows { rows_of self.new ≡ without_file file (rows_of self.old) }
-        ensures each { (j : ℕ) → rows_in_file j self.new ≡ (if j == file then [] else rows_in_file j self.old) }
+        ensures each { (j : ℕ)
+            → rows_in_file j self.new ≡ (if j == file then [] else rows_in_file j self.old) }
         ensures stays { (j : ℕ) → is_known j self.old ≡ true → is_known j self.new ≡ true }
     {
         let _ = &self.slots;
@@ -139,7 +142,8 @@ impl<K: Ord, V: Place> Files<K, V> {
         V: Drop,
         ensures rows { rows_of self.new ≡ rows_of self.old }
         ensures each { (j : ℕ) → rows_in_file j self.new ≡ rows_in_file j self.old }
-        ensures stays { (j : ℕ) → (j == file) ≡ false → is_known j self.old ≡ true → is_known j self.new ≡ true }
+        ensures stays { (j : ℕ) → (j == file) ≡ false → is_known j self.old ≡ true
+            → is_known j self.new ≡ true }
         ensures forgotten { IsKnownByRows file self.new }
     {
         let _ = &self.slots;
@@ -162,8 +166,10 @@ impl<K: Ord, V: Place> Files<K, V> {
     pub(crate) fn take(&mut self, file: u32) -> Option<KeyRows<K, V>>
         ensures old { unwrap_or result [] ≡ rows_in_file file self.old }
         ensures rows { rows_of self.new ≡ without_file file (rows_of self.old) }
-        ensures each { (j : ℕ) → rows_in_file j self.new ≡ (if j == file then [] else rows_in_file j self.old) }
-        ensures stays { (j : ℕ) → (j == file) ≡ false → is_known j self.old ≡ true → is_known j self.new ≡ true }
+        ensures each { (j : ℕ)
+            → rows_in_file j self.new ≡ (if j == file then [] else rows_in_file j self.old) }
+        ensures stays { (j : ℕ) → (j == file) ≡ false → is_known j self.old ≡ true
+            → is_known j self.new ≡ true }
         ensures forgotten { is_known file self.new ≡ false }
     {
         empty(&mut self.slots, file)

@@ -56,7 +56,8 @@ impl<I: Indexer> Inverted<I> {
         ensures rows { result ≡ rows_at I.Key.eq key.now (rows self.now) }
 
         // So the files rise: over any rising ids among which are all files with such a row, it is file after file.
-        ensures by_files { (ids : List ℕ) → IsStrictlySortedBy nat_cmp ids → HasAllFiles I.Key.eq key.now self.now.files ids
+        ensures by_files { (ids : List ℕ) → IsStrictlySortedBy nat_cmp ids
+            → HasAllFiles I.Key.eq key.now self.now.files ids
             → result ≡ walked I.Key.eq key.now self.now.files ids }
     {
         self.files.walk(self.postings.at(key), key)
@@ -79,8 +80,13 @@ impl<I: Indexer> Inverted<I> {
     /// Puts a file under a key.
     fn mark(&mut self, key: &I::Key, file: u32) -> Result<(), AllocError>
         ensures files { self.new.files ≡ self.old.files }
-        ensures marked { OnOk result ((k : I.Key) (j : ℕ) → is_placed I.Key.eq self.new.room k j ≡ (is_placed I.Key.eq self.old.room k j || (I.Key.eq key.now k && j == file))) }
-        ensures unchanged { OnErr result ((k : I.Key) (j : ℕ) → is_placed I.Key.eq self.new.room k j ≡ is_placed I.Key.eq self.old.room k j) }
+        ensures marked { OnOk result
+            ((k : I.Key) (j : ℕ)
+            → is_placed I.Key.eq self.new.room k j
+            ≡ (is_placed I.Key.eq self.old.room k j || (I.Key.eq key.now k && j == file))) }
+        ensures unchanged { OnErr result
+            ((k : I.Key) (j : ℕ)
+            → is_placed I.Key.eq self.new.room k j ≡ is_placed I.Key.eq self.old.room k j) }
     {
         if !self.postings.add_to(key, file)? {
             let copy = self.indexer.copy_key(self.alloc, key)?;
@@ -95,7 +101,9 @@ impl<I: Indexer> Inverted<I> {
         requires { HasRoom I.Key.eq self.old file new }
         ensures old { result ≡ rows_in_file file self.old.files }
         ensures swapped { rows self.new ≡ with_rows file new (rows self.old) }
-        ensures each { (j : ℕ) → rows_in_file j self.new.files ≡ (if j == file then new else rows_in_file j self.old.files) }
+        ensures each { (j : ℕ)
+            → rows_in_file j self.new.files
+            ≡ (if j == file then new else rows_in_file j self.old.files) }
         ensures keeps_room { KeepsRoom I.Key.eq self.old self.new }
         ensures places { self.new.room ≡ self.old.room }
     {
@@ -106,7 +114,9 @@ impl<I: Indexer> Inverted<I> {
     pub fn withdraw(&mut self, file: u32) -> KeyRows<I::Key, I::Value>
         ensures old { result ≡ rows_in_file file self.old.files }
         ensures withdrawn { rows self.new ≡ without_file file (rows self.old) }
-        ensures each { (j : ℕ) → rows_in_file j self.new.files ≡ (if j == file then [] else rows_in_file j self.old.files) }
+        ensures each { (j : ℕ)
+            → rows_in_file j self.new.files
+            ≡ (if j == file then [] else rows_in_file j self.old.files) }
         ensures keeps_room { KeepsRoom I.Key.eq self.old self.new }
         ensures places { self.new.room ≡ self.old.room }
     {
@@ -119,7 +129,8 @@ impl<I: Indexer> Inverted<I> {
         ensures replaced { rows self.new ≡ with_rows file new (rows self.old) }
         ensures keeps_room { KeepsRoomBut I.Key.eq file self.old self.new }
         ensures room { HasRoom I.Key.eq self.new file new }
-        ensures given_up { GivesUp I.Key.eq file (rows_in_file file self.old.files) self.old self.new }
+        ensures given_up { GivesUp I.Key.eq file
+            (rows_in_file file self.old.files) self.old self.new }
     {
         let old = self.swap(file, new);
         self.release(file, &old);
@@ -129,7 +140,8 @@ impl<I: Indexer> Inverted<I> {
     pub fn remove(&mut self, file: u32)
         ensures removed { rows self.new ≡ without_file file (rows self.old) }
         ensures keeps_room { KeepsRoomBut I.Key.eq file self.old self.new }
-        ensures given_up { GivesUp I.Key.eq file (rows_in_file file self.old.files) self.old self.new }
+        ensures given_up { GivesUp I.Key.eq file
+            (rows_in_file file self.old.files) self.old self.new }
         ensures forgotten { is_known file self.new.files ≡ false }
     {
         if let Some(old) = self.files.take(file) {
@@ -141,7 +153,8 @@ impl<I: Indexer> Inverted<I> {
     pub fn release(&mut self, file: u32, given: &KeyRows<I::Key, I::Value>)
         ensures same { self.new.files ≡ self.old.files }
         ensures keeps_room { KeepsRoomBut I.Key.eq file self.old self.new }
-        ensures room { HasRoom I.Key.eq self.old file (rows_in_file file self.old.files) → HasRoom I.Key.eq self.new file (rows_in_file file self.old.files) }
+        ensures room { HasRoom I.Key.eq self.old file (rows_in_file file self.old.files)
+            → HasRoom I.Key.eq self.new file (rows_in_file file self.old.files) }
         ensures given_up { GivesUp I.Key.eq file given.now self.old self.new }
     {
         take_out_all(&mut self.postings, &self.files, file, given);
@@ -178,8 +191,11 @@ fn take_out_all<K: Ord + Hash + Drop, V: Place>(
     file: u32,
     old: &KeyRows<K, V>,
 )
-    ensures { (k : K) (j : ℕ) → is_placed K.eq postings.new k j
-        ≡ (is_placed K.eq postings.old k j && not (j == file && has_key K.eq k old.now && not (has_key K.eq k (rows_in_file file files.now)))) }
+    ensures { (k : K) (j : ℕ)
+        → is_placed K.eq postings.new k j
+        ≡ (is_placed K.eq postings.old k j && not
+        (j == file && has_key K.eq k old.now && not
+        (has_key K.eq k (rows_in_file file files.now)))) }
 {
     for (key, _) in old.as_slice() {
         if !files.has_key(file, key) {

@@ -134,7 +134,8 @@ pub fn copy_rows<I: Indexer>(
 fn first_from<K: Ord, V: Place>(rows: &[(K, V)], key: &K) -> usize
     requires { AreInOrder K.cmp V.place_of rows.now }
     ensures bound { result ≤ length rows.now }
-    ensures parts { IsPartitionPoint (λ row. is_lt (K.cmp row.0 key.now) ≡ true) (λ row. is_lt (K.cmp row.0 key.now) ≡ false) rows.now result }
+    ensures parts { IsPartitionPoint (λ row. is_lt (K.cmp row.0 key.now) ≡ true)
+        (λ row. is_lt (K.cmp row.0 key.now) ≡ false) rows.now result }
 {
     rows.partition_point(|row| row.0.cmp(key).is_lt())
 }
@@ -143,7 +144,8 @@ fn first_from<K: Ord, V: Place>(rows: &[(K, V)], key: &K) -> usize
 fn first_after<K: Ord, V: Place>(rows: &[(K, V)], key: &K) -> usize
     requires { AreInOrder K.cmp V.place_of rows.now }
     ensures bound { result ≤ length rows.now }
-    ensures parts { IsPartitionPoint (λ row. is_le (K.cmp row.0 key.now) ≡ true) (λ row. is_le (K.cmp row.0 key.now) ≡ false) rows.now result }
+    ensures parts { IsPartitionPoint (λ row. is_le (K.cmp row.0 key.now) ≡ true)
+        (λ row. is_le (K.cmp row.0 key.now) ≡ false) rows.now result }
 {
     rows.partition_point(|row| row.0.cmp(key).is_le())
 }

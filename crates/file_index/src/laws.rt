@@ -8,10 +8,12 @@ use crate::indexer::Place;
 
 /// Rows that are sorted by their keys have the rows of each key as they came.
 pub fn sorting_keeps_the_rows_of_a_key<K: Ord, V>()
-    ensures { (key : K) (rows : List (K × V)) → rows_with K.eq key (by_keys K.cmp rows) ≡ rows_with K.eq key rows }
+    ensures { (key : K) (rows : List (K × V))
+        → rows_with K.eq key (by_keys K.cmp rows) ≡ rows_with K.eq key rows }
 {}
 
 /// Rows whose keys rise are in order.
 pub fn rows_of_rising_keys_are_in_order<K: Ord, V: Place>()
-    ensures { (rows : List (K × V)) → IsStrictlySortedBy K.cmp (keys_of rows) → AreInOrder K.cmp V.place_of rows }
+    ensures { (rows : List (K × V)) → IsStrictlySortedBy K.cmp (keys_of rows)
+        → AreInOrder K.cmp V.place_of rows }
 {}

@@ -54,8 +54,12 @@ impl<K: Eq + Hash> Postings<K> {
     pub(crate) fn add_to(&mut self, key: &K, file: u32) -> Result<bool, AllocError>
         ensures known { IfOk result (λ known. known ≡ is_some (lookup (K.eq key.now) self.old)) }
         ensures absent { IfOk result (λ known. known ≡ false → self.new ≡ self.old) }
-        ensures added { IfOk result (λ known. (k : K) (j : ℕ) → is_placed K.eq self.new k j ≡ (is_placed K.eq self.old k j || (known && K.eq key.now k && j == file))) }
-        ensures unchanged { OnErr result ((k : K) (j : ℕ) → is_placed K.eq self.new k j ≡ is_placed K.eq self.old k j) }
+        ensures added { IfOk result
+            (λ known. (k : K) (j : ℕ)
+            → is_placed K.eq self.new k j
+            ≡ (is_placed K.eq self.old k j || (known && K.eq key.now k && j == file))) }
+        ensures unchanged { OnErr result
+            ((k : K) (j : ℕ) → is_placed K.eq self.new k j ≡ is_placed K.eq self.old k j) }
     {
         match self.files.get_mut(key) {
             Some(ids) => {
@@ -71,7 +75,10 @@ impl<K: Eq + Hash> Postings<K> {
     where
         K: Drop,
         requires { is_some (lookup (K.eq key) self.old) ≡ false }
-        ensures added { OnOk result ((k : K) (j : ℕ) → is_placed K.eq self.new k j ≡ (is_placed K.eq self.old k j || (K.eq key k && j == file))) }
+        ensures added { OnOk result
+            ((k : K) (j : ℕ)
+            → is_placed K.eq self.new k j
+            ≡ (is_placed K.eq self.old k j || (K.eq key k && j == file))) }
         ensures unchanged { OnErr result (self.new ≡ self.old) }
     {
         let ids = Ids::of(*self.files.allocator(), file)?;
@@ -83,7 +90,9 @@ impl<K: Eq + Hash> Postings<K> {
     pub(crate) fn take_out(&mut self, key: &K, file: u32)
     where
         K: Drop,
-        ensures { (k : K) (j : ℕ) → is_placed K.eq self.new k j ≡ (is_placed K.eq self.old k j && not (K.eq key.now k && j == file)) }
+        ensures { (k : K) (j : ℕ)
+            → is_placed K.eq self.new k j
+            ≡ (is_placed K.eq self.old k j && not (K.eq key.now k && j == file)) }
     {
         let Some(ids) = self.files.get_mut(key) else {
             return;
@@ -101,7 +110,9 @@ pub(crate) fn copy_postings<I: Indexer>(
     indexer: &I,
     postings: &Postings<I::Key>,
 ) -> Result<Postings<I::Key>, AllocError>
-    ensures { IfOk result (λ copy. (k : I.Key) (j : ℕ) → is_placed I.Key.eq copy k j ≡ is_placed I.Key.eq postings.now k j) }
+    ensures { IfOk result
+        (λ copy. (k : I.Key) (j : ℕ)
+        → is_placed I.Key.eq copy k j ≡ is_placed I.Key.eq postings.now k j) }
 {
     let mut files = IndexMap::with_capacity(alloc, postings.files.len())?;
     for (key, ids) in &postings.files {

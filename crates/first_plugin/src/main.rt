@@ -4,7 +4,7 @@
 
 mod threads;
 
-use query_engine::Answer;
+use query_engine::Finding;
 use shared_ide::{Reply, SharedIde, Store};
 use std::io;
 use std::thread::join_mut;
@@ -39,7 +39,7 @@ fn print(rt: &impl Print, counts: [u32; 2], settled: bool, reply: &Reply) -> io:
     println!(rt; "edits accepted: {edits}")?;
     println!(rt; "answers in order: {answers}")?;
     println!(rt; "all is indexed: {settled}")?;
-    if let Reply::Found(Answer::Inheritors { rows }) = reply {
+    if let Reply::Found(Finding::Inheritors { rows }) = reply {
         for found in rows.as_slice() {
             let row = &found.row;
             println!(rt;

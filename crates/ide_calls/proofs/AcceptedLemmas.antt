@@ -9,13 +9,18 @@ use Rattle.lock_laws.proofs.AdvanceLemmas.{advances_on}
 use Rattle.write_history.specs.declared.change.Change.{Change}
 use Rattle.write_history.specs.declared.entry.Entry.{Entry}
 use Rattle.write_history.specs.Effect.{max_entries}
-use Rattle.write_history.specs.Fold.{fold, list_refusal, IsLegal}
+use Rattle.write_history.specs.Fold.{fold, list_refusal, ListRefusal, IsLegal}
+use Rattle.write_history.specs.Serial.{SerialStep, step_unless, changes_step}
 use Rattle.ide_calls.specs.Made.{HasFound}
 use Rattle.write_history.specs.Settle.{entry_of}
 use Rattle.ide_calls.specs.Change.{HasAccepted, HasLeft}
+use Rattle.ide_calls.proofs.MadeLemmas.{made_by_step}
 use Rattle.ide_world.specs.Ready.{hinted}
 use Rattle.action_lock.specs.Rule.{entries_of}
 use Rattle.history_laws.proofs.StampLemmas.{entries-fold}
+
+abbrev accepted_at : Entry → ℕ → SerialStep (ℕ × Option ListRefusal)
+accepted_at entry len = record { added = entry ∷ []; answer = (len, None) }
 
 -- the entry went in behind all that was seen, where none of its changes is refused
 pub has_accepted : (v u w : View Entry) (seat line : ℕ) (changes : List Change) (at : ℕ) → v.number ≡ Some seat
@@ -23,27 +28,27 @@ pub has_accepted : (v u w : View Entry) (seat line : ℕ) (changes : List Change
     → w ≡ finished (entry_of seat line changes) u → IsLegal w.seen → Advances u w → HasAccepted v w line changes (at + 1)
 has_accepted v u w seat line changes at own found accepted is_at is legal later =
     let entry = entry_of seat line changes in
-    let seen = ap (λ (x : View Entry). x.seen) is in
-    record {
-      before = u.seen;
-      seat = seat;
-      own = own;
-      accepted = accepted;
-      made = record {
-        advances = advances_on v u w found.advances later;
-        known = found.known;
-        seen = seen;
-        mine = ap (λ (x : View Entry). x.mine) is ∙ ap (λ m. m ++ entry ∷ []) (found.mine ∙ append-nil v.mine);
-        legal = legal;
-        read = record {
-          earlier = found.read.earlier;
-          later = found.read.later;
-          gained = found.read.gained;
-          reads = ap (λ (x : View Entry). x.reads) is ∙ found.read.reads;
-        };
+    made_by_step (λ start own_seat. changes_step start own_seat line changes) (at + 1, None) v w u.seen (entry ∷ []) seat own
+    (record {
+      advances = advances_on v u w found.advances later;
+      known = found.known;
+      seen = ap (λ (x : View Entry). x.seen) is;
+      mine = ap (λ (x : View Entry). x.mine) is ∙ ap (λ m. m ++ entry ∷ []) (found.mine ∙ append-nil v.mine);
+      legal = legal;
+      read = record {
+        earlier = found.read.earlier;
+        later = found.read.later;
+        gained = found.read.gained;
+        reads = ap (λ (x : View Entry). x.reads) is ∙ found.read.reads;
       };
-      is_at = ap (λ n. n + 1) (is_at ∙ entries-fold u.seen) ∙ sym (length-append u.seen (entry ∷ [])) ∙ sym (ap length seen);
-    }
+    })
+    (ap (λ (r : Option ListRefusal). step_unless r u.seen entry) accepted ∙ ap (λ (n : ℕ). accepted_at entry (n + 1)) (sym (is_at ∙ entries-fold u.seen)))
+
+-- the pass has made one entry more
+pub one_made : (v u w : View Entry) (entry : Entry) → HasFound v u → w ≡ finished entry u → length w.mine ≡ length v.mine + 1
+one_made v u w entry found is =
+    ap (λ (x : View Entry). length x.mine) is ∙ length-append u.mine (entry ∷ [])
+    ∙ ap (λ (l : List Entry). length l + 1) (found.mine ∙ append-nil v.mine)
 
 -- the file that is to be indexed after an entry that went in behind all that was seen
 pub has_left : (u w : View Entry) (seat line : ℕ) (changes : List Change) (unready : Option ℕ) → w ≡ finished (entry_of seat line changes) u

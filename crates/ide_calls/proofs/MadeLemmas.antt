@@ -1,5 +1,5 @@
 -- What was made in a part of a call is what the call made.
-use Rattle.std.proofs.Common.{◌≡◌, ℕ, List, [], ◌∷◌, ◌++◌, sym, ap, ◌∙◌, subst}
+use Rattle.std.proofs.Common.{◌≡◌, ℕ, List, [], ◌∷◌, ◌++◌, Option, Some, sym, ap, ◌∙◌, subst}
 use Rattle.std.proofs.lemmas.List.{append-nil}
 use Rattle.list_laws.specs.Fronts.{IsFront}
 use Rattle.list_laws.proofs.FrontLemmas.{front_self, front_trans}
@@ -9,8 +9,29 @@ use Rattle.action_lock.specs.Steps.{finished, released}
 use Rattle.action_lock.specs.Writings.{HasIntended}
 use Rattle.write_history.specs.declared.entry.Entry.{Entry}
 use Rattle.write_history.specs.Fold.{IsLegal}
-use Rattle.ide_calls.specs.Made.{HasMade, HasFound}
+use Rattle.write_history.specs.Serial.{SerialStep}
+use Rattle.ide_calls.specs.Made.{HasMade, HasFound, IsAnsweredByRead}
 use Rattle.ide_calls.specs.Reads.{HasOnlyLearned, HasReadOnce}
+
+-- a view has one number
+pub same_seat : (a b : ℕ) (number : Option ℕ) → number ≡ Some a → number ≡ Some b → a ≡ b
+same_seat a b number p q = cc
+
+-- what was made behind what a read found is what a step adds there
+unfoldable pub made_by_step : {A : Type 0} (step : List Entry → ℕ → SerialStep A) (answer : A) (v w : View Entry) (start own : List Entry) (seat : ℕ) → v.number ≡ Some seat
+    → HasMade v w start own → step start seat ≡ record { added = own; answer = answer } → IsAnsweredByRead step v w answer
+made_by_step step answer v w start own seat number made is = record {
+  answered = record {
+    start = start;
+    own = own;
+    known = made.known;
+    seen = made.seen;
+    mine = made.mine;
+    is = λ other named. ap (step start) (same_seat other seat v.number named number) ∙ is;
+  };
+  read = made.read;
+  legal = made.legal;
+}
 
 -- a read alone makes nothing
 pub found_by_read : (v w : View Entry) → HasReadOnce v w → HasFound v w
@@ -94,4 +115,24 @@ module _ (v inner inner' w : View Entry) (intended : HasIntended v inner) (after
       gained = subst (λ (l : List ℕ). IsFront l made.read.earlier) same_reads made.read.gained;
       reads = ap (λ (x : View Entry). x.reads) after ∙ made.read.reads;
     };
+  }
+
+  -- what was answered under it
+  pub answered_within : {A : Type 0} (step : List Entry → ℕ → SerialStep A) (answer : A) → IsAnsweredByRead step inner inner' answer → IsAnsweredByRead step v w answer
+  answered_within step answer h = record {
+    answered = record {
+      start = h.answered.start;
+      own = h.answered.own;
+      known = front_within h.answered.start h.answered.known;
+      seen = seen_within (h.answered.start ++ h.answered.own) h.answered.seen;
+      mine = mine_within h.answered.own h.answered.mine;
+      is = λ seat number. h.answered.is seat (ap (λ (x : View Entry). x.number) intended.same ∙ number);
+    };
+    read = record {
+      earlier = h.read.earlier;
+      later = h.read.later;
+      gained = subst (λ (l : List ℕ). IsFront l h.read.earlier) same_reads h.read.gained;
+      reads = ap (λ (x : View Entry). x.reads) after ∙ h.read.reads;
+    };
+    legal = subst IsLegal (sym (ap (λ (x : View Entry). x.seen) after)) h.legal;
   }

@@ -13,7 +13,7 @@ use Rattle.write_history.specs.World.{World}
 use Rattle.write_history.specs.Fold.{fold, IsLegal}
 use Rattle.history_laws.proofs.StampLemmas.{entries-fold}
 use Rattle.ide_world.specs.Task.{Task, task_with_id, IsOfWorld}
-use Rattle.ide_calls.specs.declared.first_look.Look.{Look}
+use Rattle.ide_calls.specs.declared.first_look.FirstLook.{FirstLook}
 use Rattle.ide_calls.specs.Choice.{IsChoice}
 use Rattle.ide_calls.specs.Reads.{HasReadOnce}
 use Rattle.ide_calls.specs.Intake.{IsLook, HasLooked}
@@ -42,7 +42,7 @@ read_once number_of v u w waited left advances legal =
     }
 
 -- what a look found in the world of the history that was read
-pub looked_by : (seat : ℕ) (hint : Option ℕ) (v w : View Entry) (seen : List Entry) (world : World) (look : Result Look AllocError) → HasReadOnce v w
+pub looked_by : (seat : ℕ) (hint : Option ℕ) (v w : View Entry) (seen : List Entry) (world : World) (look : Result FirstLook AllocError) → HasReadOnce v w
     → w.seen ≡ seen → world ≡ fold seen → IfOk look (IsLook world seat hint) → IfOk look (HasLooked seat hint v w)
 looked_by seat hint v w seen world look read same is = IfOk-weaker look (IsLook world seat hint) (HasLooked seat hint v w) (λ found so.
     let of_history : world ≡ fold w.seen = is ∙ ap fold (sym same) in

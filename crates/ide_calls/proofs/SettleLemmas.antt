@@ -1,5 +1,5 @@
 -- A settle under an intent of its own.
-use Rattle.std.proofs.Common.{◌≡◌, ℕ, List, length, refl, sym, ap, ◌∙◌, subst, Some, None, Option, Result, IfOk, IfErr}
+use Rattle.std.proofs.Common.{◌≡◌, ℕ, List, ◌++◌, length, refl, sym, ap, ◌∙◌, subst, Some, None, Option, Result, IfOk, IfErr}
 use Rattle.std.specs.Prelude.{IsSome}
 use Rattle.std.proofs.lemmas.Result.{IfOk-weaker, IfErr-weaker}
 use Rattle.action_lock.specs.declared.view.View.{View}
@@ -12,39 +12,42 @@ use Rattle.write_history.specs.declared.refusal.Refusal.TheVariants as why
 use Rattle.write_history.specs.World.{lowest_unready}
 use Rattle.write_history.specs.Fold.{fold}
 use Rattle.write_history.specs.Settle.{settled}
+use Rattle.write_history.specs.Serial.{SerialStep, settle_step}
+use Rattle.ide_calls.specs.Made.{IsAnsweredByRead}
 use Rattle.ide_calls.specs.declared.settle_refusal.SettleRefusal.{SettleRefusal}
 use Rattle.ide_calls.specs.declared.settle_refusal.SettleRefusal.TheVariants.{HistoryFull, OutOfMemory}
-use Rattle.ide_calls.specs.Settling.{HasSettled, IsSettled, HasStopped}
+use Rattle.ide_calls.specs.Settling.{IsSettled, HasStopped}
 use Rattle.ide_calls.specs.Turn.{HasGoneOn, GoesThrough, Stops}
-use Rattle.ide_calls.proofs.MadeLemmas.{made_within, seen_within, mine_within, front_within}
+use Rattle.ide_calls.proofs.MadeLemmas.{made_by_step, made_within, seen_within, mine_within, front_within}
+
+abbrev settled_at : List Entry → ℕ → Option Refusal → SerialStep (ℕ × Option Refusal)
+settled_at own len refused = record { added = own; answer = (len, refused) }
 
 module _ (seat line : ℕ) (v inner inner' w : View Entry) (number : v.number ≡ Some seat)
     (intended : HasIntended v inner) (after : w ≡ released inner') where
   same_end : w.seen ≡ inner'.seen
   same_end = ap (λ (x : View Entry). x.seen) after
 
-  settled_within : (refused : Option Refusal) → Advances v w → HasGoneOn seat line inner inner' refused → HasSettled line v w refused
-  settled_within refused advances gone = record {
-    seat = seat;
-    number = number;
-    before = gone.before;
-    made = made_within v inner inner' w intended after gone.before (settled gone.before seat line).added advances gone.made;
-    ends = gone.ends;
-  }
+  -- a settle that ended so, with a history of this length
+  settled_within : (refused : Option Refusal) (len : ℕ) → Advances v w → HasGoneOn seat line inner inner' refused → len ≡ length inner'.seen
+      → IsAnsweredByRead (λ start seat. settle_step start seat line) v w (len, refused)
+  settled_within refused len advances gone whole =
+      let own : List Entry = (settled gone.before seat line).added in
+      made_by_step (λ start own_seat. settle_step start own_seat line) (len, refused) v w gone.before own seat number
+      (made_within v inner inner' w intended after gone.before own advances gone.made)
+      (ap (settled_at own (length (gone.before ++ own))) gone.ends ∙ ap (λ (n : ℕ). settled_at own n refused) (sym (whole ∙ ap length gone.made.seen)))
 
-  -- a settle that went through
+  -- one that went through
   through_within : Advances v w → (len : ℕ) → GoesThrough seat line inner inner' len → IsSettled line v w len
   through_within advances len gone = record {
-    done = settled_within None advances gone.done;
-    whole = gone.whole ∙ ap length (sym same_end);
+    answered = settled_within None len advances gone.done gone.whole;
     smart = ap (λ (l : List Entry). lowest_unready (fold l)) same_end ∙ gone.smart;
   }
 
   -- one that didn't
   stopped_within : Advances v w → (refusal : SettleRefusal) → Stops seat line inner inner' refusal → HasStopped line v w refusal
   stopped_within advances (HistoryFull len) gone = record {
-    done = settled_within (Some why.HistoryFull) advances gone.done;
-    whole = gone.whole ∙ ap length (sym same_end);
+    answered = settled_within (Some why.HistoryFull) len advances gone.done gone.whole;
     full = gone.full.full;
     unready = subst IsSome (sym (ap (λ (l : List Entry). lowest_unready (fold l)) same_end ∙ gone.full.unready)) refl;
   }

@@ -22,10 +22,10 @@ use Rattle.write_history.specs.Fold.{fold, IsLegal}
 use Rattle.ide_world.specs.declared.data.Job.{Job}
 use Rattle.ide_world.specs.Task.{Task, task_of, work_of}
 use Rattle.write_history.specs.Settle.{entry_of}
-use Rattle.ide_calls.specs.declared.step.Step.{Step as Answer}
-use Rattle.ide_calls.specs.declared.step.Step.TheVariants.{Idle, Gone, Stale, Refused, Taken}
+use Rattle.ide_calls.specs.declared.step.Stepped.{Stepped}
+use Rattle.ide_calls.specs.declared.step.Stepped.TheVariants.{Idle, Gone, Stale, Refused, Taken}
 use Rattle.ide_calls.specs.declared.judge.Judged.TheVariants.{Prepared}
-use Rattle.ide_calls.specs.declared.first_look.Look.{Look}
+use Rattle.ide_calls.specs.declared.first_look.FirstLook.{FirstLook}
 use Rattle.ide_calls.specs.Choice.{file_to_index, IsWork, IsChoice, task_of_job}
 use Rattle.ide_calls.specs.Step.{IsIdle, IsAnswer, HasTried, HasStepped}
 use Rattle.ide_calls.specs.Reads.{HasReadOnce}
@@ -33,7 +33,7 @@ use Rattle.ide_calls.specs.Intake.{HasLooked, HasJudged, HasAnswered, IsAnswered
 use Rattle.ide_calls.proofs.MadeLemmas.{found_by_read, made_behind_read, made_later, made_within, reads_within}
 
 -- where the first read found no unready file
-pub idle : (seat : ℕ) (hint : Option ℕ) (v w : View Entry) (look : Look) → HasLooked seat hint v w look → look.job ≡ None → IsIdle v w look.at
+pub idle : (seat : ℕ) (hint : Option ℕ) (v w : View Entry) (look : FirstLook) → HasLooked seat hint v w look → look.job ≡ None → IsIdle v w look.at
 idle seat hint v w look looked none = record {
   found = found_by_read v w looked.read;
   whole = looked.whole;
@@ -42,7 +42,7 @@ idle seat hint v w look looked none = record {
 }
 
 -- an answer that makes nothing is of what its one read found
-pub answered_by_read : (seat file stamp : ℕ) (v w : View Entry) (step : Answer) → HasReadOnce v w → IsAnswer seat file stamp w.seen [] step
+pub answered_by_read : (seat file stamp : ℕ) (v w : View Entry) (step : Stepped) → HasReadOnce v w → IsAnswer seat file stamp w.seen [] step
     → HasAnswered seat file stamp v w step
 answered_by_read seat file stamp v w step read is = record { last = w.seen; own = []; reads = read.reads; made = found_by_read v w read; answer = is }
 
@@ -59,7 +59,7 @@ taken_in seat file stamp len steps changes v u w judged intake advances after le
 }
 
 -- an answer given under an intent is that of the call
-pub answered_within : (seat file stamp : ℕ) (v inner inner' w : View Entry) (answer : Result Answer AllocError) → v.number ≡ Some seat
+pub answered_within : (seat file stamp : ℕ) (v inner inner' w : View Entry) (answer : Result Stepped AllocError) → v.number ≡ Some seat
     → HasIntended v inner → w ≡ released inner' → Advances v w
     → IfOk answer (HasAnswered seat file stamp inner inner') → IfOk answer (IsAnsweredBy file stamp v w)
 answered_within seat file stamp v inner inner' w answer number intended after advances =
@@ -93,7 +93,7 @@ has_task (Some file) id task found =
     found
 
 -- the first read, and what was answered of the file that was taken up
-tried : (seat : ℕ) (hint : Option ℕ) (task : Task) (v u w : View Entry) (step : Answer) → v.number ≡ Some seat → HasReadOnce v u
+tried : (seat : ℕ) (hint : Option ℕ) (task : Task) (v u w : View Entry) (step : Stepped) → v.number ≡ Some seat → HasReadOnce v u
     → IsWork (fold u.seen) seat hint task → Advances v w → IsAnsweredBy task.file task.stamp u w step → HasTried hint v w step
 tried seat hint task v u w step number read work advances by =
     let given = by.answered in
@@ -120,7 +120,7 @@ tried seat hint task v u w step number read work advances by =
       answer = given.answer;
     }
 
-stepped_by : (hint : Option ℕ) (v w : View Entry) (step : Answer) → HasTried hint v w step → HasStepped hint v w step
+stepped_by : (hint : Option ℕ) (v w : View Entry) (step : Stepped) → HasTried hint v w step → HasStepped hint v w step
 stepped_by hint v w (Idle len) by = absurd by.answer
 stepped_by hint v w (Gone id) by = by
 stepped_by hint v w (Stale id made present) by = by
@@ -133,7 +133,7 @@ chosen_work : (world : World) (seat : ℕ) (hint : Option ℕ) (choice : Option 
 chosen_work world seat hint choice job is chosen = subst (IsChoice world seat hint) is chosen
 
 -- a step that took a file up
-pub stepped : (seat : ℕ) (hint : Option ℕ) (look : Look) (job : Job) (file stamp : ℕ) (v u w : View Entry) (answer : Result Answer AllocError)
+pub stepped : (seat : ℕ) (hint : Option ℕ) (look : FirstLook) (job : Job) (file stamp : ℕ) (v u w : View Entry) (answer : Result Stepped AllocError)
     → v.number ≡ Some seat → HasLooked seat hint v u look → look.job ≡ Some job → Advances v w → file ≡ job.file → stamp ≡ job.stamp
     → IfOk answer (IsAnsweredBy file stamp u w) → IfOk answer (HasStepped hint v w)
 stepped seat hint look job file stamp v u w answer number looked is advances same_file same_stamp =

@@ -10,22 +10,22 @@ use Rattle.ide_world.specs.declared.data.Made.{Made}
 use Rattle.ide_world.specs.Task.{Task}
 use Rattle.ide_world.specs.Ready.{IsReadyFor, Makes}
 use Rattle.ide_calls.specs.Made.{HasMade}
-use Rattle.ide_calls.specs.declared.step.Step.{Step as Answer}
+use Rattle.ide_calls.specs.declared.step.Stepped.{Stepped}
 use Rattle.ide_world.specs.declared.step.Step.{Step}
 use Rattle.ide_calls.specs.declared.judge.Judged.{Judged}
 use Rattle.ide_calls.specs.declared.judge.Judged.TheVariants.{Gone, Stale, Full, Prepared}
-use Rattle.ide_calls.specs.declared.first_look.Look.{Look}
+use Rattle.ide_calls.specs.declared.first_look.FirstLook.{FirstLook}
 use Rattle.ide_calls.specs.Choice.{IsChoice}
 use Rattle.ide_calls.specs.Step.{IsLiveAt, IsAnswer}
 use Rattle.ide_calls.specs.Reads.{HasReadOnce}
 
 -- how many entries led to a world, and the job of the file that is to be indexed in it
-pub record IsLook (world : World) (seat : ℕ) (hint : Option ℕ) (look : Look) : Type 0 where
+pub record IsLook (world : World) (seat : ℕ) (hint : Option ℕ) (look : FirstLook) : Type 0 where
   pub whole : look.at ≡ world.entries
   pub choice : IsChoice world seat hint look.job
 
 -- the first read of a step of the pass with this number
-pub record HasLooked (seat : ℕ) (hint : Option ℕ) (v w : View Entry) (look : Look) : Type 0 where
+pub record HasLooked (seat : ℕ) (hint : Option ℕ) (v w : View Entry) (look : FirstLook) : Type 0 where
   pub read : HasReadOnce v w
   pub whole : look.at ≡ length w.seen
   pub choice : IsChoice (fold w.seen) seat hint look.job
@@ -55,7 +55,7 @@ pub record HasJudged (file stamp : ℕ) (v w : View Entry) (judged : Judged) : T
   pub judged_so : IsJudged (fold w.seen) file stamp judged
 
 -- one read found the history `last`, the entries `own` were made behind it, and this is the answer
-pub record HasAnswered (seat file stamp : ℕ) (v w : View Entry) (step : Answer) : Type 0 where
+pub record HasAnswered (seat file stamp : ℕ) (v w : View Entry) (step : Stepped) : Type 0 where
   pub last : List Entry
   pub own : List Entry
   pub reads : w.reads ≡ v.reads ++ length last ∷ []
@@ -63,7 +63,7 @@ pub record HasAnswered (seat file stamp : ℕ) (v w : View Entry) (step : Answer
   pub answer : IsAnswer seat file stamp last own step
 
 -- the same of a pass with whatever number it has
-pub record IsAnsweredBy (file stamp : ℕ) (v w : View Entry) (step : Answer) : Type 0 where
+pub record IsAnsweredBy (file stamp : ℕ) (v w : View Entry) (step : Stepped) : Type 0 where
   pub seat : ℕ
   pub number : v.number ≡ Some seat
   pub answered : HasAnswered seat file stamp v w step

@@ -1,6 +1,7 @@
 -- Changes that are ready to go in, or refused.
 use Rattle.std.specs.Prelude.{◌≡◌, List, true, false, Some}
 use Rattle.action_lock.specs.declared.view.View.{View}
+use Rattle.nonblocking_read.specs.Soft.{HasOnlyRead}
 use Rattle.write_history.specs.declared.change.Change.{Change}
 use Rattle.write_history.specs.declared.entry.Entry.{Entry}
 use Rattle.write_history.specs.World.{World}
@@ -29,3 +30,8 @@ pub record HasPlanned (v w : View Entry) (changes : List Change) (planned : Plan
   pub found : HasFound v w
   pub current : w.current ≡ true
   pub is : IsPlanned (fold w.seen) changes planned
+
+-- the changes are refused by what the pass has read under its intent; of running out of memory, that nothing was made
+abbrev pub IsUnplanned : View Entry → View Entry → List Change → GroupChangeRefusal → Type 0
+IsUnplanned v w changes (Refused at place why) = HasFound v w × IsRefusedIn (fold w.seen) changes (Refused at place why)
+IsUnplanned v w changes OutOfMemory = HasOnlyRead v w

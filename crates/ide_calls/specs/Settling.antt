@@ -1,36 +1,26 @@
 -- What a settle does.
-use Rattle.std.specs.Prelude.{ℕ, ◌≡◌, List, ◌++◌, length, Option, Some, None, IsSome}
+use Rattle.std.specs.Prelude.{ℕ, ◌≡◌, List, ◌++◌, Some, None, IsSome}
 use Rattle.list_laws.specs.Fronts.{IsFront}
 use Rattle.action_lock.specs.declared.view.View.{View}
 use Rattle.write_history.specs.declared.entry.Entry.{Entry}
-use Rattle.write_history.specs.declared.refusal.Refusal.{Refusal}
 use Rattle.write_history.specs.declared.refusal.Refusal.TheVariants as why
 use Rattle.write_history.specs.World.{lowest_unready}
 use Rattle.write_history.specs.Effect.{max_entries}
 use Rattle.write_history.specs.Fold.{fold}
-use Rattle.ide_calls.specs.Made.{HasMade}
 use Rattle.write_history.specs.Settle.{settled}
+use Rattle.write_history.specs.Serial.{settle_step}
+use Rattle.ide_calls.specs.Made.{IsAnsweredByRead}
 use Rattle.ide_calls.specs.declared.settle_refusal.SettleRefusal.{SettleRefusal}
 use Rattle.ide_calls.specs.declared.settle_refusal.SettleRefusal.TheVariants.{HistoryFull, OutOfMemory}
 
--- the call made what a settle adds to the history that its first read found, and that ends so
-pub record HasSettled (line : ℕ) (v w : View Entry) (refused : Option Refusal) : Type 0 where
-  pub seat : ℕ
-  pub number : v.number ≡ Some seat
-  pub before : List Entry
-  pub made : HasMade v w before (settled before seat line).added
-  pub ends : (settled before seat line).refused ≡ refused
-
 -- it went through, and no file is unready after a history of this length
 pub record IsSettled (line : ℕ) (v w : View Entry) (len : ℕ) : Type 0 where
-  pub done : HasSettled line v w None
-  pub whole : len ≡ length w.seen
+  pub answered : IsAnsweredByRead (λ start seat. settle_step start seat line) v w (len, None)
   pub smart : lowest_unready (fold w.seen) ≡ None
 
 -- it filled the history, and a file is unready after it
 pub record IsFilledUp (line : ℕ) (v w : View Entry) (len : ℕ) : Type 0 where
-  pub done : HasSettled line v w (Some why.HistoryFull)
-  pub whole : len ≡ length w.seen
+  pub answered : IsAnsweredByRead (λ start seat. settle_step start seat line) v w (len, Some why.HistoryFull)
   pub full : len ≡ max_entries
   pub unready : IsSome (lowest_unready (fold w.seen))
 

@@ -9,8 +9,8 @@ use Rattle.write_history.specs.Effect.{stamp_of, max_entries}
 use Rattle.write_history.specs.Fold.{fold}
 use Rattle.ide_calls.specs.Made.{HasMade, HasFound}
 use Rattle.write_history.specs.Settle.{entry_of}
-use Rattle.ide_calls.specs.declared.step.Step.{Step}
-use Rattle.ide_calls.specs.declared.step.Step.TheVariants.{Idle, Gone, Stale, Refused, Taken}
+use Rattle.ide_calls.specs.declared.step.Stepped.{Stepped}
+use Rattle.ide_calls.specs.declared.step.Stepped.TheVariants.{Idle, Gone, Stale, Refused, Taken}
 use Rattle.ide_calls.specs.Choice.{file_to_index}
 
 -- the one read of the call found a history of this length, after which no file is unready
@@ -28,7 +28,7 @@ pub record IsLiveAt (world : World) (id stamp : ℕ) : Type 0 where
 
 -- What is answered of a file whose data were made at a stamp, where the last read of the call found the history `last` and the
 -- pass with the number `seat` then made the entries `own`
-abbrev pub IsAnswer : (seat file stamp : ℕ) → (last own : List Entry) → Step → Type 0
+abbrev pub IsAnswer : (seat file stamp : ℕ) → (last own : List Entry) → Stepped → Type 0
 IsAnswer seat file stamp last own (Idle len) = ⊥
 IsAnswer seat file stamp last own (Gone id) = (id ≡ file) × (own ≡ []) × (file_of (fold last) file ≡ None)
 IsAnswer seat file stamp last own (Stale id made present) =
@@ -39,7 +39,7 @@ IsAnswer seat file stamp last own (Taken place) =
 
 -- The call read twice. At the first read the file was the one to index, unready and at this stamp; the answer is of that file
 -- at the second
-pub record HasTried (hint : Option ℕ) (v w : View Entry) (step : Step) : Type 0 where
+pub record HasTried (hint : Option ℕ) (v w : View Entry) (step : Stepped) : Type 0 where
   pub seat : ℕ
   pub number : v.number ≡ Some seat
   pub file : ℕ
@@ -57,7 +57,7 @@ pub record HasTried (hint : Option ℕ) (v w : View Entry) (step : Step) : Type 
   pub answer : IsAnswer seat file stamp last own step
 
 -- what a step leaves of the view, by its answer
-abbrev pub HasStepped : Option ℕ → View Entry → View Entry → Step → Type 0
+abbrev pub HasStepped : Option ℕ → View Entry → View Entry → Stepped → Type 0
 HasStepped hint v w (Idle len) = IsIdle v w len
 HasStepped hint v w (Gone id) = HasTried hint v w (Gone id)
 HasStepped hint v w (Stale id made present) = HasTried hint v w (Stale id made present)

@@ -18,8 +18,8 @@ use Rattle.ide_calls.specs.Made.{HasMade}
 use Rattle.write_history.specs.Settle.{settled, intake_of, intake_entry}
 use Rattle.ide_calls.specs.declared.lowest.Lowest.{Lowest}
 use Rattle.ide_calls.specs.declared.lowest.Lowest.TheVariants as lowest
-use Rattle.ide_calls.specs.declared.settling.Turn.{Turn}
-use Rattle.ide_calls.specs.declared.settling.Turn.TheVariants.{Smart, Full, Taken}
+use Rattle.ide_calls.specs.declared.settling.SettleTurn.{SettleTurn}
+use Rattle.ide_calls.specs.declared.settling.SettleTurn.TheVariants.{Smart, Full, Taken}
 use Rattle.ide_calls.specs.declared.settle_refusal.SettleRefusal.{SettleRefusal}
 use Rattle.ide_calls.specs.declared.settle_refusal.SettleRefusal.TheVariants.{HistoryFull, OutOfMemory}
 use Rattle.write_history.specs.declared.refusal.Refusal.TheVariants as why
@@ -82,7 +82,7 @@ pub record HasTaken (seat line : ℕ) (v w : View Entry) : Type 0 where
   pub current : w.current ≡ true
 
 -- what a turn leaves of the view
-abbrev pub HasTurned : ℕ → ℕ → View Entry → View Entry → Turn → Type 0
+abbrev pub HasTurned : ℕ → ℕ → View Entry → View Entry → SettleTurn → Type 0
 HasTurned seat line v w (Smart len) = IsSmart v w len
 HasTurned seat line v w (Full len) = IsEnd v w len
 HasTurned seat line v w Taken = HasTaken seat line v w

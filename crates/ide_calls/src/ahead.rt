@@ -121,7 +121,8 @@ impl Ahead {
 
 /// Waits for the first of the threads. Where it found no memory its data are lost, and are made in their turn.
 fn join_first<R: Threads>(rt: &R, makings: &mut VecDeque<Making>) -> Option<VecDeque<Made>>
-    ensures { HasJoined makings.old.items makings.new.items (option_map_or (λ made. map task_of_made made.items) result []) }
+    ensures { HasJoined makings.old.items makings.new.items
+        (option_map_or (λ made. map task_of_made made.items) result []) }
 {
     makings.pop_front()?.join(rt)
 }

@@ -28,7 +28,8 @@ pub(crate) fn reply_by<W: Watch>(
     ensures stays { W.stays watch.old watch.new }
     ensures ok { IfOk result (IsRepliedIn state.now.world query.now) }
     ensures looked { OnOk result (counted (W.looks watch.old) ≤ W.looks watch.new) }
-    ensures stopped { IfErr result (λ why. why ≡ Stopped.Seen → HasRisen (W.sightings watch.old) (W.sightings watch.new)) }
+    ensures stopped { IfErr result
+        (λ why. why ≡ Stopped.Seen → HasRisen (W.sightings watch.old) (W.sightings watch.new)) }
 {
     unready_files_have_an_order();
     let reply = match query_engine::ask(alloc, state, query, watch) {

@@ -1,7 +1,7 @@
 //! Questions that wait until they are let in, and are then answered.
 ghost use Rattle.std.specs.Prelude.{◌≡◌, IfOk};
-ghost use Rattle.action_lock.specs.Advances.{Advances};
-ghost use Rattle.action_lock.specs.Passes.{view_of, IsSamePass, IsPassOf};
+ghost use Rattle.action_lock.specs.Passes.{view_of, IsPassOf};
+ghost use Rattle.ide_calls.specs.Made.{Continues};
 ghost use Rattle.ide_calls.specs.Replied.{IsRepliedIn, HasReplied};
 
 use crate::IdeHome;
@@ -26,8 +26,7 @@ pub fn ask<R: Wait, G: Gate>(
     gate: &G,
 ) -> Result<Replied, AllocError>
     requires { IsPassOf lock.now pass.old }
-    ensures pass { IsPassOf lock.now pass.new × IsSamePass pass.old pass.new }
-    ensures advances { Advances (view_of pass.old) (view_of pass.new) }
+    ensures pass { Continues lock.now pass.old pass.new }
     ensures mine { (view_of pass.new).mine ≡ (view_of pass.old).mine }
     ensures ok { IfOk result (HasReplied (view_of pass.old) (view_of pass.new) query.now) }
 {

@@ -1,10 +1,11 @@
 //! Changes go in: under an intent of their own they are made ready on what a read finds, and written behind it.
-ghost use Rattle.std.specs.Prelude.{◌≡◌, ◌≤◌, ◌∷◌, [], true, length, Some, IfOk, IfErr, OnOk, OnErr};
+ghost use Rattle.std.specs.Prelude.{◌≡◌, ◌+◌, ◌≤◌, ◌∷◌, [], true, length, Some, IfOk, IfErr, OnOk, OnErr};
 ghost use Rattle.std.specs.List.{list_all};
 ghost use Rattle.action_lock.specs.Advances.{Advances};
 ghost use Rattle.action_lock.specs.Passes.{view_of, IsSamePass, IsPassOf, Intends};
 ghost use Rattle.write_history.specs.Effect.{max_entries};
 ghost use Rattle.write_history.specs.Changes.{is_edit};
+ghost use Rattle.ide_calls.specs.Made.{Continues};
 ghost use Rattle.ide_calls.specs.Change.{HasAccepted, HasLeft, IsChangeRefused, IsGroupRefused};
 
 use crate::accepted::Accepted;
@@ -28,13 +29,15 @@ pub fn change<R: Wait>(
 ) -> Result<Accepted, ChangeRefusal>
     requires pass { IsPassOf lock.now pass.old }
     requires edit { is_edit change ≡ true }
-    ensures pass { IsPassOf lock.now pass.new × IsSamePass pass.old pass.new }
-    ensures advances { Advances (view_of pass.old) (view_of pass.new) }
+    ensures pass { Continues lock.now pass.old pass.new }
     ensures mine { OnErr result ((view_of pass.new).mine ≡ (view_of pass.old).mine) }
-    ensures accepted { IfOk result (λ done. HasAccepted (view_of pass.old) (view_of pass.new) line (change ∷ []) done.at) }
+    ensures accepted { IfOk result
+        (λ done. HasAccepted (view_of pass.old) (view_of pass.new) line (change ∷ []) done.at) }
+    ensures one { OnOk result (length (view_of pass.new).mine ≡ length (view_of pass.old).mine + 1) }
     ensures few { OnOk result (length (view_of pass.new).mine ≤ max_entries) }
     ensures unready { IfOk result (λ done. HasLeft (view_of pass.new) (change ∷ []) done.unready) }
-    ensures refused { IfErr result (IsChangeRefused (view_of pass.old) (view_of pass.new) change) }
+    ensures refused { IfErr result
+        (IsChangeRefused (view_of pass.old) (view_of pass.new) line change) }
 {
     match change_group(rt, alloc, lock, pass, line, Changes::one(change)) {
         Ok(accepted) => Ok(accepted),
@@ -57,13 +60,15 @@ pub fn change_group<R: Wait>(
 ) -> Result<Accepted, GroupChangeRefusal>
     requires pass { IsPassOf lock.now pass.old }
     requires edits { list_all is_edit changes ≡ true }
-    ensures pass { IsPassOf lock.now pass.new × IsSamePass pass.old pass.new }
-    ensures advances { Advances (view_of pass.old) (view_of pass.new) }
+    ensures pass { Continues lock.now pass.old pass.new }
     ensures mine { OnErr result ((view_of pass.new).mine ≡ (view_of pass.old).mine) }
-    ensures accepted { IfOk result (λ done. HasAccepted (view_of pass.old) (view_of pass.new) line changes done.at) }
+    ensures accepted { IfOk result
+        (λ done. HasAccepted (view_of pass.old) (view_of pass.new) line changes done.at) }
+    ensures one { OnOk result (length (view_of pass.new).mine ≡ length (view_of pass.old).mine + 1) }
     ensures few { OnOk result (length (view_of pass.new).mine ≤ max_entries) }
     ensures unready { IfOk result (λ done. HasLeft (view_of pass.new) changes done.unready) }
-    ensures refused { IfErr result (IsGroupRefused (view_of pass.old) (view_of pass.new) changes) }
+    ensures refused { IfErr result
+        (IsGroupRefused (view_of pass.old) (view_of pass.new) line changes) }
 {
     let seat = pass.number();
     let entry = Entry {
@@ -72,13 +77,13 @@ pub fn change_group<R: Wait>(
         changes,
     };
     pass.intent(rt, lock);
-    let outcome = put_in(rt, alloc, lock, pass, entry);
+    let outcome = change_with_intent(rt, alloc, lock, pass, entry);
     pass.release(lock);
     outcome
 }
 
 /// Puts an entry in under an intent, where none of its changes is refused.
-fn put_in<R: Wait>(
+fn change_with_intent<R: Wait>(
     rt: &R,
     alloc: Global,
     lock: &ActionLock<IdeHome>,
@@ -91,10 +96,14 @@ fn put_in<R: Wait>(
     ensures pass { Intends lock.now pass.new × IsSamePass pass.old pass.new }
     ensures advances { Advances (view_of pass.old) (view_of pass.new) }
     ensures mine { OnErr result ((view_of pass.new).mine ≡ (view_of pass.old).mine) }
-    ensures accepted { IfOk result (λ done. HasAccepted (view_of pass.old) (view_of pass.new) entry.line entry.changes done.at) }
+    ensures accepted { IfOk result
+        (λ done. HasAccepted (view_of pass.old)
+        (view_of pass.new) entry.line entry.changes done.at) }
+    ensures one { OnOk result (length (view_of pass.new).mine ≡ length (view_of pass.old).mine + 1) }
     ensures few { OnOk result (length (view_of pass.new).mine ≤ max_entries) }
     ensures unready { IfOk result (λ done. HasLeft (view_of pass.new) entry.changes done.unready) }
-    ensures refused { IfErr result (IsGroupRefused (view_of pass.old) (view_of pass.new) entry.changes) }
+    ensures refused { IfErr result
+        (IsGroupRefused (view_of pass.old) (view_of pass.new) entry.line entry.changes) }
 {
     let planned = plan(rt, alloc, lock, pass, &entry.changes)?;
     match write_entry(rt, lock, pass, planned.ready, entry) {

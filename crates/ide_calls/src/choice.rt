@@ -25,7 +25,8 @@ pub(crate) fn find_work(
 
 /// The job of a file, where one is named and it is unready.
 fn job_of(state: &State, id: Option<u32>) -> Result<Option<Job>, AllocError>
-    ensures { IfOk result (λ job. option_map task_of_job job ≡ option_and_then (task_with_id state.now.world) id) }
+    ensures { IfOk result
+        (λ job. option_map task_of_job job ≡ option_and_then (task_with_id state.now.world) id) }
 {
     match id {
         Some(id) => job(state, id),

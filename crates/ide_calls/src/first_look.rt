@@ -14,7 +14,7 @@ use std::sync::Wait;
 
 /// How long the history was, and the job of the file that is to be indexed, if one is unready.
 #[derive(Drop)]
-pub(crate) struct Look {
+pub(crate) struct FirstLook {
     pub(crate) at: u64,
     pub(crate) job: Option<Job>,
 }
@@ -28,7 +28,7 @@ pub(crate) fn first_look<R: Wait, G: Gate>(
     seat: u32,
     hint: Option<u32>,
     gate: &G,
-) -> Result<Look, AllocError>
+) -> Result<FirstLook, AllocError>
     requires { IsPassOf lock.now pass.old }
     ensures pass { IsPassOf lock.now pass.new × IsSamePass pass.old pass.new }
     ensures learned { HasOnlyLearned (view_of pass.old) (view_of pass.new) }
@@ -42,10 +42,10 @@ pub(crate) fn first_look<R: Wait, G: Gate>(
 }
 
 /// What there is to do in a state.
-fn look_at(state: &State, seat: u32, hint: Option<u32>) -> Result<Look, AllocError>
+fn look_at(state: &State, seat: u32, hint: Option<u32>) -> Result<FirstLook, AllocError>
     ensures { IfOk result (IsLook state.now.world seat hint) }
 {
-    Ok(Look {
+    Ok(FirstLook {
         at: entries(state),
         job: find_work(state, seat, hint)?,
     })

@@ -6,7 +6,7 @@ ghost use Rattle.write_history.specs.Fold.{fold, IsLegal};
 ghost use Rattle.ide_world.specs.Ready.{IsReadyFor, Makes, hinted};
 
 use crate::kept::Kept;
-use crate::share::{Block, IdeShare};
+use crate::share::{IdeShare, ShareBlock};
 use action_lock::Home;
 use history_laws::laws::histories_go_on;
 use ide_world::{Ready, empty, install, reserve};
@@ -108,7 +108,7 @@ impl Home for IdeHome {
     ghost one_list = { λ home xs ys p q. sym p.0 ∙ q.0 };
 
     fn share(&self, alloc: Global) -> Result<IdeShare, AllocError> {
-        let block = Block {
+        let block = ShareBlock {
             kept: Arc::try_clone(&self.kept)?,
             apart: [0; 12],
         };

@@ -4,11 +4,12 @@ ghost use Rattle.action_lock.specs.Advances.{Advances};
 ghost use Rattle.action_lock.specs.Passes.{view_of, IsSamePass, IsPassOf, Intends};
 ghost use Rattle.write_history.specs.Fold.{fold};
 ghost use Rattle.ide_world.specs.Task.{task_with_id};
+ghost use Rattle.ide_calls.specs.Made.{Continues};
 ghost use Rattle.ide_calls.specs.Reads.{HasOnlyLearned};
 ghost use Rattle.ide_calls.specs.Intake.{HasJudged, HasAnswered, IsAnsweredBy, task_of_made};
 
 use crate::judge::{Judged, judge};
-use crate::step::Step;
+use crate::step::Stepped;
 use crate::{IdeHome, write_entry};
 use action_lock::{ActionLock, Pass};
 use history_laws::laws::histories_go_on;
@@ -25,48 +26,51 @@ pub(crate) fn take_in<R: Wait>(
     lock: &ActionLock<IdeHome>,
     pass: &mut Pass<IdeHome>,
     made: Made,
-) -> Result<Step, AllocError>
+) -> Result<Stepped, AllocError>
     requires pass { IsPassOf lock.now pass.old }
-    requires work { task_with_id (fold (view_of pass.old).seen) made.file ≡ Some (task_of_made made) }
-    ensures pass { IsPassOf lock.now pass.new × IsSamePass pass.old pass.new }
-    ensures advances { Advances (view_of pass.old) (view_of pass.new) }
-    ensures ok { IfOk result (IsAnsweredBy made.file made.stamp (view_of pass.old) (view_of pass.new)) }
+    requires work { task_with_id (fold (view_of pass.old).seen) made.file
+        ≡ Some (task_of_made made) }
+    ensures pass { Continues lock.now pass.old pass.new }
+    ensures ok { IfOk result
+        (IsAnsweredBy made.file made.stamp (view_of pass.old) (view_of pass.new)) }
     ensures err { OnErr result ((view_of pass.new).mine ≡ (view_of pass.old).mine) }
 {
     let seat = pass.number();
     pass.intent(rt, lock);
-    let answer = take_in_now(rt, alloc, lock, pass, seat, made);
+    let answer = take_in_with_intent(rt, alloc, lock, pass, seat, made);
     pass.release(lock);
     answer
 }
 
 /// The same under an intent that the pass, whose number is `seat`, has.
-fn take_in_now<R: Wait>(
+fn take_in_with_intent<R: Wait>(
     rt: &R,
     alloc: Global,
     lock: &ActionLock<IdeHome>,
     pass: &mut Pass<IdeHome>,
     seat: u32,
     made: Made,
-) -> Result<Step, AllocError>
+) -> Result<Stepped, AllocError>
     requires intends { Intends lock.now pass.old }
     requires own { (view_of pass.old).number ≡ Some seat }
-    requires work { task_with_id (fold (view_of pass.old).seen) made.file ≡ Some (task_of_made made) }
+    requires work { task_with_id (fold (view_of pass.old).seen) made.file
+        ≡ Some (task_of_made made) }
     ensures pass { Intends lock.now pass.new × IsSamePass pass.old pass.new }
     ensures advances { Advances (view_of pass.old) (view_of pass.new) }
-    ensures ok { IfOk result (HasAnswered seat made.file made.stamp (view_of pass.old) (view_of pass.new)) }
+    ensures ok { IfOk result
+        (HasAnswered seat made.file made.stamp (view_of pass.old) (view_of pass.new)) }
     ensures err { OnErr result ((view_of pass.new).mine ≡ (view_of pass.old).mine) }
 {
     let file = made.file;
     let stamp = made.stamp;
-    match judge_now(rt, alloc, lock, pass, made)? {
-        Judged::Gone => Ok(Step::Gone { file }),
-        Judged::Stale { present } => Ok(Step::Stale {
+    match judge_with_intent(rt, alloc, lock, pass, made)? {
+        Judged::Gone => Ok(Stepped::Gone { file }),
+        Judged::Stale { present } => Ok(Stepped::Stale {
             file,
             made: stamp,
             present,
         }),
-        Judged::Full { at } => Ok(Step::Refused { at }),
+        Judged::Full { at } => Ok(Stepped::Refused { at }),
         Judged::Prepared { at, ready } => {
             let changes = Changes::one(Change::Intake { file, stamp });
             let entry = Entry {
@@ -75,13 +79,13 @@ fn take_in_now<R: Wait>(
                 changes,
             };
             write_entry(rt, lock, pass, ready, entry)?;
-            Ok(Step::Taken { position: at + 1 })
+            Ok(Stepped::Taken { position: at + 1 })
         }
     }
 }
 
 /// Reads under the intent, and judges data by what is there.
-fn judge_now<R: Wait>(
+fn judge_with_intent<R: Wait>(
     rt: &R,
     alloc: Global,
     lock: &ActionLock<IdeHome>,
@@ -89,10 +93,12 @@ fn judge_now<R: Wait>(
     made: Made,
 ) -> Result<Judged, AllocError>
     requires intends { Intends lock.now pass.old }
-    requires work { task_with_id (fold (view_of pass.old).seen) made.file ≡ Some (task_of_made made) }
+    requires work { task_with_id (fold (view_of pass.old).seen) made.file
+        ≡ Some (task_of_made made) }
     ensures pass { Intends lock.now pass.new × IsSamePass pass.old pass.new }
     ensures learned { HasOnlyLearned (view_of pass.old) (view_of pass.new) }
-    ensures ok { IfOk result (HasJudged made.file made.stamp (view_of pass.old) (view_of pass.new)) }
+    ensures ok { IfOk result
+        (HasJudged made.file made.stamp (view_of pass.old) (view_of pass.new)) }
 {
     a_task_stays_of_the_world();
     histories_go_on();

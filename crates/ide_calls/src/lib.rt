@@ -51,7 +51,7 @@ pub use share::IdeShare;
 pub use sighted::Sighted;
 pub use soft_asking::soft_ask;
 pub use soft_refusal::SoftAskRefusal;
-pub use step::Step;
+pub use step::Stepped;
 pub use stepping::index_step;
 pub use stored::make_stored;
 pub use writing::write_entry;

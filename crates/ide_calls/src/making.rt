@@ -79,7 +79,8 @@ pub(crate) fn batch_from(
     state: &State,
     from: u32,
 ) -> Result<Batch, AllocError>
-    ensures { IfOk result (λ batch. All (IsTask state.now.world) (map task_of_job batch.jobs.items)) }
+    ensures { IfOk result
+        (λ batch. All (IsTask state.now.world) (map task_of_job batch.jobs.items)) }
 {
     let mut jobs = Vec::new(alloc);
     let mut cost = 0u32;

@@ -3,8 +3,7 @@ ghost use Rattle.std.specs.Prelude.{◌≡◌, true, IfOk, IfErr};
 ghost use Rattle.std.specs.List.{list_all};
 ghost use Rattle.action_lock.specs.Passes.{view_of, IsSamePass, Intends};
 ghost use Rattle.write_history.specs.Changes.{is_edit};
-ghost use Rattle.ide_calls.specs.Change.{IsGroupRefused};
-ghost use Rattle.ide_calls.specs.Planned.{IsPlanned, IsRefusedIn, HasPlanned};
+ghost use Rattle.ide_calls.specs.Planned.{IsPlanned, IsRefusedIn, HasPlanned, IsUnplanned};
 
 use crate::IdeHome;
 use crate::group_refusal::GroupChangeRefusal;
@@ -34,7 +33,7 @@ pub(crate) fn plan<R: Wait>(
     requires edits { list_all is_edit changes.now ≡ true }
     ensures pass { Intends lock.now pass.new × IsSamePass pass.old pass.new }
     ensures ok { IfOk result (HasPlanned (view_of pass.old) (view_of pass.new) changes.now) }
-    ensures refused { IfErr result (IsGroupRefused (view_of pass.old) (view_of pass.new) changes.now) }
+    ensures refused { IfErr result (IsUnplanned (view_of pass.old) (view_of pass.new) changes.now) }
 {
     match pass.read(rt, alloc, lock) {
         Ok(reading) => {

@@ -1,7 +1,7 @@
 //! New shares for readers.
 ghost use Rattle.std.specs.Prelude.{◌≡◌};
-ghost use Rattle.action_lock.specs.Advances.{Advances};
-ghost use Rattle.action_lock.specs.Passes.{view_of, IsSamePass, IsPassOf};
+ghost use Rattle.action_lock.specs.Passes.{view_of, IsPassOf};
+ghost use Rattle.ide_calls.specs.Made.{Continues};
 
 use crate::IdeHome;
 use action_lock::{ActionLock, Pass};
@@ -11,8 +11,7 @@ use std::sync::Wait;
 /// memory for the share of a place, every read there runs out of memory until another write finds it. May block.
 pub fn renew<R: Wait>(rt: &R, lock: &ActionLock<IdeHome>, pass: &mut Pass<IdeHome>)
     requires { IsPassOf lock.now pass.old }
-    ensures pass { IsPassOf lock.now pass.new × IsSamePass pass.old pass.new }
-    ensures advances { Advances (view_of pass.old) (view_of pass.new) }
+    ensures pass { Continues lock.now pass.old pass.new }
     ensures mine { (view_of pass.new).mine ≡ (view_of pass.old).mine }
 {
     pass.intent(rt, lock);

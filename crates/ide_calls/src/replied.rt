@@ -6,5 +6,6 @@ use crate::reply::Reply;
 pub struct Replied {
     /// The length of the prefix.
     pub at: u64,
+    /// The reply.
     pub reply: Reply,
 }

@@ -3,6 +3,7 @@ ghost use Rattle.std.specs.Prelude.{◌≡◌, Some, IfOk, IfErr, OnOk, OnErr};
 ghost use Rattle.std.specs.List.{All};
 ghost use Rattle.action_lock.specs.Advances.{Advances};
 ghost use Rattle.action_lock.specs.Passes.{view_of, IsSamePass, IsPassOf, Intends};
+ghost use Rattle.ide_calls.specs.Made.{Continues};
 ghost use Rattle.ide_calls.specs.Ahead.{StaysOfWorld};
 ghost use Rattle.ide_calls.specs.Reads.{HasOnlyLearned};
 ghost use Rattle.ide_calls.specs.Settling.{IsSettled, HasStopped};
@@ -33,22 +34,21 @@ pub fn settle<R: Threads + Wait>(
     line: u32,
 ) -> Result<u64, SettleRefusal>
     requires { IsPassOf lock.now pass.old }
-    ensures pass { IsPassOf lock.now pass.new × IsSamePass pass.old pass.new }
-    ensures advances { Advances (view_of pass.old) (view_of pass.new) }
+    ensures pass { Continues lock.now pass.old pass.new }
     ensures ok { IfOk result (IsSettled line (view_of pass.old) (view_of pass.new)) }
     ensures err { IfErr result (HasStopped line (view_of pass.old) (view_of pass.new)) }
 {
     let seat = pass.number();
     let mut ahead = Ahead::new(alloc);
     pass.intent(rt, lock);
-    let answer = settle_now(rt, alloc, lock, store, pass, seat, line, &mut ahead);
+    let answer = settle_with_intent(rt, alloc, lock, store, pass, seat, line, &mut ahead);
     pass.release(lock);
     ahead.join_all(rt);
     answer
 }
 
 /// What a turn of a settle did.
-pub(crate) enum Turn {
+pub(crate) enum SettleTurn {
     /// No file was unready after this many entries.
     Smart { at: u64 },
     /// The history is full, with this many entries.
@@ -58,7 +58,7 @@ pub(crate) enum Turn {
 }
 
 /// A settle under the intent that the pass, whose number is `seat`, has.
-fn settle_now<R: Threads + Wait>(
+fn settle_with_intent<R: Threads + Wait>(
     rt: &R,
     alloc: Global,
     lock: &ActionLock<IdeHome>,
@@ -78,9 +78,9 @@ fn settle_now<R: Threads + Wait>(
 {
     for _ in rt.forever() {
         match take_lowest_in(rt, alloc, lock, store, pass, seat, line, ahead) {
-            Ok(Turn::Taken) => (),
-            Ok(Turn::Smart { at }) => return Ok(at),
-            Ok(Turn::Full { at }) => return Err(SettleRefusal::HistoryFull { at }),
+            Ok(SettleTurn::Taken) => (),
+            Ok(SettleTurn::Smart { at }) => return Ok(at),
+            Ok(SettleTurn::Full { at }) => return Err(SettleRefusal::HistoryFull { at }),
             Err(_) => return Err(SettleRefusal::OutOfMemory),
         }
     }
@@ -97,7 +97,7 @@ fn take_lowest_in<R: Threads + Wait>(
     seat: u32,
     line: u32,
     ahead: &mut Ahead,
-) -> Result<Turn, AllocError>
+) -> Result<SettleTurn, AllocError>
     requires intends { Intends lock.now pass.old }
     requires own { (view_of pass.old).number ≡ Some seat }
     requires ahead { All (StaysOfWorld (view_of pass.old).seen) ahead.old }
@@ -108,8 +108,8 @@ fn take_lowest_in<R: Threads + Wait>(
     ensures err { OnErr result (HasOnlyLearned (view_of pass.old) (view_of pass.new)) }
 {
     match find_lowest(rt, alloc, lock, store, pass, ahead)? {
-        Lowest::Nothing { at } => Ok(Turn::Smart { at }),
-        Lowest::Full { at } => Ok(Turn::Full { at }),
+        Lowest::Nothing { at } => Ok(SettleTurn::Smart { at }),
+        Lowest::Full { at } => Ok(SettleTurn::Full { at }),
         Lowest::Prepared { file, stamp, ready } => {
             let changes = Changes::one(Change::Intake { file, stamp });
             let entry = Entry {
@@ -118,7 +118,7 @@ fn take_lowest_in<R: Threads + Wait>(
                 changes,
             };
             write_entry(rt, lock, pass, ready, entry)?;
-            Ok(Turn::Taken)
+            Ok(SettleTurn::Taken)
         }
     }
 }

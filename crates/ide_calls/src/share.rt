@@ -10,13 +10,13 @@ use std::sync::Arc;
 /// lock have a block of their own between them, so that readers of different places don't meet in one count.
 #[derive(Drop)]
 pub struct IdeShare {
-    pub(crate) block: Arc<Block>,
+    pub(crate) block: Arc<ShareBlock>,
 }
 
 /// What the shares of one place have in common. It is so large that the counts of no two blocks share a cache line, and
 /// small enough for the lists of free blocks that common allocators keep at hand.
 #[derive(Drop)]
-pub(crate) struct Block {
+pub(crate) struct ShareBlock {
     pub(crate) kept: Arc<Kept>,
     pub(crate) apart: [u64; 12],
 }

@@ -27,7 +27,8 @@ impl Model for Sighted {
 impl Sighted {
     pub(crate) fn new(seat: u32, attempts: u32, before: u64, after: u64) -> Sighted
         requires { HasRisenBy attempts before after }
-        ensures { result ≡ record { seat = seat; attempts = attempts; before = before; after = after } }
+        ensures { result
+            ≡ record { seat = seat; attempts = attempts; before = before; after = after } }
     {
         Sighted {
             seat,

@@ -1,8 +1,8 @@
 //! Questions that end early where a write waits.
 ghost use Rattle.std.specs.Prelude.{◌≡◌, ◌<◌, IfOk, IfErr, OnOk};
-ghost use Rattle.action_lock.specs.Advances.{Advances};
-ghost use Rattle.action_lock.specs.Passes.{view_of, IsSamePass, IsPassOf};
+ghost use Rattle.action_lock.specs.Passes.{view_of, IsPassOf};
 ghost use Rattle.action_lock.specs.Reads.{HasChecked};
+ghost use Rattle.ide_calls.specs.Made.{Continues};
 ghost use Rattle.ide_calls.specs.Replied.{HasReplied};
 ghost use Rattle.ide_calls.specs.SoftRefusal.{IsSoftlyRefused};
 
@@ -31,12 +31,12 @@ pub fn soft_ask<R: Wait, G: Gate>(
 ) -> Result<Replied, SoftAskRefusal>
     requires pass { IsPassOf lock.now pass.old }
     requires some { 0 < attempts }
-    ensures pass { IsPassOf lock.now pass.new × IsSamePass pass.old pass.new }
-    ensures advances { Advances (view_of pass.old) (view_of pass.new) }
+    ensures pass { Continues lock.now pass.old pass.new }
     ensures mine { (view_of pass.new).mine ≡ (view_of pass.old).mine }
     ensures ok { IfOk result (HasReplied (view_of pass.old) (view_of pass.new) query.now) }
     ensures looked { OnOk result (HasChecked (view_of pass.old) (view_of pass.new)) }
-    ensures cancelled { IfErr result (IsSoftlyRefused (view_of pass.old) (view_of pass.new) attempts) }
+    ensures cancelled { IfErr result
+        (IsSoftlyRefused (view_of pass.old) (view_of pass.new) attempts) }
 {
     histories_go_on();
     let seat = pass.number();

@@ -6,5 +6,6 @@ use crate::sighted::Sighted;
 pub enum SoftAskRefusal {
     /// As many attempts as were allowed saw that a write waits.
     Cancelled(Sighted),
+    /// Memory ran out.
     OutOfMemory,
 }

@@ -3,7 +3,7 @@
 /// The answer of a step. A file of which it speaks was unready at the first read of the call, with the stamp at which its
 /// data were made; the answer holds at the second.
 #[derive(Clone, Copy, Debug, PartialEq, Eq)]
-pub enum Step {
+pub enum Stepped {
     /// No file was unready after the first `at` entries, the history at the one read of the call.
     Idle { at: u64 },
     /// The file isn't live any more.

@@ -1,13 +1,13 @@
 //! A step of indexing: one unready file is taken up, and its data go in where they still fit.
 ghost use Rattle.std.specs.Prelude.{◌≡◌, IfOk, OnErr};
-ghost use Rattle.action_lock.specs.Advances.{Advances};
-ghost use Rattle.action_lock.specs.Passes.{view_of, IsSamePass, IsPassOf};
+ghost use Rattle.action_lock.specs.Passes.{view_of, IsPassOf};
+ghost use Rattle.ide_calls.specs.Made.{Continues};
 ghost use Rattle.ide_calls.specs.Step.{HasStepped};
 
 use crate::IdeHome;
-use crate::first_look::{Look, first_look};
+use crate::first_look::{FirstLook, first_look};
 use crate::intake::take_in;
-use crate::step::Step;
+use crate::step::Stepped;
 use crate::stored::make_stored;
 use action_lock::{ActionLock, Gate, Pass, Point};
 use index_store::Store;
@@ -26,17 +26,16 @@ pub fn index_step<R: Wait, G: Gate>(
     pass: &mut Pass<IdeHome>,
     hint: Option<u32>,
     gate: &G,
-) -> Result<Step, AllocError>
+) -> Result<Stepped, AllocError>
     requires { IsPassOf lock.now pass.old }
-    ensures pass { IsPassOf lock.now pass.new × IsSamePass pass.old pass.new }
-    ensures advances { Advances (view_of pass.old) (view_of pass.new) }
+    ensures pass { Continues lock.now pass.old pass.new }
     ensures ok { IfOk result (HasStepped hint (view_of pass.old) (view_of pass.new)) }
     ensures err { OnErr result ((view_of pass.new).mine ≡ (view_of pass.old).mine) }
 {
     let seat = pass.number();
-    let Look { at, job } = first_look(rt, alloc, lock, pass, seat, hint, gate)?;
+    let FirstLook { at, job } = first_look(rt, alloc, lock, pass, seat, hint, gate)?;
     let Some(job) = job else {
-        return Ok(Step::Idle { at });
+        return Ok(Stepped::Idle { at });
     };
     let made = make_stored(alloc, store, job)?;
     gate.at(Point::Made {

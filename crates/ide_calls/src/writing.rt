@@ -36,7 +36,8 @@ pub fn write_entry<R: Wait>(
     ensures advances { Advances (view_of pass.old) (view_of pass.new) }
     ensures ok { OnOk result (view_of pass.new ≡ finished entry (view_of pass.old)) }
     ensures few { OnOk result (length (view_of pass.new).mine ≤ max_entries) }
-    ensures unready { IfOk result (λ file. file ≡ hinted (fold (view_of pass.old).seen) entry.changes) }
+    ensures unready { IfOk result
+        (λ file. file ≡ hinted (fold (view_of pass.old).seen) entry.changes) }
     ensures err { OnErr result (view_of pass.new ≡ view_of pass.old) }
 {
     histories_go_on();

@@ -1,3 +1,2 @@
 pub mod KnownLemmas
-pub mod FaultLemmas
 pub mod AskLemmas

@@ -34,7 +34,8 @@ impl Model for BytesSink {
 impl BytesSink {
     /// An empty sink that takes `room` bytes and no more. A write takes as many as it is given.
     pub fn with_room(alloc: Global, room: usize) -> Result<BytesSink, AllocError>
-        ensures { IfOk result (λ sink. sink ≡ record { taken = []; room = room; most = usize.MAX; faults = 0 }) }
+        ensures { IfOk result
+            (λ sink. sink ≡ record { taken = []; room = room; most = usize.MAX; faults = 0 }) }
     {
         Ok(BytesSink {
             taken: Vec::with_capacity(alloc, room)?,

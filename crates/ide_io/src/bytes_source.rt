@@ -64,7 +64,8 @@ impl Source for BytesSource<'_> {
     ghost ends = { λ source. source.ends };
 
     fn read(&mut self, into: &mut [u8]) -> Result<usize, Failed>
-        ensures ok { result ≡ Ok (min (min (length self.old.left) (length into.old)) self.old.most) }
+        ensures ok { result
+            ≡ Ok (min (min (length self.old.left) (length into.old)) self.old.most) }
         ensures most { self.new.most ≡ self.old.most }
         ensures count { ReadsAtMost result into.new }
         ensures bytes { ReadTakes (Some self.old.left) (Some self.new.left) result into.new }

@@ -21,7 +21,9 @@ use std::alloc::Global;
 /// Its faults are those of the plan and those of `inner`.
 #[derive(Drop)]
 pub struct Failing<T> {
+    /// What answers the calls that the plan lets through.
     pub inner: T,
+    /// Which calls fail.
     pub plan: FaultPlan,
 }
 
@@ -69,7 +71,8 @@ impl<K: Sink> Sink for Failing<K> {
 
         ensures count { WritesAtMost result piece.now }
         ensures some { IfOk result (λ n. 0 < length piece.now → 0 < n) }
-        ensures bytes { WriteTakes (K.taken self.old.inner) (K.taken self.new.inner) result piece.now }
+        ensures bytes { WriteTakes (K.taken self.old.inner)
+            (K.taken self.new.inner) result piece.now }
         ensures never_falls { faults_with K.faults self.old ≤ faults_with K.faults self.new }
         ensures no_fault { OnOk result
             (faults_with K.faults self.new ≡ faults_with K.faults self.old) }

@@ -18,7 +18,9 @@ use std::rt::Files;
 /// refuses is a fault.
 #[derive(Drop)]
 pub struct FolderTree<'a, R> {
+    /// What the system is asked by.
     pub rt: &'a R,
+    /// How many faults it has met.
     pub faults: FaultCount,
 }
 

@@ -13,7 +13,9 @@ use std::collections::BTreeMap;
 /// Files in memory. A read fails only where the path is absent or its file too long.
 #[derive(Drop)]
 pub struct MemoryTree {
+    /// The bytes of each file, by its path.
     pub files: BTreeMap<Name, Vec<u8>>,
+    /// How many faults it has met.
     pub faults: FaultCount,
 }
 

@@ -19,8 +19,11 @@ const TRIES: usize = 64;
 /// fault.
 #[derive(Drop)]
 pub struct ReaderSource<R> {
+    /// What is read from.
     pub reader: R,
+    /// How many faults it has met.
     pub faults: FaultCount,
+    /// How often it has told the end.
     pub ends: EndCount,
 }
 
@@ -51,7 +54,8 @@ impl<R: Read> Source for ReaderSource<R> {
 
     fn read(&mut self, into: &mut [u8]) -> Result<usize, Failed>
         // What the reader gives, where it tells that.
-        ensures given { ReadConsumes (R.remaining self.old.reader) (R.remaining self.new.reader) result into.new }
+        ensures given { ReadConsumes (R.remaining self.old.reader)
+            (R.remaining self.new.reader) result into.new }
 
         ensures count { ReadsAtMost result into.new }
         ensures bytes { ReadTakes None None result into.new }

@@ -16,6 +16,7 @@ pub enum ReadAllError {
     Failed,
     /// The source gave more bytes than the limit.
     TooLong,
+    /// Memory ran out.
     OutOfMemory,
 }
 
@@ -66,7 +67,8 @@ pub fn read_all<S: Source>(
 
     ensures fault { IsErrOf result ReadAllError.Failed
         → HasFault (S.faults source.old) (S.faults source.new) }
-    ensures no_fault { result ≢ Err ReadAllError.Failed → S.faults source.new ≡ S.faults source.old }
+    ensures no_fault { result ≢ Err ReadAllError.Failed
+        → S.faults source.new ≡ S.faults source.old }
     ensures never_falls { S.faults source.old ≤ S.faults source.new }
 {
     let mut bytes = Vec::new(alloc);

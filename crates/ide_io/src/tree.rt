@@ -2,7 +2,7 @@
 
 ghost use Rattle.std.specs.Prelude.{◌≡◌, ◌≢◌, ◌≤◌, ℕ, List, Option, Some, Err, vec_len, IfOk, IfSome, IsErrOf};
 ghost use Rattle.ide_io.specs.Fault.{HasFault};
-ghost use Rattle.ide_io.specs.Files.{Files, max_file_len};
+ghost use Rattle.ide_io.specs.Files.{TreeFiles, max_file_len};
 ghost use Rattle.ide_io.specs.declared.tree.ReadFileError.TheVariants as variant;
 
 use crate::failed::Failed;
@@ -17,6 +17,7 @@ pub const MAX_FILE_LEN: usize = 16_777_216;
 pub enum ReadFileError {
     /// There is no such file, it's too long, or the tree met another fault.
     Failed,
+    /// Memory ran out.
     OutOfMemory,
 }
 
@@ -39,7 +40,7 @@ impl From<AllocError> for ReadFileError {
 /// Files by their paths.
 pub trait Tree {
     // The files, where the tree tells them; `None` tells nothing.
-    ghost files: { Self → Option Files };
+    ghost files: { Self → Option TreeFiles };
 
     // How many faults the tree has met. The count stands still at 2^64 - 1.
     ghost faults: { Self → ℕ };
@@ -51,7 +52,8 @@ pub trait Tree {
     /// The bytes of the file at a path. An absent path is a fault, and so is a file of more than
     /// `MAX_FILE_LEN` bytes.
     fn read_file(&mut self, alloc: Global, path: &Name) -> Result<Vec<u8>, ReadFileError>
-        ensures bytes { IfOk result (λ v. IfSome (files self.old) (λ at. at path.now ≡ Some v.items)) }
+        ensures bytes { IfOk result
+            (λ v. IfSome (files self.old) (λ at. at path.now ≡ Some v.items)) }
         ensures limit { IfOk result (λ v. vec_len v ≤ max_file_len) }
         ensures asks { asks self.old path.now self.new }
         ensures files { files self.new ≡ files self.old }

@@ -18,7 +18,9 @@ const TRIES: usize = 64;
 /// fault, and so is a write that takes nothing. The writer is never flushed.
 #[derive(Drop)]
 pub struct WriterSink<W> {
+    /// What is written to.
     pub writer: W,
+    /// How many faults it has met.
     pub faults: FaultCount,
 }
 
@@ -48,7 +50,8 @@ impl<W: Write> Sink for WriterSink<W> {
 
     fn write(&mut self, piece: &[u8]) -> Result<usize, Failed>
         // What the writer takes, where it tells that.
-        ensures passed { WriteAppends (W.contents self.old.writer) (W.contents self.new.writer) result piece.now }
+        ensures passed { WriteAppends (W.contents self.old.writer)
+            (W.contents self.new.writer) result piece.now }
 
         ensures count { WritesAtMost result piece.now }
         ensures some { IfOk result (λ n. 0 < length piece.now → 0 < n) }

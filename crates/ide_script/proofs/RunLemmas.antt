@@ -1,7 +1,7 @@
 -- How a run ends, by how its bytes were written.
 use Rattle.std.proofs.Common.{◌≡◌, ◌∙◌, ℕ, List, [], ◌∷◌, ◌++◌, length, Option, inr, refl, sym, subst, append-nil, arith}
 use Rattle.std.specs.Prelude.{option_to_list}
-use Rattle.ide_io.specs.Files.{Files}
+use Rattle.ide_io.specs.Files.{TreeFiles}
 use Rattle.ide_io.specs.Asks.{AsksEach}
 use Rattle.ide_io.specs.declared.source.Source
 use Rattle.ide_io.specs.declared.tree.Tree
@@ -9,7 +9,7 @@ use Rattle.ide_io.specs.declared.sink.Sink
 use Rattle.script_lang.specs.Parts.{Parts}
 use Rattle.transcripts.specs.Worked.{Worked}
 use Rattle.transcripts.specs.declared.loaded.Loaded.{Loaded}
-use Rattle.transcripts.specs.Serial.{Ended, run_of}
+use Rattle.transcripts.specs.Serial.{RunEnd, run_of}
 use Rattle.transcripts.specs.Fits.{RunFits}
 use Rattle.transcripts.specs.Loads.{AreLoadsOf, paths_of}
 use Rattle.transcripts.specs.Play.{Plays, IsTranscript}
@@ -23,7 +23,7 @@ use Rattle.ide_script.specs.Index.{IndexEnds, IsStoreOf}
 use Rattle.ide_script.specs.Run.{DemoEnds, PlayEnds, PlaysDemo}
 
 -- once a demo was played, its run ends as the writing of its summary does
-pub demo_ends : {K : Type 0} {k : Sink.Ghosts K} (sink : SinkRun k) (seed files edits workers : ℕ) (told : List Worked) (ended : Ended)
+pub demo_ends : {K : Type 0} {k : Sink.Ghosts K} (sink : SinkRun k) (seed files edits workers : ℕ) (told : List Worked) (ended : RunEnd)
     → PlaysDemo seed files edits workers told ended → (status : Status) → WriteEnds sink (summary_of ended) status
     → DemoEnds sink seed files edits workers status
 demo_ends sink seed files edits workers told ended played Done taken =
@@ -44,8 +44,8 @@ no_elements [] none = refl
 no_elements (x ∷ xs) none = absurd (omega (arith, none))
 
 -- a script was played so where its run fits: without lanes and workers it is then the one on one thread
-pub plays_so : (law : (loads : List Loaded) (script : Parts) (ended : Ended) → script.lanes ≡ [] → RunFits loads script [] ended → ended ≡ run_of loads script)
-    → (files : Option Files) (loads : List Loaded) (script : Parts) (workers : ℕ) (told : List Worked) (ended : Ended)
+pub plays_so : (law : (loads : List Loaded) (script : Parts) (ended : RunEnd) → script.lanes ≡ [] → RunFits loads script [] ended → ended ≡ run_of loads script)
+    → (files : Option TreeFiles) (loads : List Loaded) (script : Parts) (workers : ℕ) (told : List Worked) (ended : RunEnd)
     → AreLoadsOf files script.prelude loads → RunFits loads script told ended → length told ≡ workers → Plays files script workers told ended
 plays_so law files loads script workers told ended read fits count = record {
   loads = loads;
@@ -58,7 +58,7 @@ plays_so law files loads script workers told ended read fits count = record {
 }
 
 -- what prints a played script is a transcript of it
-is_transcript : (files : Option Files) (script : Parts) (workers : ℕ) (told : List Worked) (ended : Ended) → Plays files script workers told ended
+is_transcript : (files : Option TreeFiles) (script : Parts) (workers : ℕ) (told : List Worked) (ended : RunEnd) → Plays files script workers told ended
     → IsTranscript files script workers (transcript_of ended)
 is_transcript files script workers told ended played = record {
   loads = played.loads;
@@ -90,7 +90,7 @@ module _ {S T K : Type 0} {s : Source.Ghosts S} {t : Tree.Ghosts T} {k : Sink.Gh
     script_ends Rejected never = absurd never
 
   -- once a script was played, its run ends as the writing of its transcript does
-  pub play_ends : (workers : ℕ) (store : Option (List ℕ)) (told : List Worked) (ended : Ended)
+  pub play_ends : (workers : ℕ) (store : Option (List ℕ)) (told : List Worked) (ended : RunEnd)
       → AsksEach t.asks tree.old (option_to_list store ++ paths_of script.prelude) tree.new → Plays (t.files tree.old) script workers told ended
       → (status : Status) → WriteEnds sink (transcript_of ended) status → PlayEnds source tree sink workers store status
   play_ends workers store told ended asked played =

@@ -3,7 +3,7 @@ use Rattle.std.specs.Prelude.{ℕ, ◌≡◌, ◌≤◌, ◌⊎◌, List, [], �
 use Rattle.std.specs.Io.KnownBytes.{append_known}
 use Rattle.ide_io.specs.Known.{TakesPrefix}
 use Rattle.ide_io.specs.Fault.{HasFault}
-use Rattle.ide_io.specs.Files.{Files, max_file_len}
+use Rattle.ide_io.specs.Files.{TreeFiles, max_file_len}
 use Rattle.ide_io.specs.declared.source.Source
 use Rattle.ide_io.specs.declared.tree.Tree
 use Rattle.ide_io.specs.declared.sink.Sink
@@ -27,7 +27,7 @@ status_of Good = Done
 status_of Bad = Rejected
 
 -- a file was read at a path and judged so: its bytes are few enough for a file, and those at the path where the tree tells its files
-pub record JudgesFile (files : Option Files) (script : Parts) (workers : ℕ) (path : List ℕ) (verdict : Verdict) : Type 0 where
+pub record JudgesFile (files : Option TreeFiles) (script : Parts) (workers : ℕ) (path : List ℕ) (verdict : Verdict) : Type 0 where
   pub bytes : List ℕ
   pub few : length bytes ≤ max_file_len
   pub told : IfSome files (λ at. at path ≡ Some bytes)

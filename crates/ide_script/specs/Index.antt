@@ -1,6 +1,6 @@
 -- How the writing of a store ends.
 use Rattle.std.specs.Prelude.{ℕ, List, [], Option}
-use Rattle.ide_io.specs.Files.{Files}
+use Rattle.ide_io.specs.Files.{TreeFiles}
 use Rattle.ide_io.specs.declared.source.Source
 use Rattle.ide_io.specs.declared.tree.Tree
 use Rattle.ide_io.specs.declared.sink.Sink
@@ -18,7 +18,7 @@ use Rattle.ide_script.specs.Writing.{ScriptEnds}
 
 -- these bytes are those of the store of the last world that going through the script in order leads to, with what was read for its loads: where the
 -- tree tells its files, their bytes
-pub record IsStoreOf (files : Option Files) (script : Parts) (bytes : List ℕ) : Type 0 where
+pub record IsStoreOf (files : Option TreeFiles) (script : Parts) (bytes : List ℕ) : Type 0 where
   pub loads : List Loaded
   pub read : AreLoadsOf files script.prelude loads
   pub is : IsStoreBytes (rows_of (entries_of (fold (run_of loads script).history))) bytes

@@ -12,7 +12,7 @@ use Rattle.demo.specs.Script.{demo_bytes}
 use Rattle.script_lang.specs.Parts.{Parts}
 use Rattle.script_lang.specs.Grammar.{IsScript}
 use Rattle.transcripts.specs.Worked.{Worked}
-use Rattle.transcripts.specs.Serial.{Ended, run_of}
+use Rattle.transcripts.specs.Serial.{RunEnd, run_of}
 use Rattle.transcripts.specs.Fits.{RunFits}
 use Rattle.transcripts.specs.Transcript.{summary_of}
 use Rattle.transcripts.specs.Play.{IsTranscript}
@@ -30,7 +30,7 @@ given_words [] = codes "ide" ∷ []
 given_words (name ∷ words) = name ∷ words
 
 -- a run of a demo's script with so many workers, which tell this: its summary is that of going through the script in order
-pub record PlaysDemo (seed files edits workers : ℕ) (told : List Worked) (ended : Ended) : Type 0 where
+pub record PlaysDemo (seed files edits workers : ℕ) (told : List Worked) (ended : RunEnd) : Type 0 where
   pub script : Parts
   pub spelled : IsScript (demo_bytes seed files edits) script
   pub count : length told ≡ workers
@@ -40,7 +40,7 @@ pub record PlaysDemo (seed files edits workers : ℕ) (told : List Worked) (ende
 -- these bytes are the summary of a run of a demo's script with so many workers
 pub record IsDemoSummary (seed files edits workers : ℕ) (bytes : List ℕ) : Type 0 where
   pub told : List Worked
-  pub ended : Ended
+  pub ended : RunEnd
   pub played : PlaysDemo seed files edits workers told ended
   pub printed : bytes ≡ summary_of ended
 

@@ -30,10 +30,13 @@ pub(crate) fn run_check<S: Source, T: Tree, K: Sink>(
     out: &mut K,
 ) -> Status
     requires { workers ≤ max_workers }
-    ensures ends { CheckEnds (read S.Source source.old source.new) (asked T.Tree tree.old tree.new) (written K.Sink out.old out.new) path.now workers result }
-    ensures within { result ≢ Status.ScriptTooLong → TakesAtMost max_bytes (S.left source.old) (S.left source.new) }
+    ensures ends { CheckEnds (read S.Source source.old source.new) (asked T.Tree tree.old tree.new)
+        (written K.Sink out.old out.new) path.now workers result }
+    ensures within { result ≢ Status.ScriptTooLong
+        → TakesAtMost max_bytes (S.left source.old) (S.left source.new) }
     ensures end_once { TellsEndOnce (S.ends source.old) (S.ends source.new) }
-    ensures silent { result ≢ Status.Done → result ≢ Status.Rejected → result ≢ Status.SinkFault → out.new ≡ out.old }
+    ensures silent { result ≢ Status.Done → result ≢ Status.Rejected → result ≢ Status.SinkFault
+        → out.new ≡ out.old }
     ensures files { T.files tree.new ≡ T.files tree.old }
     ensures source_quiet { result ≢ Status.SourceFault → S.faults source.new ≡ S.faults source.old }
     ensures tree_quiet { result ≢ Status.TreeFault → T.faults tree.new ≡ T.faults tree.old }
@@ -61,9 +64,12 @@ fn judge<T: Tree>(
     requires { workers ≤ max_workers }
     ensures judges { IfOk result (JudgesFile (T.files tree.old) script.now workers path.now) }
     ensures asks { AsksFront T.asks tree.old (path.now ∷ paths_of script.now.prelude) tree.new }
-    ensures asks_each { OnOk result (AsksEach T.asks tree.old (path.now ∷ paths_of script.now.prelude) tree.new) }
-    ensures asks_some { result ≡ Err VerdictRefusal.TreeFault → AsksSome T.asks tree.old (path.now ∷ paths_of script.now.prelude) tree.new }
-    ensures fault { result ≡ Err VerdictRefusal.TreeFault → HasFault (T.faults tree.old) (T.faults tree.new) }
+    ensures asks_each { OnOk result
+        (AsksEach T.asks tree.old (path.now ∷ paths_of script.now.prelude) tree.new) }
+    ensures asks_some { result ≡ Err VerdictRefusal.TreeFault
+        → AsksSome T.asks tree.old (path.now ∷ paths_of script.now.prelude) tree.new }
+    ensures fault { result ≡ Err VerdictRefusal.TreeFault
+        → HasFault (T.faults tree.old) (T.faults tree.new) }
     ensures files { T.files tree.new ≡ T.files tree.old }
     ensures quiet { result ≢ Err VerdictRefusal.TreeFault → T.faults tree.new ≡ T.faults tree.old }
 {
@@ -100,7 +106,8 @@ fn status_of(verdict: Verdict) -> Status
 /// Writes the line of a verdict.
 fn write_verdict<K: Sink>(verdict: Verdict, out: &mut K) -> Result<(), Failed>
     ensures ok { OnOk result (K.taken out.new ≡ append_known (K.taken out.old) (line_of verdict)) }
-    ensures front { OnErr result (TakesPrefix (K.taken out.old) (K.taken out.new) (line_of verdict)) }
+    ensures front { OnErr result
+        (TakesPrefix (K.taken out.old) (K.taken out.new) (line_of verdict)) }
     ensures fault { OnErr result (HasFault (K.faults out.old) (K.faults out.new)) }
     ensures quiet { OnOk result (K.faults out.new ≡ K.faults out.old) }
 {

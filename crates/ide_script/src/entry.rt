@@ -29,9 +29,11 @@ pub fn run_main<R: Threads + Wait + Sync, S: Source, T: Tree, K: Sink, E: Sink>(
     out: &mut K,
     error: &mut E,
 ) -> u8
-    ensures ends { EndsWith (read S.Source script.old script.new) (asked T.Tree tree.old tree.new) (written K.Sink out.old out.new)
-        (written E.Sink error.old error.new) (given_words (map string_bytes words.items)) result }
-    ensures within { result ≢ number_of Status.ScriptTooLong → TakesAtMost max_bytes (S.left script.old) (S.left script.new) }
+    ensures ends { EndsWith (read S.Source script.old script.new) (asked T.Tree tree.old tree.new)
+        (written K.Sink out.old out.new) (written E.Sink error.old error.new)
+        (given_words (map string_bytes words.items)) result }
+    ensures within { result ≢ number_of Status.ScriptTooLong
+        → TakesAtMost max_bytes (S.left script.old) (S.left script.new) }
     ensures end_once { TellsEndOnce (S.ends script.old) (S.ends script.new) }
     ensures files { T.files tree.new ≡ T.files tree.old }
 {
@@ -48,12 +50,16 @@ fn run_given<R: Threads + Wait + Sync, S: Source, T: Tree, K: Sink>(
     tree: &mut T,
     out: &mut K,
 ) -> Status
-    ensures ends { RunEnds (read S.Source script.old script.new) (asked T.Tree tree.old tree.new) (written K.Sink out.old out.new)
+    ensures ends { RunEnds (read S.Source script.old script.new) (asked T.Tree tree.old tree.new)
+        (written K.Sink out.old out.new)
         (request_of (given_words (map string_bytes words.items))) result }
-    ensures within { result ≢ Status.ScriptTooLong → TakesAtMost max_bytes (S.left script.old) (S.left script.new) }
+    ensures within { result ≢ Status.ScriptTooLong
+        → TakesAtMost max_bytes (S.left script.old) (S.left script.new) }
     ensures end_once { TellsEndOnce (S.ends script.old) (S.ends script.new) }
-    ensures unread { AsksNothing (request_of (given_words (map string_bytes words.items))) → (script.new ≡ script.old) × (tree.new ≡ tree.old) }
-    ensures silent { result ≢ Status.Done → result ≢ Status.Rejected → result ≢ Status.SinkFault → out.new ≡ out.old }
+    ensures unread { AsksNothing (request_of (given_words (map string_bytes words.items)))
+        → (script.new ≡ script.old) × (tree.new ≡ tree.old) }
+    ensures silent { result ≢ Status.Done → result ≢ Status.Rejected → result ≢ Status.SinkFault
+        → out.new ≡ out.old }
     ensures files { T.files tree.new ≡ T.files tree.old }
     ensures source_quiet { result ≢ Status.SourceFault → S.faults script.new ≡ S.faults script.old }
     ensures tree_quiet { result ≢ Status.TreeFault → T.faults tree.new ≡ T.faults tree.old }
@@ -76,10 +82,14 @@ pub fn run_process<R: Threads + Wait + Sync, S: Source, T: Tree, K: Sink, E: Sin
     out: &mut K,
     error: &mut E,
 ) -> ExitCode
-    ensures given { IfOk words (λ words. EndsWith (read S.Source script.old script.new) (asked T.Tree tree.old tree.new)
-        (written K.Sink out.old out.new) (written E.Sink error.old error.new) (given_words (map string_bytes words.items)) (exit_status result)) }
-    ensures refused { IfErr words (λ status. EndsUnread (read S.Source script.old script.new) (asked T.Tree tree.old tree.new)
-        (written K.Sink out.old out.new) (written E.Sink error.old error.new) status (exit_status result)) }
+    ensures given { IfOk words
+        (λ words. EndsWith (read S.Source script.old script.new) (asked T.Tree tree.old tree.new)
+        (written K.Sink out.old out.new) (written E.Sink error.old error.new)
+        (given_words (map string_bytes words.items)) (exit_status result)) }
+    ensures refused { IfErr words
+        (λ status. EndsUnread (read S.Source script.old script.new) (asked T.Tree tree.old tree.new)
+        (written K.Sink out.old out.new) (written E.Sink error.old error.new) status
+        (exit_status result)) }
 {
     ExitCode::from(match words {
         Ok(words) => run_main(rt, alloc, words, script, tree, out, error),
@@ -89,7 +99,8 @@ pub fn run_process<R: Threads + Wait + Sync, S: Source, T: Tree, K: Sink, E: Sin
 
 /// The words that the system gave, or the program's name where it gave none.
 fn with_name(alloc: Global, given: Vec<String>) -> Result<Vec<String>, AllocError>
-    ensures words { IfOk result (λ words. map string_bytes words.items ≡ given_words (map string_bytes given.items)) }
+    ensures words { IfOk result
+        (λ words. map string_bytes words.items ≡ given_words (map string_bytes given.items)) }
     ensures some { IfOk result (λ words. 0 < vec_len words) }
     ensures err { OnErr result (given.items ≡ []) }
 {
@@ -111,7 +122,8 @@ pub fn finish<E: Sink>(status: Status, error: &mut E) -> u8
 
 /// Writes the line of a status. It takes no memory.
 fn write_line<E: Sink>(status: Status, error: &mut E) -> Result<(), Failed>
-    ensures ok { OnOk result (E.taken error.new ≡ append_known (E.taken error.old) (fault_line status)) }
+    ensures ok { OnOk result
+        (E.taken error.new ≡ append_known (E.taken error.old) (fault_line status)) }
     ensures fault { OnErr result (HasFault (E.faults error.old) (E.faults error.new)) }
 {
     match status {
@@ -129,7 +141,9 @@ fn write_line<E: Sink>(status: Status, error: &mut E) -> Result<(), Failed>
 
 /// Writes the line of a script's bad line.
 fn write_bad_line<E: Sink>(line: u32, error: &mut E) -> Result<(), Failed>
-    ensures ok { OnOk result (E.taken error.new ≡ append_known (E.taken error.old) (fault_line (Status.BadScript line))) }
+    ensures ok { OnOk result
+        (E.taken error.new
+        ≡ append_known (E.taken error.old) (fault_line (Status.BadScript line))) }
     ensures fault { OnErr result (HasFault (E.faults error.old) (E.faults error.new)) }
 {
     let mut digits = Buffer::new();

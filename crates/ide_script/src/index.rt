@@ -24,8 +24,10 @@ pub(crate) fn run_index<S: Source, T: Tree, K: Sink>(
     tree: &mut T,
     out: &mut K,
 ) -> Status
-    ensures ends { IndexEnds (read S.Source source.old source.new) (asked T.Tree tree.old tree.new) (written K.Sink out.old out.new) result }
-    ensures within { result ≢ Status.ScriptTooLong → TakesAtMost max_bytes (S.left source.old) (S.left source.new) }
+    ensures ends { IndexEnds (read S.Source source.old source.new) (asked T.Tree tree.old tree.new)
+        (written K.Sink out.old out.new) result }
+    ensures within { result ≢ Status.ScriptTooLong
+        → TakesAtMost max_bytes (S.left source.old) (S.left source.new) }
     ensures end_once { TellsEndOnce (S.ends source.old) (S.ends source.new) }
     ensures silent { result ≢ Status.Done → result ≢ Status.SinkFault → out.new ≡ out.old }
     ensures files { T.files tree.new ≡ T.files tree.old }
@@ -52,9 +54,12 @@ fn store_bytes<T: Tree>(
 ) -> Result<Vec<u8>, PlayRefusal>
     ensures is { IfOk result (λ bytes. IsStoreOf (T.files tree.old) script.now bytes.items) }
     ensures asks { AsksFront T.asks tree.old (paths_of script.now.prelude) tree.new }
-    ensures asks_each { OnOk result (AsksEach T.asks tree.old (paths_of script.now.prelude) tree.new) }
-    ensures asks_some { result ≡ Err PlayRefusal.TreeFault → AsksSome T.asks tree.old (paths_of script.now.prelude) tree.new }
-    ensures fault { result ≡ Err PlayRefusal.TreeFault → HasFault (T.faults tree.old) (T.faults tree.new) }
+    ensures asks_each { OnOk result
+        (AsksEach T.asks tree.old (paths_of script.now.prelude) tree.new) }
+    ensures asks_some { result ≡ Err PlayRefusal.TreeFault
+        → AsksSome T.asks tree.old (paths_of script.now.prelude) tree.new }
+    ensures fault { result ≡ Err PlayRefusal.TreeFault
+        → HasFault (T.faults tree.old) (T.faults tree.new) }
     ensures files { T.files tree.new ≡ T.files tree.old }
     ensures quiet { result ≢ Err PlayRefusal.TreeFault → T.faults tree.new ≡ T.faults tree.old }
 {

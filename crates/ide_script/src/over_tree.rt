@@ -4,7 +4,7 @@ ghost use Rattle.command_line.specs.Request.{max_workers};
 ghost use Rattle.ide_io.specs.Asks.{AsksEach, AsksFront, AsksSome};
 ghost use Rattle.ide_io.specs.Fault.{HasFault};
 ghost use Rattle.transcripts.specs.Loads.{paths_of};
-ghost use Rattle.transcripts.specs.Play.{Plays};
+ghost use Rattle.transcripts.specs.Play.{Plays, ended_of};
 
 use crate::PlayRefusal;
 use crate::reading::read_loads_of;
@@ -34,14 +34,18 @@ pub fn play<R: Threads + Wait + Sync, T: Tree, G: Gate + Sync>(
     gate: &G,
 ) -> Result<Played, PlayRefusal>
     requires few { workers ≤ max_workers }
-    ensures plays { IfOk result (λ played. Plays (T.files tree.old) script.now workers played.workers.items
-        (record { history = played.history.entries; records = played.records; last = played.last })) }
+    ensures plays { IfOk result
+        (λ played. Plays (T.files tree.old) script.now workers played.workers.items
+        (ended_of played)) }
     // Which files the tree was asked for: the first of those that the loads ask for, each once, in their order and no other; all of
     // them, or those up to the one at which it failed.
     ensures asks { AsksFront T.asks tree.old (paths_of script.now.prelude) tree.new }
-    ensures asks_each { OnOk result (AsksEach T.asks tree.old (paths_of script.now.prelude) tree.new) }
-    ensures asks_some { result ≡ Err PlayRefusal.TreeFault → AsksSome T.asks tree.old (paths_of script.now.prelude) tree.new }
-    ensures fault { result ≡ Err PlayRefusal.TreeFault → HasFault (T.faults tree.old) (T.faults tree.new) }
+    ensures asks_each { OnOk result
+        (AsksEach T.asks tree.old (paths_of script.now.prelude) tree.new) }
+    ensures asks_some { result ≡ Err PlayRefusal.TreeFault
+        → AsksSome T.asks tree.old (paths_of script.now.prelude) tree.new }
+    ensures fault { result ≡ Err PlayRefusal.TreeFault
+        → HasFault (T.faults tree.old) (T.faults tree.new) }
     ensures files { T.files tree.new ≡ T.files tree.old }
     ensures quiet { result ≢ Err PlayRefusal.TreeFault → T.faults tree.new ≡ T.faults tree.old }
 {
@@ -61,13 +65,19 @@ pub(crate) fn play_stored<R: Threads + Wait + Sync, T: Tree, G: Gate + Sync>(
     gate: &G,
 ) -> Result<Played, PlayRefusal>
     requires few { workers ≤ max_workers }
-    ensures plays { IfOk result (λ played. Plays (T.files tree.old) script.now workers played.workers.items
-        (record { history = played.history.entries; records = played.records; last = played.last })) }
-    ensures asks { AsksFront T.asks tree.old (option_to_list path.now ++ paths_of script.now.prelude) tree.new }
-    ensures asks_each { OnOk result (AsksEach T.asks tree.old (option_to_list path.now ++ paths_of script.now.prelude) tree.new) }
+    ensures plays { IfOk result
+        (λ played. Plays (T.files tree.old) script.now workers played.workers.items
+        (ended_of played)) }
+    ensures asks { AsksFront T.asks tree.old
+        (option_to_list path.now ++ paths_of script.now.prelude) tree.new }
+    ensures asks_each { OnOk result
+        (AsksEach T.asks tree.old
+        (option_to_list path.now ++ paths_of script.now.prelude) tree.new) }
     ensures asks_some { result ≡ Err PlayRefusal.TreeFault
-        → AsksSome T.asks tree.old (option_to_list path.now ++ paths_of script.now.prelude) tree.new }
-    ensures fault { result ≡ Err PlayRefusal.TreeFault → HasFault (T.faults tree.old) (T.faults tree.new) }
+        → AsksSome T.asks tree.old
+        (option_to_list path.now ++ paths_of script.now.prelude) tree.new }
+    ensures fault { result ≡ Err PlayRefusal.TreeFault
+        → HasFault (T.faults tree.old) (T.faults tree.new) }
     ensures files { T.files tree.new ≡ T.files tree.old }
     ensures quiet { result ≢ Err PlayRefusal.TreeFault → T.faults tree.new ≡ T.faults tree.old }
 {

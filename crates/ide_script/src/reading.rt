@@ -19,7 +19,8 @@ use transcripts::{LoadRefusal, Loaded, read_loads};
 pub(crate) fn read_script<S: Source>(alloc: Global, source: &mut S) -> Result<Script, Status>
     ensures ok { IfOk result (λ script. GivesScript (read S.Source source.old source.new) script) }
     ensures err { IfErr result (ReadStops (read S.Source source.old source.new)) }
-    ensures within { result ≢ Err Status.ScriptTooLong → TakesAtMost max_bytes (S.left source.old) (S.left source.new) }
+    ensures within { result ≢ Err Status.ScriptTooLong
+        → TakesAtMost max_bytes (S.left source.old) (S.left source.new) }
     ensures end_once { TellsEndOnce (S.ends source.old) (S.ends source.new) }
     ensures quiet { result ≢ Err Status.SourceFault → S.faults source.new ≡ S.faults source.old }
 {
@@ -42,11 +43,15 @@ pub(crate) fn read_loads_of<T: Tree>(
     script: &Script,
     tree: &mut T,
 ) -> Result<Vec<Loaded>, PlayRefusal>
-    ensures loads { IfOk result (λ loads. AreLoadsOf (T.files tree.old) script.now.prelude loads.items) }
+    ensures loads { IfOk result
+        (λ loads. AreLoadsOf (T.files tree.old) script.now.prelude loads.items) }
     ensures asks { AsksFront T.asks tree.old (paths_of script.now.prelude) tree.new }
-    ensures asks_each { OnOk result (AsksEach T.asks tree.old (paths_of script.now.prelude) tree.new) }
-    ensures asks_some { result ≡ Err PlayRefusal.TreeFault → AsksSome T.asks tree.old (paths_of script.now.prelude) tree.new }
-    ensures fault { result ≡ Err PlayRefusal.TreeFault → HasFault (T.faults tree.old) (T.faults tree.new) }
+    ensures asks_each { OnOk result
+        (AsksEach T.asks tree.old (paths_of script.now.prelude) tree.new) }
+    ensures asks_some { result ≡ Err PlayRefusal.TreeFault
+        → AsksSome T.asks tree.old (paths_of script.now.prelude) tree.new }
+    ensures fault { result ≡ Err PlayRefusal.TreeFault
+        → HasFault (T.faults tree.old) (T.faults tree.new) }
     ensures files { T.files tree.new ≡ T.files tree.old }
     ensures quiet { result ≢ Err PlayRefusal.TreeFault → T.faults tree.new ≡ T.faults tree.old }
 {

@@ -5,6 +5,7 @@ ghost use Rattle.demo.specs.Script.{demo_bytes};
 ghost use Rattle.script_lang.specs.Grammar.{IsScript};
 ghost use Rattle.script_lang.specs.Lines.{max_bytes};
 ghost use Rattle.command_line.specs.Request.{request_of, IsInRange, max_workers, max_files, max_edits};
+ghost use Rattle.transcripts.specs.Play.{ended_of};
 ghost use Rattle.transcripts.specs.Transcript.{transcript_of, summary_of};
 ghost use Rattle.ide_script.specs.Outside.{read, asked, written};
 ghost use Rattle.ide_script.specs.Run.{RunEnds, PlayEnds, DemoEnds, TellsEndOnce, PlaysDemo, AsksNothing};
@@ -47,16 +48,19 @@ pub fn run_ide<R: Threads + Wait + Sync, S: Source, T: Tree, K: Sink>(
     requires { 0 < length words.now }
 
     // When each answer comes, by what the words ask for, and what was read and written then.
-    ensures ends { RunEnds (read S.Source script.old script.new) (asked T.Tree tree.old tree.new) (written K.Sink out.old out.new)
-        (request_of (map string_bytes words.now)) result }
+    ensures ends { RunEnds (read S.Source script.old script.new) (asked T.Tree tree.old tree.new)
+        (written K.Sink out.old out.new) (request_of (map string_bytes words.now)) result }
 
     // How much is read: at most one byte past the longest script, and nothing after the end; nothing where the words are faulty or ask for `demo`.
-    ensures within { result ≢ Status.ScriptTooLong → TakesAtMost max_bytes (S.left script.old) (S.left script.new) }
+    ensures within { result ≢ Status.ScriptTooLong
+        → TakesAtMost max_bytes (S.left script.old) (S.left script.new) }
     ensures end_once { TellsEndOnce (S.ends script.old) (S.ends script.new) }
-    ensures unread { AsksNothing (request_of (map string_bytes words.now)) → (script.new ≡ script.old) × (tree.new ≡ tree.old) }
+    ensures unread { AsksNothing (request_of (map string_bytes words.now))
+        → (script.new ≡ script.old) × (tree.new ≡ tree.old) }
 
     // What stays the same: nothing is written before the run is known to end so, and no fault is met but that which is told.
-    ensures silent { result ≢ Status.Done → result ≢ Status.Rejected → result ≢ Status.SinkFault → out.new ≡ out.old }
+    ensures silent { result ≢ Status.Done → result ≢ Status.Rejected → result ≢ Status.SinkFault
+        → out.new ≡ out.old }
     ensures files { T.files tree.new ≡ T.files tree.old }
     ensures source_quiet { result ≢ Status.SourceFault → S.faults script.new ≡ S.faults script.old }
     ensures tree_quiet { result ≢ Status.TreeFault → T.faults tree.new ≡ T.faults tree.old }
@@ -79,11 +83,15 @@ fn run_request<R: Threads + Wait + Sync, S: Source, T: Tree, K: Sink>(
     out: &mut K,
 ) -> Status
     requires { IsInRange request.now }
-    ensures ends { RunEnds (read S.Source script.old script.new) (asked T.Tree tree.old tree.new) (written K.Sink out.old out.new) (Some request.now) result }
-    ensures within { result ≢ Status.ScriptTooLong → TakesAtMost max_bytes (S.left script.old) (S.left script.new) }
+    ensures ends { RunEnds (read S.Source script.old script.new) (asked T.Tree tree.old tree.new)
+        (written K.Sink out.old out.new) (Some request.now) result }
+    ensures within { result ≢ Status.ScriptTooLong
+        → TakesAtMost max_bytes (S.left script.old) (S.left script.new) }
     ensures end_once { TellsEndOnce (S.ends script.old) (S.ends script.new) }
-    ensures unread { AsksNothing (Some request.now) → (script.new ≡ script.old) × (tree.new ≡ tree.old) }
-    ensures silent { result ≢ Status.Done → result ≢ Status.Rejected → result ≢ Status.SinkFault → out.new ≡ out.old }
+    ensures unread { AsksNothing (Some request.now)
+        → (script.new ≡ script.old) × (tree.new ≡ tree.old) }
+    ensures silent { result ≢ Status.Done → result ≢ Status.Rejected → result ≢ Status.SinkFault
+        → out.new ≡ out.old }
     ensures files { T.files tree.new ≡ T.files tree.old }
     ensures source_quiet { result ≢ Status.SourceFault → S.faults script.new ≡ S.faults script.old }
     ensures tree_quiet { result ≢ Status.TreeFault → T.faults tree.new ≡ T.faults tree.old }
@@ -114,8 +122,10 @@ fn run_play<R: Threads + Wait + Sync, S: Source, T: Tree, K: Sink>(
     out: &mut K,
 ) -> Status
     requires { workers ≤ max_workers }
-    ensures ends { PlayEnds (read S.Source source.old source.new) (asked T.Tree tree.old tree.new) (written K.Sink out.old out.new) workers store.now result }
-    ensures within { result ≢ Status.ScriptTooLong → TakesAtMost max_bytes (S.left source.old) (S.left source.new) }
+    ensures ends { PlayEnds (read S.Source source.old source.new) (asked T.Tree tree.old tree.new)
+        (written K.Sink out.old out.new) workers store.now result }
+    ensures within { result ≢ Status.ScriptTooLong
+        → TakesAtMost max_bytes (S.left source.old) (S.left source.new) }
     ensures end_once { TellsEndOnce (S.ends source.old) (S.ends source.new) }
     ensures silent { result ≢ Status.Done → result ≢ Status.SinkFault → out.new ≡ out.old }
     ensures files { T.files tree.new ≡ T.files tree.old }
@@ -138,7 +148,7 @@ fn run_play<R: Threads + Wait + Sync, S: Source, T: Tree, K: Sink>(
 /// Writes the transcript of a run.
 fn write_transcript<K: Sink>(alloc: Global, played: &Played, out: &mut K) -> Status
     ensures ends { WriteEnds (written K.Sink out.old out.new)
-        (transcript_of (record { history = played.now.history.entries; records = played.now.records; last = played.now.last })) result }
+        (transcript_of (ended_of played.now)) result }
     ensures quiet { result ≢ Status.SinkFault → K.faults out.new ≡ K.faults out.old }
 {
     match transcript(alloc, played) {
@@ -178,8 +188,8 @@ fn play_demo<R: Threads + Wait + Sync>(
     workers: u32,
 ) -> Result<Played, AllocError>
     requires { IsInRange (Request.Demo seed files edits workers) }
-    ensures { IfOk result (λ played. PlaysDemo seed files edits workers played.workers.items
-        (record { history = played.history.entries; records = played.records; last = played.last })) }
+    ensures { IfOk result
+        (λ played. PlaysDemo seed files edits workers played.workers.items (ended_of played)) }
 {
     a_demo_is_lawful();
     demo_runs_agree();
@@ -208,7 +218,7 @@ fn script_of_demo(alloc: Global, seed: u32, files: u32, edits: u32) -> Result<Sc
 /// Writes the summary of a run.
 fn write_summary<K: Sink>(alloc: Global, played: &Played, out: &mut K) -> Status
     ensures ends { WriteEnds (written K.Sink out.old out.new)
-        (summary_of (record { history = played.now.history.entries; records = played.now.records; last = played.now.last })) result }
+        (summary_of (ended_of played.now)) result }
     ensures quiet { result ≢ Status.SinkFault → K.faults out.new ≡ K.faults out.old }
 {
     match summary(alloc, played) {

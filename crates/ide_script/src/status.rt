@@ -11,9 +11,13 @@ pub enum Status {
     Usage,
     /// The first line outside the grammar of scripts.
     BadScript { line: u32 },
+    /// Standard input, or the source in its place, met a fault.
     SourceFault,
+    /// A file couldn't be read.
     TreeFault,
+    /// The output couldn't be written whole.
     SinkFault,
+    /// Memory ran out.
     OutOfMemory,
     /// The script has more bytes than a script may have.
     ScriptTooLong,

@@ -20,8 +20,10 @@ pub(crate) fn read_store<T: Tree>(
     ensures store { IfOk result (IsStoreFor (T.files tree.old) path.now) }
     ensures asks { AsksFront T.asks tree.old (option_to_list path.now) tree.new }
     ensures asks_each { OnOk result (AsksEach T.asks tree.old (option_to_list path.now) tree.new) }
-    ensures asks_some { result ≡ Err PlayRefusal.TreeFault → AsksSome T.asks tree.old (option_to_list path.now) tree.new }
-    ensures fault { result ≡ Err PlayRefusal.TreeFault → HasFault (T.faults tree.old) (T.faults tree.new) }
+    ensures asks_some { result ≡ Err PlayRefusal.TreeFault
+        → AsksSome T.asks tree.old (option_to_list path.now) tree.new }
+    ensures fault { result ≡ Err PlayRefusal.TreeFault
+        → HasFault (T.faults tree.old) (T.faults tree.new) }
     ensures files { T.files tree.new ≡ T.files tree.old }
     ensures quiet { result ≢ Err PlayRefusal.TreeFault → T.faults tree.new ≡ T.faults tree.old }
 {
@@ -35,7 +37,8 @@ pub(crate) fn read_store<T: Tree>(
 fn read_store_at<T: Tree>(alloc: Global, path: &Name, tree: &mut T) -> Result<Store, PlayRefusal>
     ensures store { IfOk result (IsStoreAt (T.files tree.old) path.now) }
     ensures asks { T.asks tree.old path.now tree.new }
-    ensures fault { result ≡ Err PlayRefusal.TreeFault → HasFault (T.faults tree.old) (T.faults tree.new) }
+    ensures fault { result ≡ Err PlayRefusal.TreeFault
+        → HasFault (T.faults tree.old) (T.faults tree.new) }
     ensures files { T.files tree.new ≡ T.files tree.old }
     ensures quiet { result ≢ Err PlayRefusal.TreeFault → T.faults tree.new ≡ T.faults tree.old }
 {

@@ -124,10 +124,6 @@ cmp-chars bs ds u v =
     ∙ ap (λ x. slice_cmp nat_cmp (encode_utf8_all (chars bs)) x) (sym (encodes-chars ds v))
     ∙ cmp-encodes (chars bs) (chars ds)
 
--- and so bytes are the same where characters are
-pub bytes_eq-encodes : (cs ds : List ℕ) → bytes_eq (encode_utf8_all cs) (encode_utf8_all ds) ≡ bytes_eq cs ds
-bytes_eq-encodes cs ds = sym (is_eq-slice_cmp (encode_utf8_all cs) (encode_utf8_all ds)) ∙ ap is_eq (cmp-encodes cs ds) ∙ is_eq-slice_cmp cs ds
-
 pub bytes_eq-chars : (bs ds : List ℕ) → IsUtf8 bs → IsUtf8 ds → bytes_eq bs ds ≡ bytes_eq (chars bs) (chars ds)
 bytes_eq-chars bs ds u v = sym (is_eq-slice_cmp bs ds) ∙ ap is_eq (cmp-chars bs ds u v) ∙ is_eq-slice_cmp (chars bs) (chars ds)
 

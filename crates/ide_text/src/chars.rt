@@ -70,7 +70,8 @@ impl Chars {
         requires kept { IsKept self.now }
         requires ordered { from ≤ to }
         requires inside { to ≤ length (chars_of self.now) }
-        ensures { IfSome result (λ letters. chars letters.now ≡ take (to - from) (drop from (chars_of self.now))) }
+        ensures { IfSome result
+            (λ letters. chars letters.now ≡ take (to - from) (drop from (chars_of self.now))) }
     {
         match self {
             Chars::Ascii(text) => Some(&text[from..to]),
@@ -88,7 +89,9 @@ impl Chars {
         requires kept { IsKept self.now }
         requires ordered { from ≤ to }
         requires inside { to ≤ length (chars_of self.now) }
-        ensures { OnOk result (string_bytes out.new ≡ string_bytes out.old ++ encode_utf8_all (take (to - from) (drop from (chars_of self.now)))) }
+        ensures { OnOk result
+            (string_bytes out.new ≡ string_bytes out.old
+            ++ encode_utf8_all (take (to - from) (drop from (chars_of self.now)))) }
     {
         match self {
             Chars::Ascii(text) => out.push_str(&text[from..to]),
@@ -106,7 +109,9 @@ impl Chars {
         requires kept { IsKept self.now }
         requires ordered { from ≤ to }
         requires inside { to ≤ length (chars_of self.now) }
-        ensures { IfOk result (λ made. bytes_of made ≡ encode_utf8_all (take (to - from) (drop from (chars_of self.now)))) }
+        ensures { IfOk result
+            (λ made. bytes_of made
+            ≡ encode_utf8_all (take (to - from) (drop from (chars_of self.now)))) }
     {
         match self {
             Chars::Ascii(text) => Spelling::of(alloc, &text[from..to]),
@@ -119,8 +124,13 @@ impl Chars {
         requires kept { IsKept self.now }
         requires kept_piece { IsKept piece.now }
         requires inside { at ≤ length (chars_of self.now) }
-        requires scalars { IsTrue (all_scalars (take at (chars_of self.now) ++ chars_of piece.now ++ drop at (chars_of self.now))) }
-        ensures value { IfOk result (λ cs. chars_of cs ≡ take at (chars_of self.now) ++ chars_of piece.now ++ drop at (chars_of self.now)) }
+        requires scalars { IsTrue
+            (all_scalars
+            (take at (chars_of self.now) ++ chars_of piece.now
+            ++ drop at (chars_of self.now))) }
+        ensures value { IfOk result
+            (λ cs. chars_of cs ≡ take at (chars_of self.now) ++ chars_of piece.now
+            ++ drop at (chars_of self.now)) }
         ensures kept { IfOk result IsKept }
     {
         let alloc = self.alloc();
@@ -136,7 +146,8 @@ impl Chars {
         requires kept { IsKept self.old }
         requires ordered { from ≤ to }
         requires inside { to ≤ length (chars_of self.old) }
-        ensures value { chars_of self.new ≡ take from (chars_of self.old) ++ drop to (chars_of self.old) }
+        ensures value { chars_of self.new ≡ take from (chars_of self.old)
+            ++ drop to (chars_of self.old) }
         ensures kept { IsKept self.new }
     {
         match self {
@@ -242,7 +253,8 @@ fn short_of(chars: &[char]) -> Option<ArrayString<ROOM>>
 
 /// Adds some characters in UTF-8.
 fn add_chars(out: &mut String, chars: &[char]) -> Result<(), AllocError>
-    ensures { OnOk result (string_bytes out.new ≡ string_bytes out.old ++ encode_utf8_all chars.now) }
+    ensures { OnOk result
+        (string_bytes out.new ≡ string_bytes out.old ++ encode_utf8_all chars.now) }
 {
     for c in chars {
         out.push(*c)?;
@@ -276,7 +288,9 @@ fn with_breaks_repaired(alloc: Global, chars: &[char]) -> Result<String, AllocEr
 
 /// Adds what one character gives.
 fn push_repaired(out: &mut String, after_return: bool, c: char) -> Result<(), AllocError>
-    ensures { OnOk result (string_bytes out.new ≡ string_bytes out.old ++ encode_utf8_all (repaired_char after_return c)) }
+    ensures { OnOk result
+        (string_bytes out.new ≡ string_bytes out.old
+        ++ encode_utf8_all (repaired_char after_return c)) }
 {
     if c == '\r' {
         out.push('\n')?;

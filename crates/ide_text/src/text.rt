@@ -61,7 +61,8 @@ impl Text {
     pub fn from_utf8(alloc: Global, bytes: &[u8]) -> Result<Text, TextRefusal>
         ensures ok { IfOk result (λ text. text_of bytes.now ≡ Ok text) }
         ensures err { IfErr result (λ refusal. IsRefusalOf (text_of bytes.now) refusal) }
-        ensures no_utf8 { is_utf8 bytes.now ≡ false → result ≡ Err (NotText (utf8_valid_len bytes.now)) }
+        ensures no_utf8 { is_utf8 bytes.now ≡ false
+            → result ≡ Err (NotText (utf8_valid_len bytes.now)) }
     {
         let text = match std::str::from_utf8(bytes) {
             Ok(text) => text,
@@ -135,7 +136,8 @@ impl Text {
     pub(crate) fn spelling(&self, alloc: Global, from: u32, to: u32) -> Result<Spelling, AllocError>
         requires ordered { from ≤ to }
         requires inside { to ≤ length self.now }
-        ensures { IfOk result (λ made. chars (bytes_of made) ≡ take (to - from) (drop from self.now)) }
+        ensures { IfOk result
+            (λ made. chars (bytes_of made) ≡ take (to - from) (drop from self.now)) }
     {
         self.chars.spelling(alloc, from as usize, to as usize)
     }

@@ -31,8 +31,12 @@ pub(crate) fn apply_row(files: &mut Files, id: u32, edit: RowEdit) -> Option<Fil
     requires made { length files.old.rows < id → IsSome (put_row edit) × HasRowRoom files.old 1 }
     requires path { IfSome (put_row edit) (λ row. MayHave files.old id row.path) }
     requires stamped { IfSome (put_row edit) (λ row. IsStamped files.old.next_stamp (Some row)) }
-    ensures rows { (other : ℕ) → row_of files.new other ≡ (if id == other then edited_row edit (row_of files.old id) else row_of files.old other) }
-    ensures made { length files.new.rows ≡ (if nat_lt (length files.old.rows) id then id else length files.old.rows) }
+    ensures rows { (other : ℕ)
+        → row_of files.new other
+        ≡ (if id == other then edited_row edit (row_of files.old id)
+        else row_of files.old other) }
+    ensures made { length files.new.rows
+        ≡ (if nat_lt (length files.old.rows) id then id else length files.old.rows) }
     ensures next { files.new.next_stamp ≡ files.old.next_stamp }
     ensures keeps { KeepsFileRoom files.old files.new }
 {
@@ -48,11 +52,15 @@ pub(crate) fn apply_document(docs: &mut Docs, id: u32, edit: DocEdit)
     requires fit { IsDocEditFit edit (document_of docs.old id) }
     requires place { opens edit ≡ true → HasPlace docs.old id }
     requires room { IsSome (document_of docs.old id) → inserted_by edit ≤ room_of docs.old id }
-    ensures documents { Becomes docs.old docs.new id (edited_document edit (document_of docs.old id)) }
-    ensures open { open_of docs.new + one_if (is_some (document_of docs.old id)) ≡ open_of docs.old + one_if (is_some (edited_document edit (document_of docs.old id))) }
+    ensures documents { Becomes docs.old docs.new id
+        (edited_document edit (document_of docs.old id)) }
+    ensures open { open_of docs.new + one_if (is_some (document_of docs.old id))
+        ≡ open_of docs.old + one_if (is_some (edited_document edit (document_of docs.old id))) }
     ensures places { (other : ℕ) → HasPlace docs.old other → HasPlace docs.new other }
-    ensures others { (other : ℕ) → (id == other) ≡ false → room_of docs.old other ≤ room_of docs.new other }
-    ensures room { (n : ℕ) → IsWide n edit → (IsSome (document_of docs.old id) → room_before edit n ≤ room_of docs.old id)
+    ensures others { (other : ℕ) → (id == other) ≡ false
+        → room_of docs.old other ≤ room_of docs.new other }
+    ensures room { (n : ℕ) → IsWide n edit
+        → (IsSome (document_of docs.old id) → room_before edit n ≤ room_of docs.old id)
         → IsSome (edited_document edit (document_of docs.old id)) → n ≤ room_of docs.new id }
 {
     match edit {
@@ -79,8 +87,14 @@ pub(crate) fn apply_document(docs: &mut Docs, id: u32, edit: DocEdit)
 pub(crate) fn apply_index(layers: &mut Layers, id: u32, edit: IndexEdit) -> Option<GoneData>
     requires room { IfSome (brought edit) (HasLayerRoom layers.old id) }
     requires place { shows_on edit ≡ true → HasLayerPlace layers.old id }
-    ensures base { (other : ℕ) → base_of layers.new other ≡ (if id == other then (edited_index edit (indexed_in layers.old id)).base else base_of layers.old other) }
-    ensures overlay { (other : ℕ) → overlay_of layers.new other ≡ (if id == other then (edited_index edit (indexed_in layers.old id)).overlay else overlay_of layers.old other) }
+    ensures base { (other : ℕ)
+        → base_of layers.new other
+        ≡ (if id == other then (edited_index edit (indexed_in layers.old id)).base
+        else base_of layers.old other) }
+    ensures overlay { (other : ℕ)
+        → overlay_of layers.new other
+        ≡ (if id == other then (edited_index edit (indexed_in layers.old id)).overlay
+        else overlay_of layers.old other) }
     ensures keeps { KeepsLayerRoom layers.old layers.new }
     ensures keeps_place { KeepsLayerPlace layers.old layers.new }
 {

@@ -58,7 +58,8 @@ fn is_unready_file(files: &Files, docs: &Docs, id: u32) -> bool
 fn sweep_path(files: &mut Files, gone: &Option<FileRow>)
     ensures rows { files.new.rows ≡ files.old.rows }
     ensures next { files.new.next_stamp ≡ files.old.next_stamp }
-    ensures swept { IfSome gone.now (λ row. id_at files.old row.path ≡ None → HasPathRoom files.new row.path → ⊥) }
+    ensures swept { IfSome gone.now
+        (λ row. id_at files.old row.path ≡ None → HasPathRoom files.new row.path → ⊥) }
 {
     if let Some(row) = gone {
         files.sweep(&row.path);
@@ -82,14 +83,18 @@ impl State {
         requires lawful { IsLawfulStep self.old.world step }
         requires room { HasStepRoom self.old.room step }
         requires rows { HasRowRoom self.old.room.files (one_if (is_some (put_row step.row))) }
-        requires chars { IsSome (document_of self.old.room.docs step.id) → inserted_by step.doc ≤ room_of self.old.room.docs step.id }
+        requires chars { IsSome (document_of self.old.room.docs step.id)
+            → inserted_by step.doc ≤ room_of self.old.room.docs step.id }
         requires stamps { self.old.world.next_stamp + 1 ≤ 64 * self.old.world.entries + 1 }
         ensures id { result.id ≡ step.id }
         ensures world { self.new.world ≡ after_step self.old.world step }
         ensures keeps { KeepsRoom self.old.room self.new.room }
-        ensures rows { (count : ℕ) → HasRowRoom self.old.room.files (one_if (is_some (put_row step.row)) + count) → HasRowRoom self.new.room.files count }
+        ensures rows { (count : ℕ)
+            → HasRowRoom self.old.room.files (one_if (is_some (put_row step.row)) + count)
+            → HasRowRoom self.new.room.files count }
         ensures chars { (id n : ℕ) → (step.id ≡ id → IsWide n step.doc)
-            → (IsSome (document_of self.old.room.docs id) → room_before_step id step n ≤ room_of self.old.room.docs id)
+            → (IsSome (document_of self.old.room.docs id)
+            → room_before_step id step n ≤ room_of self.old.room.docs id)
             → IsSome (document_of self.new.room.docs id) → n ≤ room_of self.new.room.docs id }
     {
         let id = step.id;
@@ -107,7 +112,8 @@ impl State {
         requires ready { IsReady self.old steps.items }
         requires place { vec_len gone.old + vec_len steps ≤ vec_capacity gone.old }
         ensures world { self.new.world ≡ after_steps self.old.world steps.items }
-        ensures ids { ids_of_gone gone.new.items ≡ ids_of_gone gone.old.items ++ ids_of steps.items }
+        ensures ids { ids_of_gone gone.new.items ≡ ids_of_gone gone.old.items
+            ++ ids_of steps.items }
     {
         for step in steps {
             let taken = self.carry_out(step);

@@ -158,7 +158,10 @@ fn closed_index(path: &Name) -> IndexEdit
 
 /// What an open makes of the index data: where those of the content are there, they are shown on, else they are made.
 fn opened_index(alloc: Global, row: &FileRow) -> Result<IndexEdit, AllocError>
-    ensures { IfOk result (λ edit. edit ≡ open_index (is_indexed_at row.now.stamp row.now.indexed) (kind_of row.now.path) row.now.content) }
+    ensures { IfOk result
+        (λ edit. edit
+        ≡ open_index (is_indexed_at row.now.stamp row.now.indexed)
+        (kind_of row.now.path) row.now.content) }
 {
     if row.indexed == Some(row.stamp) {
         return Ok(shown_index(&row.path));

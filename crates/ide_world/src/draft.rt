@@ -114,7 +114,8 @@ impl<'a> Draft<'a> {
 
     /// The live file at a path.
     pub(crate) fn find(&self, path: &Name) -> Option<Found<'_>>
-        ensures found { IfSome result (λ found. IsLiveAt (world_now self.now) path.now found.id found.row.now) }
+        ensures found { IfSome result
+            (λ found. IsLiveAt (world_now self.now) path.now found.id found.row.now) }
         ensures none { IfNone result (id_at (world_now self.now) path.now ≡ None) }
         ensures draft { IsDraft self.now }
     {
@@ -135,7 +136,8 @@ impl<'a> Draft<'a> {
 
     /// What the document of an id looks like, where it is open.
     pub(crate) fn look(&self, id: u32) -> Option<Look>
-        ensures value { result ≡ option_map look_of (document_part (file_of (world_now self.now) id)) }
+        ensures value { result
+            ≡ option_map look_of (document_part (file_of (world_now self.now) id)) }
         ensures short { IfSome result (λ look. look.len ≤ 65 * 1048576) }
     {
         let first = look_of(self.state, id);
@@ -152,7 +154,8 @@ impl<'a> Draft<'a> {
 
     /// The committed text of an open document.
     pub(crate) fn committed(&self, id: u32) -> Option<&SharedText>
-        ensures { option_copied result ≡ option_map (λ d. d.committed) (document_part (file_of (world_now self.now) id)) }
+        ensures { option_copied result
+            ≡ option_map (λ d. d.committed) (document_part (file_of (world_now self.now) id)) }
     {
         let first = committed_of(self.state, id);
         walk::committed(self.steps.as_slice(), id, first)
@@ -160,7 +163,9 @@ impl<'a> Draft<'a> {
 
     /// The text of an open document, made anew.
     pub(crate) fn text(&self, id: u32) -> Result<Option<Text>, AllocError>
-        ensures { IfOk result (λ text. text ≡ option_map (λ d. d.text) (document_part (file_of (world_now self.now) id))) }
+        ensures { IfOk result
+            (λ text. text
+            ≡ option_map (λ d. d.text) (document_part (file_of (world_now self.now) id))) }
     {
         let first = text_of(self.state, id)?;
         walk::text(self.steps.as_slice(), id, first)
@@ -169,7 +174,8 @@ impl<'a> Draft<'a> {
     /// Whether the text of the document of an id isn't committed. It asks for memory only where a step changes a text
     /// of the document.
     pub(crate) fn is_uncommitted(&self, id: u32) -> Result<bool, AllocError>
-        ensures value { IfOk result (λ answer. answer ≡ is_uncommitted (document_part (file_of (world_now self.now) id))) }
+        ensures value { IfOk result
+            (λ answer. answer ≡ is_uncommitted (document_part (file_of (world_now self.now) id))) }
         ensures known { OnErr result (self.now.steps ≢ []) }
     {
         if !walk::edits_texts(self.steps.as_slice(), id) {
@@ -189,7 +195,9 @@ impl<'a> Draft<'a> {
         is_new: bool,
     ) -> Result<Option<SharedText>, AllocError>
         requires { is_new ≡ is_uncommitted (document_part (file_of (world_now self.now) id)) }
-        ensures { IfOk result (λ text. text ≡ option_map (λ d. d.text) (document_part (file_of (world_now self.now) id))) }
+        ensures { IfOk result
+            (λ text. text
+            ≡ option_map (λ d. d.text) (document_part (file_of (world_now self.now) id))) }
     {
         if is_new {
             return match self.text(id)? {
@@ -230,7 +238,8 @@ impl<'a> Draft<'a> {
     pub(crate) fn push(&mut self, step: Step) -> Result<(), AllocError>
         requires lawful { IsLawfulStep (world_now self.old) step }
         requires few { length self.old.steps < 64 }
-        ensures ok { OnOk result (self.new ≡ record self.old { steps = self.old.steps ++ step ∷ [] }) }
+        ensures ok { OnOk result
+            (self.new ≡ record self.old { steps = self.old.steps ++ step ∷ [] }) }
         ensures draft { IsDraft self.old }
     {
         let made = self.made_after(&step);
@@ -269,14 +278,16 @@ fn look_of(state: &State, id: u32) -> Option<Look>
 
 /// The committed text of a document of the state.
 fn committed_of(state: &State, id: u32) -> Option<&SharedText>
-    ensures { option_copied result ≡ option_map (λ d. d.committed) (document_part (file_of state.now.world id)) }
+    ensures { option_copied result
+        ≡ option_map (λ d. d.committed) (document_part (file_of state.now.world id)) }
 {
     Some(state.document(id)?.committed())
 }
 
 /// The text of a document of the state.
 fn text_of(state: &State, id: u32) -> Result<Option<Text>, AllocError>
-    ensures { IfOk result (λ text. text ≡ option_map (λ d. d.text) (document_part (file_of state.now.world id))) }
+    ensures { IfOk result
+        (λ text. text ≡ option_map (λ d. d.text) (document_part (file_of state.now.world id))) }
 {
     match state.document(id) {
         Some(doc) => Ok(Some(doc.text()?)),

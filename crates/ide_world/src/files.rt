@@ -125,7 +125,9 @@ fn moved_index(
     to: &Name,
     committed: Option<&SharedText>,
 ) -> Result<IndexEdit, AllocError>
-    ensures { IfOk result (λ edit. edit ≡ moved_index (kind_of path.now) (kind_of to.now) (option_copied committed.entry)) }
+    ensures { IfOk result
+        (λ edit. edit
+        ≡ moved_index (kind_of path.now) (kind_of to.now) (option_copied committed.entry)) }
 {
     let kind = kind_of(to);
     if is_same_kind(kind_of(path), kind) {
@@ -141,7 +143,8 @@ fn moved_index(
 
 pub(crate) fn taken_in(draft: &Draft<'_>, made: Made) -> Result<Step, AllocError>
     requires accepted { refusal_of (world_now draft.now) (Intake made.file made.stamp) ≡ None }
-    requires of_world { IsOfWorld (world_now draft.now) (record { file = made.file; kind = made.kind; stamp = made.stamp; content = made.text }) }
+    requires of_world { IsOfWorld (world_now draft.now)
+        (record { file = made.file; kind = made.kind; stamp = made.stamp; content = made.text }) }
     ensures { IfOk result (Builds (world_now draft.now) (Intake made.file made.stamp)) }
 {
     let Some(row) = draft.row(made.file) else {
@@ -162,7 +165,8 @@ pub(crate) fn taken_in(draft: &Draft<'_>, made: Made) -> Result<Step, AllocError
 /// What an intake of data of a kind makes of the index data. Where the file has a kind, it is that one.
 fn intake_index(path: &Name, kind: FileKind, parts: FileData) -> IndexEdit
     requires { IfSome (kind_of path.now) (λ k. k ≡ kind) }
-    ensures { (text : List ℕ) → parts ≡ parts_of kind text → result ≡ intake_index (kind_of path.now) text }
+    ensures { (text : List ℕ) → parts ≡ parts_of kind text
+        → result ≡ intake_index (kind_of path.now) text }
 {
     if !passes_filter(path) {
         return IndexEdit::Keep;

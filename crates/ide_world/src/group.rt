@@ -44,6 +44,7 @@ impl Model for Ready {
 pub struct GroupRefusal {
     /// Its place in the list, from 1.
     pub place: u32,
+    /// Why it is refused.
     pub why: Refusal,
 }
 
@@ -101,11 +102,15 @@ pub fn prepare_group(
 
 /// Makes the intake of index data ready, or gives the first reason to refuse it, before memory is asked for.
 pub fn prepare_intake(alloc: Global, state: &State, made: Made) -> Result<Ready, Refusal>
-    requires { IsOfWorld state.now.world (record { file = made.file; kind = made.kind; stamp = made.stamp; content = made.text }) }
+    requires { IsOfWorld state.now.world
+        (record { file = made.file; kind = made.kind; stamp = made.stamp; content = made.text }) }
     ensures ready { IfOk result (IsReadyFor state.now.world) }
-    ensures makes { IfOk result (λ ready. Makes state.now.world ready (Intake made.file made.stamp ∷ [])) }
-    ensures first { IfSome (refusal_of state.now.world (Intake made.file made.stamp)) (λ why. result ≡ Err why) }
-    ensures refused { IfErr result (IsRefusalOf (refusal_of state.now.world (Intake made.file made.stamp))) }
+    ensures makes { IfOk result
+        (λ ready. Makes state.now.world ready (Intake made.file made.stamp ∷ [])) }
+    ensures first { IfSome (refusal_of state.now.world (Intake made.file made.stamp))
+        (λ why. result ≡ Err why) }
+    ensures refused { IfErr result
+        (IsRefusalOf (refusal_of state.now.world (Intake made.file made.stamp))) }
 {
     let mut draft = Draft::new(alloc, state);
     if let Some(refusal) = intake_refusal(&draft, made.file, made.stamp) {
@@ -129,8 +134,10 @@ pub fn reserve(state: &mut State, ready: &Ready) -> Result<(), AllocError>
 pub fn install(state: &mut State, ready: Ready) -> Option<u32>
     requires ready { IsReadyFor state.old.world ready }
     requires room { HasRoom state.old ready }
-    ensures world { (changes : List Change) → Makes state.old.world ready changes → state.new.world ≡ after_list state.old.world changes }
-    ensures unready { (changes : List Change) → Makes state.old.world ready changes → result ≡ hinted state.old.world changes }
+    ensures world { (changes : List Change) → Makes state.old.world ready changes
+        → state.new.world ≡ after_list state.old.world changes }
+    ensures unready { (changes : List Change) → Makes state.old.world ready changes
+        → result ≡ hinted state.old.world changes }
 {
     let Ready { steps } = ready;
     state.install(steps)
@@ -142,7 +149,8 @@ fn extend(alloc: Global, draft: &mut Draft<'_>, change: &Change) -> Result<(), R
     requires few { length draft.old.steps < 64 }
     ensures accepted { OnOk result (refusal_of (world_now draft.old) change.now ≡ None) }
     ensures extended { OnOk result (IsExtended draft.old draft.new change.now) }
-    ensures first { draft.old.steps ≡ [] → IfSome (refusal_of (world_now draft.old) change.now) (λ why. result ≡ Err why) }
+    ensures first { draft.old.steps ≡ []
+        → IfSome (refusal_of (world_now draft.old) change.now) (λ why. result ≡ Err why) }
     ensures refused { IfErr result (IsRefusalOf (refusal_of (world_now draft.old) change.now)) }
 {
     match refusal(draft, change) {
@@ -171,7 +179,8 @@ fn add(alloc: Global, draft: &mut Draft<'_>, change: &Change) -> Result<(), Allo
 fn taken_in(draft: &mut Draft<'_>, made: Made) -> Result<(), AllocError>
     requires few { length draft.old.steps < 64 }
     requires accepted { refusal_of (world_now draft.old) (Intake made.file made.stamp) ≡ None }
-    requires of_world { IsOfWorld (world_now draft.old) (record { file = made.file; kind = made.kind; stamp = made.stamp; content = made.text }) }
+    requires of_world { IsOfWorld (world_now draft.old)
+        (record { file = made.file; kind = made.kind; stamp = made.stamp; content = made.text }) }
     ensures { OnOk result (IsExtended draft.old draft.new (Intake made.file made.stamp)) }
 {
     let step = files::taken_in(draft, made)?;

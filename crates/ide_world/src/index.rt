@@ -12,8 +12,15 @@ use std::alloc::{AllocError, Global};
 
 /// The work of indexing a file, where it is unready.
 pub fn job(state: &State, id: u32) -> Result<Option<Job>, AllocError>
-    ensures task { IfOk result (λ job. option_map (λ j. record { file = j.file; kind = j.kind; stamp = j.stamp; content = j.text }) job ≡ task_with_id state.now.world id) }
-    ensures of_world { IfOk result (λ job. IfSome job (λ j. IsOfWorld state.now.world (record { file = j.file; kind = j.kind; stamp = j.stamp; content = j.text }))) }
+    ensures task { IfOk result
+        (λ job. option_map
+        (λ j.
+        record { file = j.file; kind = j.kind; stamp = j.stamp; content = j.text }) job
+        ≡ task_with_id state.now.world id) }
+    ensures of_world { IfOk result
+        (λ job. IfSome job
+        (λ j. IsOfWorld state.now.world
+        (record { file = j.file; kind = j.kind; stamp = j.stamp; content = j.text }))) }
 {
     let Some(row) = state.row(id) else {
         return Ok(None);

@@ -20,8 +20,11 @@ use overlay_index::{KeyWalk, StubWalk, WordWalk};
 impl State {
     /// The types with a name.
     pub fn type_rows<'a>(&'a self, name: &'a Name) -> StubWalk<'a>
-        ensures shown { result ≡ shown Java (λ id. values_of name.now (kept_of self.now id).types) (stubs_in (is_type_named name.now)) self.now.world }
-        ensures ready { lowest_unready self.now.world ≡ None → result ≡ found Java (stubs_in (is_type_named name.now)) self.now.world }
+        ensures shown { result
+            ≡ shown Java (λ id. values_of name.now (kept_of self.now id).types)
+            (stubs_in (is_type_named name.now)) self.now.world }
+        ensures ready { lowest_unready self.now.world ≡ None
+            → result ≡ found Java (stubs_in (is_type_named name.now)) self.now.world }
     {
         a_path_has_one_kind();
         a_name_finds_its_types();
@@ -30,8 +33,11 @@ impl State {
 
     /// The types that name a type as a super, each once.
     pub fn super_rows<'a>(&'a self, name: &'a Name) -> StubWalk<'a>
-        ensures shown { result ≡ shown Java (λ id. values_of name.now (kept_of self.now id).supers) (stubs_in (names_super name.now)) self.now.world }
-        ensures ready { lowest_unready self.now.world ≡ None → result ≡ found Java (stubs_in (names_super name.now)) self.now.world }
+        ensures shown { result
+            ≡ shown Java (λ id. values_of name.now (kept_of self.now id).supers)
+            (stubs_in (names_super name.now)) self.now.world }
+        ensures ready { lowest_unready self.now.world ≡ None
+            → result ≡ found Java (stubs_in (names_super name.now)) self.now.world }
     {
         a_path_has_one_kind();
         a_name_finds_its_subtypes();
@@ -40,8 +46,11 @@ impl State {
 
     /// The methods with a name.
     pub fn method_rows<'a>(&'a self, name: &'a Name) -> StubWalk<'a>
-        ensures shown { result ≡ shown Java (λ id. values_of name.now (kept_of self.now id).methods) (stubs_in (is_method_named name.now)) self.now.world }
-        ensures ready { lowest_unready self.now.world ≡ None → result ≡ found Java (stubs_in (is_method_named name.now)) self.now.world }
+        ensures shown { result
+            ≡ shown Java (λ id. values_of name.now (kept_of self.now id).methods)
+            (stubs_in (is_method_named name.now)) self.now.world }
+        ensures ready { lowest_unready self.now.world ≡ None
+            → result ≡ found Java (stubs_in (is_method_named name.now)) self.now.world }
     {
         a_path_has_one_kind();
         a_name_finds_its_methods();
@@ -50,8 +59,11 @@ impl State {
 
     /// The files that have a word, each with the word's mask in it.
     pub fn word_rows<'a>(&'a self, name: &'a Name) -> WordWalk<'a>
-        ensures shown { result ≡ shown Java (λ id. values_of name.now (kept_of self.now id).words) (masks_in name.now) self.now.world }
-        ensures ready { lowest_unready self.now.world ≡ None → result ≡ found Java (masks_in name.now) self.now.world }
+        ensures shown { result
+            ≡ shown Java (λ id. values_of name.now (kept_of self.now id).words)
+            (masks_in name.now) self.now.world }
+        ensures ready { lowest_unready self.now.world ≡ None
+            → result ≡ found Java (masks_in name.now) self.now.world }
     {
         a_path_has_one_kind();
         a_word_finds_its_mask();
@@ -60,8 +72,11 @@ impl State {
 
     /// The offsets of a property key.
     pub fn key_rows<'a>(&'a self, name: &'a Name) -> KeyWalk<'a>
-        ensures shown { result ≡ shown Properties (λ id. values_of name.now (kept_of self.now id).keys) (places_of_key name.now) self.now.world }
-        ensures ready { lowest_unready self.now.world ≡ None → result ≡ found Properties (places_of_key name.now) self.now.world }
+        ensures shown { result
+            ≡ shown Properties (λ id. values_of name.now (kept_of self.now id).keys)
+            (places_of_key name.now) self.now.world }
+        ensures ready { lowest_unready self.now.world ≡ None
+            → result ≡ found Properties (places_of_key name.now) self.now.world }
     {
         a_path_has_one_kind();
         a_key_finds_its_places();

@@ -7,6 +7,7 @@ ghost use Rattle.ide_world.specs.Task.{Task, task_with_id, IsOfWorld};
 /// The work of a file, taken after a part of a legal history, is still of the world after all of it. So its data may be
 /// made outside every lock, and prepared whenever they are there.
 pub fn a_task_stays_of_the_world()
-    ensures { (earlier : List Entry) (later : List Entry) (id : ℕ) (task : Task) → IsLegal (earlier ++ later)
-        → task_with_id (fold earlier) id ≡ Some task → IsOfWorld (fold (earlier ++ later)) task }
+    ensures { (earlier : List Entry) (later : List Entry) (id : ℕ) (task : Task)
+        → IsLegal (earlier ++ later) → task_with_id (fold earlier) id ≡ Some task
+        → IsOfWorld (fold (earlier ++ later)) task }
 {}

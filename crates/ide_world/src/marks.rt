@@ -45,7 +45,8 @@ impl Marks {
     pub(crate) fn lowest_from(&self, from: u32) -> Option<u32>
         ensures on { IfSome result (λ id. is_on self.now id ≡ true) }
         ensures within { IfSome result (λ id. from ≤ id) }
-        ensures first { IfSome result (λ id. (other : ℕ) → from ≤ other → other < id → is_on self.now other ≡ false) }
+        ensures first { IfSome result
+            (λ id. (other : ℕ) → from ≤ other → other < id → is_on self.now other ≡ false) }
         ensures none { IfNone result ((id : ℕ) → from ≤ id → is_on self.now id ≡ false) }
     {
         let (id, _) = self.ids.range(from..).find(|(_, on)| **on)?;
@@ -57,7 +58,8 @@ impl Marks {
         ensures place { OnOk result (has_mark self.new id ≡ true) }
         ensures same { (other : ℕ) → is_on self.new other ≡ is_on self.old other }
         ensures count { self.new.count ≡ self.old.count }
-        ensures keeps { (other : ℕ) → has_mark self.old other ≡ true → has_mark self.new other ≡ true }
+        ensures keeps { (other : ℕ) → has_mark self.old other ≡ true
+            → has_mark self.new other ≡ true }
     {
         if !self.ids.contains_key(&id) {
             self.ids.insert(id, false)?;
@@ -70,7 +72,8 @@ impl Marks {
         requires place { has_mark self.old id ≡ true }
         requires some { one_if (is_on self.old id) ≤ self.old.count }
         requires few { self.old.count < u32.MAX }
-        ensures each { (other : ℕ) → is_on self.new other ≡ (if id == other then on else is_on self.old other) }
+        ensures each { (other : ℕ)
+            → is_on self.new other ≡ (if id == other then on else is_on self.old other) }
         ensures count { self.new.count + one_if (is_on self.old id) ≡ self.old.count + one_if on }
         ensures keeps { (other : ℕ) → has_mark self.new other ≡ has_mark self.old other }
     {
@@ -92,7 +95,8 @@ impl Marks {
         ensures each { (other : ℕ) → is_on self.new other ≡ is_on self.old other }
         ensures count { self.new.count ≡ self.old.count }
         ensures swept { is_on self.old id ≡ false → has_mark self.new id ≡ false }
-        ensures keeps { (other : ℕ) → (other == id) ≡ false → has_mark self.new other ≡ has_mark self.old other }
+        ensures keeps { (other : ℕ) → (other == id) ≡ false
+            → has_mark self.new other ≡ has_mark self.old other }
     {
         if let Some(on) = self.ids.get(&id)
             && !*on

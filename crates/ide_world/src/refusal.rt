@@ -59,7 +59,8 @@ fn create_refusal(draft: &Draft<'_>, path: &Name) -> Option<Refusal>
 
 /// Of a write and of a delete.
 fn conflict_refusal(draft: &Draft<'_>, path: &Name) -> Option<Refusal>
-    ensures write { (text : List ℕ) → result ≡ refusal_of (world_now draft.now) (Write path.now text) }
+    ensures write { (text : List ℕ)
+        → result ≡ refusal_of (world_now draft.now) (Write path.now text) }
     ensures delete { result ≡ refusal_of (world_now draft.now) (Delete path.now) }
 {
     if !draft.has_file_at(path) {
@@ -88,7 +89,8 @@ fn open_refusal(draft: &Draft<'_>, path: &Name) -> Option<Refusal>
 
 fn insert_refusal(draft: &Draft<'_>, path: &Name, at: u32, count: u32) -> Option<Refusal>
     requires { count ≤ 1048576 }
-    ensures { (text : List ℕ) → length text ≡ count → result ≡ refusal_of (world_now draft.now) (Insert path.now at text) }
+    ensures { (text : List ℕ) → length text ≡ count
+        → result ≡ refusal_of (world_now draft.now) (Insert path.now at text) }
 {
     if !draft.has_file_at(path) {
         return Some(Refusal::NoSuchFile);
@@ -137,7 +139,8 @@ fn closed_refusal(draft: &Draft<'_>, path: &Name) -> Option<Refusal>
 }
 
 fn close_refusal(draft: &Draft<'_>, path: &Name) -> Result<Option<Refusal>, AllocError>
-    ensures value { IfOk result (λ refusal. refusal ≡ refusal_of (world_now draft.now) (CloseDoc path.now)) }
+    ensures value { IfOk result
+        (λ refusal. refusal ≡ refusal_of (world_now draft.now) (CloseDoc path.now)) }
     ensures known { OnErr result (draft.now.steps ≢ []) }
 {
     let Some(id) = draft.id_of(path) else {
@@ -197,7 +200,9 @@ fn is_unsaved_at(draft: &Draft<'_>, path: &Name) -> bool
 
 /// The last reason to refuse any change.
 fn fullness(draft: &Draft<'_>) -> Option<Refusal>
-    ensures { result ≡ (if nat_le max_entries (world_now draft.now).entries then Some Refusal.HistoryFull else None) }
+    ensures { result
+        ≡ (if nat_le max_entries (world_now draft.now).entries then Some Refusal.HistoryFull
+        else None) }
 {
     if draft.entries() >= MAX_ENTRIES {
         Some(Refusal::HistoryFull)

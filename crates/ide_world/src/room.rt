@@ -34,8 +34,10 @@ fn reserve_document(docs: &mut Docs, steps: &[Step], step: &Step) -> Result<(), 
     ensures same { SameDocuments docs.old docs.new }
     ensures open { open_of docs.new ≡ open_of docs.old }
     ensures keeps { KeepsDocRoom docs.old docs.new }
-    ensures place { OnOk result (opens step.now.doc ≡ true → 0 < step.now.id → HasPlace docs.new step.now.id) }
-    ensures room { OnOk result (0 < step.now.id → 0 < inserted_by step.now.doc → IsSome (document_of docs.old step.now.id)
+    ensures place { OnOk result
+        (opens step.now.doc ≡ true → 0 < step.now.id → HasPlace docs.new step.now.id) }
+    ensures room { OnOk result
+        (0 < step.now.id → 0 < inserted_by step.now.doc → IsSome (document_of docs.old step.now.id)
         → room_needed step.now.id steps.now ≤ room_of docs.new step.now.id) }
 {
     if step.id == 0 {
@@ -80,7 +82,8 @@ impl State {
         ensures keeps { KeepsRoom self.old.room self.new.room }
         ensures counts { KeepsCounts self.old.room self.new.room }
         ensures room { OnOk result (HasStepRoom self.new.room step.now) }
-        ensures chars { OnOk result (0 < inserted_by step.now.doc → IsSome (document_of self.new.room.docs step.now.id)
+        ensures chars { OnOk result
+            (0 < inserted_by step.now.doc → IsSome (document_of self.new.room.docs step.now.id)
             → room_needed step.now.id steps.now ≤ room_of self.new.room.docs step.now.id) }
     {
         reserve_path(&mut self.files, &step.row)?;

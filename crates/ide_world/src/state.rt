@@ -125,7 +125,8 @@ impl State {
 
     /// The document of a file, where it is open. Constant time.
     pub fn document(&self, id: u32) -> Option<&Doc>
-        ensures { option_map (λ d. d.now.document) result ≡ document_part (file_of self.now.world id) }
+        ensures { option_map (λ d. d.now.document) result
+            ≡ document_part (file_of self.now.world id) }
     {
         self.docs.get(id)
     }

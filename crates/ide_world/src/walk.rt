@@ -55,7 +55,8 @@ pub(crate) fn look(steps: &[Step], id: u32, first: Option<Look>) -> Option<Look>
 fn edited_look(edit: &DocEdit, look: Option<Look>) -> Option<Look>
     requires { IfSome look (λ look. look.len ≤ 64 * max_chars) }
     ensures value { result ≡ edited_look edit.now look }
-    ensures short { (n : ℕ) → 1 ≤ n → IfSome look (λ look. look.len ≤ n * max_chars) → IfSome result (λ look. look.len ≤ (n + 1) * max_chars) }
+    ensures short { (n : ℕ) → 1 ≤ n → IfSome look (λ look. look.len ≤ n * max_chars)
+        → IfSome result (λ look. look.len ≤ (n + 1) * max_chars) }
 {
     match edit {
         DocEdit::Keep => look,
@@ -93,7 +94,8 @@ pub(crate) fn committed<'a>(
     id: u32,
     first: Option<&'a SharedText>,
 ) -> Option<&'a SharedText>
-    ensures { option_copied result ≡ fold (committed_after id) (option_copied first.entry) steps.now }
+    ensures { option_copied result
+        ≡ fold (committed_after id) (option_copied first.entry) steps.now }
 {
     let mut text = first;
     for step in steps {

@@ -13,9 +13,10 @@ use stub_codec::laws::stub_lists_are_read_back;
 /// Reading from left to right meets no other version and no fault exactly where the bytes are those of a store, and then it
 /// gives what the store holds.
 pub fn reading_is_exact()
-    ensures read { (bytes : List ℕ) (rows : List Row) → All (λ b. b < 256) bytes → other_version bytes ≡ None → all_of bytes ≡ Ok rows
-        → IsStoreBytes rows bytes }
-    ensures again { (bytes : List ℕ) (rows : List Row) → IsStoreBytes rows bytes → (other_version bytes ≡ None) × (all_of bytes ≡ Ok rows) }
+    ensures read { (bytes : List ℕ) (rows : List Row) → All (λ b. b < 256) bytes
+        → other_version bytes ≡ None → all_of bytes ≡ Ok rows → IsStoreBytes rows bytes }
+    ensures again { (bytes : List ℕ) (rows : List Row) → IsStoreBytes rows bytes
+        → (other_version bytes ≡ None) × (all_of bytes ≡ Ok rows) }
 {
     stub_lists_are_read_back();
 }
@@ -28,5 +29,6 @@ pub fn equal_entries_are_one()
 
 /// Once an entry was added, it is there, and so is each that was there before, and no other.
 pub fn one_entry_is_added()
-    ensures { (x e : Entry) (es : List Entry) → has_entry x (with_entry e es) ≡ (is_eq (entry_cmp x e) || has_entry x es) }
+    ensures { (x e : Entry) (es : List Entry)
+        → has_entry x (with_entry e es) ≡ (is_eq (entry_cmp x e) || has_entry x es) }
 {}

@@ -100,7 +100,8 @@ fn key_of<'a>(
     before: Option<&(Name, u32)>,
     bytes: &'a [u8],
 ) -> Result<((Name, u32), &'a [u8]), Fault>
-    ensures { Gives (λ x. (x.0, x.1.now)) result (key_at len (option_copied before.entry) bytes.now) }
+    ensures { Gives (λ x. (x.0, x.1.now)) result
+        (key_at len (option_copied before.entry) bytes.now) }
 {
     let (name, rest) = name_of(alloc, bytes)?;
     let (at, end) = number_of(rest)?;

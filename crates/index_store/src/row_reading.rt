@@ -82,7 +82,8 @@ fn entry_of<'a>(
     before: Option<&Held>,
     bytes: &'a [u8],
 ) -> Result<(Name, FileKind, &'a [u8]), Fault>
-    ensures value { Gives (λ x. (record { text = x.0; kind = x.1 }, x.2.now)) result (entry_at (option_copied before.entry) bytes.now) }
+    ensures value { Gives (λ x. (record { text = x.0; kind = x.1 }, x.2.now)) result
+        (entry_at (option_copied before.entry) bytes.now) }
     ensures few { IfOk result (λ x. length x.0 ≤ max_chars) }
 {
     let (kind, rest) = kind_of(bytes)?;
@@ -117,7 +118,8 @@ fn is_no_return(c: char) -> bool
 
 /// Whether an entry may stand behind one.
 fn entry_rises(before: Option<&Held>, text: &Name, kind: FileKind) -> bool
-    ensures { result ≡ entry_rises (option_copied before.entry) (record { text = text.now; kind = kind }) }
+    ensures { result
+        ≡ entry_rises (option_copied before.entry) (record { text = text.now; kind = kind }) }
 {
     match before {
         Some(last) => is_below(last, text, kind),

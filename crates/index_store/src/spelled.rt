@@ -55,8 +55,10 @@ fn java_data(alloc: Global, text: &Text) -> Result<Vec<u8>, AllocError>
 /// The bytes of the keys of a text.
 #[tactic(auto, unfolding(crate::specs::Data::data_of, crate::specs::Spelling::data_bytes))]
 fn property_data(alloc: Global, text: &Text) -> Result<Vec<u8>, AllocError>
-    ensures spelled { IfOk result (λ bytes. bytes.items ≡ data_bytes Properties (data_of Properties text.now)) }
-    ensures lawful { IfOk result (λ bytes. IsData Properties (length text.now) (data_of Properties text.now)) }
+    ensures spelled { IfOk result
+        (λ bytes. bytes.items ≡ data_bytes Properties (data_of Properties text.now)) }
+    ensures lawful { IfOk result
+        (λ bytes. IsData Properties (length text.now) (data_of Properties text.now)) }
 {
     keys_stand_in_the_text();
     let keys = property_keys(alloc, text)?;

@@ -69,7 +69,8 @@ impl Store {
     pub fn read(alloc: Global, bytes: &[u8]) -> Result<Store, StoreRefusal>
         ensures read { IfOk result (λ store. IsStoreBytes (rows_of store) bytes.now) }
         ensures only { (entries : List AnEntry) → IsStoreBytes (rows_of entries) bytes.now
-            → IfOk result (λ store. store ≡ entries) × IfErr result (λ refusal. refusal ≡ OutOfMemory) }
+            → IfOk result (λ store. store ≡ entries)
+            × IfErr result (λ refusal. refusal ≡ OutOfMemory) }
         ensures refused { IfErr result (IsRefusalOf bytes.now) }
     {
         read_store(alloc, bytes)
@@ -104,7 +105,8 @@ impl Store {
     /// do.
     pub fn add(&mut self, kind: FileKind, text: &Text) -> Result<(), AllocError>
         requires { length self.old < 4294967295 }
-        ensures ok { OnOk result (self.new ≡ with_entry (record { text = text.now; kind = kind }) self.old) }
+        ensures ok { OnOk result
+            (self.new ≡ with_entry (record { text = text.now; kind = kind }) self.old) }
         ensures err { OnErr result (self.new ≡ self.old) }
     {
         let stored = Stored::of(self.alloc, kind, text)?;
@@ -115,7 +117,8 @@ impl Store {
     /// Whether a text with this kind is among the entries. The time is that of copying the text where there is an entry, and
     /// the logarithm of the number of entries.
     pub fn has(&self, kind: FileKind, text: &Text) -> Result<bool, AllocError>
-        ensures { IfOk result (λ has. has ≡ has_entry (record { text = text.now; kind = kind }) self.now) }
+        ensures { IfOk result
+            (λ has. has ≡ has_entry (record { text = text.now; kind = kind }) self.now) }
     {
         if self.held.is_empty() {
             return Ok(false);
@@ -127,7 +130,8 @@ impl Store {
     /// The rows that a text with this kind has in the indexes, if it is among the entries. The time is that of copying
     /// text and rows where there is an entry, and the logarithm of the number of entries.
     pub fn data_for(&self, kind: FileKind, text: &Text) -> Result<Option<FileData>, AllocError>
-        ensures { IfOk result (λ found. found ≡ rows_for (record { text = text.now; kind = kind }) self.now) }
+        ensures { IfOk result
+            (λ found. found ≡ rows_for (record { text = text.now; kind = kind }) self.now) }
     {
         if self.held.is_empty() {
             return Ok(None);
@@ -141,7 +145,8 @@ impl Store {
 
     /// The data of an entry.
     fn find(&self, text: Name, kind: FileKind) -> Option<&Stored>
-        ensures { option_map (λ (d : Seen). d.0) (option_copied result) ≡ rows_for (record { text = text; kind = kind }) self.now }
+        ensures { option_map (λ (d : Seen). d.0) (option_copied result)
+            ≡ rows_for (record { text = text; kind = kind }) self.now }
     {
         let key = (text, code_of(kind));
         self.held.get(&key)
@@ -167,7 +172,8 @@ impl Store {
         requires text { IsText text }
         requires right { AreDataOf (record { text = text; kind = kind }) stored }
         requires few { length self.old < 4294967295 }
-        ensures ok { OnOk result (self.new ≡ with_entry (record { text = text; kind = kind }) self.old) }
+        ensures ok { OnOk result
+            (self.new ≡ with_entry (record { text = text; kind = kind }) self.old) }
         ensures err { OnErr result (self.new ≡ self.old) }
     {
         self.held.insert((text, code_of(kind)), stored)?;

@@ -27,7 +27,8 @@ impl Model for Stored {
 impl Stored {
     /// The data of a text, by the kind of a file with it. Linear in the text, but for the sorting of its rows.
     pub(crate) fn of(alloc: Global, kind: FileKind, text: &Text) -> Result<Stored, AllocError>
-        ensures { IfOk result (λ stored. AreDataOf (record { text = text.now; kind = kind }) stored) }
+        ensures { IfOk result
+            (λ stored. AreDataOf (record { text = text.now; kind = kind }) stored) }
     {
         let spelled = spelled_data(alloc, kind, text)?;
         let rows = data_of(alloc, kind, text)?;

@@ -17,14 +17,14 @@ use Rattle.job_queue.specs.declared.hint.Hint.{Hint}
 use Rattle.job_queue.specs.declared.view.QueueView.{QueueView}
 use Rattle.ide_calls.specs.Made.{HasMade}
 use Rattle.write_history.specs.Settle.{entry_of}
-use Rattle.ide_calls.specs.declared.step.Step.{Step}
-use Rattle.ide_calls.specs.declared.step.Step.TheVariants.{Idle, Gone, Stale, Refused, Taken}
+use Rattle.ide_calls.specs.declared.step.Stepped.{Stepped}
+use Rattle.ide_calls.specs.declared.step.Stepped.TheVariants.{Idle, Gone, Stale, Refused, Taken}
 use Rattle.ide_calls.specs.Step.{HasStepped, HasTried}
 use Rattle.index_workers.specs.declared.worked.End.{End}
 use Rattle.index_workers.specs.declared.worked.End.TheVariants as end
 use Rattle.index_workers.specs.Hints.{HasTaken, IsFirstTried}
 use Rattle.index_workers.specs.declared.worked.Worked.{Worked}
-use Rattle.index_workers.specs.Work.{Done, Leads, taken_by, Sayings, any_answer, GoesOn, IsEndOf, WentOn, EndsWith, EndsBy, IsAtEnd, IsIntakeBy}
+use Rattle.index_workers.specs.Work.{Done, Leads, taken_by, Sayings, any_answer, GoesOn, IsEndOf, WentOn, WorkEnds, EndsBy, IsAtEnd, IsIntakeBy}
 use Rattle.index_workers.specs.Work.{StandsIn, HasGone, HasGoneOn, HasWorked, HasWorkedSo, HasWorkedInPart}
 use Rattle.index_workers.proofs.ReadyLemmas.{not_unready}
 
@@ -54,13 +54,13 @@ leads_more v w q r (c ∷ cs) d leads takes first stepped = (leads.0, leads.1, l
 -- ---- one step
 
 -- the step made no entry
-pub record MadeNone (v w : View Entry) (answer : Step) : Type 0 where
+pub record MadeNone (v w : View Entry) (answer : Stepped) : Type 0 where
   pub count : taken_by answer ≡ 0
   pub mine : w.mine ≡ v.mine
   pub advances : Advances v w
 
 -- the step made one entry, which takes a file in; no entry that had been seen did so at the same stamp
-pub record MadeOne (seat : ℕ) (v w : View Entry) (answer : Step) : Type 0 where
+pub record MadeOne (seat : ℕ) (v w : View Entry) (answer : Stepped) : Type 0 where
   pub entry : Entry
   pub count : taken_by answer ≡ 1
   pub mine : w.mine ≡ v.mine ++ entry ∷ []
@@ -69,7 +69,7 @@ pub record MadeOne (seat : ℕ) (v w : View Entry) (answer : Step) : Type 0 wher
   pub new : (e : Entry) → StandsIn v.seen e → entry.changes ≢ e.changes
   pub advances : Advances v w
 
-none_made : (v w : View Entry) (before own : List Entry) (answer : Step) → HasMade v w before own → own ≡ [] → taken_by answer ≡ 0 → MadeNone v w answer
+none_made : (v w : View Entry) (before own : List Entry) (answer : Stepped) → HasMade v w before own → own ≡ [] → taken_by answer ≡ 0 → MadeNone v w answer
 none_made v w before own answer made empty count = record {
   count = count;
   mine = made.mine ∙ ap (λ (l : List Entry). v.mine ++ l) empty ∙ append-nil v.mine;
@@ -97,7 +97,7 @@ one_made seat v w hint place number t =
       advances = t.made.advances;
     }
 
-pub made_by : (seat : ℕ) (v w : View Entry) (hint : Option ℕ) (answer : Step) → v.number ≡ Some seat → HasStepped hint v w answer
+pub made_by : (seat : ℕ) (v w : View Entry) (hint : Option ℕ) (answer : Stepped) → v.number ≡ Some seat → HasStepped hint v w answer
     → MadeNone v w answer ⊎ MadeOne seat v w answer
 made_by seat v w hint (Idle len) number s = inl (none_made v w w.seen [] (Idle len) s.found refl refl)
 made_by seat v w hint (Gone id) number t = inl (none_made v w t.last t.own (Gone id) t.made t.answer.1 refl)
@@ -113,7 +113,7 @@ record GoneFurther (seat : ℕ) (v u : View Entry) (q s : QueueView) (steps : Li
   count : length all ≡ length own + taken
   gone : HasGone seat v u q s steps all
 
-gone_further : (seat : ℕ) (v w u : View Entry) (q r s : QueueView) (steps : List Done) (own : List Entry) (hint : Option Hint) (file : ℕ) (answer : Step)
+gone_further : (seat : ℕ) (v w u : View Entry) (q r s : QueueView) (steps : List Done) (own : List Entry) (hint : Option Hint) (file : ℕ) (answer : Stepped)
     → HasGone seat v w q r steps own → HasTaken hint r s → IsFirstTried hint file → HasStepped (Some file) w u answer
     → GoneFurther seat v u q s (steps ++ record { hint = hint; file = file; answer = answer; after = u; queue = s } ∷ []) own (taken_by answer)
 gone_further seat v w u q r s steps own hint file answer gone takes first stepped =
@@ -171,7 +171,7 @@ not_yet said seat v q number = record {
   few = omega arith;
 }
 
-taken_few : (answer : Step) → taken_by answer ≤ 1
+taken_few : (answer : Stepped) → taken_by answer ≤ 1
 taken_few (Idle len) = omega arith
 taken_few (Gone id) = omega arith
 taken_few (Stale id made present) = omega arith
@@ -179,7 +179,7 @@ taken_few (Refused len) = omega arith
 taken_few (Taken place) = omega arith
 
 -- after a step with which the worker goes on
-pub goes_on : (said : Sayings) (seat turns taken : ℕ) (v w u : View Entry) (q r s : QueueView) (hint : Option Hint) (file : ℕ) (answer : Step)
+pub goes_on : (said : Sayings) (seat turns taken : ℕ) (v w u : View Entry) (q r s : QueueView) (hint : Option Hint) (file : ℕ) (answer : Stepped)
     → HasGoneOn said seat turns taken v w q r → HasTaken hint r s → IsFirstTried hint file → HasStepped (Some file) w u answer → GoesOn said seat answer
     → HasGoneOn said seat (turns + 1) (taken + taken_by answer) v u q s
 goes_on said seat turns taken v w u q r s hint file answer on takes first stepped going =
@@ -196,13 +196,13 @@ goes_on said seat turns taken v w u q r s hint file answer on takes first steppe
       few = omega (arith, on.few, taken_few answer);
     }
 
-ends_by : (said : Sayings) (seat : ℕ) (end : End) (steps : List Done) → EndsWith said seat end steps → (answer : Step) → IsEndOf said seat answer end
+ends_by : (said : Sayings) (seat : ℕ) (end : End) (steps : List Done) → WorkEnds said seat end steps → (answer : Stepped) → IsEndOf said seat answer end
     → EndsBy said seat end steps
 ends_by said seat (end.Idle len) steps ends answer is = ends
 ends_by said seat (end.Refused len) steps ends answer is = ends
 ends_by said seat end.Turns steps ends answer is = absurd is
 
-at_end : (said : Sayings) (seat : ℕ) (v w : View Entry) (hint : Option ℕ) (answer : Step) (why : End) → HasStepped hint v w answer
+at_end : (said : Sayings) (seat : ℕ) (v w : View Entry) (hint : Option ℕ) (answer : Stepped) (why : End) → HasStepped hint v w answer
     → IsEndOf said seat answer why → IsAtEnd why w
 at_end said seat v w hint answer (end.Idle len) stepped is =
     let idle : HasStepped hint v w (Idle len) = subst (HasStepped hint v w) is.0 stepped in (idle.whole, idle.smart)
@@ -213,7 +213,7 @@ at_end said seat v w hint answer (end.Refused len) stepped is =
 at_end said seat v w hint answer end.Turns stepped is = absurd is
 
 -- after a step with which the worker ends
-pub ends : (said : Sayings) (seat turns taken : ℕ) (v w u : View Entry) (q r s : QueueView) (hint : Option Hint) (file : ℕ) (answer : Step) (why : End)
+pub ends : (said : Sayings) (seat turns taken : ℕ) (v w u : View Entry) (q r s : QueueView) (hint : Option Hint) (file : ℕ) (answer : Stepped) (why : End)
     → HasGoneOn said seat turns taken v w q r → HasTaken hint r s → IsFirstTried hint file → HasStepped (Some file) w u answer → IsEndOf said seat answer why
     → HasWorked said v u q s (record { seat = seat; turns = turns + 1; taken = taken + taken_by answer; end = why })
 ends said seat turns taken v w u q r s hint file answer why on takes first stepped is =
@@ -246,7 +246,7 @@ cut_short said seat turns taken v w u q r s hint on takes advances mine = record
 
 -- ---- a run, whatever the gate may say
 
-whatever_goes : (said : Sayings) (seat : ℕ) (answer : Step) → GoesOn said seat answer → GoesOn any_answer seat answer
+whatever_goes : (said : Sayings) (seat : ℕ) (answer : Stepped) → GoesOn said seat answer → GoesOn any_answer seat answer
 whatever_goes said seat (Idle len) goes = tt
 whatever_goes said seat (Gone id) goes = tt
 whatever_goes said seat (Stale id made present) goes = tt

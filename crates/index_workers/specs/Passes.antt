@@ -2,6 +2,7 @@
 use Rattle.std.specs.Prelude.{◌≡◌, ◌≤◌, length}
 use Rattle.action_lock.specs.declared.lock.ActionLock.{ActionLock}
 use Rattle.action_lock.specs.declared.view.View.{View}
+use Rattle.action_lock.specs.Advances.{Advances}
 use Rattle.action_lock.specs.Passes.{view_of, IsSamePass, IsPassOf}
 use Rattle.write_history.specs.declared.entry.Entry.{Entry}
 use Rattle.ide_calls.specs.declared.home.IdeHome.{IdeHome}
@@ -27,3 +28,9 @@ pub record IsIdePassOf (l : ActionLock IdeHome Entry IdeShare) (j : JobQueue) (p
   pub drawn : (queue_view p.queue).drawn ≡ (view_of p.lock).drawn
   pub ended : length (queue_view p.queue).ended ≡ length (view_of p.lock).ended
   pub few : length (queue_view p.queue).put ≤ length (view_of p.lock).mine
+
+-- the pass is again one of this lock and this queue and at rest, the same one, and has lost nothing of what it knew
+pub record Continues (l : ActionLock IdeHome Entry IdeShare) (j : JobQueue) (p q : IdePass) : Type 0 where
+  pub rests : IsIdePassOf l j q
+  pub same : IsSameIdePass p q
+  pub advances : Advances (ide_view p) (ide_view q)

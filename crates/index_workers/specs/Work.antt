@@ -10,8 +10,8 @@ use Rattle.write_history.specs.World.{lowest_unready}
 use Rattle.write_history.specs.Effect.{max_entries}
 use Rattle.write_history.specs.Fold.{fold}
 use Rattle.write_history.specs.Settle.{entry_of}
-use Rattle.ide_calls.specs.declared.step.Step.{Step}
-use Rattle.ide_calls.specs.declared.step.Step.TheVariants as step
+use Rattle.ide_calls.specs.declared.step.Stepped.{Stepped}
+use Rattle.ide_calls.specs.declared.step.Stepped.TheVariants as step
 use Rattle.ide_calls.specs.Step.{HasStepped}
 use Rattle.job_queue.specs.declared.hint.Hint.{Hint}
 use Rattle.job_queue.specs.declared.view.QueueView.{QueueView}
@@ -28,7 +28,7 @@ max_turns = 131072
 pub record Done : Type 0 where
   pub hint : Option Hint
   pub file : ℕ
-  pub answer : Step
+  pub answer : Stepped
   pub after : View Entry
   pub queue : QueueView
 
@@ -42,7 +42,7 @@ Leads v q (d ∷ ds) w r =
     × Leads d.after d.queue ds w r
 
 -- how many entries a step made
-abbrev pub taken_by : Step → ℕ
+abbrev pub taken_by : Stepped → ℕ
 taken_by (step.Idle len) = 0
 taken_by (step.Gone id) = 0
 taken_by (step.Stale id made present) = 0
@@ -59,7 +59,7 @@ any_answer point answer = ⊤
 
 -- the worker with this number goes on after this answer: never after a refusal, and where nothing was to be done only where the gate may
 -- tell it to
-abbrev pub GoesOn : Sayings → ℕ → Step → Type 0
+abbrev pub GoesOn : Sayings → ℕ → Stepped → Type 0
 GoesOn said seat (step.Idle len) = said (point.Idle seat) true
 GoesOn said seat (step.Gone id) = ⊤
 GoesOn said seat (step.Stale id made present) = ⊤
@@ -67,7 +67,7 @@ GoesOn said seat (step.Refused len) = ⊥
 GoesOn said seat (step.Taken place) = ⊤
 
 -- the worker with this number ends so with this answer: where nothing was to be done only where the gate may tell it to
-abbrev pub IsEndOf : Sayings → ℕ → Step → End → Type 0
+abbrev pub IsEndOf : Sayings → ℕ → Stepped → End → Type 0
 IsEndOf said seat answer (Idle len) = (answer ≡ step.Idle len) × said (point.Idle seat) false
 IsEndOf said seat answer (Refused len) = answer ≡ step.Refused len
 IsEndOf said seat answer Turns = ⊥
@@ -77,7 +77,7 @@ abbrev pub WentOn : Sayings → ℕ → List Done → Type 0
 WentOn said seat steps = All (λ (d : Done). GoesOn said seat d.answer) steps
 
 -- the steps end with one by which the worker ends so, and it went on after all others
-pub record EndsWith (said : Sayings) (seat : ℕ) (end : End) (steps : List Done) : Type 0 where
+pub record WorkEnds (said : Sayings) (seat : ℕ) (end : End) (steps : List Done) : Type 0 where
   pub before : List Done
   pub last : Done
   pub are : steps ≡ before ++ last ∷ []
@@ -86,8 +86,8 @@ pub record EndsWith (said : Sayings) (seat : ℕ) (end : End) (steps : List Done
 
 -- why the worker ended with these steps
 abbrev pub EndsBy : Sayings → ℕ → End → List Done → Type 0
-EndsBy said seat (Idle len) steps = EndsWith said seat (Idle len) steps
-EndsBy said seat (Refused len) steps = EndsWith said seat (Refused len) steps
+EndsBy said seat (Idle len) steps = WorkEnds said seat (Idle len) steps
+EndsBy said seat (Refused len) steps = WorkEnds said seat (Refused len) steps
 EndsBy said seat Turns steps = (length steps ≡ max_turns) × WentOn said seat steps
 
 -- what holds of what a worker has seen when it ends so

@@ -1,20 +1,20 @@
 //! A walk over the files that workers try without a hint.
 
-use ide_calls::Step;
+use ide_calls::Stepped;
 use std::alloc::AllocError;
 use std::sync::atomic::{AtomicU64, Ordering};
 
 /// How far the workers of a workspace have come in a walk over its files, which they share: without a hint each tries the next one, so
 /// that they go in order of ids, and two seldom make the same file's data. Nothing that is answered depends on it.
 #[derive(Drop)]
-pub struct Cursor {
+pub struct SharedCursor {
     next: AtomicU64,
 }
 
-impl Cursor {
+impl SharedCursor {
     /// A walk that begins with the first file.
-    pub fn new() -> Cursor {
-        Cursor {
+    pub fn new() -> SharedCursor {
+        SharedCursor {
             next: AtomicU64::new(0),
         }
     }
@@ -38,8 +38,8 @@ impl Cursor {
     }
 
     /// Where a step found nothing to do the walk begins anew.
-    pub(crate) fn end_with(&self, step: &Result<Step, AllocError>) {
-        if let Ok(Step::Idle { at: _ }) = step {
+    pub(crate) fn end_with(&self, step: &Result<Stepped, AllocError>) {
+        if let Ok(Stepped::Idle { at: _ }) = step {
             self.next.store(0, Ordering::SeqCst);
         }
     }

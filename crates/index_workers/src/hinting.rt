@@ -12,7 +12,8 @@ use std::sync::Wait;
 pub fn hint<R: Wait>(rt: &R, queue: &JobQueue, pass: &mut IdePass, file: u32)
     requires pass { IsQueuePassOf queue.now pass.old.queue }
     requires room { length (queue_view pass.old.queue).put < 1048576 }
-    ensures pass { IsQueuePassOf queue.now pass.new.queue × IsSameQueuePass pass.old.queue pass.new.queue }
+    ensures pass { IsQueuePassOf queue.now pass.new.queue
+        × IsSameQueuePass pass.old.queue pass.new.queue }
     ensures lock { pass.new.lock ≡ pass.old.lock }
     ensures hints { HasHinted file (queue_view pass.old.queue) (queue_view pass.new.queue) }
 {

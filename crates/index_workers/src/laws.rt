@@ -12,11 +12,13 @@ use action_lock::Gate;
 
 /// A pass stays the same from one call to the next.
 pub fn passes_stay_the_same()
-    ensures { (p : AnIdePass) (q : AnIdePass) (r : AnIdePass) → IsSameIdePass p q → IsSameIdePass q r → IsSameIdePass p r }
+    ensures { (p : AnIdePass) (q : AnIdePass) (r : AnIdePass) → IsSameIdePass p q
+        → IsSameIdePass q r → IsSameIdePass p r }
 {}
 
 /// What a worker did with a gate is what it may do with whatever gate.
 pub fn workers_may_have_any_gate<G: Gate>()
-    ensures { (gate : G) (v : View Entry) (w : View Entry) (q : QueueView) (r : QueueView) (worked : AWorked) → HasWorked (G.may_say gate) v w q r worked
-        → HasWorkedSo v w worked }
+    ensures { (gate : G) (v : View Entry) (w : View Entry) (q : QueueView) (r : QueueView)
+        (worked : AWorked)
+        → HasWorked (G.may_say gate) v w q r worked → HasWorkedSo v w worked }
 {}

@@ -11,7 +11,7 @@ mod stepping;
 mod worked;
 mod working;
 
-pub use cursor::Cursor;
+pub use cursor::SharedCursor;
 pub use hinting::hint;
 pub use ide_calls::{Sighted, Store, make_stored};
 pub use pass::IdePass;

@@ -8,7 +8,9 @@ use job_queue::QueuePass;
 
 /// A pass of the lock, and one of the queue of hints with the same number. It has to be spent, by `meet` or `close`.
 pub struct IdePass {
+    /// Its pass of the lock.
     pub lock: Pass<IdeHome>,
+    /// Its pass of the queue of hints.
     pub queue: QueuePass,
 }
 

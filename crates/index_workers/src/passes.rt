@@ -35,11 +35,13 @@ pub fn split(
     requires pass { IsIdePassOf lock.now queue.now pass.old }
     requires leads { (ide_view pass.old).number ≡ Some 0 }
     ensures pass { IsIdePassOf lock.now queue.now pass.new × IsSameIdePass pass.old pass.new }
-    ensures ok { IfOk result (λ new.
-        IsIdePassOf lock.now queue.now new
-        × ((ide_view pass.old).drawn < 65536) × (ide_view pass.new ≡ splitting (ide_view pass.old)) × (ide_view new ≡ split_off (ide_view pass.old))) }
-    ensures full { IfErr result (λ refusal.
-        (refusal ≡ Full 65536) × ((ide_view pass.old).drawn ≡ 65536) × (ide_view pass.new ≡ ide_view pass.old)) }
+    ensures ok { IfOk result
+        (λ new. IsIdePassOf lock.now queue.now new × ((ide_view pass.old).drawn < 65536)
+        × (ide_view pass.new ≡ splitting (ide_view pass.old))
+        × (ide_view new ≡ split_off (ide_view pass.old))) }
+    ensures full { IfErr result
+        (λ refusal. (refusal ≡ Full 65536) × ((ide_view pass.old).drawn ≡ 65536)
+        × (ide_view pass.new ≡ ide_view pass.old)) }
 {
     let of_lock = lock.split(&mut pass.lock)?;
     let of_queue = queue.split(&mut pass.queue);

@@ -1,16 +1,15 @@
 //! One step of a worker.
 ghost use Rattle.std.specs.Prelude.{◌≡◌, ℕ, IfOk, OnErr, Option, Some};
-ghost use Rattle.action_lock.specs.Advances.{Advances};
 ghost use Rattle.job_queue.specs.declared.hint.Hint.{Hint};
 ghost use Rattle.job_queue.specs.Passes.{queue_view};
 ghost use Rattle.ide_calls.specs.Step.{HasStepped};
 ghost use Rattle.index_workers.specs.Hints.{HasTaken, IsFirstTried};
-ghost use Rattle.index_workers.specs.Passes.{ide_view, IsIdePassOf, IsSameIdePass};
+ghost use Rattle.index_workers.specs.Passes.{ide_view, IsIdePassOf, Continues};
 
-use crate::cursor::Cursor;
+use crate::cursor::SharedCursor;
 use crate::pass::IdePass;
 use action_lock::{ActionLock, Gate};
-use ide_calls::{IdeHome, Step, Store};
+use ide_calls::{IdeHome, Stepped, Store};
 use job_queue::{Hint, JobQueue};
 use std::alloc::{AllocError, Global};
 use std::sync::Wait;
@@ -22,14 +21,13 @@ pub fn index_step<R: Wait, G: Gate>(
     alloc: Global,
     lock: &ActionLock<IdeHome>,
     queue: &JobQueue,
-    cursor: &Cursor,
+    cursor: &SharedCursor,
     store: &Store,
     pass: &mut IdePass,
     gate: &G,
-) -> Result<Step, AllocError>
+) -> Result<Stepped, AllocError>
     requires { IsIdePassOf lock.now queue.now pass.old }
-    ensures pass { IsIdePassOf lock.now queue.now pass.new × IsSameIdePass pass.old pass.new }
-    ensures advances { Advances (ide_view pass.old) (ide_view pass.new) }
+    ensures pass { Continues lock.now queue.now pass.old pass.new }
     ensures step { (hint : Option Hint) × (file : ℕ)
         × HasTaken hint (queue_view pass.old.queue) (queue_view pass.new.queue)
         × IsFirstTried hint file
@@ -44,7 +42,7 @@ pub fn index_step<R: Wait, G: Gate>(
 }
 
 /// The file of a hint, behind which the walk goes on, or the next of the walk.
-fn first_tried(cursor: &Cursor, hint: Option<Hint>) -> u32
+fn first_tried(cursor: &SharedCursor, hint: Option<Hint>) -> u32
     ensures { IsFirstTried hint result }
 {
     match hint {

@@ -1,12 +1,11 @@
 //! A worker's run.
 ghost use Rattle.std.specs.Prelude.{◌≡◌, IfOk, OnErr};
-ghost use Rattle.action_lock.specs.Advances.{Advances};
 ghost use Rattle.job_queue.specs.Passes.{queue_view};
 ghost use Rattle.index_workers.specs.Hints.{HasOnlyTaken};
-ghost use Rattle.index_workers.specs.Passes.{ide_view, IsIdePassOf, IsSameIdePass};
+ghost use Rattle.index_workers.specs.Passes.{ide_view, IsIdePassOf, Continues};
 ghost use Rattle.index_workers.specs.Work.{HasWorked, HasWorkedInPart};
 
-use crate::cursor::Cursor;
+use crate::cursor::SharedCursor;
 use crate::ending::{end_of, taken};
 use crate::pass::IdePass;
 use crate::stepping::index_step;
@@ -27,19 +26,20 @@ pub fn worker<R: Wait, G: Gate>(
     alloc: Global,
     lock: &ActionLock<IdeHome>,
     queue: &JobQueue,
-    cursor: &Cursor,
+    cursor: &SharedCursor,
     store: &Store,
     pass: &mut IdePass,
     gate: &G,
 ) -> Result<Worked, AllocError>
     requires { IsIdePassOf lock.now queue.now pass.old }
-    ensures pass { IsIdePassOf lock.now queue.now pass.new × IsSameIdePass pass.old pass.new }
-    ensures advances { Advances (ide_view pass.old) (ide_view pass.new) }
+    ensures pass { Continues lock.now queue.now pass.old pass.new }
     ensures hints { HasOnlyTaken (queue_view pass.old.queue) (queue_view pass.new.queue) }
-    ensures ok { IfOk result (
-        HasWorked (G.may_say gate.now) (ide_view pass.old) (ide_view pass.new) (queue_view pass.old.queue) (queue_view pass.new.queue)) }
-    ensures err { OnErr result (
-        HasWorkedInPart (G.may_say gate.now) (ide_view pass.old) (ide_view pass.new) (queue_view pass.old.queue) (queue_view pass.new.queue)) }
+    ensures ok { IfOk result
+        (HasWorked (G.may_say gate.now) (ide_view pass.old) (ide_view pass.new)
+        (queue_view pass.old.queue) (queue_view pass.new.queue)) }
+    ensures err { OnErr result
+        (HasWorkedInPart (G.may_say gate.now) (ide_view pass.old) (ide_view pass.new)
+        (queue_view pass.old.queue) (queue_view pass.new.queue)) }
 {
     let seat = pass.number();
     let mut entries = 0;

@@ -77,8 +77,10 @@ fn add_token(masks: &mut Masks, text: &Text, token: &Token) -> Result<(), AllocE
 
 /// Adds a word of code that isn't reserved.
 fn add_identifier(masks: &mut Masks, piece: &Piece) -> Result<(), AllocError>
-    ensures { OnOk result (masks.new
-        ≡ fold with_occurrence masks.old (if is_reserved piece.now then [] else marked Code (piece.now ∷ []))) }
+    ensures { OnOk result
+        (masks.new
+        ≡ fold with_occurrence masks.old
+        (if is_reserved piece.now then [] else marked Code (piece.now ∷ []))) }
 {
     if !is_reserved(piece) {
         masks.add(piece, 0, piece.len(), Place::Code)?;

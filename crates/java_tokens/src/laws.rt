@@ -11,15 +11,17 @@ ghost use Rattle.java_tokens.specs.Words.{is_identifier_token, mask_in, words_of
 /// The bit of code in a word's mask is exact: a name stands as an identifier somewhere in a text exactly where the name
 /// is among the text's words with that bit in its mask.
 pub fn masks_tell_uses()
-    ensures unused { (name text : List ℕ) → is_in_code (mask_in (words_of text) name) ≡ false → places_of name text ≡ [] }
-    ensures used { (name text : List ℕ) → is_in_code (mask_in (words_of text) name) ≡ true → places_of name text ≢ [] }
+    ensures unused { (name text : List ℕ) → is_in_code (mask_in (words_of text) name) ≡ false
+        → places_of name text ≡ [] }
+    ensures used { (name text : List ℕ) → is_in_code (mask_in (words_of text) name) ≡ true
+        → places_of name text ≢ [] }
 {}
 
 /// Each identifier among the tokens of a text is one whole word, and a name that stands in a text as an identifier is one.
 /// No word has a line break.
 pub fn identifiers_are_words()
-    ensures token { (text : List ℕ) (token : Token) → Contains (tokens_of text) token → is_identifier_token text token ≡ true
-        → is_word (characters_of text token) ≡ true }
+    ensures token { (text : List ℕ) (token : Token) → Contains (tokens_of text) token
+        → is_identifier_token text token ≡ true → is_word (characters_of text token) ≡ true }
     ensures place { (name text : List ℕ) → places_of name text ≢ [] → is_word name ≡ true }
     ensures in_line { (name : List ℕ) → is_word name ≡ true → list_all is_in_line name ≡ true }
 {}

@@ -57,7 +57,9 @@ impl Masks {
     ) -> Result<(), AllocError>
         requires ordered { from ≤ to }
         requires inside { to ≤ length piece.now }
-        ensures { OnOk result (self.new ≡ with_occurrence self.old (take (to - from) (drop from piece.now), bit_of place)) }
+        ensures { OnOk result
+            (self.new
+            ≡ with_occurrence self.old (take (to - from) (drop from piece.now), bit_of place)) }
     {
         match piece.spelt(from, to) {
             Some(word) => add_spelt(&mut self.rows, self.alloc, &word, place),
@@ -82,7 +84,9 @@ fn add_spelt(
     word: &Spelt,
     place: Place,
 ) -> Result<(), AllocError>
-    ensures words { OnOk result (in_order_of rows.new.entries ≡ with_occurrence (in_order_of rows.old.entries) (word.now, bit_of place)) }
+    ensures words { OnOk result
+        (in_order_of rows.new.entries
+        ≡ with_occurrence (in_order_of rows.old.entries) (word.now, bit_of place)) }
     ensures unique { IsUnique bytes_eq rows.new }
 {
     if let Some(mask) = rows.get_mut(word) {
@@ -95,7 +99,9 @@ fn add_spelt(
 
 /// Adds one occurrence of a name, which is hashed and looked up once.
 fn add_name(rows: &mut IndexMap<Name, u8>, name: Name, place: Place) -> Result<(), AllocError>
-    ensures words { OnOk result (in_order_of rows.new.entries ≡ with_occurrence (in_order_of rows.old.entries) (name, bit_of place)) }
+    ensures words { OnOk result
+        (in_order_of rows.new.entries
+        ≡ with_occurrence (in_order_of rows.old.entries) (name, bit_of place)) }
     ensures unique { IsUnique bytes_eq rows.new }
 {
     *rows.entry(name)?.or_insert(0) |= place.bit();

@@ -22,7 +22,9 @@ pub fn is_reserved(piece: &Piece) -> bool
 /// The words that are no identifiers and begin with a character.
 #[tactic(auto, unfolding(crate::specs::Identifier::is_reserved))]
 fn reserved_from(first: char) -> &'static [&'static str]
-    ensures words { (rest : List ℕ) → list_any (λ word. bytes_eq word.now (first ∷ rest)) result.now ≡ is_reserved (first ∷ rest) }
+    ensures words { (rest : List ℕ)
+        → list_any (λ word. bytes_eq word.now (first ∷ rest)) result.now
+        ≡ is_reserved (first ∷ rest) }
     ensures ascii { IsTrue (list_all (λ word. list_all is_ascii word.now) result.now) }
 {
     match first {

@@ -39,7 +39,8 @@ pub fn next_token(piece: &Piece, from: u32) -> Option<Token>
     requires { from ≤ length piece.now }
     ensures some { IfSome result (λ t. tokens_past 0 from (drop from piece.now)
         ≡ t ∷ tokens_past 0 (t.at + t.len) (drop (t.at + t.len) piece.now)) }
-    ensures goes_on { IfSome result (λ t. (from < t.at + t.len) × (t.at + t.len ≤ length piece.now)) }
+    ensures goes_on { IfSome result
+        (λ t. (from < t.at + t.len) × (t.at + t.len ≤ length piece.now)) }
     ensures few { length piece.now ≤ max_chars }
     ensures none { IfNone result (tokens_past 0 from (drop from piece.now) ≡ []) }
 {

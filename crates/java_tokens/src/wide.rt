@@ -15,7 +15,8 @@ const LANES: usize = 16;
 /// fewer than sixteen are left.
 pub(crate) fn word_front(bytes: &[u8], from: u32) -> u32
     requires { length bytes.now ≤ max_chars }
-    ensures { result + prefix_len continues_word (drop result bytes.now) ≡ from + prefix_len continues_word (drop from bytes.now) }
+    ensures { result + prefix_len continues_word (drop result bytes.now)
+        ≡ from + prefix_len continues_word (drop from bytes.now) }
 {
     let mut at = from as usize;
     while bytes.len().saturating_sub(at) >= LANES {
@@ -33,7 +34,8 @@ pub(crate) fn word_front(bytes: &[u8], from: u32) -> u32
 fn front_of(bytes: &[u8], at: usize) -> usize
     requires { at + 16 ≤ length bytes.now }
     ensures few { result ≤ 16 }
-    ensures same { at + result + prefix_len continues_word (drop (at + result) bytes.now) ≡ at + prefix_len continues_word (drop at bytes.now) }
+    ensures same { at + result + prefix_len continues_word (drop (at + result) bytes.now)
+        ≡ at + prefix_len continues_word (drop at bytes.now) }
 {
     let others = others(u8x16::from_slice(&bytes[at..]));
     if others == 0 {

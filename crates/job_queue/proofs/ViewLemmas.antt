@@ -16,9 +16,6 @@ use Rattle.list_laws.proofs.TotalLemmas.{total-at, total-two, total-same, total-
 pub some_number : (o : Option ℕ) (n : ℕ) → o ≡ Some n → o ≡ None → ⊥
 some_number o n e d = cc
 
-pub same_number : (o : Option ℕ) (n m : ℕ) → o ≡ Some n → o ≡ Some m → n ≡ m
-same_number o n m e d = cc
-
 -- where each element is so and so, each is both
 pub all_both : {A : Type 0} (P Q R : A → Type 0) (xs : List A) → ((x : A) → P x → Q x → R x) → All P xs → All Q xs → All R xs
 all_both P Q R xs f p q = λ k d l. f (get_or xs k d) (p k d l) (q k d l)

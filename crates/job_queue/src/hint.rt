@@ -3,6 +3,7 @@
 /// A hint that this file is to be indexed.
 #[derive(Clone, Copy, Debug, PartialEq, Eq)]
 pub struct Hint {
+    /// The id of the file.
     pub file: u32,
     /// The number of the pass that put it.
     pub pusher: u32,
@@ -13,5 +14,6 @@ pub struct Hint {
 /// The queue was full. The hint, which is not in it, has the turn that it would have had.
 #[derive(Clone, Copy, Debug, PartialEq, Eq)]
 pub struct Full {
+    /// The hint that found no room.
     pub hint: Hint,
 }

@@ -29,7 +29,8 @@ impl JobQueue {
 
     /// An empty queue, and its first pass, number 0.
     pub fn new(alloc: Global) -> Result<(JobQueue, QueuePass), AllocError>
-        ensures { IfOk result (λ made. IsQueuePassOf made.0 made.1 × (queue_view made.1 ≡ first_view)) }
+        ensures { IfOk result
+            (λ made. IsQueuePassOf made.0 made.1 × (queue_view made.1 ≡ first_view)) }
     {
         let (ring, seat) = RuledArrayQueue::ruled(alloc, HINTS)?;
         let pass = QueuePass {
@@ -49,7 +50,8 @@ impl JobQueue {
         requires room { (queue_view pass.old).drawn < 65536 }
         ensures pass { IsQueuePassOf self.now pass.new × IsSameQueuePass pass.old pass.new }
         ensures view { queue_view pass.new ≡ splitting (queue_view pass.old) }
-        ensures new { IsQueuePassOf self.now result × (queue_view result ≡ split_off (queue_view pass.old)) }
+        ensures new { IsQueuePassOf self.now result
+            × (queue_view result ≡ split_off (queue_view pass.old)) }
     {
         let seat = self.ring.another::<Cut>(&mut pass.seat);
         let number = pass.drawn;
@@ -88,11 +90,15 @@ impl JobQueue {
         requires pass { IsQueuePassOf self.now pass.old }
         requires room { length (queue_view pass.old).put < 1048576 }
         ensures pass { IsQueuePassOf self.now pass.new × IsSameQueuePass pass.old pass.new }
-        ensures ok { OnOk result (
-            (queue_view pass.new ≡ putting (next_hint pass.old.number file (queue_view pass.old)) (queue_view pass.old)) × HadRoom (queue_view pass.old)) }
-        ensures full { IfErr result (λ refusal.
-            (refusal.hint ≡ next_hint pass.old.number file (queue_view pass.old))
-            × (queue_view pass.new ≡ queue_view pass.old) × Held 1024 (Stood (queue_view pass.old))) }
+        ensures ok { OnOk result
+            ((queue_view pass.new
+            ≡ putting (next_hint pass.old.number file (queue_view pass.old))
+            (queue_view pass.old))
+            × HadRoom (queue_view pass.old)) }
+        ensures full { IfErr result
+            (λ refusal. (refusal.hint ≡ next_hint pass.old.number file (queue_view pass.old))
+            × (queue_view pass.new ≡ queue_view pass.old)
+            × Held 1024 (Stood (queue_view pass.old))) }
     {
         let hint = Hint {
             file,
@@ -112,9 +118,11 @@ impl JobQueue {
     pub fn take<R: Wait>(&self, rt: &R, pass: &mut QueuePass) -> Option<Hint>
         requires pass { IsQueuePassOf self.now pass.old }
         ensures pass { IsQueuePassOf self.now pass.new × IsSameQueuePass pass.old pass.new }
-        ensures some { IfSome result (λ hint.
-            (queue_view pass.new ≡ taking hint (queue_view pass.old)) × ((rest : List Hint) × Stood (queue_view pass.old) (hint ∷ rest))) }
-        ensures none { IfNone result ((queue_view pass.new ≡ queue_view pass.old) × Held 0 (Stood (queue_view pass.old))) }
+        ensures some { IfSome result
+            (λ hint. (queue_view pass.new ≡ taking hint (queue_view pass.old))
+            × ((rest : List Hint) × Stood (queue_view pass.old) (hint ∷ rest))) }
+        ensures none { IfNone result
+            ((queue_view pass.new ≡ queue_view pass.old) × Held 0 (Stood (queue_view pass.old))) }
     {
         self.ring.pop_as::<Take, R>(rt, &mut pass.seat)
     }

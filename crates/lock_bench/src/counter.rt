@@ -11,13 +11,16 @@ use std::sync::Arc;
 /// A count of writes.
 #[derive(Drop)]
 pub struct Counter {
+    /// How many writes number 0 has made.
     pub count: Arc<u64>,
 }
 
 /// What the shares of one place have in common. It is so large that the counts of no two blocks share a cache line.
 #[derive(Drop)]
 pub struct Block {
+    /// How many writes number 0 has made.
     pub count: Arc<u64>,
+    /// What keeps the counts apart.
     pub apart: [u64; 14],
 }
 
@@ -33,7 +36,8 @@ impl Counter {
 
     /// Counts one more, unless the count is at its end or is shared and can't be copied. Whether it did.
     pub fn step(&mut self) -> bool
-        ensures made { IsTrue result → zeros (arc_value self.new.count) ≡ zeros (arc_value self.old.count) ++ 0 ∷ [] }
+        ensures made { IsTrue result
+            → zeros (arc_value self.new.count) ≡ zeros (arc_value self.old.count) ++ 0 ∷ [] }
         ensures none { IsFalse result → arc_value self.new.count ≡ arc_value self.old.count }
     {
         let Some(next) = self.count.checked_add(1) else {

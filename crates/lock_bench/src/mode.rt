@@ -3,11 +3,13 @@
 /// What each turn does.
 #[derive(Clone, Copy)]
 pub enum Turn {
+    /// One thread reads.
     Read,
     /// Two threads that read at once.
     ReadTwo,
     /// Four of them.
     ReadFour,
+    /// One thread writes.
     Write,
     /// One thread that writes beside three that read.
     WriteBeside,

@@ -58,11 +58,17 @@ pub fn read_four<R: Threads + Wait + Sync>(
         rt,
         &mut || -> u64
             requires { IsSync R.row × IsPassOf lock.now one.now × IsPassOf lock.now two.now }
-            ensures { IsPassOf lock.entry.now one.exit.now × HasKept (view_of one.entry.now) (view_of one.exit.now) × IsPassOf lock.entry.now two.exit.now × HasKept (view_of two.entry.now) (view_of two.exit.now) }
+            ensures { IsPassOf lock.entry.now one.exit.now
+                × HasKept (view_of one.entry.now) (view_of one.exit.now)
+                × IsPassOf lock.entry.now two.exit.now
+                × HasKept (view_of two.entry.now) (view_of two.exit.now) }
         { read_two(rt, alloc, lock, one, two, turns) },
         &mut || -> u64
             requires { IsSync R.row × IsPassOf lock.now three.now × IsPassOf lock.now four.now }
-            ensures { IsPassOf lock.entry.now three.exit.now × HasKept (view_of three.entry.now) (view_of three.exit.now) × IsPassOf lock.entry.now four.exit.now × HasKept (view_of four.entry.now) (view_of four.exit.now) }
+            ensures { IsPassOf lock.entry.now three.exit.now
+                × HasKept (view_of three.entry.now) (view_of three.exit.now)
+                × IsPassOf lock.entry.now four.exit.now
+                × HasKept (view_of four.entry.now) (view_of four.exit.now) }
         { read_two(rt, alloc, lock, three, four, turns) },
     );
     first.wrapping_add(second)
@@ -80,8 +86,10 @@ fn write_beside_one<R: Threads + Wait + Sync>(
 )
     requires writer { IsPassOf lock.now writer.old × ((view_of writer.old).number ≡ Some 0) }
     requires reader { IsPassOf lock.now reader.old }
-    ensures writer { IsPassOf lock.now writer.new × HasKept (view_of writer.old) (view_of writer.new) }
-    ensures reader { IsPassOf lock.now reader.new × HasKept (view_of reader.old) (view_of reader.new) }
+    ensures writer { IsPassOf lock.now writer.new
+        × HasKept (view_of writer.old) (view_of writer.new) }
+    ensures reader { IsPassOf lock.now reader.new
+        × HasKept (view_of reader.old) (view_of reader.new) }
 {
     join_mut(
         rt,
@@ -135,12 +143,19 @@ pub fn write_beside<R: Threads + Wait + Sync>(
     join_mut(
         rt,
         &mut || -> ()
-            requires { IsSync R.row × IsPassOf lock.now one.now × ((view_of one.now).number ≡ Some 0) × IsPassOf lock.now two.now }
-            ensures { IsPassOf lock.entry.now one.exit.now × HasKept (view_of one.entry.now) (view_of one.exit.now) × IsPassOf lock.entry.now two.exit.now × HasKept (view_of two.entry.now) (view_of two.exit.now) }
+            requires { IsSync R.row × IsPassOf lock.now one.now
+                × ((view_of one.now).number ≡ Some 0) × IsPassOf lock.now two.now }
+            ensures { IsPassOf lock.entry.now one.exit.now
+                × HasKept (view_of one.entry.now) (view_of one.exit.now)
+                × IsPassOf lock.entry.now two.exit.now
+                × HasKept (view_of two.entry.now) (view_of two.exit.now) }
         { write_beside_one(rt, alloc, lock, one, two, turns, &end) },
         &mut || -> ()
             requires { IsSync R.row × IsPassOf lock.now three.now × IsPassOf lock.now four.now }
-            ensures { IsPassOf lock.entry.now three.exit.now × HasKept (view_of three.entry.now) (view_of three.exit.now) × IsPassOf lock.entry.now four.exit.now × HasKept (view_of four.entry.now) (view_of four.exit.now) }
+            ensures { IsPassOf lock.entry.now three.exit.now
+                × HasKept (view_of three.entry.now) (view_of three.exit.now)
+                × IsPassOf lock.entry.now four.exit.now
+                × HasKept (view_of four.entry.now) (view_of four.exit.now) }
         { read_two_until(rt, alloc, lock, three, four, &end) },
     );
 }

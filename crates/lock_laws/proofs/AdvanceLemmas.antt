@@ -1,15 +1,11 @@
 -- That a view advances: the laws of the order, and the steps and calls that keep it.
-use Rattle.std.proofs.Common.{◌≡◌, ℕ, ◌∷◌, [], refl, sym, subst, ◌∙◌, arith, le_refl, le_trans, length, ⊎_elim}
-use Rattle.action_lock.specs.declared.refusal.ReadRefusal.{ReadRefusal}
-use Rattle.action_lock.specs.declared.refusal.ReadRefusal.TheVariants.{Pending, Turn, OutOfMemory}
+use Rattle.std.proofs.Common.{ℕ, [], refl, sym, subst, ◌∙◌, arith, le_refl, le_trans, ⊎_elim}
 use Rattle.action_lock.specs.declared.view.Phase.{Phase}
-use Rattle.action_lock.specs.declared.view.Phase.TheVariants.{Out}
 use Rattle.action_lock.specs.declared.view.View.{View}
 use Rattle.action_lock.specs.Advances.{Advances}
 use Rattle.action_lock.specs.Views.{all_checks}
-use Rattle.action_lock.specs.Steps.{looked, with_phase}
-use Rattle.action_lock.specs.Reads.{HasLooked, HasRead, HasFailed, HasWaited, IsRefused}
-use Rattle.lock_laws.proofs.LookLemmas.{looked_once}
+use Rattle.action_lock.specs.Steps.{with_phase}
+use Rattle.action_lock.specs.Reads.{HasLooked}
 use Rattle.list_laws.proofs.FrontLemmas.{front_self, front_trans}
 
 module _ {E : Type 0} where
@@ -51,22 +47,3 @@ module _ {E : Type 0} where
   pub looked-advances : (v w : View E) → HasLooked v w → Advances v w
   looked-advances v w p = let same = advances_not v in subst (Advances v) (sym p.same)
       record { number = refl; drawn = refl; ended = refl; seen = same.seen; mine = same.mine; reads = same.reads; sights = p.sights; looks = p.looks; checks = (let more = p.checks in omega arith); held = same.held }
-
-  pub look-advances : (v w : View E) (found : ℕ) → w ≡ looked found v → Advances v w
-  look-advances v w found is = subst (Advances v) (sym is) (looked-advances v (looked found v) (looked_once v found))
-
-  pub waited-advances : (then : View E → View E → Type 0) → ((v w : View E) → then v w → Advances v w) → (v w : View E) → HasWaited then v w → Advances v w
-  waited-advances then h v w p = advances_on v p.before w (looked-advances v p.before p.waited) (h p.before w p.at_last)
-
-  module _ (number_of : E → ℕ) where
-    pub read-advances : (phase : Phase) (v w : View E) → HasRead number_of phase v w → Advances v w
-    read-advances phase v w p = let same = advances_not v in subst (Advances v) (sym p.after)
-        record { number = refl; drawn = refl; ended = refl; seen = p.learns.longer; mine = same.mine; reads = (length w.seen ∷ [], refl); sights = same.sights; looks = omega arith; checks = omega arith; held = same.held }
-
-    pub failed-advances : (v w : View E) → HasFailed number_of v w → Advances v w
-    failed-advances v w p = ⊎_elim (look-advances v w w.last) (read-advances Out v w) p
-
-    pub refused-advances : (refusal : ReadRefusal) (v w : View E) → IsRefused number_of refusal v w → Advances v w
-    refused-advances (Pending word) v w p = look-advances v w word p.1
-    refused-advances (Turn word) v w p = look-advances v w word p.2
-    refused-advances OutOfMemory v w p = failed-advances v w p

@@ -19,7 +19,10 @@ pub fn begun(alloc: Global) -> Option<(ActionLock<Board>, Pass<Board>)>
 
 /// The same with a second pass.
 pub fn begun_with_two(alloc: Global) -> Option<(ActionLock<Board>, Pass<Board>, Pass<Board>)>
-    ensures { IfSome result (λ made. IsPassOf made.0 made.1 × IsPassOf made.0 made.2 × ((view_of made.1).number ≡ Some 0) × ((view_of made.1).drawn ≡ 2) × ((view_of made.2).number ≡ Some 1)) }
+    ensures { IfSome result
+        (λ made. IsPassOf made.0 made.1 × IsPassOf made.0 made.2
+        × ((view_of made.1).number ≡ Some 0) × ((view_of made.1).drawn ≡ 2)
+        × ((view_of made.2).number ≡ Some 1)) }
 {
     let (lock, mut first) = begun(alloc)?;
     match lock.split(&mut first) {
@@ -32,7 +35,10 @@ pub fn begun_with_two(alloc: Global) -> Option<(ActionLock<Board>, Pass<Board>, 
 pub fn begun_with_three(
     alloc: Global,
 ) -> Option<(ActionLock<Board>, Pass<Board>, Pass<Board>, Pass<Board>)>
-    ensures { IfSome result (λ made. IsPassOf made.0 made.1 × IsPassOf made.0 made.2 × IsPassOf made.0 made.3 × ((view_of made.1).number ≡ Some 0) × ((view_of made.2).number ≡ Some 1) × ((view_of made.3).number ≡ Some 2)) }
+    ensures { IfSome result
+        (λ made. IsPassOf made.0 made.1 × IsPassOf made.0 made.2 × IsPassOf made.0 made.3
+        × ((view_of made.1).number ≡ Some 0) × ((view_of made.2).number ≡ Some 1)
+        × ((view_of made.3).number ≡ Some 2)) }
 {
     let (lock, mut first, second) = begun_with_two(alloc)?;
     match lock.split(&mut first) {

@@ -33,8 +33,10 @@ impl Board {
 
     /// Adds a note, on a copy, so that shares that are out stay as they are.
     pub fn add(&mut self, alloc: Global, note: Note) -> Result<(), AllocError>
-        ensures ok { OnOk result ((arc_value self.new.notes).items ≡ (arc_value self.old.notes).items ++ note ∷ []) }
-        ensures err { OnErr result ((arc_value self.new.notes).items ≡ (arc_value self.old.notes).items) }
+        ensures ok { OnOk result
+            ((arc_value self.new.notes).items ≡ (arc_value self.old.notes).items ++ note ∷ []) }
+        ensures err { OnErr result
+            ((arc_value self.new.notes).items ≡ (arc_value self.old.notes).items) }
     {
         let mut notes = copied(alloc, &self.notes)?;
         notes.push(note)?;

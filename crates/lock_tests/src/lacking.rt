@@ -25,7 +25,9 @@ pub fn begun_scarce(
     from: u64,
     refused: u64,
 ) -> Option<(ActionLock<Scarce>, Pass<Scarce>, Pass<Scarce>)>
-    ensures { IfSome result (λ made. IsPassOf made.0 made.1 × IsPassOf made.0 made.2 × ((view_of made.1).number ≡ Some 0) × ((view_of made.2).number ≢ Some 0)) }
+    ensures { IfSome result
+        (λ made. IsPassOf made.0 made.1 × IsPassOf made.0 made.2
+        × ((view_of made.1).number ≡ Some 0) × ((view_of made.2).number ≢ Some 0)) }
 {
     let Ok((lock, mut first)) = ActionLock::new(alloc, Scarce::new(from, refused), 32) else {
         return None;
@@ -101,7 +103,8 @@ pub fn lack_until_a_write<R: Wait>(
     requires first { IsPassOf lock.now first.old × ((view_of first.old).number ≡ Some 0) }
     requires second { IsPassOf lock.now second.old }
     ensures first { IsPassOf lock.now first.new }
-    ensures second { IsPassOf lock.now second.new × ((view_of second.new).number ≡ (view_of second.old).number) }
+    ensures second { IsPassOf lock.now second.new
+        × ((view_of second.new).number ≡ (view_of second.old).number) }
 {
     let before = count_seen(alloc, lock, first);
     write_once(rt, lock, first);
@@ -128,7 +131,8 @@ pub fn one_place_lacks<R: Wait>(
     requires first { IsPassOf lock.now first.old × ((view_of first.old).number ≡ Some 0) }
     requires second { IsPassOf lock.now second.old }
     ensures first { IsPassOf lock.now first.new }
-    ensures second { IsPassOf lock.now second.new × ((view_of second.new).number ≡ (view_of second.old).number) }
+    ensures second { IsPassOf lock.now second.new
+        × ((view_of second.new).number ≡ (view_of second.old).number) }
 {
     write_once(rt, lock, first);
     let lacked = count_seen(alloc, lock, first);

@@ -35,7 +35,9 @@ pub fn run_all<R: Threads + Wait + Sync>(
     requires lanes { All (λ lane. IsPassOf lock.now lane.pass) lanes.old }
     requires some { 0 < length lanes.old }
     ensures same { length lanes.new ≡ length lanes.old }
-    ensures run { (k : ℕ) (d : Lane) → k < length lanes.old → HasRun lock.now (slice_index_or lanes.old k d).pass (slice_index_or lanes.new k d).pass (slice_index_or lanes.new k d).written }
+    ensures run { (k : ℕ) (d : Lane) → k < length lanes.old
+        → HasRun lock.now (slice_index_or lanes.old k d).pass (slice_index_or lanes.new k d).pass
+        (slice_index_or lanes.new k d).written }
 {
     let threads = lanes.len();
     for_each_mut(
@@ -44,7 +46,8 @@ pub fn run_all<R: Threads + Wait + Sync>(
         threads,
         &|index: usize, lane: &mut Lane| -> ()
             requires { IsPassOf lock.now lane.now.pass }
-            ensures { HasRun lock.entry.now lane.entry.now.pass lane.exit.now.pass lane.exit.now.written }
+            ensures { HasRun lock.entry.now lane.entry.now.pass lane.exit.now.pass
+                lane.exit.now.written }
         { run(rt, alloc, lock, lane, index as u64) },
     );
 }

@@ -42,8 +42,10 @@ fn are_in_at_once(
 ) -> bool
     requires first { IsPassOf lock.now first.old }
     requires second { IsPassOf lock.now second.old }
-    ensures first { IsPassOf lock.now first.new × ((view_of first.new).number ≡ (view_of first.old).number) }
-    ensures second { IsPassOf lock.now second.new × ((view_of second.new).number ≡ (view_of second.old).number) }
+    ensures first { IsPassOf lock.now first.new
+        × ((view_of first.new).number ≡ (view_of first.old).number) }
+    ensures second { IsPassOf lock.now second.new
+        × ((view_of second.new).number ≡ (view_of second.old).number) }
 {
     match first.try_read(alloc, lock) {
         Ok(one) => {
@@ -65,8 +67,10 @@ pub fn read_at_once(
 ) -> bool
     requires first { IsPassOf lock.now first.old }
     requires second { IsPassOf lock.now second.old }
-    ensures first { IsPassOf lock.now first.new × ((view_of first.new).number ≡ (view_of first.old).number) }
-    ensures second { IsPassOf lock.now second.new × ((view_of second.new).number ≡ (view_of second.old).number) }
+    ensures first { IsPassOf lock.now first.new
+        × ((view_of first.new).number ≡ (view_of first.old).number) }
+    ensures second { IsPassOf lock.now second.new
+        × ((view_of second.new).number ≡ (view_of second.old).number) }
 {
     let read = are_in_at_once(alloc, lock, first, second);
     let last = lock.is_last(first);
@@ -168,7 +172,8 @@ pub fn write_stops_readers<R: Wait>(
 ) -> bool
     requires first { IsPassOf lock.now first.old }
     requires second { IsPassOf lock.now second.old }
-    ensures first { IsPassOf lock.now first.new × ((view_of first.new).number ≡ (view_of first.old).number) }
+    ensures first { IsPassOf lock.now first.new
+        × ((view_of first.new).number ≡ (view_of first.old).number) }
     ensures second { IsPassOf lock.now second.new }
 {
     let Ok(()) = second.try_intent(lock) else {
@@ -211,8 +216,10 @@ pub fn threads_wait<R: Threads + Wait + Sync>(
 ) -> bool
     requires first { IsPassOf lock.now first.old }
     requires second { IsPassOf lock.now second.old }
-    ensures first { IsPassOf lock.now first.new × ((view_of first.new).number ≡ (view_of first.old).number) }
-    ensures second { IsPassOf lock.now second.new × ((view_of second.new).number ≡ (view_of second.old).number) }
+    ensures first { IsPassOf lock.now first.new
+        × ((view_of first.new).number ≡ (view_of first.old).number) }
+    ensures second { IsPassOf lock.now second.new
+        × ((view_of second.new).number ≡ (view_of second.old).number) }
 {
     let read = read_and_write(rt, alloc, lock, first, second, &Room::new(1));
     let by_read = first.sights();

@@ -41,8 +41,10 @@ fn leaves_first(
 ) -> bool
     requires pass { IsPassOf lock.now pass.old }
     requires witness { IsPassOf lock.now witness.old }
-    ensures pass { IsPassOf lock.now pass.new × ((view_of pass.new).number ≡ (view_of pass.old).number) }
-    ensures witness { IsPassOf lock.now witness.new × ((view_of witness.new).number ≡ (view_of witness.old).number) }
+    ensures pass { IsPassOf lock.now pass.new
+        × ((view_of pass.new).number ≡ (view_of pass.old).number) }
+    ensures witness { IsPassOf lock.now witness.new
+        × ((view_of witness.new).number ≡ (view_of witness.old).number) }
 {
     match pass.try_read(alloc, lock) {
         Ok(reading) => {
@@ -69,9 +71,12 @@ fn leaves_last(
     requires pass { IsPassOf lock.now pass.old }
     requires other { IsPassOf lock.now other.old }
     requires witness { IsPassOf lock.now witness.old }
-    ensures pass { IsPassOf lock.now pass.new × ((view_of pass.new).number ≡ (view_of pass.old).number) }
-    ensures other { IsPassOf lock.now other.new × ((view_of other.new).number ≡ (view_of other.old).number) }
-    ensures witness { IsPassOf lock.now witness.new × ((view_of witness.new).number ≡ (view_of witness.old).number) }
+    ensures pass { IsPassOf lock.now pass.new
+        × ((view_of pass.new).number ≡ (view_of pass.old).number) }
+    ensures other { IsPassOf lock.now other.new
+        × ((view_of other.new).number ≡ (view_of other.old).number) }
+    ensures witness { IsPassOf lock.now witness.new
+        × ((view_of witness.new).number ≡ (view_of witness.old).number) }
 {
     match pass.try_read(alloc, lock) {
         Ok(reading) => {
@@ -99,9 +104,12 @@ fn read_in_turn(
     requires one { IsPassOf lock.now one.old }
     requires two { IsPassOf lock.now two.old }
     requires witness { IsPassOf lock.now witness.old }
-    ensures one { IsPassOf lock.now one.new × ((view_of one.new).number ≡ (view_of one.old).number) }
-    ensures two { IsPassOf lock.now two.new × ((view_of two.new).number ≡ (view_of two.old).number) }
-    ensures witness { IsPassOf lock.now witness.new × ((view_of witness.new).number ≡ (view_of witness.old).number) }
+    ensures one { IsPassOf lock.now one.new
+        × ((view_of one.new).number ≡ (view_of one.old).number) }
+    ensures two { IsPassOf lock.now two.new
+        × ((view_of two.new).number ≡ (view_of two.old).number) }
+    ensures witness { IsPassOf lock.now witness.new
+        × ((view_of witness.new).number ≡ (view_of witness.old).number) }
 {
     let read = leaves_last(alloc, lock, one, two, witness, come, begun);
     let wrote = begun.is_full();
@@ -146,10 +154,14 @@ pub fn share_a_place<R: Threads + Wait + Sync>(
     requires one { IsPassOf lock.now one.old }
     requires two { IsPassOf lock.now two.old }
     requires witness { IsPassOf lock.now witness.old }
-    ensures writer { IsPassOf lock.now writer.new × ((view_of writer.new).number ≡ (view_of writer.old).number) }
-    ensures one { IsPassOf lock.now one.new × ((view_of one.new).number ≡ (view_of one.old).number) }
-    ensures two { IsPassOf lock.now two.new × ((view_of two.new).number ≡ (view_of two.old).number) }
-    ensures witness { IsPassOf lock.now witness.new × ((view_of witness.new).number ≡ (view_of witness.old).number) }
+    ensures writer { IsPassOf lock.now writer.new
+        × ((view_of writer.new).number ≡ (view_of writer.old).number) }
+    ensures one { IsPassOf lock.now one.new
+        × ((view_of one.new).number ≡ (view_of one.old).number) }
+    ensures two { IsPassOf lock.now two.new
+        × ((view_of two.new).number ≡ (view_of two.old).number) }
+    ensures witness { IsPassOf lock.now witness.new
+        × ((view_of witness.new).number ≡ (view_of witness.old).number) }
 {
     let come = Room::new(1);
     let begun = Room::new(1);
@@ -157,8 +169,14 @@ pub fn share_a_place<R: Threads + Wait + Sync>(
     let (read, written) = join_mut(
         rt,
         &mut || -> bool
-            requires { IsPassOf lock.now one.now × IsPassOf lock.now two.now × IsPassOf lock.now witness.now }
-            ensures { IsPassOf lock.entry.now one.exit.now × ((view_of one.exit.now).number ≡ (view_of one.entry.now).number) × IsPassOf lock.entry.now two.exit.now × ((view_of two.exit.now).number ≡ (view_of two.entry.now).number) × IsPassOf lock.entry.now witness.exit.now × ((view_of witness.exit.now).number ≡ (view_of witness.entry.now).number) }
+            requires { IsPassOf lock.now one.now × IsPassOf lock.now two.now
+                × IsPassOf lock.now witness.now }
+            ensures { IsPassOf lock.entry.now one.exit.now
+                × ((view_of one.exit.now).number ≡ (view_of one.entry.now).number)
+                × IsPassOf lock.entry.now two.exit.now
+                × ((view_of two.exit.now).number ≡ (view_of two.entry.now).number)
+                × IsPassOf lock.entry.now witness.exit.now
+                × ((view_of witness.exit.now).number ≡ (view_of witness.entry.now).number) }
         { read_in_turn(alloc, lock, one, two, witness, &come, &begun, &told) },
         &mut || writes_between(rt, lock, writer, &come, &begun, &told),
     );

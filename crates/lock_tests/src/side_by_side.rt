@@ -106,8 +106,10 @@ pub fn read_side_by_side<R: Threads + Sync>(
 ) -> bool
     requires one { IsPassOf lock.now one.old }
     requires two { IsPassOf lock.now two.old }
-    ensures one { IsPassOf lock.now one.new × ((view_of one.new).number ≡ (view_of one.old).number) }
-    ensures two { IsPassOf lock.now two.new × ((view_of two.new).number ≡ (view_of two.old).number) }
+    ensures one { IsPassOf lock.now one.new
+        × ((view_of one.new).number ≡ (view_of one.old).number) }
+    ensures two { IsPassOf lock.now two.new
+        × ((view_of two.new).number ≡ (view_of two.old).number) }
 {
     let (first, second) = join_mut(
         rt,
@@ -130,16 +132,22 @@ pub fn read_three<R: Threads + Sync>(
     requires one { IsPassOf lock.now one.old }
     requires two { IsPassOf lock.now two.old }
     requires three { IsPassOf lock.now three.old }
-    ensures one { IsPassOf lock.now one.new × ((view_of one.new).number ≡ (view_of one.old).number) }
-    ensures two { IsPassOf lock.now two.new × ((view_of two.new).number ≡ (view_of two.old).number) }
-    ensures three { IsPassOf lock.now three.new × ((view_of three.new).number ≡ (view_of three.old).number) }
+    ensures one { IsPassOf lock.now one.new
+        × ((view_of one.new).number ≡ (view_of one.old).number) }
+    ensures two { IsPassOf lock.now two.new
+        × ((view_of two.new).number ≡ (view_of two.old).number) }
+    ensures three { IsPassOf lock.now three.new
+        × ((view_of three.new).number ≡ (view_of three.old).number) }
 {
     let (first, others) = join_mut(
         rt,
         &mut || reads_beside(alloc, lock, one, room),
         &mut || -> bool
             requires { IsSync R.row × IsPassOf lock.now two.now × IsPassOf lock.now three.now }
-            ensures { IsPassOf lock.entry.now two.exit.now × ((view_of two.exit.now).number ≡ (view_of two.entry.now).number) × IsPassOf lock.entry.now three.exit.now × ((view_of three.exit.now).number ≡ (view_of three.entry.now).number) }
+            ensures { IsPassOf lock.entry.now two.exit.now
+                × ((view_of two.exit.now).number ≡ (view_of two.entry.now).number)
+                × IsPassOf lock.entry.now three.exit.now
+                × ((view_of three.exit.now).number ≡ (view_of three.entry.now).number) }
         { read_side_by_side(rt, alloc, lock, two, three, room) },
     );
     first && others

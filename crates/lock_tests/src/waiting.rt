@@ -66,8 +66,10 @@ pub fn read_and_write<R: Threads + Wait + Sync>(
 ) -> bool
     requires one { IsPassOf lock.now one.old }
     requires two { IsPassOf lock.now two.old }
-    ensures one { IsPassOf lock.now one.new × ((view_of one.new).number ≡ (view_of one.old).number) }
-    ensures two { IsPassOf lock.now two.new × ((view_of two.new).number ≡ (view_of two.old).number) }
+    ensures one { IsPassOf lock.now one.new
+        × ((view_of one.new).number ≡ (view_of one.old).number) }
+    ensures two { IsPassOf lock.now two.new
+        × ((view_of two.new).number ≡ (view_of two.old).number) }
 {
     let (saw, written) = join_mut(
         rt,
@@ -109,8 +111,10 @@ pub fn soft_and_write<R: Threads + Wait + Sync>(
 ) -> bool
     requires one { IsPassOf lock.now one.old }
     requires two { IsPassOf lock.now two.old }
-    ensures one { IsPassOf lock.now one.new × ((view_of one.new).number ≡ (view_of one.old).number) }
-    ensures two { IsPassOf lock.now two.new × ((view_of two.new).number ≡ (view_of two.old).number) }
+    ensures one { IsPassOf lock.now one.new
+        × ((view_of one.new).number ≡ (view_of one.old).number) }
+    ensures two { IsPassOf lock.now two.new
+        × ((view_of two.new).number ≡ (view_of two.old).number) }
 {
     let (cancelled, written) = join_mut(
         rt,
@@ -163,8 +167,10 @@ pub fn ask_twice<R: Threads + Sync>(
 ) -> bool
     requires one { IsPassOf lock.now one.old }
     requires two { IsPassOf lock.now two.old }
-    ensures one { IsPassOf lock.now one.new × ((view_of one.new).number ≡ (view_of one.old).number) }
-    ensures two { IsPassOf lock.now two.new × ((view_of two.new).number ≡ (view_of two.old).number) }
+    ensures one { IsPassOf lock.now one.new
+        × ((view_of one.new).number ≡ (view_of one.old).number) }
+    ensures two { IsPassOf lock.now two.new
+        × ((view_of two.new).number ≡ (view_of two.old).number) }
 {
     let (first, second) = join_mut(
         rt,

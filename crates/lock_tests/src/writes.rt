@@ -11,8 +11,12 @@ use std::sync::Wait;
 pub trait Adds<H: Home> {
     /// Adds an entry with this number, or leaves the home value as it was.
     fn make(&self, home: &mut H, number: u32) -> Result<(), AllocError>
-        ensures ok { OnOk result ((entries : List H.Entry) → H.stands home.old entries → (entry : H.Entry) × (H.number_of entry ≡ number) × H.stands home.new (entries ++ entry ∷ [])) }
-        ensures err { OnErr result ((entries : List H.Entry) → H.stands home.old entries → H.stands home.new entries) };
+        ensures ok { OnOk result
+            ((entries : List H.Entry) → H.stands home.old entries
+            → (entry : H.Entry) × (H.number_of entry ≡ number)
+            × H.stands home.new (entries ++ entry ∷ [])) }
+        ensures err { OnErr result
+            ((entries : List H.Entry) → H.stands home.old entries → H.stands home.new entries) };
 }
 
 /// One change, under an intent of its own. Whether it was made.
@@ -99,12 +103,15 @@ pub trait Plans<H: Home> {
 
     /// Works out the change on a share.
     fn plan(&self, share: &H::Share) -> Self::Plan
-        ensures { (entries : List H.Entry) → H.share_stands share.now entries → is_about result entries };
+        ensures { (entries : List H.Entry) → H.share_stands share.now entries
+            → is_about result entries };
 
     /// Makes the change, which adds one entry of this number.
     fn carry_out(&self, home: &mut H, plan: Self::Plan, number: u32)
         requires { (entries : List H.Entry) × H.stands home.old entries × is_about plan entries }
-        ensures { (entries : List H.Entry) → H.stands home.old entries → (entry : H.Entry) × (H.number_of entry ≡ number) × H.stands home.new (entries ++ entry ∷ []) };
+        ensures { (entries : List H.Entry) → H.stands home.old entries
+            → (entry : H.Entry) × (H.number_of entry ≡ number)
+            × H.stands home.new (entries ++ entry ∷ []) };
 }
 
 /// Two changes under one intent: what is seen at the second is what the first has left. Whether both were made.
@@ -140,7 +147,8 @@ fn add<R: Wait, H: Home, C: Adds<H>>(
     ensures own { (view_of pass.new).number ≡ Some number }
     ensures current { (view_of pass.new).current ≡ true }
     ensures made { IsTrue result → HasMade (view_of pass.old) (view_of pass.new) }
-    ensures at_once { IsTrue result → (view_of pass.old).current ≡ true → HasMadeAtOnce (view_of pass.old) (view_of pass.new) }
+    ensures at_once { IsTrue result → (view_of pass.old).current ≡ true
+        → HasMadeAtOnce (view_of pass.old) (view_of pass.new) }
 {
     pass.write(rt, lock);
     match what.make(pass.home_mut(lock), number) {

@@ -1,17 +1,14 @@
 -- A read that was let in, worked, and has left.
 use Rattle.std.proofs.Common.{◌≡◌, ℕ, ◌<◌, ◌≤◌, false, ◌∷◌, [], ◌++◌, List, sym, ap, ◌∙◌, subst, length, le_refl, Result, Ok, Err, IfOk, IfErr}
-use Rattle.action_lock.specs.declared.refusal.ReadRefusal.{ReadRefusal}
-use Rattle.action_lock.specs.declared.refusal.ReadRefusal.TheVariants.{Pending}
 use Rattle.action_lock.specs.declared.view.Phase.TheVariants.{Out, Reading}
 use Rattle.action_lock.specs.declared.view.View.{View}
 use Rattle.action_lock.specs.Advances.{Advances}
 use Rattle.action_lock.specs.Counts.{HasRisen}
 use Rattle.action_lock.specs.Rule.{entries_of}
-use Rattle.action_lock.specs.Reads.{HasLooked, HasRead, IsRefused}
+use Rattle.action_lock.specs.Reads.{HasLooked, HasRead}
 use Rattle.action_lock.specs.Steps.{with_phase}
 use Rattle.action_lock.specs.Views.{all_checks}
 use Rattle.lock_laws.proofs.AdvanceLemmas.{advances_on, looked-advances, with_phase-advances}
-use Rattle.lock_laws.proofs.LookLemmas.{mark_counted}
 use Rattle.list_laws.proofs.FrontLemmas.{front_self}
 use Rattle.nonblocking_read.specs.declared.attempt.Miss.{Miss}
 use Rattle.nonblocking_read.specs.declared.attempt.Miss.TheVariants.{Seen}
@@ -69,9 +66,3 @@ module _ {E : Type 0} where
         → IfOk made (λ out. fits out w.seen × HasReadLast number_of v w)
     worked_ok fits (Ok out) ok = (subst (fits out) (sym (ap (λ (x : View E). x.seen) h.left)) ok.0, worked_last ok.1)
     worked_ok fits (Err miss) ok = tt
-
-  -- a read that was refused for the pending mark has seen it
-  pub refused_risen : (number_of : E → ℕ) (refusal : ReadRefusal) (v w : View E) (word : ℕ) → refusal ≡ Pending word → IsRefused number_of refusal v w → HasRisen v.sights w.sights
-  refused_risen number_of refusal v w word is refused =
-      let pending = subst (λ r. IsRefused number_of r v w) is refused in
-      subst (HasRisen v.sights) (sym (ap (λ (x : View E). x.sights) pending.1)) (mark_counted v.sights word pending.0)

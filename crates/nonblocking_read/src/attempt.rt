@@ -30,9 +30,13 @@ pub(crate) fn attempt<H: Home, K: Work<H>, G: Gate>(
     requires { IsPassOf lock.now pass.old }
     ensures pass { IsPassOf lock.now pass.new × IsSamePass pass.old pass.new }
     ensures view { HasOnlyRead (view_of pass.old) (view_of pass.new) }
-    ensures meaning { (out : K.Out) (entries : List H.Entry) → K.fits work.old out entries ↔ K.fits work.new out entries }
-    ensures ok { IfOk result (λ out. K.fits work.old out (view_of pass.new).seen × HasReadLast H.number_of (view_of pass.old) (view_of pass.new)) }
-    ensures seen { IfErr result (λ miss. miss ≡ Miss.Seen → HasRisen (view_of pass.old).sights (view_of pass.new).sights) }
+    ensures meaning { (out : K.Out) (entries : List H.Entry)
+        → K.fits work.old out entries ↔ K.fits work.new out entries }
+    ensures ok { IfOk result
+        (λ out. K.fits work.old out (view_of pass.new).seen
+        × HasReadLast H.number_of (view_of pass.old) (view_of pass.new)) }
+    ensures seen { IfErr result
+        (λ miss. miss ≡ Miss.Seen → HasRisen (view_of pass.old).sights (view_of pass.new).sights) }
 {
     let seat = pass.number();
     match pass.try_read(alloc, lock) {
@@ -57,9 +61,15 @@ fn work_in<'a, H: Home, K: Work<H>, G: Gate>(
     ensures same_reference { loan_of reading.new ≡ loan_of reading.old }
     ensures same { IsReading reading.new × IsSameRead reading.old reading.new }
     ensures view { HasLooked (view_of (pass_of reading.old)) (view_of (pass_of reading.new)) }
-    ensures meaning { (out : K.Out) (entries : List H.Entry) → K.fits work.old out entries ↔ K.fits work.new out entries }
-    ensures ok { IfOk result (λ out. K.fits work.old out (view_of (pass_of reading.new)).seen × (0 < (view_of (pass_of reading.new)).checks)) }
-    ensures seen { IfErr result (λ miss. miss ≡ Miss.Seen → HasRisen (view_of (pass_of reading.old)).sights (view_of (pass_of reading.new)).sights) }
+    ensures meaning { (out : K.Out) (entries : List H.Entry)
+        → K.fits work.old out entries ↔ K.fits work.new out entries }
+    ensures ok { IfOk result
+        (λ out. K.fits work.old out (view_of (pass_of reading.new)).seen
+        × (0 < (view_of (pass_of reading.new)).checks)) }
+    ensures seen { IfErr result
+        (λ miss. miss ≡ Miss.Seen
+        → HasRisen (view_of (pass_of reading.old)).sights
+        (view_of (pass_of reading.new)).sights) }
 {
     let share = reading.apart();
     let made = work.run(alloc, &share, reading);

@@ -15,6 +15,7 @@ use std::sync::Wait;
 pub enum SoftRefusal {
     /// So many attempts, as many as were allowed, saw that a write waits.
     Cancelled { attempts: u32 },
+    /// Memory ran out.
     OutOfMemory,
 }
 
@@ -33,9 +34,15 @@ pub fn soft<R: Wait, H: Home, K: Work<H>, G: Gate>(
     requires some { 0 < attempts }
     ensures pass { IsPassOf lock.now pass.new × IsSamePass pass.old pass.new }
     ensures view { HasOnlyRead (view_of pass.old) (view_of pass.new) }
-    ensures meaning { (out : K.Out) (entries : List H.Entry) → K.fits work.old out entries ↔ K.fits work.new out entries }
-    ensures ok { IfOk result (λ out. K.fits work.old out (view_of pass.new).seen × HasReadLast H.number_of (view_of pass.old) (view_of pass.new)) }
-    ensures cancelled { IfErr result (λ refusal. (n : ℕ) → refusal ≡ SoftRefusal.Cancelled n → (n ≡ attempts) × HasRisenBy attempts (view_of pass.old).sights (view_of pass.new).sights) }
+    ensures meaning { (out : K.Out) (entries : List H.Entry)
+        → K.fits work.old out entries ↔ K.fits work.new out entries }
+    ensures ok { IfOk result
+        (λ out. K.fits work.old out (view_of pass.new).seen
+        × HasReadLast H.number_of (view_of pass.old) (view_of pass.new)) }
+    ensures cancelled { IfErr result
+        (λ refusal. (n : ℕ) → refusal ≡ SoftRefusal.Cancelled n
+        → (n ≡ attempts)
+        × HasRisenBy attempts (view_of pass.old).sights (view_of pass.new).sights) }
 {
     let mut spent = 0;
     for _ in rt.forever() {
@@ -53,8 +60,11 @@ pub fn soft<R: Wait, H: Home, K: Work<H>, G: Gate>(
 /// How many attempts saw that a write waits, this one that missed among them; or the refusal, where no more may follow.
 fn spent_after(miss: Miss, spent: u32, attempts: u32) -> Result<u32, SoftRefusal>
     requires { spent < attempts }
-    ensures ok { IfOk result (λ now. (now < attempts) × ((now ≡ spent) ⊎ ((miss ≡ Miss.Seen) × (now ≡ spent + 1)))) }
-    ensures cancelled { IfErr result (λ refusal. (n : ℕ) → refusal ≡ SoftRefusal.Cancelled n → (n ≡ attempts) × (miss ≡ Miss.Seen) × (spent + 1 ≡ attempts)) }
+    ensures ok { IfOk result
+        (λ now. (now < attempts) × ((now ≡ spent) ⊎ ((miss ≡ Miss.Seen) × (now ≡ spent + 1)))) }
+    ensures cancelled { IfErr result
+        (λ refusal. (n : ℕ) → refusal ≡ SoftRefusal.Cancelled n
+        → (n ≡ attempts) × (miss ≡ Miss.Seen) × (spent + 1 ≡ attempts)) }
 {
     match miss {
         Miss::OutOfMemory => Err(SoftRefusal::OutOfMemory),

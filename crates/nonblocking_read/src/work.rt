@@ -10,11 +10,13 @@ use std::alloc::Global;
 pub enum Stopped {
     /// Its watch saw that it is to end.
     Seen,
+    /// Memory ran out.
     OutOfMemory,
 }
 
 /// Work on what a share stands for. It looks at its watch now and then, at least once before it has an answer.
 pub trait Work<H: Home> {
+    /// The answer.
     type Out;
 
     // The answer is one to this work, on this list of entries.
@@ -30,8 +32,13 @@ pub trait Work<H: Home> {
         requires { W.can_look watch.old }
         ensures again { W.can_look watch.new }
         ensures stays { W.stays watch.old watch.new }
-        ensures meaning { (out : Self.Out) (entries : List H.Entry) → fits self.old out entries ↔ fits self.new out entries }
-        ensures ok { IfOk result (λ out. (entries : List H.Entry) → H.share_stands share.now entries → fits self.old out entries) }
+        ensures meaning { (out : Self.Out) (entries : List H.Entry)
+            → fits self.old out entries ↔ fits self.new out entries }
+        ensures ok { IfOk result
+            (λ out. (entries : List H.Entry) → H.share_stands share.now entries
+            → fits self.old out entries) }
         ensures looked { OnOk result (counted (W.looks watch.old) ≤ W.looks watch.new) }
-        ensures stopped { IfErr result (λ why. why ≡ Stopped.Seen → HasRisen (W.sightings watch.old) (W.sightings watch.new)) };
+        ensures stopped { IfErr result
+            (λ why. why ≡ Stopped.Seen
+            → HasRisen (W.sightings watch.old) (W.sightings watch.new)) };
 }

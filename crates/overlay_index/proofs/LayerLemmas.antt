@@ -15,14 +15,6 @@ apart a b e = by (eqb b a) refl
     by false f = refl
     by true f = absurd (false≢true (sym e ∙ eq-eqb a b (sym (eqb-true b a f))))
 
--- the two ways of asking whether two ids are the same
-pub either_way : (a b : ℕ) → eqb a b ≡ eqb b a
-either_way a b = by (eqb a b) refl
-  where
-    by : (t : Bool) → eqb a b ≡ t → t ≡ eqb b a
-    by true e = sym (eq-eqb b a (sym (eqb-true a b e)))
-    by false e = sym (apart a b e)
-
 module _ (old new : Shown) where
   pub room_kept : index.KeepsRoom bytes_eq old.types new.types → index.KeepsRoom bytes_eq old.supers new.supers → index.KeepsRoom bytes_eq old.methods new.methods → index.KeepsRoom bytes_eq old.words new.words → index.KeepsRoom bytes_eq old.keys new.keys
       → (other : ℕ) (given : Parts) → HasTableRoom old other given → HasTableRoom new other given

@@ -15,16 +15,6 @@ module _ {V : Type 0} (file : ℕ) where
   abbrev Gives : List (List ℕ × V) → Table (List ℕ) V → Table (List ℕ) V → Type 0
   Gives = index.GivesUp bytes_eq file
 
-  -- where no rows went, no place does
-  none_given : (table : Table (List ℕ) V) → Gives [] table table
-  none_given table key other = by (eqb other file) (not (has_key bytes_eq key (rows_in_file file table.files))) _
-    where
-      by : (here own there : Bool) → there ≡ (there && not (here && false && own))
-      by true own true = refl
-      by true own false = refl
-      by false own true = refl
-      by false own false = refl
-
   -- what went under the keys of some rows and then of others went under those of all
   both_given : (first rest : List (List ℕ × V)) (old mid new : Table (List ℕ) V) → rows_in_file file mid.files ≡ rows_in_file file new.files
       → Gives first old mid → Gives rest mid new → Gives (first ++ rest) old new
@@ -54,16 +44,6 @@ module _ {V : Type 0} (file : ℕ) where
       ap (λ places. is_placed bytes_eq places key other) room
       ∙ one key other
       ∙ ap (λ l. is_placed bytes_eq old.room key other && not (eqb other file && has_key bytes_eq key rows && not (has_key bytes_eq key l))) same
-
--- no rows went
-pub gives_none : (file : ℕ) (shown : Shown) → GivesUp file [] shown shown
-gives_none file shown = record {
-  types = none_given file shown.types;
-  supers = none_given file shown.supers;
-  methods = none_given file shown.methods;
-  words = none_given file shown.words;
-  keys = none_given file shown.keys;
-}
 
 module _ (file : ℕ) (old mid new : Shown) (same : parts_in new file ≡ parts_in mid file) where
   pub gives_both : (first rest : List Parts) → GivesUp file first old mid → GivesUp file rest mid new → GivesUp file (first ++ rest) old new

@@ -48,7 +48,8 @@ impl Hidden {
     pub(crate) fn make_place(&mut self, file: u32) -> Result<(), AllocError>
         ensures same { (other : ℕ) → hidden_in self.new other ≡ hidden_in self.old other }
         ensures place { OnOk result (has_place self.new file ≡ true) }
-        ensures keeps_place { (other : ℕ) → has_place self.old other ≡ true → has_place self.new other ≡ true }
+        ensures keeps_place { (other : ℕ) → has_place self.old other ≡ true
+            → has_place self.new other ≡ true }
     {
         if !self.bases.contains_key(&file) {
             self.bases.insert(file, None)?;
@@ -60,8 +61,11 @@ impl Hidden {
     pub(crate) fn put(&mut self, file: u32, base: Option<FileData>) -> Option<FileData>
         requires { has_place self.old file ≡ true }
         ensures old { result ≡ hidden_in self.old file }
-        ensures each { (other : ℕ) → hidden_in self.new other ≡ (if file == other then base else hidden_in self.old other) }
-        ensures keeps_place { (other : ℕ) → has_place self.old other ≡ true → has_place self.new other ≡ true }
+        ensures each { (other : ℕ)
+            → hidden_in self.new other
+            ≡ (if file == other then base else hidden_in self.old other) }
+        ensures keeps_place { (other : ℕ) → has_place self.old other ≡ true
+            → has_place self.new other ≡ true }
     {
         match self.bases.insert(file, base) {
             Ok(Some(old)) => old,
@@ -73,8 +77,11 @@ impl Hidden {
     /// Takes the base of a file out, and keeps its place.
     pub(crate) fn take(&mut self, file: u32) -> Option<FileData>
         ensures old { result ≡ hidden_in self.old file }
-        ensures each { (other : ℕ) → hidden_in self.new other ≡ (if file == other then None else hidden_in self.old other) }
-        ensures keeps_place { (other : ℕ) → has_place self.old other ≡ true → has_place self.new other ≡ true }
+        ensures each { (other : ℕ)
+            → hidden_in self.new other
+            ≡ (if file == other then None else hidden_in self.old other) }
+        ensures keeps_place { (other : ℕ) → has_place self.old other ≡ true
+            → has_place self.new other ≡ true }
     {
         if !self.bases.contains_key(&file) {
             return None;
@@ -85,7 +92,8 @@ impl Hidden {
     /// Gives up the place of a file where no base lies.
     pub(crate) fn sweep(&mut self, file: u32)
         ensures same { (other : ℕ) → hidden_in self.new other ≡ hidden_in self.old other }
-        ensures keeps_place { (other : ℕ) → (other == file) ≡ false → has_place self.old other ≡ true → has_place self.new other ≡ true }
+        ensures keeps_place { (other : ℕ) → (other == file) ≡ false
+            → has_place self.old other ≡ true → has_place self.new other ≡ true }
         ensures swept { has_place self.new file ≡ is_some (hidden_in self.new file) }
     {
         if !self.has(file) {
@@ -95,7 +103,8 @@ impl Hidden {
 
     /// The same bases once more.
     pub(crate) fn copy(&self, alloc: Global) -> Result<Hidden, AllocError>
-        ensures { IfOk result (λ copy. (other : ℕ) → hidden_in copy other ≡ hidden_in self.now other) }
+        ensures { IfOk result
+            (λ copy. (other : ℕ) → hidden_in copy other ≡ hidden_in self.now other) }
     {
         let _ = self.bases.len();
         let mut bases = BTreeMap::new(alloc);
@@ -113,7 +122,11 @@ fn put_copy(
     file: u32,
     base: &Option<FileData>,
 ) -> Result<(), AllocError>
-    ensures { OnOk result ((other : ℕ) → get nat_cmp bases.new other ≡ (if is_at (nat_cmp file) other then Some base.now else get nat_cmp bases.old other)) }
+    ensures { OnOk result
+        ((other : ℕ)
+        → get nat_cmp bases.new other
+        ≡ (if is_at (nat_cmp file) other then Some base.now
+        else get nat_cmp bases.old other)) }
 {
     bases.insert(file, copy_base(alloc, base)?)?;
     Ok(())

@@ -77,7 +77,8 @@ impl Layers {
     pub fn set_base(&mut self, file: u32, parts: FileData) -> Gone
         requires { HasRoom self.old file parts }
         ensures gone { result ≡ base_of self.old file ∷ [] }
-        ensures base { (other : ℕ) → base_of self.new other ≡ (if file == other then parts else base_of self.old other) }
+        ensures base { (other : ℕ)
+            → base_of self.new other ≡ (if file == other then parts else base_of self.old other) }
         ensures overlay { (other : ℕ) → overlay_of self.new other ≡ overlay_of self.old other }
         ensures keeps_room { KeepsRoom self.old self.new }
         ensures keeps_place { KeepsPlace self.old self.new }
@@ -100,7 +101,9 @@ impl Layers {
         requires { HasRoom self.old file parts }
         ensures gone { result ≡ option_to_list (overlay_of self.old file) }
         ensures base { (other : ℕ) → base_of self.new other ≡ base_of self.old other }
-        ensures overlay { (other : ℕ) → overlay_of self.new other ≡ (if file == other then Some parts else overlay_of self.old other) }
+        ensures overlay { (other : ℕ)
+            → overlay_of self.new other
+            ≡ (if file == other then Some parts else overlay_of self.old other) }
         ensures keeps_room { KeepsRoom self.old self.new }
         ensures keeps_place { KeepsPlace self.old self.new }
     {
@@ -121,8 +124,12 @@ impl Layers {
     /// Lets a file's overlay, if it has one, be its base from now on. The base that it hid goes.
     pub fn overlay_to_base(&mut self, file: u32) -> Gone
         ensures gone { result ≡ covered_of self.old file }
-        ensures base { (other : ℕ) → base_of self.new other ≡ (if file == other then shown_of self.old file else base_of self.old other) }
-        ensures overlay { (other : ℕ) → overlay_of self.new other ≡ (if file == other then None else overlay_of self.old other) }
+        ensures base { (other : ℕ)
+            → base_of self.new other
+            ≡ (if file == other then shown_of self.old file else base_of self.old other) }
+        ensures overlay { (other : ℕ)
+            → overlay_of self.new other
+            ≡ (if file == other then None else overlay_of self.old other) }
         ensures keeps_room { KeepsRoom self.old self.new }
         ensures keeps_place { KeepsPlace self.old self.new }
     {
@@ -136,8 +143,13 @@ impl Layers {
     pub fn base_to_overlay(&mut self, file: u32) -> Gone
         requires { HasPlace self.old file }
         ensures gone { result ≡ covered_of self.old file }
-        ensures base { (other : ℕ) → base_of self.new other ≡ (if file == other then no_parts else base_of self.old other) }
-        ensures overlay { (other : ℕ) → overlay_of self.new other ≡ (if file == other then Some (shown_of self.old file) else overlay_of self.old other) }
+        ensures base { (other : ℕ)
+            → base_of self.new other
+            ≡ (if file == other then no_parts else base_of self.old other) }
+        ensures overlay { (other : ℕ)
+            → overlay_of self.new other
+            ≡ (if file == other then Some (shown_of self.old file)
+            else overlay_of self.old other) }
         ensures keeps_room { KeepsRoom self.old self.new }
         ensures keeps_place { KeepsPlace self.old self.new }
     {
@@ -151,8 +163,12 @@ impl Layers {
     /// Takes a file's base and overlay out.
     pub fn drop_file(&mut self, file: u32) -> Gone
         ensures gone { result ≡ shown_of self.old file ∷ covered_of self.old file }
-        ensures base { (other : ℕ) → base_of self.new other ≡ (if file == other then no_parts else base_of self.old other) }
-        ensures overlay { (other : ℕ) → overlay_of self.new other ≡ (if file == other then None else overlay_of self.old other) }
+        ensures base { (other : ℕ)
+            → base_of self.new other
+            ≡ (if file == other then no_parts else base_of self.old other) }
+        ensures overlay { (other : ℕ)
+            → overlay_of self.new other
+            ≡ (if file == other then None else overlay_of self.old other) }
         ensures keeps_room { KeepsRoom self.old self.new }
         ensures keeps_place { KeepsPlace self.old self.new }
     {
@@ -177,43 +193,50 @@ impl Layers {
 
     /// The types under a name, by the files and then by their offsets. It takes no memory.
     pub fn type_rows<'a>(&'a self, name: &'a Name) -> StubWalk<'a>
-        ensures { (last : ℕ) → IsShownTo self.now last → result ≡ found_to (λ id. values_of name.now (shown_of self.now id).types) last }
+        ensures { (last : ℕ) → IsShownTo self.now last
+            → result ≡ found_to (λ id. values_of name.now (shown_of self.now id).types) last }
     {
         self.tables.type_rows(name)
     }
 
     /// The types that name a super, by the files and then by their offsets. It takes no memory.
     pub fn super_rows<'a>(&'a self, name: &'a Name) -> StubWalk<'a>
-        ensures { (last : ℕ) → IsShownTo self.now last → result ≡ found_to (λ id. values_of name.now (shown_of self.now id).supers) last }
+        ensures { (last : ℕ) → IsShownTo self.now last
+            → result ≡ found_to (λ id. values_of name.now (shown_of self.now id).supers) last }
     {
         self.tables.super_rows(name)
     }
 
     /// The methods under a name, by the files and then by their offsets. It takes no memory.
     pub fn method_rows<'a>(&'a self, name: &'a Name) -> StubWalk<'a>
-        ensures { (last : ℕ) → IsShownTo self.now last → result ≡ found_to (λ id. values_of name.now (shown_of self.now id).methods) last }
+        ensures { (last : ℕ) → IsShownTo self.now last
+            → result ≡ found_to (λ id. values_of name.now (shown_of self.now id).methods) last }
     {
         self.tables.method_rows(name)
     }
 
     /// The files that have a word, each with the word's mask in it. It takes no memory.
     pub fn word_rows<'a>(&'a self, name: &'a Name) -> WordWalk<'a>
-        ensures { (last : ℕ) → IsShownTo self.now last → result ≡ found_to (λ id. values_of name.now (shown_of self.now id).words) last }
+        ensures { (last : ℕ) → IsShownTo self.now last
+            → result ≡ found_to (λ id. values_of name.now (shown_of self.now id).words) last }
     {
         self.tables.word_rows(name)
     }
 
     /// The offsets of a property key, by the files and then by themselves. It takes no memory.
     pub fn key_rows<'a>(&'a self, name: &'a Name) -> KeyWalk<'a>
-        ensures { (last : ℕ) → IsShownTo self.now last → result ≡ found_to (λ id. values_of name.now (shown_of self.now id).keys) last }
+        ensures { (last : ℕ) → IsShownTo self.now last
+            → result ≡ found_to (λ id. values_of name.now (shown_of self.now id).keys) last }
     {
         self.tables.key_rows(name)
     }
 
     /// The same layers once more.
     pub fn copy(&self) -> Result<Layers, AllocError>
-        ensures base { IfOk result (λ copy. (other : ℕ) → base_of copy other ≡ base_of self.now other) }
-        ensures overlay { IfOk result (λ copy. (other : ℕ) → overlay_of copy other ≡ overlay_of self.now other) }
+        ensures base { IfOk result
+            (λ copy. (other : ℕ) → base_of copy other ≡ base_of self.now other) }
+        ensures overlay { IfOk result
+            (λ copy. (other : ℕ) → overlay_of copy other ≡ overlay_of self.now other) }
     {
         let tables = self.tables.copy()?;
         let (tables, hidden) = beside(tables, self.hidden.copy(self.alloc))?;
@@ -228,7 +251,8 @@ impl Layers {
 /// Takes a file out from under the keys of these rows, if there are any, that none of its own has.
 fn release_any(tables: &mut Tables, file: u32, gone: &Option<FileData>)
     ensures same { (other : ℕ) → parts_in tables.new other ≡ parts_in tables.old other }
-    ensures keeps_room { (other : ℕ) (given : Parts) → (other == file) ≡ false → HasTableRoom tables.old other given → HasTableRoom tables.new other given }
+    ensures keeps_room { (other : ℕ) (given : Parts) → (other == file) ≡ false
+        → HasTableRoom tables.old other given → HasTableRoom tables.new other given }
     ensures given_up { GivesUp file (option_to_list gone.now) tables.old tables.new }
 {
     if let Some(parts) = gone {

@@ -51,7 +51,8 @@ impl Tables {
     pub(crate) fn reserve(&mut self, file: u32, parts: &FileData) -> Result<(), AllocError>
         ensures same { (other : ℕ) → parts_in self.new other ≡ parts_in self.old other }
         ensures room { OnOk result (HasTableRoom self.new file parts.now) }
-        ensures keeps_room { (other : ℕ) (given : Parts) → HasTableRoom self.old other given → HasTableRoom self.new other given }
+        ensures keeps_room { (other : ℕ) (given : Parts) → HasTableRoom self.old other given
+            → HasTableRoom self.new other given }
     {
         self.types.reserve(file, &parts.types)?;
         self.supers.reserve(file, &parts.supers)?;
@@ -64,8 +65,10 @@ impl Tables {
     pub(crate) fn swap(&mut self, file: u32, parts: FileData) -> FileData
         requires { HasTableRoom self.old file parts }
         ensures old { result ≡ parts_in self.old file }
-        ensures each { (other : ℕ) → parts_in self.new other ≡ (if file == other then parts else parts_in self.old other) }
-        ensures keeps_room { (other : ℕ) (given : Parts) → HasTableRoom self.old other given → HasTableRoom self.new other given }
+        ensures each { (other : ℕ)
+            → parts_in self.new other ≡ (if file == other then parts else parts_in self.old other) }
+        ensures keeps_room { (other : ℕ) (given : Parts) → HasTableRoom self.old other given
+            → HasTableRoom self.new other given }
     {
         let FileData {
             types,
@@ -86,8 +89,11 @@ impl Tables {
     /// Takes a file's rows out, and gives them back.
     pub(crate) fn withdraw(&mut self, file: u32) -> FileData
         ensures old { result ≡ parts_in self.old file }
-        ensures each { (other : ℕ) → parts_in self.new other ≡ (if file == other then no_parts else parts_in self.old other) }
-        ensures keeps_room { (other : ℕ) (given : Parts) → HasTableRoom self.old other given → HasTableRoom self.new other given }
+        ensures each { (other : ℕ)
+            → parts_in self.new other
+            ≡ (if file == other then no_parts else parts_in self.old other) }
+        ensures keeps_room { (other : ℕ) (given : Parts) → HasTableRoom self.old other given
+            → HasTableRoom self.new other given }
     {
         FileData {
             types: self.types.withdraw(file),
@@ -101,7 +107,8 @@ impl Tables {
     /// Takes a file out from under the keys of these rows that none of its own has.
     pub(crate) fn release(&mut self, file: u32, parts: &FileData)
         ensures same { (other : ℕ) → parts_in self.new other ≡ parts_in self.old other }
-        ensures keeps_room { (other : ℕ) (given : Parts) → (other == file) ≡ false → HasTableRoom self.old other given → HasTableRoom self.new other given }
+        ensures keeps_room { (other : ℕ) (given : Parts) → (other == file) ≡ false
+            → HasTableRoom self.old other given → HasTableRoom self.new other given }
         ensures given_up { GivesUp file (parts.now ∷ []) self.old self.new }
     {
         self.types.release(file, &parts.types);
@@ -114,7 +121,8 @@ impl Tables {
     /// Gives up the places of a file that has no rows.
     pub(crate) fn forget(&mut self, file: u32)
         ensures same { (other : ℕ) → parts_in self.new other ≡ parts_in self.old other }
-        ensures keeps_room { (other : ℕ) (given : Parts) → (other == file) ≡ false → HasTableRoom self.old other given → HasTableRoom self.new other given }
+        ensures keeps_room { (other : ℕ) (given : Parts) → (other == file) ≡ false
+            → HasTableRoom self.old other given → HasTableRoom self.new other given }
         ensures places { KeepsPlaces self.old self.new }
         ensures forgotten { IsKnownByRows file self.new }
     {
@@ -127,42 +135,48 @@ impl Tables {
 
     /// The types under a name, file by file.
     pub(crate) fn type_rows<'a>(&'a self, name: &'a Name) -> StubWalk<'a>
-        ensures { (last : ℕ) → IsFilledTo self.now last → result ≡ found_to (λ id. values_of name.now (parts_in self.now id).types) last }
+        ensures { (last : ℕ) → IsFilledTo self.now last
+            → result ≡ found_to (λ id. values_of name.now (parts_in self.now id).types) last }
     {
         StubWalk::of(self.types.rows(name))
     }
 
     /// The types that name a super, file by file.
     pub(crate) fn super_rows<'a>(&'a self, name: &'a Name) -> StubWalk<'a>
-        ensures { (last : ℕ) → IsFilledTo self.now last → result ≡ found_to (λ id. values_of name.now (parts_in self.now id).supers) last }
+        ensures { (last : ℕ) → IsFilledTo self.now last
+            → result ≡ found_to (λ id. values_of name.now (parts_in self.now id).supers) last }
     {
         StubWalk::of(self.supers.rows(name))
     }
 
     /// The methods under a name, file by file.
     pub(crate) fn method_rows<'a>(&'a self, name: &'a Name) -> StubWalk<'a>
-        ensures { (last : ℕ) → IsFilledTo self.now last → result ≡ found_to (λ id. values_of name.now (parts_in self.now id).methods) last }
+        ensures { (last : ℕ) → IsFilledTo self.now last
+            → result ≡ found_to (λ id. values_of name.now (parts_in self.now id).methods) last }
     {
         StubWalk::of(self.methods.rows(name))
     }
 
     /// The files that have a word, file by file.
     pub(crate) fn word_rows<'a>(&'a self, name: &'a Name) -> WordWalk<'a>
-        ensures { (last : ℕ) → IsFilledTo self.now last → result ≡ found_to (λ id. values_of name.now (parts_in self.now id).words) last }
+        ensures { (last : ℕ) → IsFilledTo self.now last
+            → result ≡ found_to (λ id. values_of name.now (parts_in self.now id).words) last }
     {
         WordWalk::of(self.words.rows(name))
     }
 
     /// The offsets of a property key, file by file.
     pub(crate) fn key_rows<'a>(&'a self, name: &'a Name) -> KeyWalk<'a>
-        ensures { (last : ℕ) → IsFilledTo self.now last → result ≡ found_to (λ id. values_of name.now (parts_in self.now id).keys) last }
+        ensures { (last : ℕ) → IsFilledTo self.now last
+            → result ≡ found_to (λ id. values_of name.now (parts_in self.now id).keys) last }
     {
         KeyWalk::of(self.keys.rows(name))
     }
 
     /// The same rows once more.
     pub(crate) fn copy(&self) -> Result<Tables, AllocError>
-        ensures { IfOk result (λ copy. (other : ℕ) → parts_in copy other ≡ parts_in self.now other) }
+        ensures { IfOk result
+            (λ copy. (other : ℕ) → parts_in copy other ≡ parts_in self.now other) }
     {
         let made = self.types.copy()?;
         let made = beside(made, self.supers.copy())?;

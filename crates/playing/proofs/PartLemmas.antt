@@ -18,9 +18,9 @@ use Rattle.shared_ide.specs.declared.shared.SharedIde.{SharedIde}
 use Rattle.shared_ide.specs.Passes.{IsIdePassOf}
 use Rattle.playing.specs.declared.answers.Answers.{Answers}
 use Rattle.playing.specs.declared.part.Part.{Part}
-use Rattle.playing.specs.declared.part.Task.{Task}
-use Rattle.playing.specs.declared.part.Task.TheVariants.{Lane, Worker}
-use Rattle.playing.specs.Parts.{AllFrom, IsTaskOf, IsTaskAt, CanRun, CanMeet, IsBegun, HasBegun, HasDoneTask, HasRun, HasMet, HasTaken, HaveTaken, IsWhole, kept_of, records_of, worked_of}
+use Rattle.playing.specs.declared.part.Duty.{Duty}
+use Rattle.playing.specs.declared.part.Duty.TheVariants.{Lane, Worker}
+use Rattle.playing.specs.Parts.{AllFrom, IsDutyOf, IsDutyAt, CanRun, CanMeet, IsBegun, HasBegun, HasDoneDuty, HasRun, HasMet, HasTaken, HaveTaken, IsWhole, kept_of, records_of, worked_of}
 use Rattle.playing.proofs.ViewLemmas.{HasMetAll}
 
 -- ---- one part more is begun
@@ -34,8 +34,8 @@ all_from_push P place (y ∷ ys) x all last =
 
 -- one more
 pub begun_more : (ide : SharedIde) (lanes : ℕ) (v x y : View Entry) (parts : List Part) (p : Part) → HasBegun ide lanes v x parts → y ≡ splitting x
-    → IsIdePassOf ide p.pass → ide_view p.pass ≡ split_off x → IsTaskAt lanes (length parts) p.task → HasBegun ide lanes v y (parts ++ p ∷ [])
-begun_more ide lanes v x y parts p begun gives rests is task =
+    → IsIdePassOf ide p.pass → ide_view p.pass ≡ split_off x → IsDutyAt lanes (length parts) p.duty → HasBegun ide lanes v y (parts ++ p ∷ [])
+begun_more ide lanes v x y parts p begun gives rests is duty =
     let places : y.places ≡ x.places = ap (λ (u : View Entry). u.places) gives in
     let number : y.number ≡ x.number = ap (λ (u : View Entry). u.number) gives in
     let drawn : y.drawn ≡ x.drawn + 1 = ap (λ (u : View Entry). u.drawn) gives in
@@ -43,7 +43,7 @@ begun_more ide lanes v x y parts p begun gives rests is task =
     let mine : y.mine ≡ x.mine = ap (λ (u : View Entry). u.mine) gives in
     let ended : y.ended ≡ x.ended = ap (λ (u : View Entry). u.ended) gives in
     let view : split_off x ≡ fresh v.places (Some (v.drawn + length parts)) 0 v.seen = λ k. fresh (begun.places k) (Some (begun.drawn k)) 0 (begun.seen k) in
-    let here : IsBegun ide lanes v (length parts) p = record { rests = rests; view = is ∙ view; task = task } in
+    let here : IsBegun ide lanes v (length parts) p = record { rests = rests; view = is ∙ view; duty = duty } in
     let place : length parts ≡ 0 + length parts = omega arith in
     record {
       places = places ∙ begun.places;
@@ -57,7 +57,7 @@ begun_more ide lanes v x y parts p begun gives rests is task =
 
 -- ---- all are run
 
-can_run_one : (lanes : List (List Line)) (place : ℕ) (task : Task) → IsTaskAt (length lanes) place task → IsTaskOf lanes task
+can_run_one : (lanes : List (List Line)) (place : ℕ) (duty : Duty) → IsDutyAt (length lanes) place duty → IsDutyOf lanes duty
 can_run_one lanes place (Lane index) is = omega (arith, is.0, is.1)
 can_run_one lanes place Worker is = tt
 
@@ -66,25 +66,25 @@ pub can_run : (ide : SharedIde) (script : Parts) (v : View Entry) (place : ℕ) 
     → AllFrom (IsBegun ide (length script.lanes) v) place parts → All (CanRun ide script) parts
 can_run ide script v place [] begun = λ k d less. absurd (omega arith)
 can_run ide script v place (p ∷ ps) begun = All-cons (CanRun ide script) p ps
-    (record { rests = begun.0.rests; task = can_run_one script.lanes place p.task begun.0.task })
+    (record { rests = begun.0.rests; duty = can_run_one script.lanes place p.duty begun.0.duty })
     (can_run ide script v (suc place) ps begun.1)
 
 -- the part at this place has run
 pub record IsRun (ide : SharedIde) (lanes : List (List Line)) (beside : Bool) (v : View Entry) (place : ℕ) (p : Part) : Type 0 where
   pub rests : IsIdePassOf ide p.pass
-  pub task : Task
-  pub is_task : IsTaskAt (length lanes) place task
+  pub duty : Duty
+  pub is_duty : IsDutyAt (length lanes) place duty
   pub advances : Advances (fresh v.places (Some (v.drawn + place)) 0 v.seen) (ide_view p.pass)
-  pub done : HasDoneTask lanes beside task (fresh v.places (Some (v.drawn + place)) 0 v.seen) (ide_view p.pass) p.outcome
+  pub done : HasDoneDuty lanes beside duty (fresh v.places (Some (v.drawn + place)) 0 v.seen) (ide_view p.pass) p.outcome
 
 run_one : (ide : SharedIde) (script : Parts) (beside : Bool) (v : View Entry) (place : ℕ) (p q : Part) → IsBegun ide (length script.lanes) v place p
     → HasRun ide script beside p q → IsRun ide script.lanes beside v place q
 run_one ide script beside v place p q begun run = record {
   rests = run.rests;
-  task = p.task;
-  is_task = begun.task;
+  duty = p.duty;
+  is_duty = begun.duty;
   advances = subst (λ (u : View Entry). Advances u (ide_view q.pass)) begun.view run.advances;
-  done = subst (λ (u : View Entry). HasDoneTask script.lanes beside p.task u (ide_view q.pass) q.outcome) begun.view run.done;
+  done = subst (λ (u : View Entry). HasDoneDuty script.lanes beside p.duty u (ide_view q.pass) q.outcome) begun.view run.done;
 }
 
 -- all have run

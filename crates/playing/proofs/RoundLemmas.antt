@@ -25,9 +25,9 @@ use Rattle.playing.specs.declared.answers.Answers.{Answers}
 use Rattle.playing.specs.declared.part.Outcome.{Outcome}
 use Rattle.playing.specs.declared.part.Outcome.TheVariants.{Nothing, Answered, Indexed}
 use Rattle.playing.specs.declared.part.Part.{Part}
-use Rattle.playing.specs.declared.part.Task.{Task}
-use Rattle.playing.specs.declared.part.Task.TheVariants.{Lane, Worker}
-use Rattle.playing.specs.Parts.{AllFrom, IsTaskAt, HasBegun, HasDoneLane, HasDoneTask, HasMet, HaveTaken, IsWhole, kept_of, records_of, worked_of}
+use Rattle.playing.specs.declared.part.Duty.{Duty}
+use Rattle.playing.specs.declared.part.Duty.TheVariants.{Lane, Worker}
+use Rattle.playing.specs.Parts.{AllFrom, IsDutyAt, HasBegun, HasDoneLane, HasDoneDuty, HasMet, HaveTaken, IsWhole, kept_of, records_of, worked_of}
 use Rattle.playing.specs.Rounds.{IsAlone, IsSeatFrom, HasPlayed}
 use Rattle.playing.proofs.ViewLemmas.{alone_again, kept_since, seats_since}
 use Rattle.playing.proofs.PartLemmas.{IsRun, kept_each, kept_length, met_all}
@@ -62,15 +62,15 @@ lane_done places beside seen history middle seat index w lanes lane records told
     same_some a b e = cc
 
 lane_fits : (places : ℕ) (beside : Bool) (seen history middle : List Entry) (place seat : ℕ) (w : View Entry) (lanes : List (List Line)) (lane : List Line)
-    (task : Task) (o : Outcome)
-    → place < length lanes → slice_get lanes place ≡ Some lane → IsTaskAt (length lanes) place task
-    → HasDoneTask lanes beside task (fresh places (Some seat) 0 seen) w o → IsWhole o → w.mine ≡ made_by seat middle
+    (duty : Duty) (o : Outcome)
+    → place < length lanes → slice_get lanes place ≡ Some lane → IsDutyAt (length lanes) place duty
+    → HasDoneDuty lanes beside duty (fresh places (Some seat) 0 seen) w o → IsWhole o → w.mine ≡ made_by seat middle
     → IsFront w.seen history → LaneFits beside seen history middle seat lane o
-lane_fits places beside seen history middle place seat w lanes lane (Lane index) Nothing inside is task done whole mine front = absurd whole
-lane_fits places beside seen history middle place seat w lanes lane (Lane index) (Answered records) inside is task done whole mine front =
-    lane_done places beside seen history middle seat index w lanes lane records done (ap (slice_get lanes) task.0 ∙ is) mine front
-lane_fits places beside seen history middle place seat w lanes lane (Lane index) (Indexed worked) inside is task done whole mine front = absurd done.done
-lane_fits places beside seen history middle place seat w lanes lane Worker o inside is task done whole mine front = absurd (omega arith)
+lane_fits places beside seen history middle place seat w lanes lane (Lane index) Nothing inside is duty done whole mine front = absurd whole
+lane_fits places beside seen history middle place seat w lanes lane (Lane index) (Answered records) inside is duty done whole mine front =
+    lane_done places beside seen history middle seat index w lanes lane records done (ap (slice_get lanes) duty.0 ∙ is) mine front
+lane_fits places beside seen history middle place seat w lanes lane (Lane index) (Indexed worked) inside is duty done whole mine front = absurd done.done
+lane_fits places beside seen history middle place seat w lanes lane Worker o inside is duty done whole mine front = absurd (omega arith)
 
 -- ---- one worker
 
@@ -118,13 +118,13 @@ worker_done places seen history middle seat w worked so mine front =
     same_some : {A : Type 0} (a b : A) → Some a ≡ Some b → a ≡ b
     same_some a b e = cc
 
-worker_tells : (places : ℕ) (beside : Bool) (seen history middle : List Entry) (place seat : ℕ) (w : View Entry) (lanes : List (List Line)) (task : Task) (o : Outcome)
-    → length lanes ≤ place → IsTaskAt (length lanes) place task → HasDoneTask lanes beside task (fresh places (Some seat) 0 seen) w o → IsWhole o
+worker_tells : (places : ℕ) (beside : Bool) (seen history middle : List Entry) (place seat : ℕ) (w : View Entry) (lanes : List (List Line)) (duty : Duty) (o : Outcome)
+    → length lanes ≤ place → IsDutyAt (length lanes) place duty → HasDoneDuty lanes beside duty (fresh places (Some seat) 0 seen) w o → IsWhole o
     → w.mine ≡ made_by seat middle → IsFront w.seen history → WorkerTells seen history middle seat o
-worker_tells places beside seen history middle place seat w lanes (Lane index) o past task done whole mine front = absurd (omega (arith, task.1))
-worker_tells places beside seen history middle place seat w lanes Worker Nothing past task done whole mine front = absurd whole
-worker_tells places beside seen history middle place seat w lanes Worker (Answered records) past task done whole mine front = absurd done
-worker_tells places beside seen history middle place seat w lanes Worker (Indexed worked) past task done whole mine front = worker_done places seen history middle
+worker_tells places beside seen history middle place seat w lanes (Lane index) o past duty done whole mine front = absurd (omega (arith, duty.1))
+worker_tells places beside seen history middle place seat w lanes Worker Nothing past duty done whole mine front = absurd whole
+worker_tells places beside seen history middle place seat w lanes Worker (Answered records) past duty done whole mine front = absurd done
+worker_tells places beside seen history middle place seat w lanes Worker (Indexed worked) past duty done whole mine front = worker_done places seen history middle
     seat w worked done mine front
 
 -- ---- all parts
@@ -157,7 +157,7 @@ module _ (ide : SharedIde) (lanes : List (List Line)) (beside : Bool) (v : View 
   workers_tell place seat [] is past kept = record { no_records = refl; count = refl; fits = λ bounded. tt }
   workers_tell place seat (p ∷ ps) is past kept =
       let k = kept.0 in
-      let one = worker_tells v.places beside v.seen history middle place (v.drawn + place) (ide_view p.pass) lanes k.run.task p.outcome past k.run.is_task
+      let one = worker_tells v.places beside v.seen history middle place (v.drawn + place) (ide_view p.pass) lanes k.run.duty p.outcome past k.run.is_duty
       k.run.done k.whole k.mine k.learned in
       let others = workers_tell (suc place) (suc seat) ps (omega arith) (omega arith) kept.1 in
       let later : List Worked = flat_map (λ (q : Part). worked_of q.outcome) ps in
@@ -194,8 +194,8 @@ module _ (ide : SharedIde) (lanes : List (List Line)) (beside : Bool) (v : View 
       let within : place < length lanes = omega arith in
       let lane : List Line = get_or lanes (place) [] in
       let found : slice_get lanes (place) ≡ Some lane = slice_get-get_or lanes (place) [] within in
-      let one = lane_fits v.places beside v.seen history middle place (v.drawn + place) (ide_view p.pass) lanes lane k.run.task p.outcome (omega arith) found
-      k.run.is_task k.run.done k.whole k.mine k.learned in
+      let one = lane_fits v.places beside v.seen history middle place (v.drawn + place) (ide_view p.pass) lanes lane k.run.duty p.outcome (omega arith) found
+      k.run.is_duty k.run.done k.whole k.mine k.learned in
       let others = parts_tell count (suc place) (suc seat) ps (omega arith) (omega arith) (omega arith) kept.1 in
       let next : place + 1 ≡ suc place = omega arith in
       let front : drop (place) lanes ≡ lane ∷ drop (suc place) lanes =

@@ -1,5 +1,5 @@
 -- One turn of a section's loop.
-use Rattle.std.proofs.Common.{ℕ, ◌≡◌, ◌+◌, ◌<◌, ◌≤◌, ◌⊎◌, inl, inr, Bool, true, false, ◌&&◌, arith, List, [], ◌∷◌, ◌++◌, length}
+use Rattle.std.proofs.Common.{Option, ℕ, ◌≡◌, ◌+◌, ◌<◌, ◌≤◌, ◌⊎◌, inl, inr, Bool, true, false, ◌&&◌, arith, List, [], ◌∷◌, ◌++◌, length}
 use Rattle.std.proofs.Common.{refl, ap, sym, ◌∙◌, subst, le_refl, le_trans, append_assoc, append-nil, Some, ⊎_elim, drop, get_or}
 use Rattle.std.proofs.lemmas.List.{drop_more, drop_all}
 use Rattle.list_laws.specs.Fronts.{IsFront}
@@ -10,15 +10,19 @@ use Rattle.action_lock.specs.Advances.{Advances}
 use Rattle.action_lock.specs.Counts.{HasRisenBy}
 use Rattle.action_lock.specs.Views.{all_checks}
 use Rattle.write_history.specs.declared.entry.Entry.{Entry}
+use Rattle.ide_calls.specs.Made.{IsAnswered}
 use Rattle.script_lang.specs.declared.line.Line.{Line}
 use Rattle.transcripts.specs.declared.loaded.Loaded.{Loaded}
 use Rattle.transcripts.specs.declared.record.Answer.{Answer}
 use Rattle.transcripts.specs.declared.record.Record.{Record}
 use Rattle.transcripts.specs.Serial.{step_of, first_load, later_loads}
 use Rattle.transcripts.specs.Fits.{Mark, Fits, SectionFits}
-use Rattle.playing.specs.Answered.{IsAnswered, IsGivenUpBy, IsLineAnswered, HasCheckedIf, HasAnsweredLine, is_soft}
+use Rattle.playing.specs.Answered.{IsGivenUpBy, IsLineAnswered, HasCheckedIf, HasAnsweredLine, is_soft}
 use Rattle.playing.specs.Done.{mark_of, is_reply, looks_owed, HasAdded}
-use Rattle.playing.proofs.AnsweredLemmas.{same_seat}
+
+-- a view has one number
+same_seat : (a b : ℕ) (number : Option ℕ) → number ≡ Some a → number ≡ Some b → a ≡ b
+same_seat a b number p q = cc
 
 -- the rest of a list from a place on begins with what stands there
 drop_at : (lines : List Line) (i : ℕ) (line : Line) → i < length lines → line ≡ get_or lines i line → drop i lines ≡ line ∷ drop (i + 1) lines
@@ -48,7 +52,7 @@ moved_done beside seat line load v w low answer number advances seen sights a = 
     start = a.start;
     late = le_trans seen (front_length v.seen a.start a.known);
     stands = subst (λ (l : List Entry). IsFront l history) a.seen front;
-    step = a.made seat number;
+    step = a.is seat number;
     seen = ap length a.seen;
     sights = le_trans sights advances.sights;
   };

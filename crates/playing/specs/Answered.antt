@@ -1,6 +1,5 @@
 -- How the command of one line is answered.
-use Rattle.std.specs.Prelude.{ℕ, ◌≡◌, ◌⊎◌, Bool, true, false, ◌&&◌, List, [], ◌∷◌, ◌++◌, Some, None}
-use Rattle.list_laws.specs.Fronts.{IsFront}
+use Rattle.std.specs.Prelude.{ℕ, ◌≡◌, ◌⊎◌, Bool, true, false, ◌&&◌, List, [], ◌∷◌, ◌++◌, None}
 use Rattle.action_lock.specs.declared.view.View.{View}
 use Rattle.action_lock.specs.Reads.{HasChecked}
 use Rattle.write_history.specs.declared.entry.Entry.{Entry}
@@ -8,6 +7,7 @@ use Rattle.write_history.specs.declared.refusal.Refusal.TheVariants as why
 use Rattle.queries.specs.declared.query.Query.{Query}
 use Rattle.ide_calls.specs.declared.reply.Reply.{Reply}
 use Rattle.ide_calls.specs.declared.reply.Reply.TheVariants as reply
+use Rattle.ide_calls.specs.Made.{IsAnswered}
 use Rattle.ide_calls.specs.Sighting.{Sighting}
 use Rattle.ide_calls.specs.SoftRefusal.{HasSighted}
 use Rattle.script_lang.specs.declared.command.Command.{Command}
@@ -17,23 +17,13 @@ use Rattle.transcripts.specs.declared.loaded.Loaded.{Loaded}
 use Rattle.transcripts.specs.declared.record.Answer.{Answer}
 use Rattle.transcripts.specs.declared.record.Answer.TheVariants.{Refused, NotReady, Found, Cancelled}
 use Rattle.transcripts.specs.declared.record.Record.{Record}
-use Rattle.transcripts.specs.Serial.{Step, step_of, query_step}
+use Rattle.transcripts.specs.Serial.{step_of, query_step}
 
 -- what a reply is told as
 abbrev pub reply_answer : ℕ → Reply → Answer
 reply_answer at (reply.Found finding) = Found at finding
 reply_answer at reply.NoSuchFile = Refused at None why.NoSuchFile
 reply_answer at (reply.NotReady file path) = NotReady at path
-
--- The command was done behind `start`, which begins with all that the pass had seen: the step there, by the pass's number, says what it made,
--- and what it is answered
-pub record IsAnswered (step : List Entry → ℕ → Step) (v w : View Entry) (answer : Answer) : Type 0 where
-  pub start : List Entry
-  pub own : List Entry
-  pub known : IsFront v.seen start
-  pub seen : w.seen ≡ start ++ own
-  pub mine : w.mine ≡ v.mine ++ own
-  pub made : (seat : ℕ) → v.number ≡ Some seat → step start seat ≡ record { added = own; answer = answer }
 
 -- a soft question was given up after so many attempts, and nothing was made
 pub record IsCancelled (attempts : ℕ) (v w : View Entry) (answer : Answer) : Type 0 where

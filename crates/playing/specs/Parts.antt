@@ -21,18 +21,18 @@ use Rattle.playing.specs.declared.answers.Answers.{Answers}
 use Rattle.playing.specs.declared.part.Outcome.{Outcome}
 use Rattle.playing.specs.declared.part.Outcome.TheVariants.{Nothing, Answered, Indexed}
 use Rattle.playing.specs.declared.part.Part.{Part}
-use Rattle.playing.specs.declared.part.Task.{Task}
-use Rattle.playing.specs.declared.part.Task.TheVariants.{Lane, Worker}
+use Rattle.playing.specs.declared.part.Duty.{Duty}
+use Rattle.playing.specs.declared.part.Duty.TheVariants.{Lane, Worker}
 
 -- the index of a lane's part is that of one of these lanes
-abbrev pub IsTaskOf : List (List Line) → Task → Type 0
-IsTaskOf lanes (Lane index) = index < length lanes
-IsTaskOf lanes Worker = Unit {0}
+abbrev pub IsDutyOf : List (List Line) → Duty → Type 0
+IsDutyOf lanes (Lane index) = index < length lanes
+IsDutyOf lanes Worker = Unit {0}
 
 -- the pass of the part is one of this workspace, and its lane is one of the script
 pub record CanRun (ide : SharedIde) (script : Parts) (p : Part) : Type 0 where
   pub rests : IsIdePassOf ide p.pass
-  pub task : IsTaskOf script.lanes p.task
+  pub duty : IsDutyOf script.lanes p.duty
 
 -- the pass with this number did the lines of a lane, if that is told
 abbrev pub MayHaveDone : Bool → ℕ → List Line → View Entry → View Entry → Outcome → Type 0
@@ -55,26 +55,26 @@ pub record HasDoneLane (lanes : List (List Line)) (beside : Bool) (index : ℕ) 
   pub done : MayHaveDone beside seat lane v w outcome
 
 -- the pass did what the part is for, if that is told
-abbrev pub HasDoneTask : List (List Line) → Bool → Task → View Entry → View Entry → Outcome → Type 0
-HasDoneTask lanes beside (Lane index) v w outcome = HasDoneLane lanes beside index v w outcome
-HasDoneTask lanes beside Worker v w outcome = MayHaveWorked v w outcome
+abbrev pub HasDoneDuty : List (List Line) → Bool → Duty → View Entry → View Entry → Outcome → Type 0
+HasDoneDuty lanes beside (Lane index) v w outcome = HasDoneLane lanes beside index v w outcome
+HasDoneDuty lanes beside Worker v w outcome = MayHaveWorked v w outcome
 
 -- a part has run: its pass is one of this workspace again, it has gone on, and it did what it was for
 pub record HasRun (ide : SharedIde) (script : Parts) (beside : Bool) (p q : Part) : Type 0 where
   pub rests : IsIdePassOf ide q.pass
   pub advances : Advances (ide_view p.pass) (ide_view q.pass)
-  pub done : HasDoneTask script.lanes beside p.task (ide_view p.pass) (ide_view q.pass) q.outcome
+  pub done : HasDoneDuty script.lanes beside p.duty (ide_view p.pass) (ide_view q.pass) q.outcome
 
 -- what the part at this place is for, where there are so many lanes: these come first
-abbrev pub IsTaskAt : (lanes place : ℕ) → Task → Type 0
-IsTaskAt lanes place (Lane index) = (index ≡ place) × (place < lanes)
-IsTaskAt lanes place Worker = lanes ≤ place
+abbrev pub IsDutyAt : (lanes place : ℕ) → Duty → Type 0
+IsDutyAt lanes place (Lane index) = (index ≡ place) × (place < lanes)
+IsDutyAt lanes place Worker = lanes ≤ place
 
 -- the part at this place of a round that begins with this view has a number of its own, and has seen as much
 pub record IsBegun (ide : SharedIde) (lanes : ℕ) (v : View Entry) (place : ℕ) (p : Part) : Type 0 where
   pub rests : IsIdePassOf ide p.pass
   pub view : ide_view p.pass ≡ fresh v.places (Some (v.drawn + place)) 0 v.seen
-  pub task : IsTaskAt lanes place p.task
+  pub duty : IsDutyAt lanes place p.duty
 
 -- something holds of each element and its place, counted from this one on
 abbrev pub AllFrom : {A : Type 0} → (ℕ → A → Type 0) → ℕ → List A → Type 0

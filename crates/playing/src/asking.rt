@@ -1,10 +1,10 @@
 //! Questions of lines.
 ghost use Rattle.std.specs.Prelude.{◌≡◌, ◌<◌, ◌⊎◌, IfOk};
-ghost use Rattle.action_lock.specs.Advances.{Advances};
-ghost use Rattle.index_workers.specs.Passes.{ide_view, IsSameIdePass};
-ghost use Rattle.shared_ide.specs.Passes.{IsIdePassOf};
+ghost use Rattle.ide_calls.specs.Made.{IsAnswered};
+ghost use Rattle.index_workers.specs.Passes.{ide_view};
+ghost use Rattle.shared_ide.specs.Passes.{IsIdePassOf, Continues};
 ghost use Rattle.transcripts.specs.Serial.{query_step};
-ghost use Rattle.playing.specs.Answered.{IsAnswered, IsSoftlyAnswered};
+ghost use Rattle.playing.specs.Answered.{IsSoftlyAnswered};
 
 use crate::answering::answer_of;
 use action_lock::Gate;
@@ -26,9 +26,10 @@ pub(crate) fn do_ask<R: Wait, G: Gate>(
     gate: &G,
 ) -> Result<Answer, AllocError>
     requires { IsIdePassOf ide.now pass.old }
-    ensures pass { IsIdePassOf ide.now pass.new × IsSameIdePass pass.old pass.new }
-    ensures advances { Advances (ide_view pass.old) (ide_view pass.new) }
-    ensures answer { IfOk result (IsAnswered (λ start seat. query_step start query.now) (ide_view pass.old) (ide_view pass.new)) }
+    ensures pass { Continues ide.now pass.old pass.new }
+    ensures answer { IfOk result
+        (IsAnswered (λ start seat. query_step start query.now) (ide_view pass.old)
+        (ide_view pass.new)) }
 {
     let replied = ide.ask(rt, alloc, pass, query, gate)?;
     Ok(answer_of(replied))
@@ -47,9 +48,9 @@ pub(crate) fn do_soft_ask<R: Wait, G: Gate>(
 ) -> Result<Answer, AllocError>
     requires pass { IsIdePassOf ide.now pass.old }
     requires some { 0 < attempts }
-    ensures pass { IsIdePassOf ide.now pass.new × IsSameIdePass pass.old pass.new }
-    ensures advances { Advances (ide_view pass.old) (ide_view pass.new) }
-    ensures answer { IfOk result (IsSoftlyAnswered attempts query.now (ide_view pass.old) (ide_view pass.new)) }
+    ensures pass { Continues ide.now pass.old pass.new }
+    ensures answer { IfOk result
+        (IsSoftlyAnswered attempts query.now (ide_view pass.old) (ide_view pass.new)) }
 {
     match ide.soft_ask(rt, alloc, pass, attempts, query, gate) {
         Ok(replied) => Ok(answer_of(replied)),

@@ -1,15 +1,14 @@
 //! Changes, groups and loads of lines.
 ghost use Rattle.std.specs.Prelude.{◌≡◌, true, false, IfOk, None, length};
 ghost use Rattle.std.specs.List.{list_all};
-ghost use Rattle.action_lock.specs.Advances.{Advances};
 ghost use Rattle.write_history.specs.declared.refusal.Refusal.TheVariants.{BadPath};
 ghost use Rattle.write_history.specs.Path.{is_path};
 ghost use Rattle.write_history.specs.Changes.{is_edit};
-ghost use Rattle.index_workers.specs.Passes.{ide_view, IsSameIdePass};
-ghost use Rattle.shared_ide.specs.Passes.{IsIdePassOf};
+ghost use Rattle.ide_calls.specs.Made.{IsAnswered};
+ghost use Rattle.index_workers.specs.Passes.{ide_view};
+ghost use Rattle.shared_ide.specs.Passes.{IsIdePassOf, Continues};
 ghost use Rattle.transcripts.specs.declared.record.Answer.TheVariants.{Refused};
 ghost use Rattle.transcripts.specs.Serial.{told, change_step, group_step, load_step};
-ghost use Rattle.playing.specs.Answered.{IsAnswered};
 
 use ide_calls::{ChangeRefusal, GroupChangeRefusal};
 use ide_text::Name;
@@ -31,9 +30,10 @@ pub(crate) fn do_change<R: Wait>(
 ) -> Result<Answer, AllocError>
     requires pass { IsIdePassOf ide.now pass.old }
     requires edit { is_edit change ≡ true }
-    ensures pass { IsIdePassOf ide.now pass.new × IsSameIdePass pass.old pass.new }
-    ensures advances { Advances (ide_view pass.old) (ide_view pass.new) }
-    ensures answer { IfOk result (IsAnswered (λ start seat. change_step start seat line change) (ide_view pass.old) (ide_view pass.new)) }
+    ensures pass { Continues ide.now pass.old pass.new }
+    ensures answer { IfOk result
+        (IsAnswered (λ start seat. change_step start seat line change) (ide_view pass.old)
+        (ide_view pass.new)) }
 {
     match ide.change(rt, alloc, pass, line, change) {
         Ok(at) => Ok(Answer::Accepted { at }),
@@ -57,9 +57,10 @@ pub(crate) fn do_group<R: Wait>(
 ) -> Result<Answer, AllocError>
     requires pass { IsIdePassOf ide.now pass.old }
     requires edits { list_all is_edit changes ≡ true }
-    ensures pass { IsIdePassOf ide.now pass.new × IsSameIdePass pass.old pass.new }
-    ensures advances { Advances (ide_view pass.old) (ide_view pass.new) }
-    ensures answer { IfOk result (IsAnswered (λ start seat. group_step start seat line changes) (ide_view pass.old) (ide_view pass.new)) }
+    ensures pass { Continues ide.now pass.old pass.new }
+    ensures answer { IfOk result
+        (IsAnswered (λ start seat. group_step start seat line changes) (ide_view pass.old)
+        (ide_view pass.new)) }
 {
     match ide.change_group(rt, alloc, pass, line, changes) {
         Ok(at) => Ok(Answer::Accepted { at }),
@@ -83,9 +84,10 @@ pub(crate) fn do_load<R: Wait>(
     load: &Loaded,
 ) -> Result<Answer, AllocError>
     requires pass { IsIdePassOf ide.now pass.old }
-    ensures pass { IsIdePassOf ide.now pass.new × IsSameIdePass pass.old pass.new }
-    ensures advances { Advances (ide_view pass.old) (ide_view pass.new) }
-    ensures answer { IfOk result (IsAnswered (λ start seat. load_step start seat line path.now load.now) (ide_view pass.old) (ide_view pass.new)) }
+    ensures pass { Continues ide.now pass.old pass.new }
+    ensures answer { IfOk result
+        (IsAnswered (λ start seat. load_step start seat line path.now load.now) (ide_view pass.old)
+        (ide_view pass.new)) }
 {
     if !is_lawful_path(path) {
         return refuse_path(rt, alloc, ide, pass, line, path);
@@ -116,9 +118,10 @@ fn refuse_path<R: Wait>(
 ) -> Result<Answer, AllocError>
     requires pass { IsIdePassOf ide.now pass.old }
     requires unlawful { is_path path.now ≡ false }
-    ensures pass { IsIdePassOf ide.now pass.new × IsSameIdePass pass.old pass.new }
-    ensures advances { Advances (ide_view pass.old) (ide_view pass.new) }
-    ensures answer { IfOk result (IsAnswered (λ start seat. told (Refused (length start) None BadPath)) (ide_view pass.old) (ide_view pass.new)) }
+    ensures pass { Continues ide.now pass.old pass.new }
+    ensures answer { IfOk result
+        (IsAnswered (λ start seat. told (Refused (length start) None BadPath)) (ide_view pass.old)
+        (ide_view pass.new)) }
 {
     let change = Change::Move {
         path: path.copy()?,

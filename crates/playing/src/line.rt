@@ -1,9 +1,8 @@
 //! The command of one line.
 ghost use Rattle.std.specs.Prelude.{◌≡◌, IfOk, OnOk};
-ghost use Rattle.action_lock.specs.Advances.{Advances};
 ghost use Rattle.script_lang.specs.Held.{IsOfLine};
-ghost use Rattle.index_workers.specs.Passes.{ide_view, IsSameIdePass};
-ghost use Rattle.shared_ide.specs.Passes.{IsIdePassOf};
+ghost use Rattle.index_workers.specs.Passes.{ide_view};
+ghost use Rattle.shared_ide.specs.Passes.{IsIdePassOf, Continues};
 ghost use Rattle.playing.specs.Answered.{IsLineAnswered, HasAnsweredLine};
 
 use crate::asking::{do_ask, do_soft_ask};
@@ -34,9 +33,10 @@ pub(crate) fn do_line<R: Threads + Wait, G: Gate>(
 ) -> Result<(), AllocError>
     requires pass { IsIdePassOf ide.now pass.old }
     requires command { IsOfLine line.now.command }
-    ensures pass { IsIdePassOf ide.now pass.new × IsSameIdePass pass.old pass.new }
-    ensures advances { Advances (ide_view pass.old) (ide_view pass.new) }
-    ensures answered { OnOk result (HasAnsweredLine beside seat line.now load.now (ide_view pass.old) (ide_view pass.new) records.old records.new) }
+    ensures pass { Continues ide.now pass.old pass.new }
+    ensures answered { OnOk result
+        (HasAnsweredLine beside seat line.now load.now (ide_view pass.old)
+        (ide_view pass.new) records.old records.new) }
 {
     tell_start(gate, seat, line.number);
     let answer = answer_line(rt, alloc, ide, pass, line, load, beside, gate)?;
@@ -67,9 +67,9 @@ fn answer_line<R: Threads + Wait, G: Gate>(
 ) -> Result<Answer, AllocError>
     requires pass { IsIdePassOf ide.now pass.old }
     requires command { IsOfLine line.now.command }
-    ensures pass { IsIdePassOf ide.now pass.new × IsSameIdePass pass.old pass.new }
-    ensures advances { Advances (ide_view pass.old) (ide_view pass.new) }
-    ensures answer { IfOk result (IsLineAnswered beside line.now load.now (ide_view pass.old) (ide_view pass.new)) }
+    ensures pass { Continues ide.now pass.old pass.new }
+    ensures answer { IfOk result
+        (IsLineAnswered beside line.now load.now (ide_view pass.old) (ide_view pass.new)) }
 {
     let number = line.number;
     match &line.command {

@@ -1,9 +1,8 @@
 //! A part of a round: a pass, and what is done with it on a thread of its own.
 ghost use Rattle.std.specs.Prelude.{◌≡◌, Some};
-ghost use Rattle.action_lock.specs.Advances.{Advances};
 ghost use Rattle.script_lang.specs.Held.{AreOfSection};
-ghost use Rattle.index_workers.specs.Passes.{ide_view, IsSameIdePass};
-ghost use Rattle.shared_ide.specs.Passes.{IsIdePassOf};
+ghost use Rattle.index_workers.specs.Passes.{ide_view};
+ghost use Rattle.shared_ide.specs.Passes.{IsIdePassOf, Continues};
 ghost use Rattle.playing.specs.Parts.{CanRun, HasRun, MayHaveDone, MayHaveWorked};
 
 use crate::do_section;
@@ -20,7 +19,7 @@ use transcripts::Records;
 
 /// What the pass of a part is for.
 #[derive(Clone, Copy)]
-pub(crate) enum Task {
+pub(crate) enum Duty {
     /// The lane of the script with this index.
     Lane { index: usize },
     Worker,
@@ -40,7 +39,7 @@ pub(crate) enum Outcome {
 /// A pass, what it is for, and what was done with it. Parts lie side by side, and each is changed by a thread of its own.
 pub(crate) struct Part {
     pub(crate) pass: IdePass,
-    pub(crate) task: Task,
+    pub(crate) duty: Duty,
     pub(crate) outcome: Outcome,
     /// Keeps the next part off the cache lines of this one.
     pub(crate) apart: CachePadded<()>,
@@ -60,8 +59,8 @@ pub(crate) fn run_part<R: Threads + Wait, G: Gate>(
     ensures { HasRun ide.now script.now beside part.old part.new }
 {
     let seat = part.pass.number();
-    part.outcome = match part.task {
-        Task::Lane { index } => do_lane(
+    part.outcome = match part.duty {
+        Duty::Lane { index } => do_lane(
             rt,
             alloc,
             ide,
@@ -71,7 +70,7 @@ pub(crate) fn run_part<R: Threads + Wait, G: Gate>(
             beside,
             gate,
         ),
-        Task::Worker => do_worker(rt, alloc, ide, &mut part.pass, gate),
+        Duty::Worker => do_worker(rt, alloc, ide, &mut part.pass, gate),
     };
     gate.at(Point::Ended { seat });
 }
@@ -90,8 +89,7 @@ fn do_lane<R: Threads + Wait, G: Gate>(
     requires pass { IsIdePassOf ide.now pass.old }
     requires seat { (ide_view pass.old).number ≡ Some seat }
     requires lines { AreOfSection lane.now }
-    ensures pass { IsIdePassOf ide.now pass.new × IsSameIdePass pass.old pass.new }
-    ensures advances { Advances (ide_view pass.old) (ide_view pass.new) }
+    ensures pass { Continues ide.now pass.old pass.new }
     ensures done { MayHaveDone beside seat lane.now (ide_view pass.old) (ide_view pass.new) result }
 {
     let mut records = Records::new(alloc);
@@ -121,8 +119,7 @@ fn do_worker<R: Wait, G: Gate>(
     gate: &G,
 ) -> Outcome
     requires { IsIdePassOf ide.now pass.old }
-    ensures pass { IsIdePassOf ide.now pass.new × IsSameIdePass pass.old pass.new }
-    ensures advances { Advances (ide_view pass.old) (ide_view pass.new) }
+    ensures pass { Continues ide.now pass.old pass.new }
     ensures worked { MayHaveWorked (ide_view pass.old) (ide_view pass.new) result }
 {
     workers_may_have_any_gate::<G>();

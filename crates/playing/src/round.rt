@@ -3,11 +3,11 @@ ghost use Rattle.std.specs.Prelude.{◌≡◌, ℕ, ◌+◌, ◌<◌, ◌≤◌,
 ghost use Rattle.transcripts.specs.Fits.{run_beside};
 ghost use Rattle.index_workers.specs.Passes.{ide_view, IsSameIdePass};
 ghost use Rattle.shared_ide.specs.Passes.{IsIdePassOf};
-ghost use Rattle.playing.specs.Parts.{CanRun, HasRun, IsTaskAt, HasBegun, CanMeet, HasMet, HaveTaken};
+ghost use Rattle.playing.specs.Parts.{CanRun, HasRun, IsDutyAt, HasBegun, CanMeet, HasMet, HaveTaken};
 ghost use Rattle.playing.specs.Rounds.{IsAlone, HasPlayed};
 
 use crate::answers::Answers;
-use crate::part::{Outcome, Part, Task, run_part};
+use crate::part::{Duty, Outcome, Part, run_part};
 use action_lock::Gate;
 use crossbeam_utils::CachePadded;
 use index_workers::IdePass;
@@ -35,13 +35,13 @@ impl Round {
     }
 
     /// What the part at this place is for: lanes come first.
-    fn task(self, place: usize) -> Task
-        ensures { IsTaskAt self.lanes place result }
+    fn duty(self, place: usize) -> Duty
+        ensures { IsDutyAt self.lanes place result }
     {
         if place < self.lanes {
-            Task::Lane { index: place }
+            Duty::Lane { index: place }
         } else {
-            Task::Worker
+            Duty::Worker
         }
     }
 }
@@ -64,7 +64,9 @@ pub(crate) fn play_round<R: Threads + Wait + Sync, G: Gate + Sync>(
     requires few { workers ≤ 8 }
     ensures pass { IsIdePassOf ide.now pass.new × IsSameIdePass pass.old pass.new }
     ensures alone { IsAlone (ide_view pass.new) }
-    ensures played { OnOk result (HasPlayed script.now.lanes workers (ide_view pass.old) (ide_view pass.new) answers.old answers.new) }
+    ensures played { OnOk result
+        (HasPlayed script.now.lanes workers (ide_view pass.old)
+        (ide_view pass.new) answers.old answers.new) }
 {
     let round = Round {
         lanes: script.lanes(),
@@ -88,7 +90,9 @@ fn begin_parts(
     requires leads { (ide_view pass.old).number ≡ Some 0 }
     requires few { (ide_view pass.old).drawn + round.lanes + round.workers ≤ 65536 }
     ensures pass { IsIdePassOf ide.now pass.new × IsSameIdePass pass.old pass.new }
-    ensures parts { IfOk result (λ parts. HasBegun ide.now round.lanes (ide_view pass.old) (ide_view pass.new) parts.items) }
+    ensures parts { IfOk result
+        (λ parts. HasBegun ide.now round.lanes (ide_view pass.old)
+        (ide_view pass.new) parts.items) }
     ensures count { IfOk result (λ parts. length parts.items ≡ round.lanes + round.workers) }
     ensures none { OnErr result (ide_view pass.new ≡ ide_view pass.old) }
 {
@@ -100,13 +104,13 @@ fn begin_parts(
             Ok(pass) => pass,
             Err(_) => unreachable!(),
         };
-        let task = round.task(place);
+        let duty = round.duty(place);
         let outcome = Outcome::Nothing;
         let apart = CachePadded::new(());
         parts
             .push(Part {
                 pass,
-                task,
+                duty,
                 outcome,
                 apart,
             })
@@ -128,7 +132,8 @@ fn run_parts<R: Threads + Wait + Sync, G: Gate + Sync>(
     requires { All (CanRun ide.now script.now) parts.old.items }
     ensures same { length parts.new.items ≡ length parts.old.items }
     ensures run { (k : ℕ) (d : Part) → k < length parts.old.items
-        → HasRun ide.now script.now beside (slice_index_or parts.old.items k d) (slice_index_or parts.new.items k d) }
+        → HasRun ide.now script.now beside (slice_index_or parts.old.items k d)
+        (slice_index_or parts.new.items k d) }
 {
     run_reversed(rt, alloc, ide, script, beside, parts.as_mut_slice(), gate);
 }
@@ -146,7 +151,9 @@ fn run_reversed<R: Threads + Wait + Sync, G: Gate + Sync>(
 )
     requires { All (CanRun ide.now script.now) parts.old }
     ensures same { length parts.new ≡ length parts.old }
-    ensures run { (k : ℕ) (d : Part) → k < length parts.old → HasRun ide.now script.now beside (slice_index_or parts.old k d) (slice_index_or parts.new k d) }
+    ensures run { (k : ℕ) (d : Part) → k < length parts.old
+        → HasRun ide.now script.now beside (slice_index_or parts.old k d)
+        (slice_index_or parts.new k d) }
 {
     parts.reverse();
     run_each(rt, alloc, ide, script, beside, parts, gate);
@@ -166,7 +173,9 @@ fn run_each<R: Threads + Wait + Sync, G: Gate + Sync>(
 )
     requires { All (CanRun ide.now script.now) parts.old }
     ensures same { length parts.new ≡ length parts.old }
-    ensures run { (k : ℕ) (d : Part) → k < length parts.old → HasRun ide.now script.now beside (slice_index_or parts.old k d) (slice_index_or parts.new k d) }
+    ensures run { (k : ℕ) (d : Part) → k < length parts.old
+        → HasRun ide.now script.now beside (slice_index_or parts.old k d)
+        (slice_index_or parts.new k d) }
 {
     let threads = parts.len();
     if threads == 0 {
@@ -202,7 +211,7 @@ fn meet_parts(
     while !left.is_empty() {
         let Part {
             pass: other,
-            task: _,
+            duty: _,
             outcome,
             apart: _,
         } = left.remove(0);

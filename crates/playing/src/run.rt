@@ -3,6 +3,7 @@ ghost use Rattle.std.specs.Prelude.{◌≡◌, ◌≤◌, ℕ, [], All, IfOk, On
 ghost use Rattle.action_lock.specs.Views.{first_view};
 ghost use Rattle.script_lang.specs.Held.{IsOfLine};
 ghost use Rattle.transcripts.specs.Fits.{RunFits};
+ghost use Rattle.transcripts.specs.Play.{ended_of};
 ghost use Rattle.index_workers.specs.Passes.{ide_view, IsSameIdePass};
 ghost use Rattle.shared_ide.specs.Passes.{IsIdePassOf};
 ghost use Rattle.playing.specs.Rounds.{IsAlone, HasDoneAlone};
@@ -35,8 +36,8 @@ pub fn play<R: Threads + Wait + Sync, G: Gate + Sync>(
     gate: &G,
 ) -> Result<Played, AllocError>
     requires few { workers ≤ 8 }
-    ensures fits { IfOk result (λ played. RunFits loads.now script.now played.workers.items
-        (record { history = played.history.entries; records = played.records; last = played.last })) }
+    ensures fits { IfOk result
+        (λ played. RunFits loads.now script.now played.workers.items (ended_of played)) }
     ensures workers { IfOk result (λ played. length played.workers.items ≡ workers) }
 {
     let places = script.lanes() as u32 + workers;
@@ -82,11 +83,13 @@ fn play_all<R: Threads + Wait + Sync, G: Gate + Sync>(
 ) -> Result<(), AllocError>
     requires pass { IsIdePassOf ide.now pass.old }
     requires first { (places : ℕ) × (ide_view pass.old ≡ first_view places) }
-    requires no_answers { (answers.old.records ≡ []) × (answers.old.workers.items ≡ []) × (last.old ≡ []) }
+    requires no_answers { (answers.old.records ≡ []) × (answers.old.workers.items ≡ [])
+        × (last.old ≡ []) }
     requires few { workers ≤ 8 }
     ensures pass { IsIdePassOf ide.now pass.new × IsSameIdePass pass.old pass.new }
     ensures alone { IsAlone (ide_view pass.new) }
-    ensures run { OnOk result (HasRunAll loads.now script.now workers (ide_view pass.new).seen answers.new last.new) }
+    ensures run { OnOk result
+        (HasRunAll loads.now script.now workers (ide_view pass.new).seen answers.new last.new) }
 {
     let prelude = script.prelude();
     do_alone(
@@ -120,7 +123,9 @@ fn do_alone<R: Threads + Wait, G: Gate>(
     ensures pass { IsIdePassOf ide.now pass.new × IsSameIdePass pass.old pass.new }
     ensures alone { IsAlone (ide_view pass.new) }
     ensures drawn { (ide_view pass.new).drawn ≡ (ide_view pass.old).drawn }
-    ensures done { OnOk result (HasDoneAlone lines.now loads.now (ide_view pass.old) (ide_view pass.new) records.old records.new) }
+    ensures done { OnOk result
+        (HasDoneAlone lines.now loads.now (ide_view pass.old)
+        (ide_view pass.new) records.old records.new) }
 {
     let done = do_section(
         rt, alloc, ide, pass, LEADER, lines, loads, false, records, gate,

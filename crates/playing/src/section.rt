@@ -1,9 +1,8 @@
 //! The lines of one section, done in order by one pass.
 ghost use Rattle.std.specs.Prelude.{◌≡◌, Some, OnOk, All};
-ghost use Rattle.action_lock.specs.Advances.{Advances};
 ghost use Rattle.script_lang.specs.Held.{IsOfLine};
-ghost use Rattle.index_workers.specs.Passes.{ide_view, IsSameIdePass};
-ghost use Rattle.shared_ide.specs.Passes.{IsIdePassOf};
+ghost use Rattle.index_workers.specs.Passes.{ide_view};
+ghost use Rattle.shared_ide.specs.Passes.{IsIdePassOf, Continues};
 ghost use Rattle.transcripts.specs.declared.loaded.Loaded.TheVariants.{Nothing};
 ghost use Rattle.transcripts.specs.Serial.{first_load, later_loads};
 ghost use Rattle.playing.specs.Done.{HasAdded};
@@ -38,9 +37,10 @@ pub fn do_section<R: Threads + Wait, G: Gate>(
     requires pass { IsIdePassOf ide.now pass.old }
     requires seat { (ide_view pass.old).number ≡ Some seat }
     requires lines { All (λ line. IsOfLine line.command) lines.now }
-    ensures pass { IsIdePassOf ide.now pass.new × IsSameIdePass pass.old pass.new }
-    ensures advances { Advances (ide_view pass.old) (ide_view pass.new) }
-    ensures done { OnOk result (HasAdded beside seat lines.now loads.now (ide_view pass.old) (ide_view pass.new) records.old records.new) }
+    ensures pass { Continues ide.now pass.old pass.new }
+    ensures done { OnOk result
+        (HasAdded beside seat lines.now loads.now (ide_view pass.old)
+        (ide_view pass.new) records.old records.new) }
 {
     passes_stay_the_same();
     records.reserve(lines.len())?;

@@ -1,10 +1,9 @@
 //! Settles of lines.
 ghost use Rattle.std.specs.Prelude.{◌≡◌, IfOk};
-ghost use Rattle.action_lock.specs.Advances.{Advances};
-ghost use Rattle.index_workers.specs.Passes.{ide_view, IsSameIdePass};
-ghost use Rattle.shared_ide.specs.Passes.{IsIdePassOf};
+ghost use Rattle.ide_calls.specs.Made.{IsAnswered};
+ghost use Rattle.index_workers.specs.Passes.{ide_view};
+ghost use Rattle.shared_ide.specs.Passes.{IsIdePassOf, Continues};
 ghost use Rattle.transcripts.specs.Serial.{settle_step};
-ghost use Rattle.playing.specs.Answered.{IsAnswered};
 
 use ide_calls::SettleRefusal;
 use index_workers::IdePass;
@@ -24,9 +23,10 @@ pub(crate) fn do_settle<R: Threads + Wait>(
     line: u32,
 ) -> Result<Answer, AllocError>
     requires { IsIdePassOf ide.now pass.old }
-    ensures pass { IsIdePassOf ide.now pass.new × IsSameIdePass pass.old pass.new }
-    ensures advances { Advances (ide_view pass.old) (ide_view pass.new) }
-    ensures answer { IfOk result (IsAnswered (λ start seat. settle_step start seat line) (ide_view pass.old) (ide_view pass.new)) }
+    ensures pass { Continues ide.now pass.old pass.new }
+    ensures answer { IfOk result
+        (IsAnswered (λ start seat. settle_step start seat line) (ide_view pass.old)
+        (ide_view pass.new)) }
 {
     match ide.settle(rt, alloc, pass, line) {
         Ok(at) => Ok(Answer::Smart { at }),

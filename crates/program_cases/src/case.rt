@@ -6,7 +6,9 @@ use std::alloc::{AllocError, Global};
 pub struct Case {
     /// The line that begins it.
     pub title: String,
+    /// The words behind the program's name.
     pub words: Vec<String>,
+    /// The script's bytes.
     pub script: Vec<u8>,
     /// The call on the source that fails, counted from 1; 0 is none.
     pub read: u64,

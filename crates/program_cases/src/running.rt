@@ -16,6 +16,7 @@ const PIECE_WRITTEN: usize = 5;
 /// How a run ended.
 #[derive(Drop)]
 pub struct Ended {
+    /// The status that it ended with.
     pub status: u8,
     /// What it wrote to standard error.
     pub error: BytesSink,

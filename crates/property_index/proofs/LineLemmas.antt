@@ -1,5 +1,5 @@
 -- The logical line that goes on somewhere in a text, character by character.
-use Rattle.std.proofs.Common.{◌≡◌, ℕ, zero, suc, ◌+◌, ◌-◌, Bool, true, false, not, cond, ◌==◌, ◌&&◌, List, [], ◌∷◌, ◌++◌, length, reverse, take, eqb, refl, sym, ap, ◌∙◌, arith, append_assoc}
+use Rattle.std.proofs.Common.{◌≡◌, ℕ, zero, suc, ◌+◌, ◌-◌, Bool, true, false, not, cond, ◌==◌, List, [], ◌∷◌, ◌++◌, length, reverse, take, eqb, refl, sym, ap, ◌∙◌, arith, append_assoc}
 use Rattle.std.specs.List.{prefix_len}
 use Rattle.std.proofs.lemmas.Bool.{true≢false, eqb-true}
 use Rattle.std.proofs.lemmas.List.{reverse-append}
@@ -7,15 +7,11 @@ use Rattle.std.proofs.lemmas.List.Folds.{prefix_len-append}
 use Rattle.list_laws.proofs.BoolLemmas.{bool_cases}
 use Rattle.property_index.specs.Characters.{line_feed, backslash, is_white_space, begins_comment}
 use Rattle.property_index.specs.Lines.{Placed, Line, in_front, natural_lines, trimmed, without_last, is_odd, goes_on, is_blank_or_comment, joined, listed, logical_lines, continued}
-use Rattle.property_index.specs.Rest.{past_line, lines_left, going_on, inside_from, is_at_end, is_join}
+use Rattle.property_index.specs.Rest.{past_line, lines_left, going_on, inside_from}
 
 -- whether a character is a backslash
 abbrev is_backslash : Placed → Bool
 is_backslash c = c.code == backslash
-
--- a break and a backslash are different characters, and neither is white space
-break_is_no_backslash : (c : ℕ) → (c == line_feed) ≡ true → (c == backslash) ≡ false
-break_is_no_backslash c e = ap (λ n. n == backslash) (eqb-true c line_feed e)
 
 backslash_is_no_break : (c : ℕ) → (c == backslash) ≡ true → (c == line_feed) ≡ false
 backslash_is_no_break c e = ap (λ n. n == line_feed) (eqb-true c backslash e)

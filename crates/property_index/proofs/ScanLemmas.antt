@@ -1,5 +1,5 @@
 -- How the code reads a text: by the character at an offset and what is left behind it.
-use Rattle.std.proofs.Common.{◌≡◌, ℕ, suc, ◌+◌, ◌<◌, ◌≤◌, Bool, true, false, cond, ◌==◌, ◌&&◌, ◌||◌, List, [], ◌∷◌, ◌++◌, length, drop, get_or, drop-cons, Some, refl, sym, ap, ◌∙◌, subst, ⊎_elim, arith, append_assoc, append-nil}
+use Rattle.std.proofs.Common.{◌≡◌, ℕ, suc, ◌+◌, ◌<◌, ◌≤◌, true, false, cond, ◌==◌, ◌&&◌, ◌||◌, List, [], ◌∷◌, ◌++◌, length, drop, get_or, drop-cons, Some, refl, sym, ap, ◌∙◌, subst, ⊎_elim, arith, append_assoc, append-nil}
 use Rattle.std.specs.List.{slice_get, flat_map}
 use Rattle.std.specs.Char.{encode_utf8}
 use Rattle.std.specs.Str.{chars, IsUtf8}
@@ -84,9 +84,6 @@ join_next text at to joins goes =
     (λ d _ ends. sym (inside-join _ _ _ both.0 ends))
     both.1)
     joins
-
-pub join_inside : (text : List ℕ) (at : ℕ) → is_join (left_of text at) ≡ true → at < length text
-join_inside text at = by_left text at (λ left rest. is_join left ≡ true → at < length text) (λ none. absurd (true≢false (sym none))) (λ c inside _. inside)
 
 -- no character of a key is left
 pub key-end : (left : Line) → left ≡ [] → key_in (inside_from left).0 ≡ []

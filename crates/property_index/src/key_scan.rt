@@ -12,7 +12,9 @@ use std::alloc::{AllocError, Global};
 pub fn read_key(alloc: Global, text: &Text, from: u32) -> Result<(Name, u32), AllocError>
     requires { is_join (left_of text.now from) ≡ false }
     ensures key { IfOk result (λ read. read.0 ≡ key_in (inside_from (left_of text.now from)).0) }
-    ensures rest { IfOk result (λ read. (inside_from (left_of text.now read.1)).1 ≡ (inside_from (left_of text.now from)).1) }
+    ensures rest { IfOk result
+        (λ read. (inside_from (left_of text.now read.1)).1
+        ≡ (inside_from (left_of text.now from)).1) }
     ensures forward { IfOk result (λ read. from ≤ read.1) }
 {
     let mut key = String::new(alloc);
@@ -29,7 +31,9 @@ fn key_char(text: &Text, at: u32) -> Option<(char, u32)>
     requires { is_join (left_of text.now at) ≡ false }
     ensures key { IfSome result (λ read. key_in (inside_from (left_of text.now at)).0
         ≡ read.0 ∷ key_in (inside_from (left_of text.now read.1)).0) }
-    ensures rest { IfSome result (λ read. (inside_from (left_of text.now read.1)).1 ≡ (inside_from (left_of text.now at)).1) }
+    ensures rest { IfSome result
+        (λ read. (inside_from (left_of text.now read.1)).1
+        ≡ (inside_from (left_of text.now at)).1) }
     ensures forward { IfSome result (λ read. (at < read.1) × (at < length text.now)) }
     ensures none { IfNone result (key_in (inside_from (left_of text.now at)).0 ≡ []) }
 {

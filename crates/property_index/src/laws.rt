@@ -14,7 +14,8 @@ pub fn keys_stand_in_the_text()
 
 /// Under a key stand the offsets at which it stands in the text, in order.
 pub fn keys_are_found_by_their_characters()
-    ensures { (text key : List ℕ) → values_with bytes_eq key (key_rows text) ≡ places_of_key key text }
+    ensures { (text key : List ℕ)
+        → values_with bytes_eq key (key_rows text) ≡ places_of_key key text }
 {
     sorting_keeps_the_rows_of_a_key::<Name, u32>();
 }

@@ -10,7 +10,8 @@ use ide_text::Text;
 /// The character at an offset, if the text goes so far.
 #[inline]
 pub fn char_at(text: &Text, at: u32) -> Option<char>
-    ensures some { IfSome result (λ c. left_of text.now at ≡ record { code = c; at = at } ∷ left_of text.now (suc at)) }
+    ensures some { IfSome result
+        (λ c. left_of text.now at ≡ record { code = c; at = at } ∷ left_of text.now (suc at)) }
     ensures inside { OnSome result (at < length text.now) }
     ensures none { IfNone result (left_of text.now at ≡ []) }
     ensures end { IfNone result (length text.now ≤ at) }

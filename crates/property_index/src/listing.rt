@@ -33,7 +33,8 @@ fn add_line(
     at: u32,
     first: char,
 ) -> Result<u32, AllocError>
-    requires stands { left_of text.now at ≡ record { code = first; at = at } ∷ left_of text.now (suc at) }
+    requires stands { left_of text.now at
+        ≡ record { code = first; at = at } ∷ left_of text.now (suc at) }
     requires inside { at < length text.now }
     requires few { length text.now ≤ max_chars }
     ensures added { IfOk result (λ end. keys.new.items ++ keys_left (left_of text.now end)

@@ -3,7 +3,7 @@ use Rattle.std.proofs.Common.{ℕ, ◌≡◌, ◌≢◌, ◌≤◌, ◌+◌, inl
 use Rattle.action_lock.specs.Counts.{counted, HasRisen}
 use Rattle.write_history.specs.World.{World}
 use Rattle.queries.specs.declared.query.Query.{Query}
-use Rattle.query_engine.specs.declared.answer.Answer.{Answer}
+use Rattle.query_engine.specs.declared.answer.Finding.{Finding}
 use Rattle.query_engine.specs.declared.answer.AskRefusal.{AskRefusal}
 use Rattle.query_engine.specs.declared.answer.AskRefusal.TheVariants.{Cancelled}
 use Rattle.query_engine.specs.Looks.{LaterLooks, just, at_most, looks_after, AreLooks, MayLook, HasLooked, HasLookedFor, LooksThrough, EndsEarly}
@@ -24,19 +24,19 @@ risen_none a b from to (inr full) = omega (arith, to, full)
 
 module _ {W : Type 0} (l s : W → ℕ) (st : W → W → Type 0) (world : World) (query : Query) where
   -- the first look saw that the work is to end
-  pub stopped_first : (X : Type 0) (e : AskRefusal) (r : Result Answer AskRefusal) (old new : W) → e ≡ Cancelled → IsErrAnd r (λ f. f ≡ e)
+  pub stopped_first : (X : Type 0) (e : AskRefusal) (r : Result Finding AskRefusal) (old new : W) → e ≡ Cancelled → IsErrAnd r (λ f. f ≡ e)
       → HasLooked {X = X} l s st (Err e) 1 old new → HasLookedFor l s st world query r old new
   stopped_first X e r old new is told q =
       let (later, may) = some_looks world query in
       record {
         number = 1 + later;
         may = may;
-        looked = looked_as l s st X Answer (1 + later) r e old new told
+        looked = looked_as l s st X Finding (1 + later) r e old new told
             (looked_short l s st X 1 (1 + later) e old new (omega arith) (subst EndsEarly (sym is) tt) q);
       }
 
   -- the first look saw nothing, and the question was replied to
-  pub looked_first : (r : Result Answer AskRefusal) (old mid new : W) → ((x y z : W) → st x y → st y z → st x z) → st old mid
+  pub looked_first : (r : Result Finding AskRefusal) (old mid new : W) → ((x y z : W) → st x y → st y z → st x z) → st old mid
       → LooksThrough l s 1 old mid → RepliesTo l s st world query r mid new → HasLookedFor l s st world query r old new
   looked_first r old mid new on kept p h = record {
     number = 1 + h.later;
@@ -45,12 +45,12 @@ module _ {W : Type 0} (l s : W → ℕ) (st : W → W → Type 0) (world : World
   }
 
   -- so there was a look
-  pub counted_first : (r : Result Answer AskRefusal) (old mid new : W) → l mid ≡ counted (l old) → RepliesTo l s st world query r mid new
+  pub counted_first : (r : Result Finding AskRefusal) (old mid new : W) → l mid ≡ counted (l old) → RepliesTo l s st world query r mid new
       → counted (l old) ≤ l new
   counted_first r old mid new once h = subst (λ (n : ℕ). n ≤ l new) once (looked_up l s st h.later r mid new h.looked)
 
   -- a watch that never sees anything stops no call
-  pub never_stopped : ((watch : W) → s watch ≡ 0) → (r : Result Answer AskRefusal) (old new : W) → HasLookedFor l s st world query r old new → r ≢ Err Cancelled
+  pub never_stopped : ((watch : W) → s watch ≡ 0) → (r : Result Finding AskRefusal) (old new : W) → HasLookedFor l s st world query r old new → r ≢ Err Cancelled
   never_stopped unseen r old new h is =
-      let q : HasLooked {X = Answer} l s st (Err Cancelled) h.number old new = subst (λ (x : Result Answer AskRefusal). HasLooked l s st x h.number old new) is h.looked in
+      let q : HasLooked {X = Finding} l s st (Err Cancelled) h.number old new = subst (λ (x : Result Finding AskRefusal). HasLooked l s st x h.number old new) is h.looked in
       risen_none (s q.before) (s new) (unseen q.before) (unseen new) q.seen

@@ -4,7 +4,7 @@ use Rattle.std.specs.List.{list_any}
 use Rattle.std.specs.Str.{bytes_eq}
 use Rattle.std.proofs.lemmas.Bool.{false≢true, or_left, or_right}
 use Rattle.query_engine.specs.Fits.{has_super}
-use Rattle.query_engine.specs.Inheritors.{Listing}
+use Rattle.query_engine.specs.Inheritors.{ListedType}
 use Rattle.query_engine.specs.Search.{is_asked, asked_supers, all_supers}
 use Rattle.query_engine.proofs.SearchLemmas.{bytes_same, bytes_itself}
 
@@ -30,7 +30,7 @@ module _ (asked asked' : List (List ℕ)) (name : List ℕ) (asks : (other : Lis
   wider other h = asks other ∙ or_right (bytes_eq other name) (is_asked other asked) h
 
   -- a name that wasn't asked for before
-  pub cost_more : is_asked name asked ≡ false → (types : List Listing)
+  pub cost_more : is_asked name asked ≡ false → (types : List ListedType)
       → length (filter (λ t. has_super name t.1) types) + asked_supers types asked ≤ asked_supers types asked'
   cost_more fresh [] = omega arith
   cost_more fresh (t ∷ ts) =
@@ -46,11 +46,11 @@ module _ (asked asked' : List (List ℕ)) (name : List ℕ) (asks : (other : Lis
       new n h = ap (λ m. is_asked m asked') (sym (bytes_same name n h)) ∙ asks name ∙ or_left (bytes_eq name name) (is_asked name asked) (bytes_itself name)
 
   -- a name that was
-  pub cost_same : (types : List Listing) → asked_supers types asked ≤ asked_supers types asked'
+  pub cost_same : (types : List ListedType) → asked_supers types asked ≤ asked_supers types asked'
   cost_same [] = omega arith
   cost_same (t ∷ ts) = omega (arith, cost_same ts, filter_wider (λ n. is_asked n asked) (λ n. is_asked n asked') wider t.1.supers)
 
 -- no more than all names of supers
-pub cost_few : (types : List Listing) (asked : List (List ℕ)) → asked_supers types asked ≤ all_supers types
+pub cost_few : (types : List ListedType) (asked : List (List ℕ)) → asked_supers types asked ≤ all_supers types
 cost_few [] asked = omega arith
 cost_few (t ∷ ts) asked = omega (arith, cost_few ts asked, filter_few (λ name. is_asked name asked) t.1.supers)

@@ -6,7 +6,7 @@ use Rattle.std.proofs.lemmas.List.{nil_from_length}
 use Rattle.std.proofs.lemmas.List.Elements.{All-nil, All-append, All-map, All-weaker, filter-append, filter_agree}
 use Rattle.std.proofs.lemmas.List.Filters.{length-filter_both}
 use Rattle.query_engine.specs.Fits.{has_super}
-use Rattle.query_engine.specs.Inheritors.{Listing, names_any, names_of, levels_from, inheritors_of}
+use Rattle.query_engine.specs.Inheritors.{ListedType, names_any, names_of, levels_from, inheritors_of}
 use Rattle.query_engine.specs.Search.{Seen, Reached, is_asked, leveled, is_level, with_this, tagged, LevelsRise, IsFound}
 use Rattle.query_engine.proofs.MemberLemmas.{all_each, filter_none, filter_two}
 use Rattle.query_engine.proofs.LevelLemmas.{found_in, left_by}
@@ -14,31 +14,31 @@ use Rattle.query_engine.proofs.SearchLemmas.{any_agree, any_names, new_named, Is
 use Rattle.query_engine.proofs.TagLemmas.{no_level, this_level, other_level, lower_next, tagged_this, rise_append, below_none, tagged_other}
 
 -- the types that have no level yet
-abbrev pub without : (Listing → Option ℕ) → List Listing → List Listing
+abbrev pub without : (ListedType → Option ℕ) → List ListedType → List ListedType
 without F types = filter (λ t. not (is_some (F t))) types
 
 -- Before a level: what was found makes, with what the levels from here on give, all types that come from the name.
-pub record IsBefore (types : List Listing) (name : List ℕ) (level : ℕ) (names : List (List ℕ)) (asked : List (List ℕ)) (seen : Seen) : Type 0 where
-  pub levels : Listing → Option ℕ
+pub record IsBefore (types : List ListedType) (name : List ℕ) (level : ℕ) (names : List (List ℕ)) (asked : List (List ℕ)) (seen : Seen) : Type 0 where
+  pub levels : ListedType → Option ℕ
   pub is : seen ≡ leveled levels types
-  pub lower : (t : Listing) → IfSome (levels t) (λ l. l < level)
-  pub none_more : (other : List ℕ) → is_asked other asked ≡ true → (t : Listing) → has_super other t.1 ≡ true → is_some (levels t) ≡ true
+  pub lower : (t : ListedType) → IfSome (levels t) (λ l. l < level)
+  pub none_more : (other : List ℕ) → is_asked other asked ≡ true → (t : ListedType) → has_super other t.1 ≡ true → is_some (levels t) ≡ true
   pub more : ℕ
   pub last : List (List ℕ)
-  pub front : List (ℕ × Listing)
+  pub front : List (ℕ × ListedType)
   pub whole : front ++ levels_from more level last (without levels types) ≡ inheritors_of name types
-  pub same : (t : Listing) → names_any last t ≡ names_any names t
-  pub enough : (length (without levels types) ≤ more) ⊎ ((t : Listing) → names_any last t ≡ false)
+  pub same : (t : ListedType) → names_any last t ≡ names_any names t
+  pub enough : (length (without levels types) ≤ more) ⊎ ((t : ListedType) → names_any last t ≡ false)
   pub each : (k : ℕ) → filter (λ found. found.0 == k) front ≡ tagged k (with_this k levels types)
   pub rise : LevelsRise front
   pub below : All (λ found. found.0 < level) front
 
 -- no type has a level
-abbrev no_levels : Listing → Option ℕ
+abbrev no_levels : ListedType → Option ℕ
 no_levels t = None
 
 -- the search begins
-pub before_first : (types : List Listing) (name : List ℕ) → IsBefore types name 1 (name ∷ []) [] []
+pub before_first : (types : List ListedType) (name : List ℕ) → IsBefore types name 1 (name ∷ []) [] []
 before_first types name = record {
   levels = no_levels;
   is = none types;
@@ -49,27 +49,27 @@ before_first types name = record {
   front = [];
   whole = ap (levels_from (length types) 1 (name ∷ [])) (all types);
   same = λ t. refl;
-  enough = inl (subst (λ (l : List Listing). length l ≤ length types) (sym (all types)) (omega arith));
-  each = λ k. sym (ap (tagged k) (filter_none (λ (t : Listing). false) types (λ i d inside. refl)));
+  enough = inl (subst (λ (l : List ListedType). length l ≤ length types) (sym (all types)) (omega arith));
+  each = λ k. sym (ap (tagged k) (filter_none (λ (t : ListedType). false) types (λ i d inside. refl)));
   rise = tt;
-  below = All-nil (λ (found : ℕ × Listing). found.0 < 1);
+  below = All-nil (λ (found : ℕ × ListedType). found.0 < 1);
 }
   where
-    none : (ts : List Listing) → [] ≡ leveled no_levels ts
+    none : (ts : List ListedType) → [] ≡ leveled no_levels ts
     none [] = refl
     none (t ∷ ts) = none ts
 
-    all : (ts : List Listing) → without no_levels ts ≡ ts
+    all : (ts : List ListedType) → without no_levels ts ≡ ts
     all [] = refl
     all (t ∷ ts) = ap (λ l. t ∷ l) (all ts)
 
-module _ (types : List Listing) (name : List ℕ) (level : ℕ) (names asked asked' : List (List ℕ)) (seen : Seen) (reached' : Reached)
+module _ (types : List ListedType) (name : List ℕ) (level : ℕ) (names asked asked' : List (List ℕ)) (seen : Seen) (reached' : Reached)
     (b : IsBefore types name level names asked seen) (at : IsAt types b.levels level names asked' reached') where
-  left : List Listing
+  left : List ListedType
   left = without b.levels types
 
   -- a type is found at the level where it had none and names one of the names
-  found_test : (t : Listing) → is_level level (at.levels t) ≡ (not (is_some (b.levels t)) && names_any names t)
+  found_test : (t : ListedType) → is_level level (at.levels t) ≡ (not (is_some (b.levels t)) && names_any names t)
   found_test t = ap (is_level level) (at.is t) ∙ this_level level (b.levels t) (names_any names t) (b.lower t)
 
   found_same : found_in b.last left ≡ with_this level at.levels types
@@ -86,7 +86,7 @@ module _ (types : List Listing) (name : List ℕ) (level : ℕ) (names asked ask
       ∙ filter_agree (λ t. not (is_some (b.levels t)) && not (names_any b.last t)) (λ t. not (is_some (at.levels t)))
       (λ t. grind (arith, b.same t, at.is t)) types
 
-  front' : List (ℕ × Listing)
+  front' : List (ℕ × ListedType)
   front' = b.front ++ tagged level (with_this level at.levels types)
 
   last' : List (List ℕ)
@@ -96,15 +96,15 @@ module _ (types : List Listing) (name : List ℕ) (level : ℕ) (names asked ask
   record Onward : Type 0 where
     more : ℕ
     whole : front' ++ levels_from more (level + 1) last' (without at.levels types) ≡ inheritors_of name types
-    enough : (length (without at.levels types) ≤ more) ⊎ ((t : Listing) → names_any last' t ≡ false)
+    enough : (length (without at.levels types) ≤ more) ⊎ ((t : ListedType) → names_any last' t ≡ false)
 
   -- no type is found
-  none_last : found_in b.last left ≡ [] → (t : Listing) → names_any last' t ≡ false
+  none_last : found_in b.last left ≡ [] → (t : ListedType) → names_any last' t ≡ false
   unfolding last' left
   none_last none t = ap (λ found. names_any (names_of found) t) (sym found_same ∙ none)
 
   onward : (more : ℕ) → b.front ++ levels_from more level b.last left ≡ inheritors_of name types
-      → (length left ≤ more) ⊎ ((t : Listing) → names_any b.last t ≡ false) → Onward
+      → (length left ≤ more) ⊎ ((t : ListedType) → names_any b.last t ≡ false) → Onward
   unfolding levels_from front' last' left
   onward zero whole enough = record {
     more = 0;
@@ -113,7 +113,7 @@ module _ (types : List Listing) (name : List ℕ) (level : ℕ) (names asked ask
     enough = inr (none_last (none enough));
   }
     where
-      none : (length left ≤ 0) ⊎ ((t : Listing) → names_any b.last t ≡ false) → found_in b.last left ≡ []
+      none : (length left ≤ 0) ⊎ ((t : ListedType) → names_any b.last t ≡ false) → found_in b.last left ≡ []
       none (inl few) = ap (found_in b.last) (nil_from_length left (omega (arith, few)))
       none (inr nobody) = filter_none (names_any b.last) left (all_each (λ t. names_any b.last t ≡ false) left nobody)
   onward (suc more) whole enough = record {
@@ -126,8 +126,8 @@ module _ (types : List Listing) (name : List ℕ) (level : ℕ) (names asked ask
     enough = fewer enough (found_in b.last left) refl;
   }
     where
-      fewer : (length left ≤ suc more) ⊎ ((t : Listing) → names_any b.last t ≡ false) → (found : List Listing) → found_in b.last left ≡ found
-          → (length (without at.levels types) ≤ more) ⊎ ((t : Listing) → names_any last' t ≡ false)
+      fewer : (length left ≤ suc more) ⊎ ((t : ListedType) → names_any b.last t ≡ false) → (found : List ListedType) → found_in b.last left ≡ found
+          → (length (without at.levels types) ≤ more) ⊎ ((t : ListedType) → names_any last' t ≡ false)
       fewer enough [] none = inr (none_last none)
       fewer (inr nobody) (u ∷ us) some = inr (none_last (filter_none (names_any b.last) left (all_each (λ t. names_any b.last t ≡ false) left nobody)))
       fewer (inl few) (u ∷ us) some =
@@ -141,7 +141,7 @@ module _ (types : List Listing) (name : List ℕ) (level : ℕ) (names asked ask
   unfolding front'
   each' k = filter-append (λ found. found.0 == k) b.front (tagged level new) ∙ of (cases_eq level k)
     where
-      new : List Listing
+      new : List ListedType
       new = with_this level at.levels types
 
       of : (level ≡ k) ⊎ (level ≡ k → ⊥) → filter (λ found. found.0 == k) b.front ++ filter (λ found. found.0 == k) (tagged level new)
@@ -182,7 +182,7 @@ module _ (types : List Listing) (name : List ℕ) (level : ℕ) (names asked ask
       }
 
 -- no name is left, and the search ends
-pub found_all : (types : List Listing) (name : List ℕ) (level : ℕ) (asked : List (List ℕ)) (seen : Seen) → IsBefore types name level [] asked seen
+pub found_all : (types : List ListedType) (name : List ℕ) (level : ℕ) (asked : List (List ℕ)) (seen : Seen) → IsBefore types name level [] asked seen
     → IsFound types name seen
 found_all types name level asked seen b = record {
   levels = b.levels;

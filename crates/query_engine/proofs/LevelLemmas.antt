@@ -6,33 +6,33 @@ use Rattle.std.proofs.lemmas.Bool.{false≢true, cases_lt, not-true, not_from_fa
 use Rattle.std.proofs.lemmas.List.Elements.{Contains-append_left, Contains-append_right, Contains-append_cases}
 use Rattle.std.proofs.lemmas.List.Filters.{length-filter_both}
 use Rattle.query_engine.specs.Fits.{has_super}
-use Rattle.query_engine.specs.Inheritors.{Listing, names_any, names_of, levels_from, inheritors_of, IsOnLevel, EndsChain, IsLeast}
+use Rattle.query_engine.specs.Inheritors.{ListedType, names_any, names_of, levels_from, inheritors_of, IsOnLevel, EndsChain, IsLeast}
 use Rattle.query_engine.specs.Search.{tagged}
 use Rattle.query_engine.proofs.MemberLemmas.{has_none, has_filter, filter_has, any_has, has_any, has_map, map_has, filter_none, all_each}
 use Rattle.query_engine.proofs.ChainLemmas.{chain_one, chain_more, chain_listed, chain_none, chain_first, chain_less}
 
 -- the types of a level, those that are left behind it, and the levels that these give
-abbrev pub found_in : List (List ℕ) → List Listing → List Listing
+abbrev pub found_in : List (List ℕ) → List ListedType → List ListedType
 found_in names left = filter (names_any names) left
 
-abbrev pub left_by : List (List ℕ) → List Listing → List Listing
+abbrev pub left_by : List (List ℕ) → List ListedType → List ListedType
 left_by names left = filter (λ t. not (names_any names t)) left
 
-abbrev pub levels_behind : ℕ → ℕ → List (List ℕ) → List Listing → List (ℕ × Listing)
+abbrev pub levels_behind : ℕ → ℕ → List (List ℕ) → List ListedType → List (ℕ × ListedType)
 levels_behind more level names left = levels_from more (level + 1) (names_of (found_in names left)) (left_by names left)
 
-module _ (types : List Listing) (name : List ℕ) where
+module _ (types : List ListedType) (name : List ℕ) where
   -- Before a level: its names are those of the last level's types, and what is left are the types to which no shorter chain leads.
-  pub record AreLeft (level : ℕ) (names : List (List ℕ)) (left : List Listing) : Type 0 where
+  pub record AreLeft (level : ℕ) (names : List (List ℕ)) (left : List ListedType) : Type 0 where
     pub some : 1 ≤ level
-    pub sound : (t : Listing) → Contains types t → names_any names t ≡ true → EndsChain types name level t
-    pub whole : (t : Listing) → Contains left t → EndsChain types name level t → names_any names t ≡ true
-    pub listed : (t : Listing) → Contains left t → Contains types t
-    pub later : (t : Listing) → Contains left t → (len : ℕ) → len < level → EndsChain types name len t → ⊥
-    pub kept : (t : Listing) → Contains types t → ((len : ℕ) → len < level → EndsChain types name len t → ⊥) → Contains left t
+    pub sound : (t : ListedType) → Contains types t → names_any names t ≡ true → EndsChain types name level t
+    pub whole : (t : ListedType) → Contains left t → EndsChain types name level t → names_any names t ≡ true
+    pub listed : (t : ListedType) → Contains left t → Contains types t
+    pub later : (t : ListedType) → Contains left t → (len : ℕ) → len < level → EndsChain types name len t → ⊥
+    pub kept : (t : ListedType) → Contains types t → ((len : ℕ) → len < level → EndsChain types name len t → ⊥) → Contains left t
 
   -- a chain by another number for its length
-  long_as : (m n : ℕ) (t : Listing) → m ≡ n → EndsChain types name m t → EndsChain types name n t
+  long_as : (m n : ℕ) (t : ListedType) → m ≡ n → EndsChain types name m t → EndsChain types name n t
   long_as m n t same chain = subst (λ (n : ℕ). EndsChain types name n t) same chain
 
   pub all_left : AreLeft 1 (name ∷ []) types
@@ -45,13 +45,13 @@ module _ (types : List Listing) (name : List ℕ) where
     kept = λ t listed none. listed;
   }
 
-  module _ (level : ℕ) (names : List (List ℕ)) (left : List Listing) (h : AreLeft level names left) where
+  module _ (level : ℕ) (names : List (List ℕ)) (left : List ListedType) (h : AreLeft level names left) where
     -- a type that is left behind the level was left before it
-    was : (t : Listing) → Contains (left_by names left) t → Contains left t × (not (names_any names t) ≡ true)
+    was : (t : ListedType) → Contains (left_by names left) t → Contains left t × (not (names_any names t) ≡ true)
     was t behind = filter_has (λ t. not (names_any names t)) left t behind
 
     -- no chain as long as the level leads to it
-    none_by : (t : Listing) → Contains (left_by names left) t → (len : ℕ) → len < level + 1 → EndsChain types name len t → ⊥
+    none_by : (t : ListedType) → Contains (left_by names left) t → (len : ℕ) → len < level + 1 → EndsChain types name len t → ⊥
     none_by t behind len less chain = of (cases_lt len level)
       where
         of : (len < level) ⊎ (level ≤ len) → ⊥
@@ -61,7 +61,7 @@ module _ (types : List Listing) (name : List ℕ) where
             ∙ h.whole t (was t behind).0 (long_as len level t (omega (arith, less, other)) chain))
 
     -- a chain one longer than the level leads there by a type of the level
-    by_level : (t : Listing) → Contains (left_by names left) t → EndsChain types name (level + 1) t → names_any (names_of (found_in names left)) t ≡ true
+    by_level : (t : ListedType) → Contains (left_by names left) t → EndsChain types name (level + 1) t → names_any (names_of (found_in names left)) t ≡ true
     by_level t behind chain = of level refl
       where
         of : (n : ℕ) → level ≡ n → names_any (names_of (found_in names left)) t ≡ true
@@ -94,7 +94,7 @@ module _ (types : List Listing) (name : List ℕ) where
     }
 
   -- each type that is found ends a chain of its level, and no shorter one; its level is within
-  pub found_sound : (more level : ℕ) (names : List (List ℕ)) (left : List Listing) → AreLeft level names left → (j : ℕ) (t : Listing)
+  pub found_sound : (more level : ℕ) (names : List (List ℕ)) (left : List ListedType) → AreLeft level names left → (j : ℕ) (t : ListedType)
       → IsOnLevel (levels_from more level names left) j t
       → EndsChain types name j t × IsLeast types name j t × (level ≤ j) × (j < level + more)
   unfolding levels_from
@@ -108,7 +108,7 @@ module _ (types : List Listing) (name : List ℕ) where
           → EndsChain types name j t × IsLeast types name j t × (level ≤ j) × (j < level + suc more)
       of (inr later) rest = let r = rest later in (r.0, r.1, omega (arith, r.2), omega (arith, r.3))
       of (inl here) rest =
-          let u = map_has (λ (t : Listing). (level, t)) (found_in names left) (j, t) here in
+          let u = map_has (λ (t : ListedType). (level, t)) (found_in names left) (j, t) here in
           let same : level ≡ j = ap (λ p. p.0) u.2 in
           let found = filter_has (names_any names) left t (subst (Contains (found_in names left)) (ap (λ p. p.1) u.2) u.1) in (
             long_as level j t same (h.sound t (h.listed t found.0) found.1),
@@ -122,31 +122,31 @@ module _ (types : List Listing) (name : List ℕ) where
           least there other chain same (inr enough) = omega (arith, same, enough)
 
   -- where no type names the names, no chain leads to one that is left
-  none_left : (d level : ℕ) (names : List (List ℕ)) (left : List Listing) → AreLeft level names left → ((t : Listing) → names_any names t ≡ false)
-      → (t : Listing) → Contains left t → EndsChain types name (level + d) t → ⊥
+  none_left : (d level : ℕ) (names : List (List ℕ)) (left : List ListedType) → AreLeft level names left → ((t : ListedType) → names_any names t ≡ false)
+      → (t : ListedType) → Contains left t → EndsChain types name (level + d) t → ⊥
   none_left zero level names left h none t there chain = false≢true (sym (none t) ∙ h.whole t there (long_as (level + 0) level t (omega arith) chain))
   none_left (suc d) level names left h none t there chain =
       let nothing : found_in names left ≡ [] = filter_none (names_any names) left (all_each (λ t. names_any names t ≡ false) left none) in
       none_left d (level + 1) (names_of (found_in names left)) (left_by names left) (left_next level names left h)
-      (λ t. ap (λ (found : List Listing). names_any (names_of found) t) nothing) t
+      (λ t. ap (λ (found : List ListedType). names_any (names_of found) t) nothing) t
       (has_filter (λ t. not (names_any names t)) left t there (not_from_false (names_any names t) (none t)))
       (long_as (level + suc d) (level + 1 + d) t (omega arith) chain)
 
   -- A type that is left and to which a chain leads is found, at no more than its length, where as many levels as types are left may come.
   abbrev FindsAll : ℕ → ℕ → Type 0
-  FindsAll more level = (d : ℕ) (names : List (List ℕ)) (left : List Listing) → AreLeft level names left → length left ≤ more
-      → (t : Listing) → Contains left t → EndsChain types name (level + d) t → (j : ℕ) × (j ≤ level + d) × IsOnLevel (levels_from more level names left) j t
+  FindsAll more level = (d : ℕ) (names : List (List ℕ)) (left : List ListedType) → AreLeft level names left → length left ≤ more
+      → (t : ListedType) → Contains left t → EndsChain types name (level + d) t → (j : ℕ) × (j ≤ level + d) × IsOnLevel (levels_from more level names left) j t
 
   finds_next : (more level : ℕ) → FindsAll more (level + 1) → FindsAll (suc more) level
   unfolding levels_from
   finds_next more level rest d names left h few t there chain = of (names_any names t) refl d chain
     where
       -- a level that finds no type is the last, and one that finds some leaves fewer
-      behind : (found : List Listing) → found_in names left ≡ found → Contains (left_by names left) t → (d : ℕ) → EndsChain types name (level + 1 + d) t
+      behind : (found : List ListedType) → found_in names left ≡ found → Contains (left_by names left) t → (d : ℕ) → EndsChain types name (level + 1 + d) t
           → (j : ℕ) × (j ≤ level + suc d) × IsOnLevel (levels_from (suc more) level names left) j t
       behind [] none stays d chain =
           absurd (none_left d (level + 1) (names_of (found_in names left)) (left_by names left) (left_next level names left h)
-          (λ t. ap (λ (found : List Listing). names_any (names_of found) t) none) t stays chain)
+          (λ t. ap (λ (found : List ListedType). names_any (names_of found) t) none) t stays chain)
       behind (u ∷ us) some stays d chain =
           let both = length-filter_both (names_any names) (λ t. not (names_any names t)) (λ t. refl) left in
           let many : length (found_in names left) ≡ suc (length us) = ap length some in
@@ -159,7 +159,7 @@ module _ (types : List Listing) (name : List ℕ) where
         level,
         omega arith,
         Contains-append_left (tagged level (found_in names left)) (levels_behind more level names left) (level, t)
-            (has_map (λ (t : Listing). (level, t)) (found_in names left) t (has_filter (names_any names) left t there is)),
+            (has_map (λ (t : ListedType). (level, t)) (found_in names left) t (has_filter (names_any names) left t there is)),
       )
       of false is zero chain = absurd (false≢true (sym is ∙ h.whole t there (long_as (level + 0) level t (omega arith) chain)))
       of false is (suc d) chain =
@@ -171,13 +171,13 @@ module _ (types : List Listing) (name : List ℕ) where
   found_whole (suc more) level d names left h few t there chain = finds_next more level (found_whole more (level + 1)) d names left h few t there chain
 
 -- each type that comes from a name ends a chain of its level, and no shorter one; no level is higher than there are types
-pub inheritors_sound : (name : List ℕ) (types : List Listing) (level : ℕ) (t : Listing) → IsOnLevel (inheritors_of name types) level t
+pub inheritors_sound : (name : List ℕ) (types : List ListedType) (level : ℕ) (t : ListedType) → IsOnLevel (inheritors_of name types) level t
     → EndsChain types name level t × IsLeast types name level t × (level ≤ length types)
 inheritors_sound name types level t found =
     let r = found_sound types name (length types) 1 (name ∷ []) types (all_left types name) level t found in (r.0, r.1, omega (arith, r.3))
 
 -- and each type that ends a chain comes from it
-pub inheritors_whole : (name : List ℕ) (types : List Listing) (len : ℕ) (t : Listing) → EndsChain types name len t
+pub inheritors_whole : (name : List ℕ) (types : List ListedType) (len : ℕ) (t : ListedType) → EndsChain types name len t
     → (level : ℕ) × (level ≤ len) × IsOnLevel (inheritors_of name types) level t
 inheritors_whole name types zero t chain = absurd (chain_none types name t chain)
 inheritors_whole name types (suc d) t chain =

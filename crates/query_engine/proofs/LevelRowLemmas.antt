@@ -11,7 +11,7 @@ use Rattle.std.proofs.lemmas.List.Kept.{AllPairs-filter}
 use Rattle.std.proofs.lemmas.List.Sorted.{IsNonDecreasingBy-from_sort}
 use Rattle.write_history.specs.World.{World}
 use Rattle.query_engine.specs.declared.answer.LevelRow.{LevelRow}
-use Rattle.query_engine.specs.Inheritors.{Listing, inheritors_of, StandsBefore}
+use Rattle.query_engine.specs.Inheritors.{ListedType, inheritors_of, StandsBefore}
 use Rattle.query_engine.specs.Search.{Seen, leveled, with_level, is_level, with_this, tagged, LevelsRise, IsFound}
 use Rattle.query_engine.specs.Listed.{AreAhead, stub_at}
 use Rattle.query_engine.specs.Leveled.{seen_listing, seen_row, RowsRise, with_row_level}
@@ -93,7 +93,7 @@ same_rows (x ∷ xs) (y ∷ ys) xs_rise ys_rise same = of (cases_lt x.level y.le
 
 module _ (world : World) where
   -- the rows of one level
-  level_rows_of : (levels : Listing → Option ℕ) (level : ℕ) (types : List Listing)
+  level_rows_of : (levels : ListedType → Option ℕ) (level : ℕ) (types : List ListedType)
       → with_row_level level (map (seen_row world) (leveled levels types)) ≡ map (level_row world) (tagged level (with_this level levels types))
   level_rows_of levels level [] = refl
   level_rows_of levels level (t ∷ ts) = of (levels t) (level_rows_of levels level ts)
@@ -104,7 +104,7 @@ module _ (world : World) where
       of None rest = rest
       of (Some l) rest = grind (arith, common_steps, rest)
 
-  mapped_rise : (found : List (ℕ × Listing)) → LevelsRise found → RowsRise (map (level_row world) found)
+  mapped_rise : (found : List (ℕ × ListedType)) → LevelsRise found → RowsRise (map (level_row world) found)
   mapped_rise [] rise = tt
   mapped_rise (f ∷ fs) rise = (
     recursion_from_All (λ other. f.0 ≤ other.level) (map (level_row world) fs)
@@ -113,19 +113,19 @@ module _ (world : World) where
   )
 
   -- the rows of what a search found, by levels, are those of the types that come from the name
-  pub rows_found : (name : List ℕ) (types : List Listing) (seen : Seen) (rows : List LevelRow) → IsFound types name seen → RowsRise rows
+  pub rows_found : (name : List ℕ) (types : List ListedType) (seen : Seen) (rows : List LevelRow) → IsFound types name seen → RowsRise rows
       → ((level : ℕ) → with_row_level level rows ≡ with_row_level level (map (seen_row world) seen)) → rows ≡ map (level_row world) (inheritors_of name types)
   rows_found name types seen rows found rise same =
       same_rows rows (map (level_row world) (inheritors_of name types)) rise (mapped_rise (inheritors_of name types) found.rise)
       (λ level. same level ∙ ap (λ s. with_row_level level (map (seen_row world) s)) found.is ∙ level_rows_of found.levels level types
       ∙ ap (map (level_row world)) (sym (found.each level)) ∙ sym (filter_of_map (level_row world) (λ row. row.level == level) (inheritors_of name types)))
 
-  listings_of : (levels : Listing → Option ℕ) (types : List Listing) → map seen_listing (leveled levels types) ≡ filter (λ t. is_some (levels t)) types
+  listings_of : (levels : ListedType → Option ℕ) (types : List ListedType) → map seen_listing (leveled levels types) ≡ filter (λ t. is_some (levels t)) types
   listings_of levels [] = refl
   listings_of levels (t ∷ ts) = grind (arith, listings_of levels ts)
 
   -- what a search found stands ahead
-  pub found_ahead : (name : List ℕ) (types : List Listing) (seen : Seen) → IsFound types name seen → AllPairs StandsBefore types → All (IsPlaced world) types
+  pub found_ahead : (name : List ℕ) (types : List ListedType) (seen : Seen) → IsFound types name seen → AllPairs StandsBefore types → All (IsPlaced world) types
       → AreAhead stub_at world None (map seen_listing seen)
   found_ahead name types seen found sorted placed =
       subst (AreAhead stub_at world None) (sym (ap (map seen_listing) found.is ∙ listings_of found.levels types))

@@ -8,24 +8,24 @@ use Rattle.std.specs.declared.cmp.Ordering.TheVariants.{Less, Equal, Greater}
 use Rattle.std.proofs.lemmas.Grind.{common_steps}
 use Rattle.std.proofs.lemmas.List.Elements.{All-head, All-tail, All-filter, All-weaker}
 use Rattle.stub_tree.specs.declared.stub.Stub.{Stub}
-use Rattle.query_engine.specs.Inheritors.{Listing, names_of, StandsBefore}
+use Rattle.query_engine.specs.Inheritors.{ListedType, names_of, StandsBefore}
 use Rattle.query_engine.specs.Search.{Place, place_cmp, place_of, is_seen, Reached, meet, meet_all, with_level, leveled}
 use Rattle.query_engine.proofs.OrderLemmas.{pairs_head, pairs_tail}
 
 -- the order of places
-pub place_less : (t u : Listing) → StandsBefore t u → place_cmp (place_of t) (place_of u) ≡ Less
+pub place_less : (t u : ListedType) → StandsBefore t u → place_cmp (place_of t) (place_of u) ≡ Less
 place_less t u (inl file) = grind (arith, common_steps, file)
 place_less t u (inr (file, at)) = grind (arith, common_steps, file, at)
 
-pub place_greater : (t u : Listing) → StandsBefore t u → place_cmp (place_of u) (place_of t) ≡ Greater
+pub place_greater : (t u : ListedType) → StandsBefore t u → place_cmp (place_of u) (place_of t) ≡ Greater
 place_greater t u (inl file) = grind (arith, common_steps, file)
 place_greater t u (inr (file, at)) = grind (arith, common_steps, file, at)
 
-place_equal : (t : Listing) → place_cmp (place_of t) (place_of t) ≡ Equal
+place_equal : (t : ListedType) → place_cmp (place_of t) (place_of t) ≡ Equal
 place_equal t = grind (arith, common_steps)
 
 -- levels as they are behind a level at which the types that pass a test are met
-abbrev pub stepped : (Listing → Option ℕ) → ℕ → (Listing → Bool) → Listing → Option ℕ
+abbrev pub stepped : (ListedType → Option ℕ) → ℕ → (ListedType → Bool) → ListedType → Option ℕ
 stepped F level p t = option_or (F t) (if p t then Some level else None)
 
 -- what was found, with one that stands before
@@ -33,24 +33,24 @@ abbrev under : Place × (ℕ × Stub) → Reached → Reached
 under e r = record { seen = e ∷ r.seen; next = r.next }
 
 -- one that stands before all others is not among them
-front_unseen : (F : Listing → Option ℕ) (t : Listing) (ts : List Listing) → All (StandsBefore t) ts → is_seen (place_of t) (leveled F ts) ≡ false
+front_unseen : (F : ListedType → Option ℕ) (t : ListedType) (ts : List ListedType) → All (StandsBefore t) ts → is_seen (place_of t) (leveled F ts) ≡ false
 front_unseen F t [] all = refl
 front_unseen F t (u ∷ us) all =
     let less = place_less t u (All-head (StandsBefore t) u us all) in grind (arith, less, front_unseen F t us (All-tail (StandsBefore t) u us all))
 
 -- and goes to the front
-front_put : (F : Listing → Option ℕ) (t : Listing) (v : ℕ × Stub) (ts : List Listing) → All (StandsBefore t) ts
+front_put : (F : ListedType → Option ℕ) (t : ListedType) (v : ℕ × Stub) (ts : List ListedType) → All (StandsBefore t) ts
     → insert_entry place_cmp (leveled F ts) (place_of t) v ≡ (place_of t, v) ∷ leveled F ts
 front_put F t v [] all = refl
 front_put F t v (u ∷ us) all =
     let less = place_less t u (All-head (StandsBefore t) u us all) in grind (arith, less, front_put F t v us (All-tail (StandsBefore t) u us all))
 
 -- one that stands behind another is met as if that weren't there
-meet_behind : (level : ℕ) (e : Place × (ℕ × Stub)) (r : Reached) (u : Listing) → place_cmp (place_of u) e.0 ≡ Greater
+meet_behind : (level : ℕ) (e : Place × (ℕ × Stub)) (r : Reached) (u : ListedType) → place_cmp (place_of u) e.0 ≡ Greater
     → meet level (under e r) u ≡ under e (meet level r u)
 meet_behind level e r u behind = grind (arith, behind)
 
-all_behind : (level : ℕ) (e : Place × (ℕ × Stub)) (r : Reached) (us : List Listing) → All (λ u. place_cmp (place_of u) e.0 ≡ Greater) us
+all_behind : (level : ℕ) (e : Place × (ℕ × Stub)) (r : Reached) (us : List ListedType) → All (λ u. place_cmp (place_of u) e.0 ≡ Greater) us
     → meet_all level (under e r) us ≡ under e (meet_all level r us)
 all_behind level e r [] all = refl
 all_behind level e r (u ∷ us) all =
@@ -58,11 +58,11 @@ all_behind level e r (u ∷ us) all =
     ∙ all_behind level e (meet level r u) us (All-tail (λ u. place_cmp (place_of u) e.0 ≡ Greater) u us all)
 
 -- the names of the types that are new at a level
-abbrev pub new_names : (Listing → Option ℕ) → (Listing → Bool) → List Listing → List (List ℕ)
+abbrev pub new_names : (ListedType → Option ℕ) → (ListedType → Bool) → List ListedType → List (List ℕ)
 new_names F p types = names_of (filter (λ t. p t && not (is_some (F t))) types)
 
 -- all types that pass a test are met at a level: those without a level have it now
-pub met_all : (F : Listing → Option ℕ) (level : ℕ) (p : Listing → Bool) (types : List Listing) (next : List (List ℕ)) → AllPairs StandsBefore types
+pub met_all : (F : ListedType → Option ℕ) (level : ℕ) (p : ListedType → Bool) (types : List ListedType) (next : List (List ℕ)) → AllPairs StandsBefore types
     → meet_all level (record { seen = leveled F types; next = next }) (filter p types)
     ≡ record { seen = leveled (stepped F level p) types; next = next ++ new_names F p types }
 met_all F level p [] next sorted = ap (λ n. record { seen = []; next = n }) (sym (append-nil next))

@@ -4,7 +4,7 @@ use Rattle.std.specs.Prelude.{not}
 use Rattle.std.specs.List.{AllPairs}
 use Rattle.std.proofs.lemmas.List.Elements.{All-nil, All-head, All-tail, All-append, All-map, All-weaker}
 use Rattle.std.proofs.lemmas.List.Kept.{AllPairs-cons, AllPairs-filter}
-use Rattle.query_engine.specs.Inheritors.{Listing, names_any, levels_from, inheritors_of, StandsBefore, Precedes}
+use Rattle.query_engine.specs.Inheritors.{ListedType, names_any, levels_from, inheritors_of, StandsBefore, Precedes}
 use Rattle.query_engine.specs.Search.{tagged}
 use Rattle.query_engine.proofs.MemberLemmas.{all_each}
 use Rattle.query_engine.proofs.LevelLemmas.{found_in, left_by, levels_behind}
@@ -34,16 +34,16 @@ pairs_map R Q f from (x ∷ xs) pairs =
     (pairs_map R Q f from xs (pairs_tail R x xs pairs))
 
 -- no type that is found has a lower level
-levels_above : (more level : ℕ) (names : List (List ℕ)) (left : List Listing) → All (λ found. level ≤ found.0) (levels_from more level names left)
+levels_above : (more level : ℕ) (names : List (List ℕ)) (left : List ListedType) → All (λ found. level ≤ found.0) (levels_from more level names left)
 unfolding levels_from
-levels_above zero level names left = All-nil (λ (found : ℕ × Listing). level ≤ found.0)
+levels_above zero level names left = All-nil (λ (found : ℕ × ListedType). level ≤ found.0)
 levels_above (suc more) level names left =
     All-append (λ found. level ≤ found.0) (tagged level (found_in names left)) (levels_behind more level names left)
     (All-map (λ found. level ≤ found.0) (λ t. (level, t)) (found_in names left) (λ k d inside. omega arith))
     (All-weaker (λ found. level + 1 ≤ found.0) (λ found. level ≤ found.0) (λ found above. omega (arith, above)) (levels_behind more level names left)
     (levels_above more (level + 1) _ (left_by names left)))
 
-levels_sorted : (more level : ℕ) (names : List (List ℕ)) (left : List Listing) → AllPairs StandsBefore left
+levels_sorted : (more level : ℕ) (names : List (List ℕ)) (left : List ListedType) → AllPairs StandsBefore left
     → AllPairs Precedes (levels_from more level names left)
 unfolding levels_from
 levels_sorted zero level names left sorted = pairs_nil Precedes
@@ -58,5 +58,5 @@ levels_sorted (suc more) level names left sorted =
     (levels_above more (level + 1) _ (left_by names left)))))
 
 -- the types that come from a name stand in order, each once
-pub inheritors_ordered : (name : List ℕ) (types : List Listing) → AllPairs StandsBefore types → AllPairs Precedes (inheritors_of name types)
+pub inheritors_ordered : (name : List ℕ) (types : List ListedType) → AllPairs StandsBefore types → AllPairs Precedes (inheritors_of name types)
 inheritors_ordered name types sorted = levels_sorted (length types) 1 (name ∷ []) types sorted

@@ -2,7 +2,7 @@
 use Rattle.std.proofs.Common.{ℕ, ◌≡◌, ◌≤◌, ◌+◌, ◌/◌, ◌%◌, List, arith, Result, Ok, Err, OnOk, IsErrAnd}
 use Rattle.query_engine.specs.declared.answer.AskRefusal.{AskRefusal}
 use Rattle.query_engine.specs.declared.answer.AskRefusal.TheVariants.{OutOfMemory}
-use Rattle.query_engine.specs.Inheritors.{Listing}
+use Rattle.query_engine.specs.Inheritors.{ListedType}
 use Rattle.query_engine.specs.Search.{asked_supers}
 use Rattle.query_engine.specs.Looks.{rows_a_look, HasLooked}
 use Rattle.query_engine.specs.Paces.{Paces, LooksFew}
@@ -18,7 +18,7 @@ on_err : (A : Type 0) → {X : Type 0} (r : Result X AskRefusal) (e : AskRefusal
 on_err A (Ok x) e is = absurd is
 on_err A (Err f) e is = tt
 
-module _ {W : Type 0} (l s : W → ℕ) (st : W → W → Type 0) (types : List Listing) where
+module _ {W : Type 0} (l s : W → ℕ) (st : W → W → Type 0) (types : List ListedType) where
   -- nothing is met
   pub paces_none : {X : Type 0} (x : X) (asked : List (List ℕ)) (met : ℕ) (asked' : List (List ℕ)) (watch : W)
       → asked_supers types asked ≤ asked_supers types asked'

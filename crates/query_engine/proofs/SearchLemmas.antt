@@ -8,7 +8,7 @@ use Rattle.std.proofs.lemmas.Bool.{or_cases}
 use Rattle.std.proofs.lemmas.List.Folds.{list_any-append, list_any_none}
 use Rattle.std.proofs.lemmas.Slice.Eq.{bytes_eq-Decides}
 use Rattle.query_engine.specs.Fits.{has_super}
-use Rattle.query_engine.specs.Inheritors.{Listing, names_any, names_of, StandsBefore}
+use Rattle.query_engine.specs.Inheritors.{ListedType, names_any, names_of, StandsBefore}
 use Rattle.query_engine.specs.Search.{Seen, Reached, meet_all, is_asked, HasAsked, AskedEach, leveled}
 use Rattle.query_engine.proofs.MeetLemmas.{stepped, new_names, met_all}
 
@@ -33,32 +33,32 @@ module _ {X : Type 0} where
   any_or p q r same (x ∷ xs) = grind (arith, same x, any_or p q r same xs)
 
 -- a test of the names of the types that pass another
-pub any_names : (test : List ℕ → Bool) (q : Listing → Bool) (types : List Listing)
+pub any_names : (test : List ℕ → Bool) (q : ListedType → Bool) (types : List ListedType)
     → list_any test (names_of (filter q types)) ≡ list_any (λ t. q t && test t.1.name) types
 any_names test q [] = refl
 any_names test q (t ∷ ts) = grind (arith, any_names test q ts)
 
 -- a type that names one of some names, had no level before, and whose own name passes a test
-abbrev pub new_named : (Listing → Option ℕ) → List (List ℕ) → (List ℕ → Bool) → Listing → Bool
+abbrev pub new_named : (ListedType → Option ℕ) → List (List ℕ) → (List ℕ → Bool) → ListedType → Bool
 new_named before names test t = names_any names t && (not (is_some (before t)) && test t.1.name)
 
 -- In a level: these names were asked for, and each type that names one of them has a level.
-pub record IsAt (types : List Listing) (before : Listing → Option ℕ) (level : ℕ) (done : List (List ℕ)) (asked : List (List ℕ))
+pub record IsAt (types : List ListedType) (before : ListedType → Option ℕ) (level : ℕ) (done : List (List ℕ)) (asked : List (List ℕ))
     (reached : Reached) : Type 0 where
-  pub levels : Listing → Option ℕ
+  pub levels : ListedType → Option ℕ
   pub seen : reached.seen ≡ leveled levels types
-  pub is : (t : Listing) → levels t ≡ or_level (before t) level (names_any done t)
+  pub is : (t : ListedType) → levels t ≡ or_level (before t) level (names_any done t)
   pub next : (test : List ℕ → Bool) → list_any test reached.next ≡ list_any (new_named before done test) types
-  pub none_more : (name : List ℕ) → is_asked name asked ≡ true → (t : Listing) → has_super name t.1 ≡ true → is_some (levels t) ≡ true
+  pub none_more : (name : List ℕ) → is_asked name asked ≡ true → (t : ListedType) → has_super name t.1 ≡ true → is_some (levels t) ≡ true
 
 -- one more name
-one_more : (done : List (List ℕ)) (name : List ℕ) (t : Listing) → names_any (done ++ name ∷ []) t ≡ (has_super name t.1 || names_any done t)
+one_more : (done : List (List ℕ)) (name : List ℕ) (t : ListedType) → names_any (done ++ name ∷ []) t ≡ (has_super name t.1 || names_any done t)
 one_more done name t = grind (arith, list_any-append (λ name. has_super name t.1) done (name ∷ []))
 
-module _ (types : List Listing) (sorted : AllPairs StandsBefore types) (before : Listing → Option ℕ) (level : ℕ) where
+module _ (types : List ListedType) (sorted : AllPairs StandsBefore types) (before : ListedType → Option ℕ) (level : ℕ) where
   -- a level begins
   pub at_first : (asked : List (List ℕ)) (seen : Seen) → seen ≡ leveled before types
-      → ((name : List ℕ) → is_asked name asked ≡ true → (t : Listing) → has_super name t.1 ≡ true → is_some (before t) ≡ true)
+      → ((name : List ℕ) → is_asked name asked ≡ true → (t : ListedType) → has_super name t.1 ≡ true → is_some (before t) ≡ true)
       → IsAt types before level [] asked (record { seen = seen; next = [] })
   at_first asked seen is none_more = record {
     levels = before;
@@ -80,7 +80,7 @@ module _ (types : List Listing) (sorted : AllPairs StandsBefore types) (before :
           ⊎_elim (λ same. here (bytes_same other name same)) before (or_cases (bytes_eq other name) (is_asked other asked) (sym (has.asks other) ∙ is))
 
       -- and then a type that names it names this one
-      names_this : (t : Listing) (other : List ℕ) → has_super other t.1 ≡ true → other ≡ name → has_super name t.1 ≡ true
+      names_this : (t : ListedType) (other : List ℕ) → has_super other t.1 ≡ true → other ≡ name → has_super name t.1 ≡ true
       names_this t other names same = subst (λ (n : List ℕ). has_super n t.1 ≡ true) same names
 
       of : (b : Bool) → is_asked name asked ≡ b → reached' ≡ (if b then reached else meet_all level reached (filter (λ t. has_super name t.1) types))
@@ -129,8 +129,8 @@ module _ (types : List Listing) (sorted : AllPairs StandsBefore types) (before :
       (at_all (done ++ name ∷ []) names a r asked' reached' rest (at_more done name asked reached a r has at))
 
 -- a name that is new is asked for
-pub asked_new : {X E : Type 0} (r : Result X E) (types : List Listing) (level : ℕ) (name : List ℕ) (asked : List (List ℕ)) (reached : Reached)
-    (asked' : List (List ℕ)) (reached' : Reached) (walk : List Listing)
+pub asked_new : {X E : Type 0} (r : Result X E) (types : List ListedType) (level : ℕ) (name : List ℕ) (asked : List (List ℕ)) (reached : Reached)
+    (asked' : List (List ℕ)) (reached' : Reached) (walk : List ListedType)
     → is_asked name asked ≡ false → ((other : List ℕ) → is_asked other asked' ≡ (bytes_eq other name || is_asked other asked))
     → walk ≡ filter (λ t. has_super name t.1) types
     → OnOk r (reached' ≡ meet_all level reached walk) → OnOk r (HasAsked types level name asked reached asked' reached')
@@ -138,14 +138,14 @@ asked_new (Err e) types level name asked reached asked' reached' walk new asks f
 asked_new (Ok x) types level name asked reached asked' reached' walk new asks found met = record {
   asks = asks;
   met = met ∙ ap (meet_all level reached) found
-      ∙ sym (ap (λ b. if b then reached else meet_all level reached (filter (λ (t : Listing). has_super name t.1) types)) new);
+      ∙ sym (ap (λ b. if b then reached else meet_all level reached (filter (λ (t : ListedType). has_super name t.1) types)) new);
 }
 
 -- and one that isn't, not once more
-pub asked_again : (types : List Listing) (level : ℕ) (name : List ℕ) (asked : List (List ℕ)) (reached : Reached) (asked' : List (List ℕ))
+pub asked_again : (types : List ListedType) (level : ℕ) (name : List ℕ) (asked : List (List ℕ)) (reached : Reached) (asked' : List (List ℕ))
     → is_asked name asked ≡ true → ((other : List ℕ) → is_asked other asked' ≡ (bytes_eq other name || is_asked other asked))
     → HasAsked types level name asked reached asked' reached
 asked_again types level name asked reached asked' again asks = record {
   asks = asks;
-  met = sym (ap (λ b. if b then reached else meet_all level reached (filter (λ (t : Listing). has_super name t.1) types)) again);
+  met = sym (ap (λ b. if b then reached else meet_all level reached (filter (λ (t : ListedType). has_super name t.1) types)) again);
 }

@@ -17,7 +17,7 @@ use Rattle.write_history.specs.World.{World, File, file_of, shown_text, lowest_u
 use Rattle.ide_world.specs.Found.{found, stubs_in}
 use Rattle.queries.specs.declared.query.Query.TheVariants as query
 use Rattle.query_engine.specs.Fits.{has_super}
-use Rattle.query_engine.specs.Inheritors.{Listing, StandsBefore}
+use Rattle.query_engine.specs.Inheritors.{ListedType, StandsBefore}
 use Rattle.query_engine.specs.Search.{all_supers}
 use Rattle.query_engine.specs.Looks.{rows_a_look, super_count, MayLook}
 use Rattle.query_engine.specs.Listed.{Listed, listed_at, stub_at, text_at, offset_in, StandsIn, AreAhead}
@@ -30,14 +30,14 @@ use Rattle.std.proofs.lemmas.Grind.{common_steps}
 
 module _ (rising : (text : List ℕ) → AllPairs (λ a b. a.at < b.at) (listing_of text)) where
   -- types stand in order, none of them in a file with a lower id
-  abbrev InOrder : ℕ → List Listing → Type 0
+  abbrev InOrder : ℕ → List ListedType → Type 0
   InOrder id ts = AllPairs StandsBefore ts × All (λ t. id ≤ t.0) ts
 
-  passed_by : (id : ℕ) (ts : List Listing) → InOrder (id + 1) ts → InOrder id ts
+  passed_by : (id : ℕ) (ts : List ListedType) → InOrder (id + 1) ts → InOrder id ts
   passed_by id ts (sorted, above) = (sorted, All-weaker (λ t. id + 1 ≤ t.0) (λ t. id ≤ t.0) (λ t over. omega (arith, over)) ts above)
 
   -- those of one more file in front
-  in_order : (id : ℕ) (file : Option File) (rest : List Listing) → InOrder (id + 1) rest → InOrder id (of_kind Java types_in id file ++ rest)
+  in_order : (id : ℕ) (file : Option File) (rest : List ListedType) → InOrder (id + 1) rest → InOrder id (of_kind Java types_in id file ++ rest)
   in_order id None rest others = passed_by id rest others
   in_order id (Some file) rest others = cond_both (is_java file.path) (types_in id file) [] (λ here. InOrder id (here ++ rest))
       (λ java. (
@@ -46,8 +46,8 @@ module _ (rising : (text : List ℕ) → AllPairs (λ a b. a.at < b.at) (listing
             (AllPairs-filter (λ a b. a.at < b.at) is_type (listing_of (shown_text file)) (rising (shown_text file)))) others.0
             (All-map (λ t. All (StandsBefore t) rest) (λ s. (id, s)) types (all_each (λ s. All (StandsBefore (id, s)) rest) types
             (λ s. All-weaker (λ t. id + 1 ≤ t.0) (StandsBefore (id, s)) (λ t over. inl (omega (arith, over))) rest others.1))),
-        All-append (λ (t : Listing). id ≤ t.0) (types_in id file) rest
-            (All-map (λ (t : Listing). id ≤ t.0) (λ s. (id, s)) types (λ k d inside. le_refl id)) (passed_by id rest others).1,
+        All-append (λ (t : ListedType). id ≤ t.0) (types_in id file) rest
+            (All-map (λ (t : ListedType). id ≤ t.0) (λ s. (id, s)) types (λ k d inside. le_refl id)) (passed_by id rest others).1,
       ))
       (λ other. passed_by id rest others)
     where
@@ -55,7 +55,7 @@ module _ (rising : (text : List ℕ) → AllPairs (λ a b. a.at < b.at) (listing
       types = filter is_type (listing_of (shown_text file))
 
   types_from : (id : ℕ) (files : List (Option File)) → InOrder id (of_files Java types_in id files)
-  types_from id [] = (pairs_nil StandsBefore, All-nil (λ (t : Listing). id ≤ t.0))
+  types_from id [] = (pairs_nil StandsBefore, All-nil (λ (t : ListedType). id ≤ t.0))
   types_from id (file ∷ files) = in_order id file (of_files Java types_in (id + 1) files) (types_from (id + 1) files)
 
   -- the types of a world stand in order
@@ -63,7 +63,7 @@ module _ (rising : (text : List ℕ) → AllPairs (λ a b. a.at < b.at) (listing
   types_sorted world = (types_from 1 world.files).0
 
 -- the type names the name
-abbrev pub names_it : List ℕ → Listing → Bool
+abbrev pub names_it : List ℕ → ListedType → Bool
 names_it name t = has_super name t.1
 
 -- what the walk over the types that name a name finds
@@ -87,10 +87,10 @@ namers_are name world =
         ∙ filter_agree (λ s. is_type s && has_super name s) (has_super name) (λ s. twice (is_type s) (list_any (λ super. bytes_eq name super) s.supers)) stubs)
 
 -- each type of a world is of a live file, and stands in its text
-pub IsPlaced : World → Listing → Type 0
+pub IsPlaced : World → ListedType → Type 0
 IsPlaced world t = IsSome (file_of world t.0) × StandsIn (text_at world t.0) 0 t.1.at
 
-ahead_each : (world : World) (before : Option Listed) (types : List Listing) → AreAhead stub_at world before types → All (IsPlaced world) types
+ahead_each : (world : World) (before : Option Listed) (types : List ListedType) → AreAhead stub_at world before types → All (IsPlaced world) types
 unfolding IsPlaced
 ahead_each world before [] ahead = All-nil (IsPlaced world)
 ahead_each world before (t ∷ ts) ahead =
@@ -102,7 +102,7 @@ types_placed lawful named world = subst (All (IsPlaced world)) (found_is Java (s
     (ahead_each world None (found Java (stubs_in is_type) world) (ahead_found lawful named is_type world))
 
 -- types in order stand one ahead of another
-ahead_from : (world : World) (before : Option Listed) (types : List Listing) → AllPairs StandsBefore types → All (IsPlaced world) types
+ahead_from : (world : World) (before : Option Listed) (types : List ListedType) → AllPairs StandsBefore types → All (IsPlaced world) types
     → All (λ t. offset_in before t.0 ≤ t.1.at) types → AreAhead stub_at world before types
 unfolding IsPlaced
 ahead_from world before [] sorted placed above = tt
@@ -114,15 +114,15 @@ ahead_from world before (t ∷ ts) sorted placed above =
           (All-weaker (StandsBefore t) (λ u. offset_in (Some (listed_at world t.0 t.1.at)) u.0 ≤ u.1.at) behind ts (pairs_head StandsBefore t ts sorted)),
     )
   where
-    behind : (u : Listing) → StandsBefore t u → (if t.0 == u.0 then t.1.at else 0) ≤ u.1.at
+    behind : (u : ListedType) → StandsBefore t u → (if t.0 == u.0 then t.1.at else 0) ≤ u.1.at
     behind u (inl less) = grind (arith, common_steps, less)
     behind u (inr (file, less)) = grind (arith, common_steps, less)
 
-pub ahead_sorted : (world : World) (types : List Listing) → AllPairs StandsBefore types → All (IsPlaced world) types → AreAhead stub_at world None types
+pub ahead_sorted : (world : World) (types : List ListedType) → AllPairs StandsBefore types → All (IsPlaced world) types → AreAhead stub_at world None types
 ahead_sorted world types sorted placed = ahead_from world None types sorted placed (λ k d inside. omega arith)
 
 -- the names of supers, counted
-pub supers_counted : (types : List Listing) → all_supers types ≡ sum (map (λ t. length t.1.supers) types)
+pub supers_counted : (types : List ListedType) → all_supers types ≡ sum (map (λ t. length t.1.supers) types)
 supers_counted [] = refl
 supers_counted (t ∷ ts) = ap (λ n. length t.1.supers + n) (supers_counted ts)
     ∙ sym (sum_by-cons (λ (n : ℕ). n) (length t.1.supers) (map (λ t. length t.1.supers) ts))

@@ -14,7 +14,7 @@ use Rattle.java_tokens.specs.Words.{has_bit, words_of, mask_in}
 use Rattle.write_history.specs.World.{World, File, file_of, shown_text, lowest_unready}
 use Rattle.ide_world.specs.Found.{found, found_from, found_in, masks_in}
 use Rattle.queries.specs.declared.query.Query.TheVariants as query
-use Rattle.query_engine.specs.declared.answer.Answer.TheVariants.{Usages}
+use Rattle.query_engine.specs.declared.answer.Finding.TheVariants.{Usages}
 use Rattle.query_engine.specs.declared.answer.PlaceRow.{PlaceRow}
 use Rattle.query_engine.specs.Reply.{of_files, of_kind, of_world, place_row, uses_in}
 use Rattle.query_engine.specs.Looks.{LooksThrough, MayLook, first_uses}

@@ -5,59 +5,59 @@ use Rattle.stub_tree.specs.declared.stub.Stub.{Stub}
 use Rattle.query_engine.specs.Fits.{has_super}
 
 -- a type that a file lists: the file's id and its entry
-abbrev pub Listing : Type 0
-Listing = ℕ × Stub
+abbrev pub ListedType : Type 0
+ListedType = ℕ × Stub
 
 -- the type names one of these behind `extends` or `implements`
-abbrev pub names_any : List (List ℕ) → Listing → Bool
+abbrev pub names_any : List (List ℕ) → ListedType → Bool
 names_any names t = list_any (λ name. has_super name t.1) names
 
 -- the names of some types
-abbrev pub names_of : List Listing → List (List ℕ)
+abbrev pub names_of : List ListedType → List (List ℕ)
 names_of types = map (λ t. t.1.name) types
 
 -- Level by level: the types of a level name one of the last level's names, and aren't of a level before. At most so many levels.
-unfoldable pub levels_from : ℕ → ℕ → List (List ℕ) → List Listing → List (ℕ × Listing)
+unfoldable pub levels_from : ℕ → ℕ → List (List ℕ) → List ListedType → List (ℕ × ListedType)
 levels_from zero level names left = []
 levels_from (suc more) level names left =
     let found = filter (names_any names) left in
     map (λ t. (level, t)) found ++ levels_from more (level + 1) (names_of found) (filter (λ t. not (names_any names t)) left)
 
 -- the types that come from a name, each with its level: by level, then as they are listed
-abbrev pub inheritors_of : List ℕ → List Listing → List (ℕ × Listing)
+abbrev pub inheritors_of : List ℕ → List ListedType → List (ℕ × ListedType)
 inheritors_of name types = levels_from (length types) 1 (name ∷ []) types
 
 -- the type is among those that were found, with this level
-abbrev pub IsOnLevel : List (ℕ × Listing) → ℕ → Listing → Type 0
-IsOnLevel found level t = Contains {X = ℕ × Listing} found (level, t)
+abbrev pub IsOnLevel : List (ℕ × ListedType) → ℕ → ListedType → Type 0
+IsOnLevel found level t = Contains {X = ℕ × ListedType} found (level, t)
 
 -- a chain from a name: its first type names it, and each other one names the type before it
-abbrev pub IsChain : List ℕ → List Listing → Type 0
+abbrev pub IsChain : List ℕ → List ListedType → Type 0
 IsChain name [] = Unit {0}
 IsChain name (t ∷ ts) = (has_super name t.1 ≡ true) × IsChain t.1.name ts
 
 -- the last of some types
-abbrev pub last_of : List Listing → Option Listing
+abbrev pub last_of : List ListedType → Option ListedType
 last_of [] = None
 last_of (t ∷ []) = Some t
 last_of (t ∷ u ∷ ts) = last_of (u ∷ ts)
 
 -- a chain of so many of these types leads from a name to a type
-pub record EndsChain (types : List Listing) (name : List ℕ) (len : ℕ) (t : Listing) : Type 0 where
-  pub chain : List Listing
+pub record EndsChain (types : List ListedType) (name : List ℕ) (len : ℕ) (t : ListedType) : Type 0 where
+  pub chain : List ListedType
   pub listed : All (Contains types) chain
   pub linked : IsChain name chain
   pub many : length chain ≡ len
   pub ends : last_of chain ≡ Some t
 
 -- no chain from the name to the type is shorter
-abbrev pub IsLeast : List Listing → List ℕ → ℕ → Listing → Type 0
+abbrev pub IsLeast : List ListedType → List ℕ → ℕ → ListedType → Type 0
 IsLeast types name len t = (other : ℕ) → EndsChain types name other t → len ≤ other
 
 -- one stands before the other: by file, then by offset
-abbrev pub StandsBefore : Listing → Listing → Type 0
+abbrev pub StandsBefore : ListedType → ListedType → Type 0
 StandsBefore t u = (t.0 < u.0) ⊎ ((t.0 ≡ u.0) × (t.1.at < u.1.at))
 
 -- one stands before the other: by level, then by file, then by offset
-abbrev pub Precedes : ℕ × Listing → ℕ × Listing → Type 0
+abbrev pub Precedes : ℕ × ListedType → ℕ × ListedType → Type 0
 Precedes a b = (a.0 < b.0) ⊎ ((a.0 ≡ b.0) × StandsBefore a.1 b.1)

@@ -4,12 +4,12 @@ use Rattle.std.specs.List.{AllByRecursion}
 use Rattle.stub_tree.specs.declared.stub.Stub.{Stub}
 use Rattle.write_history.specs.World.{World}
 use Rattle.query_engine.specs.declared.answer.LevelRow.{LevelRow}
-use Rattle.query_engine.specs.Inheritors.{Listing}
+use Rattle.query_engine.specs.Inheritors.{ListedType}
 use Rattle.query_engine.specs.Search.{Place}
 use Rattle.query_engine.specs.Listed.{row_found}
 
 -- a type that was found, as it is listed
-abbrev pub seen_listing : Place × (ℕ × Stub) → Listing
+abbrev pub seen_listing : Place × (ℕ × Stub) → ListedType
 seen_listing found = (found.0.0, found.1.1)
 
 -- its row

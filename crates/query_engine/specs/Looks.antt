@@ -7,8 +7,8 @@ use Rattle.write_history.specs.World.{World, lowest_unready}
 use Rattle.queries.specs.declared.query.Query.{Query}
 use Rattle.queries.specs.declared.query.Query.TheVariants as query
 use Rattle.query_engine.specs.declared.answer.PlaceRow.{PlaceRow}
-use Rattle.query_engine.specs.declared.answer.Answer.{Answer}
-use Rattle.query_engine.specs.declared.answer.Answer.TheVariants.{Rows, Outline, Words, Usages, Inheritors, Keys, Counts}
+use Rattle.query_engine.specs.declared.answer.Finding.{Finding}
+use Rattle.query_engine.specs.declared.answer.Finding.TheVariants.{Rows, Outline, Words, Usages, Inheritors, Keys, Counts}
 use Rattle.query_engine.specs.declared.answer.AskRefusal.{AskRefusal}
 use Rattle.query_engine.specs.declared.answer.AskRefusal.TheVariants.{NoSuchFile, NotReady, Cancelled, OutOfMemory}
 use Rattle.query_engine.specs.Reply.{NoAnswer, reply, of_world, uses_in, types_of}
@@ -22,7 +22,7 @@ abbrev pub rows_a_look : ℕ
 rows_a_look = 256
 
 -- the number of rows of an answer
-abbrev pub row_count : Answer → ℕ
+abbrev pub row_count : Finding → ℕ
 row_count (Rows rows) = length rows
 row_count (Outline rows) = length rows
 row_count (Words rows) = length rows
@@ -32,13 +32,9 @@ row_count (Keys rows) = length rows
 row_count (Counts files docs unready) = 0
 
 -- how often the call with this answer looks after its first look, where no look sees anything: once for each full 256 rows
-abbrev pub later_looks : Result Answer NoAnswer → ℕ
+abbrev pub later_looks : Result Finding NoAnswer → ℕ
 later_looks (Ok answer) = row_count answer / rows_a_look
 later_looks (Err why) = 0
-
--- how often the call with this answer looks, where no look sees anything
-abbrev pub looks_for : Result Answer NoAnswer → ℕ
-looks_for answer = 1 + later_looks answer
 
 -- where no file is unready so many, else none
 abbrev pub where_smart : World → ℕ → ℕ

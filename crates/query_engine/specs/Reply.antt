@@ -1,10 +1,13 @@
 -- The answer to a question, by the texts of the files, as if they were all listed anew.
-use Rattle.std.specs.Prelude.{ℕ, ◌≡◌, ◌+◌, Bool, List, [], ◌∷◌, ◌++◌, map, filter, if◌then◌else◌, Option, Some, None, is_some, Result, Ok, Err, IsOk}
+use Rattle.std.specs.Prelude.{ℕ, ◌≡◌, ◌+◌, Bool, List, [], ◌∷◌, ◌++◌, length, map, filter, if◌then◌else◌, Option, Some, None, is_some, Result, Ok, Err, IsOk}
 use Rattle.std.specs.Option.{option_map_or}
 use Rattle.dumb_mode.specs.declared.kind.FileKind.{FileKind}
 use Rattle.dumb_mode.specs.declared.kind.FileKind.TheVariants.{Java, Properties}
 use Rattle.dumb_mode.specs.Filter.{has_kind}
+use Rattle.write_history.specs.declared.entry.Entry.{Entry}
 use Rattle.write_history.specs.World.{World, File, file_of, id_at, shown_text, lowest_unready, count_of, is_open, is_unready}
+use Rattle.write_history.specs.Fold.{fold}
+use Rattle.write_history.specs.Serial.{SerialStep}
 use Rattle.ide_text.specs.Place.{line_at, column_at}
 use Rattle.stub_tree.specs.declared.stub.Stub.{Stub}
 use Rattle.stub_tree.specs.Stub.{is_type}
@@ -18,12 +21,12 @@ use Rattle.query_engine.specs.declared.answer.Row.{Row}
 use Rattle.query_engine.specs.declared.answer.WordRow.{WordRow}
 use Rattle.query_engine.specs.declared.answer.PlaceRow.{PlaceRow}
 use Rattle.query_engine.specs.declared.answer.LevelRow.{LevelRow}
-use Rattle.query_engine.specs.declared.answer.Answer.{Answer}
-use Rattle.query_engine.specs.declared.answer.Answer.TheVariants.{Rows, Outline, Words, Usages, Inheritors, Keys, Counts}
+use Rattle.query_engine.specs.declared.answer.Finding.{Finding}
+use Rattle.query_engine.specs.declared.answer.Finding.TheVariants.{Rows, Outline, Words, Usages, Inheritors, Keys, Counts}
 use Rattle.query_engine.specs.declared.answer.AskRefusal.{AskRefusal}
 use Rattle.query_engine.specs.declared.answer.AskRefusal.TheVariants as refused
 use Rattle.query_engine.specs.Fits.{is_class, has_super, is_method}
-use Rattle.query_engine.specs.Inheritors.{Listing, inheritors_of}
+use Rattle.query_engine.specs.Inheritors.{ListedType, inheritors_of}
 
 -- the row of a declaration, by the file's id, its path and its text
 abbrev pub row_of : ℕ → List ℕ → List ℕ → Stub → Row
@@ -79,19 +82,19 @@ abbrev pub keys_in : List ℕ → ℕ → File → List PlaceRow
 keys_in key id file = map (place_row id file.path (shown_text file)) (places_of_key key (shown_text file))
 
 -- the types that a file lists, each with the file's id
-abbrev pub types_in : ℕ → File → List Listing
+abbrev pub types_in : ℕ → File → List ListedType
 types_in id file = map (λ stub. (id, stub)) (filter is_type (listing_of (shown_text file)))
 
 -- the types that the live Java files of a world list, in order of ids, then of the texts
-abbrev pub types_of : World → List Listing
+abbrev pub types_of : World → List ListedType
 types_of world = of_world Java types_in world
 
 -- the row of a listed type
-abbrev pub listed_row : World → Listing → Row
+abbrev pub listed_row : World → ListedType → Row
 listed_row world t = row_of t.0 (option_map_or (λ file. file.path) (file_of world t.0) []) (option_map_or shown_text (file_of world t.0) []) t.1
 
 -- the row of a type that comes from a name, with its level
-abbrev pub level_row : World → ℕ × Listing → LevelRow
+abbrev pub level_row : World → ℕ × ListedType → LevelRow
 level_row world found = record { level = found.0; row = listed_row world found.1 }
 
 -- why a question has no answer: no live file has the path, or the file with this id is unready
@@ -100,7 +103,7 @@ pub data NoAnswer : Type 0 where
   not_ready : ℕ → NoAnswer
 
 -- an answer that no file may be unready for, or the unready file with the lowest id
-abbrev pub unless_unready : Option ℕ → Answer → Result Answer NoAnswer
+abbrev pub unless_unready : Option ℕ → Finding → Result Finding NoAnswer
 unless_unready None answer = Ok answer
 unless_unready (Some file) answer = Err (not_ready file)
 
@@ -109,12 +112,12 @@ abbrev pub all_rows : ℕ → File → List Row
 all_rows id file = map (row_of id file.path (shown_text file)) (listing_of (shown_text file))
 
 -- the declarations of the live file with an id, where a file has it
-abbrev pub listing_reply : World → Option ℕ → Result Answer NoAnswer
+abbrev pub listing_reply : World → Option ℕ → Result Finding NoAnswer
 listing_reply world None = Err no_such_file
 listing_reply world (Some id) = Ok (Outline (option_map_or (all_rows id) (file_of world id) []))
 
 -- the answer to a question
-abbrev pub reply : World → Query → Result Answer NoAnswer
+abbrev pub reply : World → Query → Result Finding NoAnswer
 reply world (query.Class name) = unless_unready (lowest_unready world) (Rows (of_world Java (rows_in (is_class name)) world))
 reply world (query.Supers name) = unless_unready (lowest_unready world) (Rows (of_world Java (rows_in (has_super name)) world))
 reply world (query.Method name) = unless_unready (lowest_unready world) (Rows (of_world Java (rows_in (is_method name)) world))
@@ -126,8 +129,12 @@ reply world (query.Key key) = unless_unready (lowest_unready world) (Keys (of_wo
 reply world (query.Outline path) = listing_reply world (id_at world path)
 reply world query.Status = Ok (Counts (count_of is_some world) (count_of is_open world) (count_of is_unready world))
 
+-- A question, as a step of a serial run, adds nothing. The answer is the length of the history, and the one to the question in its world
+abbrev pub query_step : List Entry → Query → SerialStep (ℕ × Result Finding NoAnswer)
+query_step history query = record { added = []; answer = (length history, reply (fold history) query) }
+
 -- a refusal is the one that is expected, a call that is stopped owes none, and running out of memory never stands for a refusal
-abbrev pub IsRefusalOf : Result Answer NoAnswer → AskRefusal → Type 0
+abbrev pub IsRefusalOf : Result Finding NoAnswer → AskRefusal → Type 0
 IsRefusalOf expected refused.NoSuchFile = expected ≡ Err no_such_file
 IsRefusalOf expected (refused.NotReady file) = expected ≡ Err (not_ready file)
 IsRefusalOf expected refused.Cancelled = Unit {0}

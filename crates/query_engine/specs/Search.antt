@@ -9,7 +9,7 @@ use Rattle.std.specs.Ordering.{nat_cmp, ordering_then}
 use Rattle.std.specs.BTreeMap.{insert_entry, is_at}
 use Rattle.stub_tree.specs.declared.stub.Stub.{Stub}
 use Rattle.query_engine.specs.Fits.{has_super}
-use Rattle.query_engine.specs.Inheritors.{Listing, inheritors_of}
+use Rattle.query_engine.specs.Inheritors.{ListedType, inheritors_of}
 
 -- where a declaration stands: a file's id and an offset
 abbrev pub Place : Type 0
@@ -20,7 +20,7 @@ abbrev pub place_cmp : Place → Place → Ordering
 place_cmp a b = ordering_then (nat_cmp a.0 b.0) (nat_cmp a.1 b.1)
 
 -- where a listed type stands
-abbrev pub place_of : Listing → Place
+abbrev pub place_of : ListedType → Place
 place_of t = (t.0, t.1.at)
 
 -- types that were found, by the order of their places, each with its level and its entry
@@ -37,13 +37,13 @@ pub record Reached : Type 0 where
   pub next : List (List ℕ)
 
 -- one more type is met at a level: it counts where it wasn't found before
-abbrev pub meet : ℕ → Reached → Listing → Reached
+abbrev pub meet : ℕ → Reached → ListedType → Reached
 meet level reached t =
     if is_seen (place_of t) reached.seen then reached
     else record { seen = insert_entry place_cmp reached.seen (place_of t) (level, t.1); next = reached.next ++ t.1.name ∷ [] }
 
 -- all types that name a name are met at a level
-abbrev pub meet_all : ℕ → Reached → List Listing → Reached
+abbrev pub meet_all : ℕ → Reached → List ListedType → Reached
 meet_all level reached types = fold (meet level) reached types
 
 -- the name is among those that were asked for
@@ -51,33 +51,33 @@ abbrev pub is_asked : List ℕ → List (List ℕ) → Bool
 is_asked name asked = list_any (bytes_eq name) asked
 
 -- A name is asked for at a level, among these types: those that name it are met, and where it was asked for before, nothing happens.
-pub record HasAsked (types : List Listing) (level : ℕ) (name : List ℕ) (asked : List (List ℕ)) (reached : Reached) (asked' : List (List ℕ)) (reached' : Reached) : Type 0 where
+pub record HasAsked (types : List ListedType) (level : ℕ) (name : List ℕ) (asked : List (List ℕ)) (reached : Reached) (asked' : List (List ℕ)) (reached' : Reached) : Type 0 where
   pub asks : (other : List ℕ) → is_asked other asked' ≡ (bytes_eq other name || is_asked other asked)
   pub met : reached' ≡ (if is_asked name asked then reached else meet_all level reached (filter (λ t. has_super name t.1) types))
 
 -- names are asked for one after another
-abbrev pub AskedEach : List Listing → ℕ → List (List ℕ) → List (List ℕ) → Reached → List (List ℕ) → Reached → Type 0
+abbrev pub AskedEach : List ListedType → ℕ → List (List ℕ) → List (List ℕ) → Reached → List (List ℕ) → Reached → Type 0
 AskedEach types level [] asked reached asked' reached' = (asked' ≡ asked) × (reached' ≡ reached)
 AskedEach types level (name ∷ names) asked reached asked' reached' =
     (a : List (List ℕ)) × (r : Reached) × HasAsked types level name asked reached a r × AskedEach types level names a r asked' reached'
 
 -- how many of the names behind `extends` and `implements` of these types were asked for
-abbrev pub asked_supers : List Listing → List (List ℕ) → ℕ
+abbrev pub asked_supers : List ListedType → List (List ℕ) → ℕ
 asked_supers [] asked = 0
 asked_supers (t ∷ types) asked = length (filter (λ name. is_asked name asked) t.1.supers) + asked_supers types asked
 
 -- how many names stand behind `extends` and `implements` of these types
-abbrev pub all_supers : List Listing → ℕ
+abbrev pub all_supers : List ListedType → ℕ
 all_supers [] = 0
 all_supers (t ∷ types) = length t.1.supers + all_supers types
 
 -- a type at the front of what was found, where it has a level
-abbrev pub with_level : Listing → Option ℕ → Seen → Seen
+abbrev pub with_level : ListedType → Option ℕ → Seen → Seen
 with_level t None rest = rest
 with_level t (Some level) rest = (place_of t, (level, t.1)) ∷ rest
 
 -- those of the types that have a level
-abbrev pub leveled : (Listing → Option ℕ) → List Listing → Seen
+abbrev pub leveled : (ListedType → Option ℕ) → List ListedType → Seen
 leveled levels [] = []
 leveled levels (t ∷ types) = with_level t (levels t) (leveled levels types)
 
@@ -86,21 +86,21 @@ abbrev pub is_level : ℕ → Option ℕ → Bool
 is_level level other = option_map_or (λ l. l == level) other false
 
 -- the types that have this level
-abbrev pub with_this : ℕ → (Listing → Option ℕ) → List Listing → List Listing
+abbrev pub with_this : ℕ → (ListedType → Option ℕ) → List ListedType → List ListedType
 with_this level levels types = filter (λ t. is_level level (levels t)) types
 
 -- types with their level
-abbrev pub tagged : ℕ → List Listing → List (ℕ × Listing)
+abbrev pub tagged : ℕ → List ListedType → List (ℕ × ListedType)
 tagged level types = map (λ t. (level, t)) types
 
 -- the levels of types that were found don't fall
-abbrev pub LevelsRise : List (ℕ × Listing) → Type 0
+abbrev pub LevelsRise : List (ℕ × ListedType) → Type 0
 LevelsRise [] = Unit {0}
 LevelsRise (x ∷ xs) = AllByRecursion (λ y. x.0 ≤ y.0) xs × LevelsRise xs
 
 -- a search ended: what it found are the types that come from the name, each with its level
-pub record IsFound (types : List Listing) (name : List ℕ) (seen : Seen) : Type 0 where
-  pub levels : Listing → Option ℕ
+pub record IsFound (types : List ListedType) (name : List ℕ) (seen : Seen) : Type 0 where
+  pub levels : ListedType → Option ℕ
   pub is : seen ≡ leveled levels types
   pub each : (level : ℕ) → filter (λ found. found.0 == level) (inheritors_of name types) ≡ tagged level (with_this level levels types)
   pub rise : LevelsRise (inheritors_of name types)

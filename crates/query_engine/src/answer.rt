@@ -122,7 +122,7 @@ impl<T: Drop> RowList<T> {
 
 /// What a question comes to.
 #[derive(Drop)]
-pub enum Answer {
+pub enum Finding {
     /// The declarations that fit, of all files.
     Rows { rows: RowList<Row> },
     /// The declarations of one file.

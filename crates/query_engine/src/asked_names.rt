@@ -35,7 +35,9 @@ impl<'a> AskedNames<'a> {
     /// Puts a name in, and tells whether it is new.
     pub(crate) fn add(&mut self, name: &'a Name) -> Result<bool, AllocError>
         ensures fresh { IfOk result (λ fresh. fresh ≡ not (is_asked name.now self.old)) }
-        ensures asks { OnOk result ((other : List ℕ) → is_asked other self.new ≡ (bytes_eq other name.now || is_asked other self.old)) }
+        ensures asks { OnOk result
+            ((other : List ℕ)
+            → is_asked other self.new ≡ (bytes_eq other name.now || is_asked other self.old)) }
     {
         Ok(self.names.insert(name)?)
     }

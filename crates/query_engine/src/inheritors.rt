@@ -2,7 +2,7 @@
 ghost use Rattle.queries.specs.declared.query.Query.TheVariants.{Inheritors};
 ghost use Rattle.query_engine.specs.Given.{RepliesTo};
 
-use crate::answer::{Answer, AskRefusal};
+use crate::answer::{AskRefusal, Finding};
 use crate::level_rows::level_rows;
 use crate::ready::ready;
 use crate::search::search_types;
@@ -18,11 +18,12 @@ pub(crate) fn inheritors<W: Watch>(
     state: &State,
     name: &Name,
     watch: &mut W,
-) -> Result<Answer, AskRefusal>
+) -> Result<Finding, AskRefusal>
     requires { W.can_look watch.old }
     ensures again { W.can_look watch.new }
     ensures stays { W.stays watch.old watch.new }
-    ensures replied { RepliesTo W.looks W.sightings W.stays state.now.world (Inheritors name.now) result watch.old watch.new }
+    ensures replied { RepliesTo W.looks W.sightings W.stays state.now.world
+        (Inheritors name.now) result watch.old watch.new }
 {
     offsets_rise();
     listings_are_lawful();
@@ -30,5 +31,5 @@ pub(crate) fn inheritors<W: Watch>(
     ready(state)?;
     let reached = search_types(alloc, state, name, watch)?;
     let rows = level_rows(alloc, state, &reached)?;
-    Ok(Answer::Inheritors { rows })
+    Ok(Finding::Inheritors { rows })
 }

@@ -5,7 +5,7 @@ ghost use Rattle.query_engine.specs.Looks.{rows_a_look, HasLooked, EndsEarly};
 ghost use Rattle.query_engine.specs.Listed.{AreAhead, itself, place_found};
 ghost use Rattle.query_engine.specs.Given.{GivesReply, key_reply};
 
-use crate::answer::{Answer, AskRefusal, PlaceRow, RowList};
+use crate::answer::{AskRefusal, Finding, PlaceRow, RowList};
 use crate::listed_file::ListedFile;
 use crate::looks::look_after;
 use crate::ready::ready;
@@ -20,16 +20,18 @@ pub(crate) fn with_key<W: Watch>(
     state: &State,
     found: KeyWalk<'_>,
     watch: &mut W,
-) -> Result<Answer, AskRefusal>
+) -> Result<Finding, AskRefusal>
     requires can { W.can_look watch.old }
-    requires ahead { lowest_unready state.now.world ≡ None → AreAhead itself state.now.world None found }
+    requires ahead { lowest_unready state.now.world ≡ None
+        → AreAhead itself state.now.world None found }
     ensures again { W.can_look watch.new }
     ensures stays { W.stays watch.old watch.new }
-    ensures answered { GivesReply W.looks W.sightings W.stays (key_reply state.now.world found.entry) result watch.old watch.new }
+    ensures answered { GivesReply W.looks W.sightings W.stays
+        (key_reply state.now.world found.entry) result watch.old watch.new }
 {
     ready(state)?;
     let rows = key_rows(alloc, state, found, watch)?;
-    Ok(Answer::Keys { rows })
+    Ok(Finding::Keys { rows })
 }
 
 /// The rows of the places that are found, file by file. Lines and columns are found in one walk over each file's text.
@@ -43,7 +45,8 @@ fn key_rows<W: Watch>(
     requires ahead { AreAhead itself state.now.world None found }
     ensures again { W.can_look watch.new }
     ensures stays { W.stays watch.old watch.new }
-    ensures looked { HasLooked W.looks W.sightings W.stays result (length found.entry / rows_a_look) watch.old watch.new }
+    ensures looked { HasLooked W.looks W.sightings W.stays result
+        (length found.entry / rows_a_look) watch.old watch.new }
     ensures rows { IfOk result (λ rows. rows ≡ map (place_found state.now.world) found.entry) }
     ensures early { IfErr result EndsEarly }
 {

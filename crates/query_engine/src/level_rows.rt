@@ -17,7 +17,10 @@ pub(crate) fn level_rows(
 ) -> Result<RowList<LevelRow>, AllocError>
     requires { AreAhead stub_at state.now.world None (map seen_listing reached.now.seen) }
     ensures rise { IfOk result RowsRise }
-    ensures same { IfOk result (λ rows. (level : ℕ) → with_row_level level rows ≡ with_row_level level (map (seen_row state.now.world) reached.now.seen)) }
+    ensures same { IfOk result
+        (λ rows. (level : ℕ)
+        → with_row_level level rows
+        ≡ with_row_level level (map (seen_row state.now.world) reached.now.seen)) }
 {
     let mut rows = placed_rows(alloc, state, reached)?;
     rows.sort_by(|a, b| a.level.cmp(&b.level))?;

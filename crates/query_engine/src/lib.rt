@@ -18,6 +18,6 @@ mod stub_rows;
 mod usages;
 mod word_rows;
 
-pub use answer::{Answer, AskRefusal, LevelRow, PlaceRow, Row, RowList, WordRow};
+pub use answer::{AskRefusal, Finding, LevelRow, PlaceRow, Row, RowList, WordRow};
 pub use looks::NoWatch;
 pub use question::{ask, ask_unwatched};

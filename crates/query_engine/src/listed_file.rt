@@ -69,7 +69,8 @@ impl<'a> ListedFile<'a> {
     pub(crate) fn place(&mut self, at: u32) -> Result<PlaceRow, AllocError>
         requires ahead { self.old.at ≤ at }
         requires inside { at ≤ length self.old.text }
-        ensures row { IfOk result (λ row. row ≡ place_row self.old.id self.old.path self.old.text at) }
+        ensures row { IfOk result
+            (λ row. row ≡ place_row self.old.id self.old.path self.old.text at) }
         ensures goes_on { self.new ≡ record self.old { at = at } }
     {
         let (line, column) = self.walk.line_col(at);
@@ -85,7 +86,8 @@ impl<'a> ListedFile<'a> {
     pub(crate) fn row(&mut self, stub: &Stub) -> Result<Row, AllocError>
         requires ahead { self.old.at ≤ stub.now.at }
         requires inside { stub.now.at ≤ length self.old.text }
-        ensures row { IfOk result (λ row. row ≡ row_of self.old.id self.old.path self.old.text stub.now) }
+        ensures row { IfOk result
+            (λ row. row ≡ row_of self.old.id self.old.path self.old.text stub.now) }
         ensures goes_on { self.new ≡ record self.old { at = stub.now.at } }
     {
         let place = self.place(stub.at)?;

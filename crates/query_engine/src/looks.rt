@@ -75,7 +75,8 @@ pub(crate) fn look_after<W: Watch>(rows: usize, watch: &mut W) -> Result<(), Ask
     requires { W.can_look watch.old }
     ensures again { W.can_look watch.new }
     ensures stays { W.stays watch.old watch.new }
-    ensures looked { HasLooked W.looks W.sightings W.stays result (looks_at rows) watch.old watch.new }
+    ensures looked { HasLooked W.looks W.sightings W.stays result
+        (looks_at rows) watch.old watch.new }
     ensures early { IfErr result EndsEarly }
 {
     if rows % ROWS_A_LOOK == 0 {
@@ -91,7 +92,8 @@ pub(crate) fn look_after_another<W: Watch>(met: &mut u8, watch: &mut W) -> Resul
     ensures again { W.can_look watch.new }
     ensures stays { W.stays watch.old watch.new }
     ensures met { met.new ≡ (met.old + 1) % rows_a_look }
-    ensures looked { HasLooked W.looks W.sightings W.stays result ((met.old % rows_a_look + 1) / rows_a_look) watch.old watch.new }
+    ensures looked { HasLooked W.looks W.sightings W.stays result
+        ((met.old % rows_a_look + 1) / rows_a_look) watch.old watch.new }
     ensures early { IfErr result EndsEarly }
 {
     *met = met.wrapping_add(1);

@@ -5,7 +5,7 @@ ghost use Rattle.query_engine.specs.Reply.{row_of, listing_reply, IsRefusalOf};
 ghost use Rattle.query_engine.specs.Looks.{rows_a_look, later_looks, HasLooked, EndsEarly};
 ghost use Rattle.query_engine.specs.Listed.{path_at, stub_at, text_at, AreFrom};
 
-use crate::answer::{Answer, AskRefusal, Row, RowList};
+use crate::answer::{AskRefusal, Finding, Row, RowList};
 use crate::listed_file::ListedFile;
 use crate::looks::look_after;
 use action_lock::Watch;
@@ -23,13 +23,17 @@ pub(crate) fn outline<W: Watch>(
     state: &State,
     path: &Name,
     watch: &mut W,
-) -> Result<Answer, AskRefusal>
+) -> Result<Finding, AskRefusal>
     requires { W.can_look watch.old }
     ensures again { W.can_look watch.new }
     ensures stays { W.stays watch.old watch.new }
-    ensures looked { HasLooked W.looks W.sightings W.stays result (later_looks (listing_reply state.now.world (id_at state.now.world path.now))) watch.old watch.new }
-    ensures answer { IfOk result (λ answer. listing_reply state.now.world (id_at state.now.world path.now) ≡ Ok answer) }
-    ensures refused { IfErr result (IsRefusalOf (listing_reply state.now.world (id_at state.now.world path.now))) }
+    ensures looked { HasLooked W.looks W.sightings W.stays result
+        (later_looks
+        (listing_reply state.now.world (id_at state.now.world path.now))) watch.old watch.new }
+    ensures answer { IfOk result
+        (λ answer. listing_reply state.now.world (id_at state.now.world path.now) ≡ Ok answer) }
+    ensures refused { IfErr result
+        (IsRefusalOf (listing_reply state.now.world (id_at state.now.world path.now))) }
 {
     names_are_identifiers();
     let Some(id) = state.id_of(path) else {
@@ -40,7 +44,7 @@ pub(crate) fn outline<W: Watch>(
     };
     let stubs = stubs(alloc, text, tokens(alloc, text)?)?;
     let rows = file_rows(alloc, state, id, stubs.as_slice(), watch)?;
-    Ok(Answer::Outline { rows })
+    Ok(Finding::Outline { rows })
 }
 
 /// The rows of declarations of one live file.
@@ -56,8 +60,11 @@ fn file_rows<W: Watch>(
     requires ahead { AreFrom stub_at (length (text_at state.now.world id)) 0 stubs.now }
     ensures again { W.can_look watch.new }
     ensures stays { W.stays watch.old watch.new }
-    ensures looked { HasLooked W.looks W.sightings W.stays result (length stubs.now / rows_a_look) watch.old watch.new }
-    ensures rows { IfOk result (λ rows. rows ≡ map (row_of id (path_at state.now.world id) (text_at state.now.world id)) stubs.now) }
+    ensures looked { HasLooked W.looks W.sightings W.stays result
+        (length stubs.now / rows_a_look) watch.old watch.new }
+    ensures rows { IfOk result
+        (λ rows. rows
+        ≡ map (row_of id (path_at state.now.world id) (text_at state.now.world id)) stubs.now) }
     ensures early { IfErr result EndsEarly }
 {
     let mut rows = RowList::new(alloc);

@@ -6,7 +6,7 @@ ghost use Rattle.query_engine.specs.Reply.{reply, IsRefusalOf};
 ghost use Rattle.query_engine.specs.Looks.{HasLookedFor};
 ghost use Rattle.query_engine.specs.Given.{RepliesTo};
 
-use crate::answer::{Answer, AskRefusal};
+use crate::answer::{AskRefusal, Finding};
 use crate::inheritors::inheritors;
 use crate::key_rows::with_key;
 use crate::looks::{NoWatch, look};
@@ -30,11 +30,12 @@ pub fn ask<W: Watch>(
     state: &State,
     query: &Query,
     watch: &mut W,
-) -> Result<Answer, AskRefusal>
+) -> Result<Finding, AskRefusal>
     requires { W.can_look watch.old }
     ensures again { W.can_look watch.new }
     ensures stays { W.stays watch.old watch.new }
-    ensures looked { HasLookedFor W.looks W.sightings W.stays state.now.world query.now result watch.old watch.new }
+    ensures looked { HasLookedFor W.looks W.sightings W.stays state.now.world query.now result
+        watch.old watch.new }
     ensures first_look { counted (W.looks watch.old) ≤ W.looks watch.new }
     ensures answer { IfOk result (λ answer. reply state.now.world query.now ≡ Ok answer) }
     ensures refused { IfErr result (IsRefusalOf (reply state.now.world query.now)) }
@@ -44,7 +45,7 @@ pub fn ask<W: Watch>(
 }
 
 /// Answers a question, and can't be stopped.
-pub fn ask_unwatched(alloc: Global, state: &State, query: &Query) -> Result<Answer, AskRefusal>
+pub fn ask_unwatched(alloc: Global, state: &State, query: &Query) -> Result<Finding, AskRefusal>
     ensures answer { IfOk result (λ answer. reply state.now.world query.now ≡ Ok answer) }
     ensures refused { IfErr result (IsRefusalOf (reply state.now.world query.now)) }
     ensures not_stopped { result ≢ Err AskRefusal.Cancelled }
@@ -58,11 +59,12 @@ fn answer<W: Watch>(
     state: &State,
     query: &Query,
     watch: &mut W,
-) -> Result<Answer, AskRefusal>
+) -> Result<Finding, AskRefusal>
     requires { W.can_look watch.old }
     ensures again { W.can_look watch.new }
     ensures stays { W.stays watch.old watch.new }
-    ensures replied { RepliesTo W.looks W.sightings W.stays state.now.world query.now result watch.old watch.new }
+    ensures replied { RepliesTo W.looks W.sightings W.stays state.now.world query.now result
+        watch.old watch.new }
 {
     listings_are_lawful();
     names_are_identifiers();
@@ -81,10 +83,10 @@ fn answer<W: Watch>(
 }
 
 /// How many live files, open documents and unready files there are.
-fn counts(state: &State) -> Answer
+fn counts(state: &State) -> Finding
     ensures { Ok result ≡ reply state.now.world Status }
 {
-    Answer::Counts {
+    Finding::Counts {
         files: state.live_count(),
         docs: state.open_count(),
         unready: state.unready_count(),

@@ -8,7 +8,9 @@ use ide_world::State;
 /// Gives up where a file is unready.
 pub(crate) fn ready(state: &State) -> Result<(), AskRefusal>
     ensures smart { OnOk result (lowest_unready state.now.world ≡ None) }
-    ensures dumb { IfErr result (λ refusal. IsSomeAnd (lowest_unready state.now.world) (λ file. refusal ≡ AskRefusal.NotReady file)) }
+    ensures dumb { IfErr result
+        (λ refusal. IsSomeAnd (lowest_unready state.now.world)
+        (λ file. refusal ≡ AskRefusal.NotReady file)) }
 {
     match state.lowest_unready() {
         Some(file) => Err(AskRefusal::NotReady { file }),

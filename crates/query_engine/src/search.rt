@@ -37,8 +37,10 @@ pub(crate) fn search_types<'a, W: Watch>(
     requires smart { lowest_unready state.now.world ≡ None }
     ensures again { W.can_look watch.new }
     ensures stays { W.stays watch.old watch.new }
-    ensures found { IfOk result (λ reached. IsFound (types_of state.now.world) name.now reached.seen) }
-    ensures looked { LooksFew W.looks W.sightings W.stays (types_of state.now.world) result watch.old watch.new }
+    ensures found { IfOk result
+        (λ reached. IsFound (types_of state.now.world) name.now reached.seen) }
+    ensures looked { LooksFew W.looks W.sightings W.stays
+        (types_of state.now.world) result watch.old watch.new }
     ensures early { IfErr result EndsEarly }
 {
     offsets_rise();
@@ -69,8 +71,13 @@ fn ask_each<'a, W: Watch>(
     requires smart { lowest_unready state.now.world ≡ None }
     ensures again { W.can_look watch.new }
     ensures stays { W.stays watch.old watch.new }
-    ensures each { OnOk result (AskedEach (types_of state.now.world) level names.entry.items search.old.asked search.old.reached search.new.asked search.new.reached) }
-    ensures paced { Paces W.looks W.sightings W.stays (types_of state.now.world) result search.old.asked search.old.met search.new.asked search.new.met watch.old watch.new }
+    ensures each { OnOk result
+        (AskedEach
+        (types_of state.now.world) level names.entry.items search.old.asked search.old.reached
+        search.new.asked search.new.reached) }
+    ensures paced { Paces W.looks W.sightings W.stays
+        (types_of state.now.world) result search.old.asked search.old.met search.new.asked
+        search.new.met watch.old watch.new }
     ensures early { IfErr result EndsEarly }
 {
     for name in names {
@@ -91,8 +98,13 @@ fn ask_types<'a, W: Watch>(
     requires smart { lowest_unready state.now.world ≡ None }
     ensures again { W.can_look watch.new }
     ensures stays { W.stays watch.old watch.new }
-    ensures asked { OnOk result (HasAsked (types_of state.now.world) level name.now search.old.asked search.old.reached search.new.asked search.new.reached) }
-    ensures paced { Paces W.looks W.sightings W.stays (types_of state.now.world) result search.old.asked search.old.met search.new.asked search.new.met watch.old watch.new }
+    ensures asked { OnOk result
+        (HasAsked
+        (types_of state.now.world) level name.now search.old.asked search.old.reached
+        search.new.asked search.new.reached) }
+    ensures paced { Paces W.looks W.sightings W.stays
+        (types_of state.now.world) result search.old.asked search.old.met search.new.asked
+        search.new.met watch.old watch.new }
     ensures early { IfErr result EndsEarly }
 {
     if search.asked.add(name)? {
@@ -115,8 +127,10 @@ fn meet_each<'a, W: Watch>(
     ensures again { W.can_look watch.new }
     ensures stays { W.stays watch.old watch.new }
     ensures reached { OnOk result (reached.new ≡ meet_all level reached.old found.entry) }
-    ensures met { OnOk result (met.new % rows_a_look ≡ (met.old + length found.entry) % rows_a_look) }
-    ensures looked { HasLooked W.looks W.sightings W.stays result ((met.old % rows_a_look + length found.entry) / rows_a_look) watch.old watch.new }
+    ensures met { OnOk result
+        (met.new % rows_a_look ≡ (met.old + length found.entry) % rows_a_look) }
+    ensures looked { HasLooked W.looks W.sightings W.stays result
+        ((met.old % rows_a_look + length found.entry) / rows_a_look) watch.old watch.new }
     ensures early { IfErr result EndsEarly }
 {
     for (file, stub) in found {

@@ -5,7 +5,7 @@ ghost use Rattle.query_engine.specs.Looks.{rows_a_look, HasLooked, EndsEarly};
 ghost use Rattle.query_engine.specs.Listed.{AreAhead, row_found, stub_at};
 ghost use Rattle.query_engine.specs.Given.{GivesReply, declared_reply};
 
-use crate::answer::{Answer, AskRefusal, Row, RowList};
+use crate::answer::{AskRefusal, Finding, Row, RowList};
 use crate::listed_file::ListedFile;
 use crate::looks::look_after;
 use crate::ready::ready;
@@ -19,16 +19,18 @@ pub(crate) fn declared<W: Watch>(
     state: &State,
     found: StubWalk<'_>,
     watch: &mut W,
-) -> Result<Answer, AskRefusal>
+) -> Result<Finding, AskRefusal>
     requires can { W.can_look watch.old }
-    requires ahead { lowest_unready state.now.world ≡ None → AreAhead stub_at state.now.world None found }
+    requires ahead { lowest_unready state.now.world ≡ None
+        → AreAhead stub_at state.now.world None found }
     ensures again { W.can_look watch.new }
     ensures stays { W.stays watch.old watch.new }
-    ensures answered { GivesReply W.looks W.sightings W.stays (declared_reply state.now.world found.entry) result watch.old watch.new }
+    ensures answered { GivesReply W.looks W.sightings W.stays
+        (declared_reply state.now.world found.entry) result watch.old watch.new }
 {
     ready(state)?;
     let rows = stub_rows(alloc, state, found, watch)?;
-    Ok(Answer::Rows { rows })
+    Ok(Finding::Rows { rows })
 }
 
 /// The rows of the declarations that are found, file by file. Lines and columns are found in one walk over each
@@ -43,7 +45,8 @@ fn stub_rows<W: Watch>(
     requires ahead { AreAhead stub_at state.now.world None found }
     ensures again { W.can_look watch.new }
     ensures stays { W.stays watch.old watch.new }
-    ensures looked { HasLooked W.looks W.sightings W.stays result (length found.entry / rows_a_look) watch.old watch.new }
+    ensures looked { HasLooked W.looks W.sightings W.stays result
+        (length found.entry / rows_a_look) watch.old watch.new }
     ensures rows { IfOk result (λ rows. rows ≡ map (row_found state.now.world) found.entry) }
     ensures early { IfErr result EndsEarly }
 {

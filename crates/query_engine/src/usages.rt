@@ -7,7 +7,7 @@ ghost use Rattle.query_engine.specs.Looks.{HasLooked, EndsEarly};
 ghost use Rattle.query_engine.specs.Listed.{AreLive, has_code, uses_at, uses_found};
 ghost use Rattle.query_engine.specs.Given.{RepliesTo};
 
-use crate::answer::{Answer, AskRefusal, PlaceRow, RowList};
+use crate::answer::{AskRefusal, Finding, PlaceRow, RowList};
 use crate::listed_file::ListedFile;
 use crate::looks::look;
 use crate::ready::ready;
@@ -24,16 +24,17 @@ pub(crate) fn usages<W: Watch>(
     state: &State,
     name: &Name,
     watch: &mut W,
-) -> Result<Answer, AskRefusal>
+) -> Result<Finding, AskRefusal>
     requires { W.can_look watch.old }
     ensures again { W.can_look watch.new }
     ensures stays { W.stays watch.old watch.new }
-    ensures replied { RepliesTo W.looks W.sightings W.stays state.now.world (Usages name.now) result watch.old watch.new }
+    ensures replied { RepliesTo W.looks W.sightings W.stays state.now.world
+        (Usages name.now) result watch.old watch.new }
 {
     masks_tell_uses();
     ready(state)?;
     let rows = use_rows(alloc, state, name, state.word_rows(name), watch)?;
-    Ok(Answer::Usages {
+    Ok(Finding::Usages {
         name: name.copy()?,
         rows,
     })
@@ -52,8 +53,11 @@ fn use_rows<W: Watch>(
     requires live { AreLive state.now.world found }
     ensures again { W.can_look watch.new }
     ensures stays { W.stays watch.old watch.new }
-    ensures looked { HasLooked W.looks W.sightings W.stays result (length (filter has_code found.entry)) watch.old watch.new }
-    ensures rows { IfOk result (λ rows. rows ≡ flat_map (uses_found state.now.world name.now) (filter has_code found.entry)) }
+    ensures looked { HasLooked W.looks W.sightings W.stays result
+        (length (filter has_code found.entry)) watch.old watch.new }
+    ensures rows { IfOk result
+        (λ rows. rows
+        ≡ flat_map (uses_found state.now.world name.now) (filter has_code found.entry)) }
     ensures early { IfErr result EndsEarly }
 {
     let mut rows = RowList::new(alloc);

@@ -5,7 +5,7 @@ ghost use Rattle.query_engine.specs.Looks.{rows_a_look, HasLooked, EndsEarly};
 ghost use Rattle.query_engine.specs.Listed.{AreLive, word_found};
 ghost use Rattle.query_engine.specs.Given.{GivesReply, word_reply};
 
-use crate::answer::{Answer, AskRefusal, RowList, WordRow};
+use crate::answer::{AskRefusal, Finding, RowList, WordRow};
 use crate::looks::look_after;
 use crate::ready::ready;
 use action_lock::Watch;
@@ -18,16 +18,17 @@ pub(crate) fn with_word<W: Watch>(
     state: &State,
     found: WordWalk<'_>,
     watch: &mut W,
-) -> Result<Answer, AskRefusal>
+) -> Result<Finding, AskRefusal>
     requires can { W.can_look watch.old }
     requires live { lowest_unready state.now.world ≡ None → AreLive state.now.world found }
     ensures again { W.can_look watch.new }
     ensures stays { W.stays watch.old watch.new }
-    ensures answered { GivesReply W.looks W.sightings W.stays (word_reply state.now.world found.entry) result watch.old watch.new }
+    ensures answered { GivesReply W.looks W.sightings W.stays
+        (word_reply state.now.world found.entry) result watch.old watch.new }
 {
     ready(state)?;
     let rows = word_rows(alloc, state, found, watch)?;
-    Ok(Answer::Words { rows })
+    Ok(Finding::Words { rows })
 }
 
 /// The rows of the files in which a word is found.
@@ -41,7 +42,8 @@ fn word_rows<W: Watch>(
     requires live { AreLive state.now.world found }
     ensures again { W.can_look watch.new }
     ensures stays { W.stays watch.old watch.new }
-    ensures looked { HasLooked W.looks W.sightings W.stays result (length found.entry / rows_a_look) watch.old watch.new }
+    ensures looked { HasLooked W.looks W.sightings W.stays result
+        (length found.entry / rows_a_look) watch.old watch.new }
     ensures rows { IfOk result (λ rows. rows ≡ map (word_found state.now.world) found.entry) }
     ensures early { IfErr result EndsEarly }
 {

@@ -5,7 +5,7 @@ ghost use Rattle.write_history.specs.Changes.{AreFew, is_edit};
 
 use ide_text::{Name, SharedText, Text};
 use queries::Query;
-use query_engine::Answer;
+use query_engine::Finding;
 use std::alloc::{AllocError, Global};
 use write_history::Change;
 
@@ -53,9 +53,9 @@ pub fn question(alloc: Global) -> Told<Query> {
 }
 
 /// Tells after how many entries a question is answered, and where the types are that it finds, if it can be answered.
-pub fn told(alloc: Global, entries: u64, answer: Option<&Answer>) -> Told<String> {
+pub fn told(alloc: Global, entries: u64, answer: Option<&Finding>) -> Told<String> {
     let mut told = format!(in alloc; "after {entries}")?;
-    let Some(Answer::Inheritors { rows }) = answer else {
+    let Some(Finding::Inheritors { rows }) = answer else {
         told.push_str(" not ready")?;
         return Ok(told);
     };

@@ -12,7 +12,8 @@ use write_history::MAX_ENTRIES;
 /// Makes the intake of a live file at its stamp ready, or tells why it is refused, before it asks for memory.
 pub(crate) fn intake_ready(alloc: Global, state: &State, file: u32) -> Result<Ready, IntakeRefusal>
     ensures ready { IfOk result (IsReadyFor state.now.world) }
-    ensures makes { IfOk result (λ ready. Makes state.now.world ready (intake_of state.now.world file)) }
+    ensures makes { IfOk result
+        (λ ready. Makes state.now.world ready (intake_of state.now.world file)) }
     ensures refused { IfErr result (IsIntakeRefused state.now.world file) }
 {
     let Some(row) = state.row(file) else {

@@ -19,7 +19,7 @@ use history_laws::laws::unready_files_have_an_order;
 use ide_text::Name;
 use ide_world::{GroupRefusal, Ready, State, install, path, reserve};
 use queries::Query;
-use query_engine::{Answer, AskRefusal, ask_unwatched};
+use query_engine::{AskRefusal, Finding, ask_unwatched};
 use std::alloc::{AllocError, Global};
 use std::marker::Model;
 use write_history::Changes;
@@ -72,7 +72,8 @@ impl Replay {
         changes: &Changes,
     ) -> Result<Option<GroupRefusal>, AllocError>
         requires edits { list_all is_edit changes.now ≡ true }
-        ensures value { IfOk result (λ refusal. option_map told refusal ≡ list_refusal self.now changes.now) }
+        ensures value { IfOk result
+            (λ refusal. option_map told refusal ≡ list_refusal self.now changes.now) }
         ensures err { OnErr result (IsFirstAccepted self.now changes.now) }
     {
         match edits_ready(alloc, &self.state, changes) {
@@ -118,7 +119,7 @@ impl Replay {
 
     /// Answers a question by the world; want of memory alone may come in place of the answer. It costs what the query
     /// engine does.
-    pub fn ask(&self, alloc: Global, query: &Query) -> Result<Answer, AskRefusal>
+    pub fn ask(&self, alloc: Global, query: &Query) -> Result<Finding, AskRefusal>
         ensures answer { IfOk result (λ answer. reply self.now query.now ≡ Ok answer) }
         ensures refused { IfErr result (IsRefusalOf (reply self.now query.now)) }
         ensures not_stopped { result ≢ Err AskRefusal.Cancelled }
@@ -175,7 +176,9 @@ impl Replay {
     /// Lets changes that are ready in, as one entry, or leaves the world as it was where there is no memory.
     fn put_in(&mut self, ready: Ready) -> Result<(), AllocError>
         requires { IsReadyFor self.old ready }
-        ensures ok { OnOk result ((changes : List Change) → Makes self.old ready changes → self.new ≡ after_list self.old changes) }
+        ensures ok { OnOk result
+            ((changes : List Change) → Makes self.old ready changes
+            → self.new ≡ after_list self.old changes) }
         ensures err { OnErr result (self.new ≡ self.old) }
     {
         reserve(&mut self.state, &ready)?;

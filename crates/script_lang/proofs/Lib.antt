@@ -1,10 +1,7 @@
-pub mod LineLemmas
 pub mod CharLemmas
 pub mod QuoteLemmas
 pub mod OptionLemmas
 pub mod FieldLemmas
-pub mod ContentLemmas
-pub mod ReadingLemmas
 pub mod GrammarLines
 pub mod GrammarQuotes
 pub mod GrammarFields
@@ -12,14 +9,10 @@ pub mod GrammarForms
 pub mod GrammarCommands
 pub mod WordLemmas
 pub mod GrammarContents
-pub mod JoinedLemmas
 pub mod GrammarTurns
 pub mod GrammarReading
 pub mod GrammarRefused
 pub mod GrammarScript
-pub mod GrammarBegins
-pub mod GrammarOpen
-pub mod RiseLemmas
 pub mod HeldLemmas
 pub mod GrammarAnswers
 pub mod PrintLemmas

@@ -17,8 +17,8 @@ all_spelled [] = true
 all_spelled (row ∷ rows) = is_spelled row.0 && all_spelled rows
 
 -- with what comes otherwise, by characters and by bytes
-look_up-chars : {A : Type 0} (rows : List (List ℕ × Option A)) (w : List ℕ) (one other : Option A) → IsUtf8 w → all_spelled rows ≡ true → one ≡ other
-    → look_up rows (chars w) one ≡ look_up rows w other
+look_up-chars : {A : Type 0} (rows : List (List ℕ × Option A)) (w : List ℕ) (one other : Option A) → IsUtf8 w → all_spelled rows ≡ true
+    → one ≡ other → look_up rows (chars w) one ≡ look_up rows w other
 look_up-chars [] w one other text spelled same = same
 look_up-chars (row ∷ rows) w one other text spelled same =
     let words = and_parts (is_spelled row.0) (all_spelled rows) spelled in

@@ -126,7 +126,9 @@ fn path_and_piece(
     alloc: Global,
     fields: &str,
 ) -> Result<Option<(Name, (u32, SharedText))>, AllocError>
-    ensures { IfOk result (λ found. found ≡ two_fields path_of (two_fields number_of text_of_field) (chars fields.now)) }
+    ensures { IfOk result
+        (λ found. found
+        ≡ two_fields path_of (two_fields number_of text_of_field) (chars fields.now)) }
 {
     let Some((path, piece)) = parts_at_space(fields) else {
         return Ok(None);
@@ -154,7 +156,8 @@ fn place_and_text(alloc: Global, fields: &str) -> Result<Option<(u32, SharedText
 
 /// A path and two places.
 fn path_and_range(alloc: Global, fields: &str) -> Result<Option<(Name, (u32, u32))>, AllocError>
-    ensures { IfOk result (λ found. found ≡ two_fields path_of (two_fields number_of number_of) (chars fields.now)) }
+    ensures { IfOk result
+        (λ found. found ≡ two_fields path_of (two_fields number_of number_of) (chars fields.now)) }
 {
     let Some((path, range)) = parts_at_space(fields) else {
         return Ok(None);

@@ -8,7 +8,8 @@ use std::alloc::{AllocError, Global};
 
 /// The text before the first space and the text after it, where there is a space.
 pub(crate) fn parts_at_space(text: &str) -> Option<(&str, &str)>
-    ensures { option_map (λ p. (chars p.0.now, chars p.1.now)) result ≡ parts_at_space (chars text.now) }
+    ensures { option_map (λ p. (chars p.0.now, chars p.1.now)) result
+        ≡ parts_at_space (chars text.now) }
 {
     text.split_once(' ')
 }

@@ -41,7 +41,9 @@ impl Group {
     /// Adds a change.
     pub(crate) fn push(&mut self, change: Change) -> Result<(), AllocError>
         requires { length self.old.changes < max_changes }
-        ensures { IfOk result (λ _. self.new ≡ record { number = self.old.number; changes = self.old.changes ++ change ∷ [] }) }
+        ensures { IfOk result
+            (λ _. self.new
+            ≡ record { number = self.old.number; changes = self.old.changes ++ change ∷ [] }) }
     {
         self.changes.push(change)?;
         Ok(())

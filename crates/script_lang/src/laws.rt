@@ -7,12 +7,14 @@ ghost use Rattle.script_lang.specs.declared.refusal.ScriptRefusal.TheVariants.{B
 
 /// Bytes spell one script at most.
 pub fn scripts_are_read_in_one_way()
-    ensures { (bytes : List ℕ) (script : Parts) (other : Parts) → IsScript bytes script → IsScript bytes other → script ≡ other }
+    ensures { (bytes : List ℕ) (script : Parts) (other : Parts) → IsScript bytes script
+        → IsScript bytes other → script ≡ other }
 {}
 
 /// Bytes that spell a script have no bad line and no group that is open at their end: no line of them is refused.
 pub fn scripts_are_not_refused()
-    ensures { (bytes : List ℕ) (script : Parts) (line : ℕ) → IsScript bytes script → IsRefused bytes (BadLine line) → ⊥ }
+    ensures { (bytes : List ℕ) (script : Parts) (line : ℕ) → IsScript bytes script
+        → IsRefused bytes (BadLine line) → ⊥ }
 {}
 
 /// Scripts that are printed line by line are read back.

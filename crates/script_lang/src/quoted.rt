@@ -82,8 +82,10 @@ fn unquoted(alloc: Global, field: &str) -> Result<Option<String>, AllocError>
 
 /// The first character and what stands behind it, where there is a character.
 fn first_char(text: &str) -> Option<(char, &str)>
-    ensures cut { MatchOption result (chars text.now ≡ []) (λ p. chars text.now ≡ p.0 ∷ chars p.1.now) }
-    ensures shorter { MatchOption result (chars text.now ≡ []) (λ p. length p.1.now < length text.now) }
+    ensures cut { MatchOption result (chars text.now ≡ [])
+        (λ p. chars text.now ≡ p.0 ∷ chars p.1.now) }
+    ensures shorter { MatchOption result (chars text.now ≡ [])
+        (λ p. length p.1.now < length text.now) }
 {
     let mut chars = text.chars();
     let c = chars.next()?;
@@ -93,8 +95,11 @@ fn first_char(text: &str) -> Option<(char, &str)>
 /// Adds the first characters of a text, read from a place on, that mean themselves, where there are some; and gives
 /// what stands behind them.
 fn add_plain<'a>(out: &mut String, place: Place, text: &'a str) -> Result<&'a str, AllocError>
-    ensures same { IfOk result (λ rest. option_map (λ cs. chars (string_bytes out.new) ++ cs) (unquoted_from place (chars rest.now))
-        ≡ option_map (λ cs. chars (string_bytes out.old) ++ cs) (unquoted_from place (chars text.now))) }
+    ensures same { IfOk result
+        (λ rest. option_map (λ cs. chars (string_bytes out.new) ++ cs)
+        (unquoted_from place (chars rest.now))
+        ≡ option_map (λ cs. chars (string_bytes out.old) ++ cs)
+        (unquoted_from place (chars text.now))) }
     ensures shorter { IfOk result (λ rest. length rest.now ≤ length text.now) }
 {
     if !begins_plain(place, text.as_bytes()) {
@@ -122,7 +127,8 @@ fn is_plain(byte: u8) -> bool {
 fn plain_len(place: Place, text: &str) -> usize
     ensures boundary { IsCharBoundary text.now result }
     ensures cut { unquoted_from place (chars text.now)
-        ≡ option_map (λ cs. chars (take result text.now) ++ cs) (unquoted_from place (chars (drop result text.now))) }
+        ≡ option_map (λ cs. chars (take result text.now) ++ cs)
+        (unquoted_from place (chars (drop result text.now))) }
 {
     match place {
         Place::Inside => memchr2(b'"', b'\\', text.as_bytes()).unwrap_or(text.len()),

@@ -90,7 +90,8 @@ pub fn parse(alloc: Global, bytes: &[u8]) -> Result<Script, ScriptRefusal>
     // What is answered is in the grammar, and a script of the grammar is answered unless memory runs out.
     ensures script { IfOk result (λ script. IsScript bytes.now script) }
     ensures only { (script : Parts) → IsScript bytes.now script
-        → MatchResult result (λ read. read ≡ script) (λ refusal. refusal ≡ ScriptRefusal.OutOfMemory) }
+        → MatchResult result (λ read. read ≡ script)
+        (λ refusal. refusal ≡ ScriptRefusal.OutOfMemory) }
 
     // The line that is named is the first up to which the lines begin no script, or else that of a group that is open at the end.
     ensures bad_line { IfErr result (λ refusal. IsRefused bytes.now refusal) }

@@ -6,7 +6,8 @@ use memchr::memchr;
 
 /// The first line and the bytes after it, where there is a line.
 pub(crate) fn first_line(bytes: &[u8]) -> Option<(&[u8], &[u8])>
-    ensures cut { MatchOption result (bytes.now ≡ []) (λ p. lines_of bytes.now ≡ p.0.now ∷ lines_of p.1.now) }
+    ensures cut { MatchOption result (bytes.now ≡ [])
+        (λ p. lines_of bytes.now ≡ p.0.now ∷ lines_of p.1.now) }
     ensures shorter { MatchOption result (bytes.now ≡ []) (λ p. length p.1.now < length bytes.now) }
 {
     if bytes.is_empty() {

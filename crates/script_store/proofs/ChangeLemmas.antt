@@ -1,5 +1,5 @@
 -- Changes of lines, behind every history that leads to a world.
-use Rattle.std.proofs.Common.{◌≡◌, List, [], ◌∷◌, ◌++◌, sym, ap, ◌∙◌, None}
+use Rattle.std.proofs.Common.{◌≡◌, List, [], ◌∷◌, ◌++◌, sym, ap, ◌∙◌}
 use Rattle.std.proofs.lemmas.List.{append-nil}
 use Rattle.write_history.specs.declared.change.Change.{Change}
 use Rattle.write_history.specs.declared.entry.Entry.{Entry}
@@ -17,4 +17,4 @@ nothing_added history added world is none =
 -- a change of a line goes in, or doesn't
 pub change_goes : (load : Loaded) (change : Change) (world after : World) → HasEntered (change ∷ []) world after
     → HasGone load (command.Change change) world after
-change_goes load change world after entered = record { is = λ history seat line is. entered.is history (λ place. None) seat line is }
+change_goes load change world after entered = record { is = λ history seat line is. entered.is history seat line is }

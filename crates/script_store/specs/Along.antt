@@ -1,19 +1,19 @@
 -- Where changes, commands and lines lead from a world, said of every history that leads there, whoever made its entries and for which line.
-use Rattle.std.specs.Prelude.{ℕ, ◌≡◌, List, ◌++◌, Option}
+use Rattle.std.specs.Prelude.{ℕ, ◌≡◌, List, ◌++◌}
 use Rattle.write_history.specs.declared.change.Change.{Change}
 use Rattle.write_history.specs.declared.entry.Entry.{Entry}
 use Rattle.write_history.specs.World.{World}
 use Rattle.write_history.specs.Fold.{fold}
 use Rattle.write_history.specs.Settle.{settled}
+use Rattle.write_history.specs.Serial.{changes_step}
 use Rattle.script_lang.specs.declared.command.Command.{Command}
 use Rattle.script_lang.specs.declared.line.Line.{Line}
 use Rattle.transcripts.specs.declared.loaded.Loaded.{Loaded}
-use Rattle.transcripts.specs.Serial.{Done, changes_step, step_of, done_from, lanes_from}
+use Rattle.transcripts.specs.Serial.{Done, step_of, done_from, lanes_from}
 
 -- changes that go in together, or not at all, lead from one world to another
 pub record HasEntered (changes : List Change) (world after : World) : Type 0 where
-  pub is : (history : List Entry) (told_place : ℕ → Option ℕ) (seat line : ℕ) → fold history ≡ world
-      → after ≡ fold (history ++ (changes_step told_place history seat line changes).added)
+  pub is : (history : List Entry) (seat line : ℕ) → fold history ≡ world → after ≡ fold (history ++ (changes_step history seat line changes).added)
 
 -- a settle does
 pub record HasSettled (world after : World) : Type 0 where

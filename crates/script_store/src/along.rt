@@ -51,7 +51,10 @@ fn go(
     load: Option<&Loaded>,
 ) -> Result<(), AllocError>
     requires { IsOfLine command.now }
-    ensures { OnOk result (HasGone (unwrap_or (option_map (λ l. l.now) load.entry) Nothing) command.now replay.old replay.new) }
+    ensures { OnOk result
+        (HasGone
+        (unwrap_or
+        (option_map (λ l. l.now) load.entry) Nothing) command.now replay.old replay.new) }
 {
     match command {
         Command::Change(change) => enter(alloc, replay, &Changes::one(change.copy()?)),

@@ -37,7 +37,8 @@ fn keep(store: &mut Store, state: &State, id: u32) -> Result<(), AllocError>
 /// What is kept of the file with an id: its kind and content, where it is live, has a kind and is indexed at its present
 /// stamp.
 fn entry_in(state: &State, id: u32) -> Option<(FileKind, &Text)>
-    ensures { option_map (λ kept. record { text = kept.1.now; kind = kept.0 }) result ≡ option_and_then entry_of (file_of state.now.world id) }
+    ensures { option_map (λ kept. record { text = kept.1.now; kind = kept.0 }) result
+        ≡ option_and_then entry_of (file_of state.now.world id) }
 {
     let mark = mark(state, id)?;
     if mark.indexed != Some(mark.present) {

@@ -13,7 +13,8 @@ use index_store::laws::one_entry_is_added;
 /// The store of a world has a text with a kind exactly where some live file that is indexed at its present stamp has that
 /// content and that kind.
 pub fn a_store_has_the_indexed_texts()
-    ensures { (x : Entry) (world : World) → has_entry x (entries_of world) ≡ list_any (is_kept x) world.files }
+    ensures { (x : Entry) (world : World)
+        → has_entry x (entries_of world) ≡ list_any (is_kept x) world.files }
 {
     a_path_has_one_kind();
     one_entry_is_added();

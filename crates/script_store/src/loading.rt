@@ -19,7 +19,9 @@ pub(crate) fn load_in(
     path: &Name,
     load: Option<&Loaded>,
 ) -> Result<(), AllocError>
-    ensures { OnOk result (HasGone (unwrap_or (option_map (λ l. l.now) load.entry) Nothing) (Load path.now) replay.old replay.new) }
+    ensures { OnOk result
+        (HasGone (unwrap_or (option_map (λ l. l.now) load.entry) Nothing)
+        (Load path.now) replay.old replay.new) }
 {
     if !is_lawful_path(path) {
         return Ok(());

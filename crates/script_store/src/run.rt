@@ -17,7 +17,8 @@ use transcripts::Loaded;
 /// this was read for its loads. It costs what the script's changes do, one making of index data for each file that a settle
 /// takes in, and one for each that is kept; questions cost nothing.
 pub fn store_of(alloc: Global, script: &Script, loads: &[Loaded]) -> Result<Store, AllocError>
-    ensures { IfOk result (λ store. store ≡ entries_of (fold (run_of loads.now script.now).history)) }
+    ensures { IfOk result
+        (λ store. store ≡ entries_of (fold (run_of loads.now script.now).history)) }
 {
     let mut replay = Replay::empty(alloc);
     store_behind(alloc, &mut replay, script, loads)
@@ -31,7 +32,8 @@ fn store_behind(
     loads: &[Loaded],
 ) -> Result<Store, AllocError>
     requires { replay.old ≡ empty_world }
-    ensures { IfOk result (λ store. store ≡ entries_of (fold (run_of loads.now script.now).history)) }
+    ensures { IfOk result
+        (λ store. store ≡ entries_of (fold (run_of loads.now script.now).history)) }
 {
     go_through(alloc, replay, script, loads)?;
     kept_of(alloc, replay)

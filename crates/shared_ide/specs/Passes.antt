@@ -7,3 +7,7 @@ pub use Rattle.index_workers.specs.Passes.{ide_view, IsSameIdePass}
 -- the pass is one of this workspace, and at rest
 abbrev pub IsIdePassOf : SharedIde → IdePass → Type 0
 IsIdePassOf ide pass = workers.IsIdePassOf ide.lock ide.queue pass
+
+-- the pass is again one of this workspace and at rest, the same one, and has lost nothing of what it knew
+abbrev pub Continues : SharedIde → IdePass → IdePass → Type 0
+Continues ide p q = workers.Continues ide.lock ide.queue p q

@@ -1,13 +1,12 @@
 //! Changes of the shared workspace.
 ghost use Rattle.std.specs.Prelude.{◌≡◌, ◌<◌, ◌≤◌, ◌∷◌, [], true, length, IfOk, IfErr, OnErr};
 ghost use Rattle.std.specs.List.{list_all};
-ghost use Rattle.action_lock.specs.Advances.{Advances};
 ghost use Rattle.write_history.specs.Effect.{max_entries};
 ghost use Rattle.write_history.specs.Changes.{is_edit};
 ghost use Rattle.ide_calls.specs.Change.{HasAccepted, IsChangeRefused, IsGroupRefused};
 ghost use Rattle.job_queue.specs.Passes.{queue_view};
 ghost use Rattle.index_workers.specs.Passes.{ide_view, IsSameIdePass};
-ghost use Rattle.shared_ide.specs.Passes.{IsIdePassOf};
+ghost use Rattle.shared_ide.specs.Passes.{IsIdePassOf, Continues};
 ghost use Rattle.shared_ide.specs.Hints.{HintsFor, HintsOf};
 
 use crate::shared::SharedIde;
@@ -30,12 +29,14 @@ impl SharedIde {
     ) -> Result<u64, ChangeRefusal>
         requires pass { IsIdePassOf self.now pass.old }
         requires edit { is_edit change ≡ true }
-        ensures pass { IsIdePassOf self.now pass.new × IsSameIdePass pass.old pass.new }
-        ensures advances { Advances (ide_view pass.old) (ide_view pass.new) }
+        ensures pass { Continues self.now pass.old pass.new }
         ensures mine { OnErr result ((ide_view pass.new).mine ≡ (ide_view pass.old).mine) }
-        ensures accepted { IfOk result (HasAccepted (ide_view pass.old) (ide_view pass.new) line (change ∷ [])) }
-        ensures refused { IfErr result (IsChangeRefused (ide_view pass.old) (ide_view pass.new) change) }
-        ensures hints { HintsOf result (ide_view pass.new) (change ∷ []) (queue_view pass.old.queue) (queue_view pass.new.queue) }
+        ensures accepted { IfOk result
+            (HasAccepted (ide_view pass.old) (ide_view pass.new) line (change ∷ [])) }
+        ensures refused { IfErr result
+            (IsChangeRefused (ide_view pass.old) (ide_view pass.new) line change) }
+        ensures hints { HintsOf result (ide_view pass.new) (change ∷ []) (queue_view pass.old.queue)
+            (queue_view pass.new.queue) }
     {
         let accepted = ide_calls::change(rt, alloc, &self.lock, &mut pass.lock, line, change)?;
         self.offer(rt, pass, accepted.unready);
@@ -54,12 +55,14 @@ impl SharedIde {
     ) -> Result<u64, GroupChangeRefusal>
         requires pass { IsIdePassOf self.now pass.old }
         requires edits { list_all is_edit changes ≡ true }
-        ensures pass { IsIdePassOf self.now pass.new × IsSameIdePass pass.old pass.new }
-        ensures advances { Advances (ide_view pass.old) (ide_view pass.new) }
+        ensures pass { Continues self.now pass.old pass.new }
         ensures mine { OnErr result ((ide_view pass.new).mine ≡ (ide_view pass.old).mine) }
-        ensures accepted { IfOk result (HasAccepted (ide_view pass.old) (ide_view pass.new) line changes) }
-        ensures refused { IfErr result (IsGroupRefused (ide_view pass.old) (ide_view pass.new) changes) }
-        ensures hints { HintsOf result (ide_view pass.new) changes (queue_view pass.old.queue) (queue_view pass.new.queue) }
+        ensures accepted { IfOk result
+            (HasAccepted (ide_view pass.old) (ide_view pass.new) line changes) }
+        ensures refused { IfErr result
+            (IsGroupRefused (ide_view pass.old) (ide_view pass.new) line changes) }
+        ensures hints { HintsOf result (ide_view pass.new) changes (queue_view pass.old.queue)
+            (queue_view pass.new.queue) }
     {
         let accepted = ide_calls::change_group(
             rt,

@@ -1,18 +1,17 @@
 //! Indexing of the shared workspace.
 ghost use Rattle.std.specs.Prelude.{◌≡◌, ℕ, IfOk, IfErr, OnErr, Option, Some};
-ghost use Rattle.action_lock.specs.Advances.{Advances};
 ghost use Rattle.job_queue.specs.declared.hint.Hint.{Hint};
 ghost use Rattle.job_queue.specs.Passes.{queue_view};
 ghost use Rattle.ide_calls.specs.Settling.{IsSettled, HasStopped};
 ghost use Rattle.ide_calls.specs.Step.{HasStepped};
 ghost use Rattle.index_workers.specs.Hints.{HasTaken, IsFirstTried, HasOnlyTaken};
-ghost use Rattle.index_workers.specs.Passes.{ide_view, IsSameIdePass};
+ghost use Rattle.index_workers.specs.Passes.{ide_view};
 ghost use Rattle.index_workers.specs.Work.{HasWorked, HasWorkedInPart};
-ghost use Rattle.shared_ide.specs.Passes.{IsIdePassOf};
+ghost use Rattle.shared_ide.specs.Passes.{IsIdePassOf, Continues};
 
 use crate::shared::SharedIde;
 use action_lock::Gate;
-use ide_calls::{SettleRefusal, Step};
+use ide_calls::{SettleRefusal, Stepped};
 use index_workers::{IdePass, Worked};
 use std::alloc::{AllocError, Global};
 use std::sync::Wait;
@@ -30,8 +29,7 @@ impl SharedIde {
         line: u32,
     ) -> Result<u64, SettleRefusal>
         requires { IsIdePassOf self.now pass.old }
-        ensures pass { IsIdePassOf self.now pass.new × IsSameIdePass pass.old pass.new }
-        ensures advances { Advances (ide_view pass.old) (ide_view pass.new) }
+        ensures pass { Continues self.now pass.old pass.new }
         ensures ok { IfOk result (IsSettled line (ide_view pass.old) (ide_view pass.new)) }
         ensures err { IfErr result (HasStopped line (ide_view pass.old) (ide_view pass.new)) }
         ensures hints { pass.new.queue ≡ pass.old.queue }
@@ -47,10 +45,9 @@ impl SharedIde {
         alloc: Global,
         pass: &mut IdePass,
         gate: &G,
-    ) -> Result<Step, AllocError>
+    ) -> Result<Stepped, AllocError>
         requires { IsIdePassOf self.now pass.old }
-        ensures pass { IsIdePassOf self.now pass.new × IsSameIdePass pass.old pass.new }
-        ensures advances { Advances (ide_view pass.old) (ide_view pass.new) }
+        ensures pass { Continues self.now pass.old pass.new }
         ensures step { (hint : Option Hint) × (file : ℕ)
             × HasTaken hint (queue_view pass.old.queue) (queue_view pass.new.queue)
             × IsFirstTried hint file
@@ -79,13 +76,14 @@ impl SharedIde {
         gate: &G,
     ) -> Result<Worked, AllocError>
         requires { IsIdePassOf self.now pass.old }
-        ensures pass { IsIdePassOf self.now pass.new × IsSameIdePass pass.old pass.new }
-        ensures advances { Advances (ide_view pass.old) (ide_view pass.new) }
+        ensures pass { Continues self.now pass.old pass.new }
         ensures hints { HasOnlyTaken (queue_view pass.old.queue) (queue_view pass.new.queue) }
-        ensures ok { IfOk result (HasWorked (G.may_say gate.now)
-            (ide_view pass.old) (ide_view pass.new) (queue_view pass.old.queue) (queue_view pass.new.queue)) }
-        ensures err { OnErr result (HasWorkedInPart (G.may_say gate.now)
-            (ide_view pass.old) (ide_view pass.new) (queue_view pass.old.queue) (queue_view pass.new.queue)) }
+        ensures ok { IfOk result
+            (HasWorked (G.may_say gate.now) (ide_view pass.old) (ide_view pass.new)
+            (queue_view pass.old.queue) (queue_view pass.new.queue)) }
+        ensures err { OnErr result
+            (HasWorkedInPart (G.may_say gate.now) (ide_view pass.old) (ide_view pass.new)
+            (queue_view pass.old.queue) (queue_view pass.new.queue)) }
     {
         index_workers::worker(
             rt,

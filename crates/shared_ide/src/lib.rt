@@ -9,7 +9,8 @@ mod shared;
 mod threads;
 
 pub use ide_calls::{
-    ChangeRefusal, GroupChangeRefusal, Replied, Reply, SettleRefusal, SoftAskRefusal, Step, Store,
+    ChangeRefusal, GroupChangeRefusal, Replied, Reply, SettleRefusal, SoftAskRefusal, Stepped,
+    Store,
 };
 pub use index_workers::{End, IdePass, Worked};
 pub use shared::SharedIde;

@@ -1,11 +1,10 @@
 //! Questions about the shared workspace.
 ghost use Rattle.std.specs.Prelude.{◌≡◌, ◌<◌, IfOk, IfErr, OnOk};
-ghost use Rattle.action_lock.specs.Advances.{Advances};
 ghost use Rattle.action_lock.specs.Reads.{HasChecked};
 ghost use Rattle.ide_calls.specs.Replied.{HasReplied};
 ghost use Rattle.ide_calls.specs.SoftRefusal.{IsSoftlyRefused};
-ghost use Rattle.index_workers.specs.Passes.{ide_view, IsSameIdePass};
-ghost use Rattle.shared_ide.specs.Passes.{IsIdePassOf};
+ghost use Rattle.index_workers.specs.Passes.{ide_view};
+ghost use Rattle.shared_ide.specs.Passes.{IsIdePassOf, Continues};
 
 use crate::shared::SharedIde;
 use action_lock::Gate;
@@ -27,8 +26,7 @@ impl SharedIde {
         gate: &G,
     ) -> Result<Replied, AllocError>
         requires { IsIdePassOf self.now pass.old }
-        ensures pass { IsIdePassOf self.now pass.new × IsSameIdePass pass.old pass.new }
-        ensures advances { Advances (ide_view pass.old) (ide_view pass.new) }
+        ensures pass { Continues self.now pass.old pass.new }
         ensures mine { (ide_view pass.new).mine ≡ (ide_view pass.old).mine }
         ensures ok { IfOk result (HasReplied (ide_view pass.old) (ide_view pass.new) query.now) }
         ensures hints { pass.new.queue ≡ pass.old.queue }
@@ -49,12 +47,12 @@ impl SharedIde {
     ) -> Result<Replied, SoftAskRefusal>
         requires pass { IsIdePassOf self.now pass.old }
         requires some { 0 < attempts }
-        ensures pass { IsIdePassOf self.now pass.new × IsSameIdePass pass.old pass.new }
-        ensures advances { Advances (ide_view pass.old) (ide_view pass.new) }
+        ensures pass { Continues self.now pass.old pass.new }
         ensures mine { (ide_view pass.new).mine ≡ (ide_view pass.old).mine }
         ensures ok { IfOk result (HasReplied (ide_view pass.old) (ide_view pass.new) query.now) }
         ensures looked { OnOk result (HasChecked (ide_view pass.old) (ide_view pass.new)) }
-        ensures cancelled { IfErr result (IsSoftlyRefused (ide_view pass.old) (ide_view pass.new) attempts) }
+        ensures cancelled { IfErr result
+            (IsSoftlyRefused (ide_view pass.old) (ide_view pass.new) attempts) }
         ensures hints { pass.new.queue ≡ pass.old.queue }
     {
         ide_calls::soft_ask(rt, alloc, &self.lock, &mut pass.lock, attempts, query, gate)

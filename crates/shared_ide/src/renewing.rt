@@ -1,8 +1,7 @@
 //! New shares for the readers of the shared workspace.
 ghost use Rattle.std.specs.Prelude.{◌≡◌};
-ghost use Rattle.action_lock.specs.Advances.{Advances};
-ghost use Rattle.index_workers.specs.Passes.{ide_view, IsSameIdePass};
-ghost use Rattle.shared_ide.specs.Passes.{IsIdePassOf};
+ghost use Rattle.index_workers.specs.Passes.{ide_view};
+ghost use Rattle.shared_ide.specs.Passes.{IsIdePassOf, Continues};
 
 use crate::shared::SharedIde;
 use index_workers::IdePass;
@@ -14,8 +13,7 @@ impl SharedIde {
     /// until a write finds it. So where calls run out of memory again and again, call this once there is memory. May block.
     pub fn renew<R: Wait>(&self, rt: &R, pass: &mut IdePass)
         requires { IsIdePassOf self.now pass.old }
-        ensures pass { IsIdePassOf self.now pass.new × IsSameIdePass pass.old pass.new }
-        ensures advances { Advances (ide_view pass.old) (ide_view pass.new) }
+        ensures pass { Continues self.now pass.old pass.new }
         ensures mine { (ide_view pass.new).mine ≡ (ide_view pass.old).mine }
         ensures hints { pass.new.queue ≡ pass.old.queue }
     {

@@ -17,7 +17,7 @@ ghost use Rattle.shared_ide.specs.Passes.{IsIdePassOf};
 
 use action_lock::{ActionLock, SplitRefusal};
 use ide_calls::{IdeHome, Store};
-use index_workers::{Cursor, IdePass, close, first, is_last, meet, split};
+use index_workers::{IdePass, SharedCursor, close, first, is_last, meet, split};
 use job_queue::JobQueue;
 use std::alloc::{AllocError, Global};
 
@@ -26,7 +26,7 @@ use std::alloc::{AllocError, Global};
 pub struct SharedIde {
     pub(crate) lock: ActionLock<IdeHome>,
     pub(crate) queue: JobQueue,
-    pub(crate) cursor: Cursor,
+    pub(crate) cursor: SharedCursor,
     pub(crate) store: Store,
 }
 
@@ -43,7 +43,7 @@ impl SharedIde {
         let (queue, of_queue) = JobQueue::new(alloc)?;
         match ActionLock::new(alloc, home, places) {
             Ok((lock, of_lock)) => {
-                let cursor = Cursor::new();
+                let cursor = SharedCursor::new();
                 let ide = SharedIde {
                     lock,
                     queue,
@@ -64,10 +64,13 @@ impl SharedIde {
         requires pass { IsIdePassOf self.now pass.old }
         requires leads { (ide_view pass.old).number ≡ Some 0 }
         ensures pass { IsIdePassOf self.now pass.new × IsSameIdePass pass.old pass.new }
-        ensures ok { IfOk result (λ new.
-            IsIdePassOf self.now new × ((ide_view pass.old).drawn < 65536) × (ide_view pass.new ≡ splitting (ide_view pass.old)) × (ide_view new ≡ split_off (ide_view pass.old))) }
-        ensures full { IfErr result (λ refusal.
-            (refusal ≡ Full 65536) × ((ide_view pass.old).drawn ≡ 65536) × (ide_view pass.new ≡ ide_view pass.old)) }
+        ensures ok { IfOk result
+            (λ new. IsIdePassOf self.now new × ((ide_view pass.old).drawn < 65536)
+            × (ide_view pass.new ≡ splitting (ide_view pass.old))
+            × (ide_view new ≡ split_off (ide_view pass.old))) }
+        ensures full { IfErr result
+            (λ refusal. (refusal ≡ Full 65536) × ((ide_view pass.old).drawn ≡ 65536)
+            × (ide_view pass.new ≡ ide_view pass.old)) }
     {
         split(&self.lock, &self.queue, pass)
     }

@@ -21,7 +21,8 @@ const VERSION: u8 = 1;
 /// The list that the bytes spell. Linear in them.
 pub fn decode(alloc: Global, bytes: &[u8]) -> Result<StubList, StubRefusal>
     ensures found { IfOk result (λ stubs. IsStubBytes stubs bytes.now) }
-    ensures only { (stubs : List AStub) → IsStubBytes stubs bytes.now → IfOk result (λ list. list ≡ stubs) × IfErr result (λ refusal. refusal ≡ OutOfMemory) }
+    ensures only { (stubs : List AStub) → IsStubBytes stubs bytes.now
+        → IfOk result (λ list. list ≡ stubs) × IfErr result (λ refusal. refusal ≡ OutOfMemory) }
     ensures refused { IfErr result (IsRefusalOf bytes.now) }
     ensures read { IfOk result (λ stubs. all_of bytes.now ≡ Ok stubs) }
 {

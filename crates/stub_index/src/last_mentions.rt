@@ -14,7 +14,9 @@ pub(crate) fn last_mentions<'a>(
     alloc: Global,
     names: &'a [Name],
 ) -> Result<BTreeMap<&'a Name, usize>, AllocError>
-    ensures { IfOk result (λ found. (name : List ℕ) → get_by (λ k. slice_cmp nat_cmp name k.now) found ≡ behind_last name names.now) }
+    ensures { IfOk result
+        (λ found. (name : List ℕ)
+        → get_by (λ k. slice_cmp nat_cmp name k.now) found ≡ behind_last name names.now) }
 {
     let mut found = BTreeMap::new(alloc);
     let mut left = names;
@@ -31,7 +33,8 @@ pub(crate) fn is_last<'a>(
     name: &'a Name,
     behind: usize,
 ) -> bool
-    ensures { result ≡ is_in_front_of behind (get_by (λ k. slice_cmp nat_cmp name.now k.now) mentions.now) }
+    ensures { result
+        ≡ is_in_front_of behind (get_by (λ k. slice_cmp nat_cmp name.now k.now) mentions.now) }
 {
     match mentions.get(&name) {
         Some(last) => *last == behind,

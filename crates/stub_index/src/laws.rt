@@ -11,21 +11,27 @@ use stub_tree::Stub;
 
 /// Under a name stand the types of that name, in the order of the list.
 pub fn types_are_found_by_their_names()
-    ensures { (stubs : List Stub) (name : List ℕ) → values_with bytes_eq name (rows_by_name type_names stubs) ≡ filter (is_type_named name) stubs }
+    ensures { (stubs : List Stub) (name : List ℕ)
+        → values_with bytes_eq name (rows_by_name type_names stubs)
+        ≡ filter (is_type_named name) stubs }
 {
     sorting_keeps_the_rows_of_a_key::<Name, Stub>();
 }
 
 /// Under a name stand the types that name it as a super, in the order of the list, each once.
 pub fn types_are_found_by_their_supers()
-    ensures { (stubs : List Stub) (name : List ℕ) → values_with bytes_eq name (rows_by_name super_names stubs) ≡ filter (names_super name) stubs }
+    ensures { (stubs : List Stub) (name : List ℕ)
+        → values_with bytes_eq name (rows_by_name super_names stubs)
+        ≡ filter (names_super name) stubs }
 {
     sorting_keeps_the_rows_of_a_key::<Name, Stub>();
 }
 
 /// Under a name stand the methods of that name, in the order of the list.
 pub fn methods_are_found_by_their_names()
-    ensures { (stubs : List Stub) (name : List ℕ) → values_with bytes_eq name (rows_by_name method_names stubs) ≡ filter (is_method_named name) stubs }
+    ensures { (stubs : List Stub) (name : List ℕ)
+        → values_with bytes_eq name (rows_by_name method_names stubs)
+        ≡ filter (is_method_named name) stubs }
 {
     sorting_keeps_the_rows_of_a_key::<Name, Stub>();
 }

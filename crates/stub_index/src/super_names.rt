@@ -70,7 +70,8 @@ fn add_under(
     names: &[Name],
     stub: &SharedStub,
 ) -> Result<(), AllocError>
-    ensures { OnOk result (rows.new.items ≡ rows.old.items ++ rows_under (distinct_names names.now) stub.now) }
+    ensures { OnOk result
+        (rows.new.items ≡ rows.old.items ++ rows_under (distinct_names names.now) stub.now) }
 {
     let mentions = last_mentions(*rows.allocator(), names)?;
     let mut left = names;

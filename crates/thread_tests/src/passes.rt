@@ -7,7 +7,7 @@ ghost use Rattle.thread_tests.specs.Passes.{HasKept};
 use crate::stage::Stage;
 use action_lock::{Gate, Point};
 use ide_text::{Name, SharedText, Text};
-use shared_ide::{ChangeRefusal, IdePass, SettleRefusal, SharedIde, Step};
+use shared_ide::{ChangeRefusal, IdePass, SettleRefusal, SharedIde, Stepped};
 use std::alloc::{AllocError, Global};
 use std::sync::Wait;
 use std::thread::Threads;
@@ -203,16 +203,16 @@ fn steps<R: Wait>(
 }
 
 /// What a step was answered.
-fn shown_step(alloc: Global, step: Step) -> Result<String, AllocError> {
+fn shown_step(alloc: Global, step: Stepped) -> Result<String, AllocError> {
     match step {
-        Step::Idle { at } => format!(in alloc; "at {at} idle"),
-        Step::Gone { file } => format!(in alloc; "gone {file}"),
-        Step::Stale {
+        Stepped::Idle { at } => format!(in alloc; "at {at} idle"),
+        Stepped::Gone { file } => format!(in alloc; "gone {file}"),
+        Stepped::Stale {
             file,
             made,
             present,
         } => format!(in alloc; "stale {file} {made} {present}"),
-        Step::Refused { at } => format!(in alloc; "at {at} full"),
-        Step::Taken { position } => format!(in alloc; "at {position} taken"),
+        Stepped::Refused { at } => format!(in alloc; "at {at} full"),
+        Stepped::Taken { position } => format!(in alloc; "at {position} taken"),
     }
 }

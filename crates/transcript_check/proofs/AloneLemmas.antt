@@ -27,7 +27,7 @@ use Rattle.transcripts.specs.declared.loaded.Loaded.{Loaded}
 use Rattle.transcripts.specs.declared.loaded.Loaded.TheVariants as loaded
 use Rattle.transcripts.specs.declared.record.Answer.{Answer}
 use Rattle.transcripts.specs.declared.record.Answer.TheVariants.{Refused}
-use Rattle.transcripts.specs.Serial.{Step, told, settle_step, step_of, first_load, later_loads}
+use Rattle.transcripts.specs.Serial.{CommandStep, told, settle_step, step_of, first_load, later_loads}
 use Rattle.transcript_check.specs.Section.{Cursor, is_nil, line_step, told_text, tells, is_settle, made_by_line}
 use Rattle.transcript_check.specs.Here.{IsMadeAs, HasChanged, HasTakenLowest, HasGoneIn, IsTakenLowest, settle_in, told_by, tells_in}
 use Rattle.transcript_check.specs.declared.stop.LineStop.{LineStop}
@@ -40,13 +40,13 @@ use Rattle.transcript_check.proofs.HereLemmas.{settle_told, tells_so}
 use Rattle.transcript_check.proofs.MakeLemmas.{changed_next}
 
 -- a step that went behind a history: the texts of entries that are left, and the world there
-record GoesBy (history : List Entry) (seat number : ℕ) (step : Step) (text : List ℕ) (entries : List (List ℕ)) (after : World)
+record GoesBy (history : List Entry) (seat number : ℕ) (step : CommandStep) (text : List ℕ) (entries : List (List ℕ)) (after : World)
     (left : Option (List (List ℕ))) : Type 0 where
   left_is : left ≡ line_so history seat number step text entries
   leads : IsGoneTo after (history ++ step.added) left
 
 -- it went so behind each history that leads to a world
-gone : {step_at : List Entry → Step} {seat number : ℕ} {text : List ℕ} {entries : List (List ℕ)} {world after : World} {left : Option (List (List ℕ))}
+gone : {step_at : List Entry → CommandStep} {seat number : ℕ} {text : List ℕ} {entries : List (List ℕ)} {world after : World} {left : Option (List (List ℕ))}
     → ((history : List Entry) → fold history ≡ world → GoesBy history seat number (step_at history) text entries after left)
     → HasGone step_at seat number text entries world after left
 gone by = record { left_is = λ history is. (by history is).left_is; leads = λ history is. (by history is).leads }
@@ -57,7 +57,7 @@ never false = refl
 
 module _ (history : List Entry) (seat number : ℕ) (text : List ℕ) where
   -- a step that adds nothing and is answered so leaves all texts of entries
-  goes_so : (step : Step) (entries : List (List ℕ)) (world : World) → fold history ≡ world → step.added ≡ []
+  goes_so : (step : CommandStep) (entries : List (List ℕ)) (world : World) → fold history ≡ world → step.added ≡ []
       → bytes_eq (told_text seat number step.answer) text ≡ true → GoesBy history seat number step text entries world (Some entries)
   goes_so step entries world is none so = record {
     left_is = λ i. if sym so i then texts_behind (entry_texts (length history + 1) (sym none i)) entries else None;
@@ -65,7 +65,7 @@ module _ (history : List Entry) (seat number : ℕ) (text : List ℕ) where
   }
 
   -- a step that is answered otherwise doesn't fit
-  goes_otherwise : (step : Step) (entries : List (List ℕ)) (after : World) → bytes_eq (told_text seat number step.answer) text ≡ false
+  goes_otherwise : (step : CommandStep) (entries : List (List ℕ)) (after : World) → bytes_eq (told_text seat number step.answer) text ≡ false
       → GoesBy history seat number step text entries after None
   goes_otherwise step entries after other = record {
     left_is = λ i. if sym other i then texts_behind (entry_texts (length history + 1) step.added) entries else None;
@@ -92,7 +92,7 @@ module _ (history : List Entry) (seat number : ℕ) (text : List ℕ) where
       none : more ≡ []
       none = one e more refl
 
-      step : Step
+      step : CommandStep
       step = record { added = e ∷ more; answer = answer }
 
       leads_if : (w : Bool) → (w ≡ true → (after ≡ fold (history ++ e ∷ [])) × (done ≡ done)) → IsGoneTo after (history ++ e ∷ more) (left_where w later)
@@ -123,7 +123,7 @@ module _ (world : World) (seat : ℕ) (line : Line) (text : List ℕ) where
   pub told_gone : (entries : List (List ℕ)) → tells_in world seat line text ≡ true
       → HasGone (λ history. line_step history seat line) seat line.number text entries world world (Some entries)
   told_gone entries so = gone (λ history is. (
-      let step : Step = line_step history seat line in
+      let step : CommandStep = line_step history seat line in
       let parts = and_parts (is_nil step.added) (bytes_eq (told_text seat line.number step.answer) text) (tells_here true so history is) in
       goes_so history seat line.number text step entries world is (is_nil-true step.added parts.0) parts.1))
 
@@ -131,7 +131,7 @@ module _ (world : World) (seat : ℕ) (line : Line) (text : List ℕ) where
   pub short_of_entries : (after : World) (entries : List (List ℕ)) → entries ≡ [] → tells_in world seat line text ≡ false
       → HasGone (λ history. line_step history seat line) seat line.number text entries world after None
   short_of_entries after entries none other = gone (λ history is. (
-      let step : Step = line_step history seat line in
+      let step : CommandStep = line_step history seat line in
       subst (λ (es : List (List ℕ)). GoesBy history seat line.number step text es after None) (sym none)
       (no_entry history seat line.number text step.added step.answer after (tells_here false other history is))))
 
@@ -139,7 +139,7 @@ module _ (world : World) (seat : ℕ) (line : Line) (text : List ℕ) where
       → is_settle line.command ≡ false → tells_in world seat line text ≡ false → HasChanged world after seat line text entry went
       → HasGone (λ history. line_step history seat line) seat line.number text (entry ∷ later) world after (left_where went later)
   changes_by after entry later went no_settle other changed = gone (λ history is. (
-      let step : Step = line_step history seat line in
+      let step : CommandStep = line_step history seat line in
       let on_the_way : Cursor = record { seat = seat; lines = line ∷ []; texts = text ∷ []; settling = true } in
       let done : Cursor = record { seat = seat; lines = []; texts = []; settling = false } in
       one_added history seat line.number text after entry later went step.added step.answer on_the_way done
@@ -212,9 +212,9 @@ module _ (seat number : ℕ) (text : List ℕ) where
       then texts_behind (entry_texts (length more + 1) (settle_step more seat number).added) later else None) else None)
   settle_left history entry later next =
       let e : Entry = intake_entry history seat number next.file in
-      let on : Step = settle_step (history ++ e ∷ []) seat number in
+      let on : CommandStep = settle_step (history ++ e ∷ []) seat number in
       let position : length history + 1 + 1 ≡ length (history ++ e ∷ []) + 1 = omega (arith, length-append history (e ∷ [])) in
-      ap (λ (s : Step). line_so history seat number s text (entry ∷ later)) (goes_on_as history seat number next)
+      ap (λ (s : CommandStep). line_so history seat number s text (entry ∷ later)) (goes_on_as history seat number next)
       ∙ λ i. if bytes_eq (told_text seat number on.answer) text
       then (if bytes_eq (entry_line (length history + 1) e) entry then texts_behind (entry_texts (position i) on.added) later else None) else None
 
@@ -229,14 +229,14 @@ module _ (seat number : ℕ) (text : List ℕ) where
       let n : Next (fold history) = subst Next (sym is) (next_of world on) in
       let e : Entry = intake_entry history seat number n.file in
       let more : List Entry = history ++ e ∷ [] in
-      let on : Step = settle_step more seat number in
+      let on : CommandStep = settle_step more seat number in
       let t = taken_as history after seat number entry true n (subst (λ (w : World). HasTakenLowest w after seat number entry true) (sym is) taken.is.1) in
       record {
         left_is = rest.left_is more (t.1 refl)
             ∙ (λ i. if bytes_eq (told_text seat number on.answer) text
             then (if t.0 i then texts_behind (entry_texts (length more + 1) on.added) (taken.is.0 i) else None) else None)
             ∙ sym (settle_left history entry later n);
-        leads = subst (λ (s : Step). IsGoneTo final (history ++ s.added) came) (sym (goes_on_as history seat number n))
+        leads = subst (λ (s : CommandStep). IsGoneTo final (history ++ s.added) came) (sym (goes_on_as history seat number n))
             (subst (λ (es : List Entry). IsGoneTo final es came) (append_assoc history (e ∷ []) on.added) (rest.leads more (t.1 refl)));
       }))
 
@@ -248,13 +248,13 @@ module _ (seat number : ℕ) (text : List ℕ) where
   settle_stops world after final [] left false on so taken = gone (λ history is. (
       let n : Next (fold history) = subst Next (sym is) (next_of world on) in
       let e : Entry = intake_entry history seat number n.file in
-      let on : Step = settle_step (history ++ e ∷ []) seat number in
-      subst (λ (s : Step). GoesBy history seat number s text [] final None) (sym (goes_on_as history seat number n))
+      let on : CommandStep = settle_step (history ++ e ∷ []) seat number in
+      subst (λ (s : CommandStep). GoesBy history seat number s text [] final None) (sym (goes_on_as history seat number n))
       (no_entry history seat number text (e ∷ on.added) on.answer final refl)))
   settle_stops world after final (entry ∷ later) left false on so taken = gone (λ history is. (
       let n : Next (fold history) = subst Next (sym is) (next_of world on) in
       let more : List Entry = history ++ intake_entry history seat number n.file ∷ [] in
-      let on : Step = settle_step more seat number in
+      let on : CommandStep = settle_step more seat number in
       let said : Bool = bytes_eq (told_text seat number on.answer) text in
       let t = taken_as history after seat number entry false n (subst (λ (w : World). HasTakenLowest w after seat number entry false) (sym is) taken.is.1) in
       record {
@@ -265,7 +265,7 @@ module _ (seat number : ℕ) (text : List ℕ) where
 
 -- ---- a settle that takes nothing in
 
-nothing_more : (world : World) (o : Option ℕ) (step : Step) → settle_in world o ≡ told_by step → is_none (settle_in world o) ≡ false → is_nil step.added ≡ true
+nothing_more : (world : World) (o : Option ℕ) (step : CommandStep) → settle_in world o ≡ told_by step → is_none (settle_in world o) ≡ false → is_nil step.added ≡ true
 nothing_more world o step same ends =
     bool_cases (is_nil step.added) (λ (b : Bool). is_none (if b then Some step.answer else None) ≡ false → b ≡ true)
     (λ h e. refl) (λ h e. absurd (cc)) (sym (ap is_none same) ∙ ends)
@@ -284,7 +284,7 @@ settle_answered world seat line text entries (Ok told) is ends so =
         → HasGone (λ history. line_step history seat line) seat line.number text entries world world (left_where told entries)
     by true so = told_gone world seat line text entries so
     by false other = gone (λ history at. (
-        let step : Step = line_step history seat line in
+        let step : CommandStep = line_step history seat line in
         let none : is_nil step.added ≡ true = nothing_more (fold history) (lowest_unready (fold history)) step
         (settle_told history seat line.number ∙ ap (λ (c : Command). told_by (step_of loaded.Nothing history seat line.number c)) (sym is))
         (ap (λ (w : World). is_none (settle_in w (lowest_unready w))) at ∙ ends) in

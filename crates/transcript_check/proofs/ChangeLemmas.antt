@@ -24,7 +24,7 @@ use Rattle.transcripts.specs.declared.loaded.Loaded.{Loaded}
 use Rattle.transcripts.specs.declared.loaded.Loaded.TheVariants as loaded
 use Rattle.transcripts.specs.declared.record.Answer.TheVariants.{Refused}
 use Rattle.transcripts.specs.declared.record.Record.{Record}
-use Rattle.transcripts.specs.Serial.{Step, Ended, told as just_told, step_unless, create_of, step_of, first_load, later_loads}
+use Rattle.transcripts.specs.Serial.{CommandStep, RunEnd, told as just_told, step_unless, create_of, step_of, first_load, later_loads}
 use Rattle.transcripts.specs.Fits.{Mark, mark_at, run_beside, SectionFits, made_by, LanesFit, WorkersFit, RunFits}
 use Rattle.transcript_check.specs.Phase.{Sides}
 use Rattle.transcript_check.proofs.ChoiceLemmas.{all-append}
@@ -74,7 +74,7 @@ section_change beside history seat low high [] loads records own are fits = subs
 section_change beside history seat low high (line ∷ lines) loads records own are fits =
     let is : IsOfLine line.command = are 0 line (omega arith) in
     let first : AllChange fits.made = elim fits.first [
-      | inl done ↦ subst (λ (s : Step). AllChange s.added) done.step (step_change (first_load loads) done.start seat line.number line.command is)
+      | inl done ↦ subst (λ (s : CommandStep). AllChange s.added) done.step (step_change (first_load loads) done.start seat line.number line.command is)
       | inr given ↦ subst AllChange (sym given.1.nothing) tt
     ] in
     let rest = section_change beside history seat fits.between high lines (later_loads loads) fits.later fits.made_later
@@ -134,7 +134,7 @@ module _ (sides : Sides) (history : List Entry) (low : ℕ) (mark : Mark) (lanes
   middle_change = each_change middle seat_change
 
 -- a run of a script has no more entries than a history may have
-pub run_few : (loads : List Loaded) (script : Parts) (told : List Worked) (ended : Ended) → AreOfScript script
+pub run_few : (loads : List Loaded) (script : Parts) (told : List Worked) (ended : RunEnd) → AreOfScript script
     → RunFits loads script told ended → length ended.history ≤ max_entries
 run_few loads script told ended are fits =
     let sides : Sides =

@@ -16,7 +16,7 @@ use Rattle.write_history.specs.Fold.{fold, list_refusal}
 use Rattle.script_lang.specs.declared.line.Line.{Line}
 use Rattle.transcripts.specs.declared.loaded.Loaded.TheVariants.{Nothing}
 use Rattle.transcripts.specs.declared.record.Answer.{Answer}
-use Rattle.transcripts.specs.Serial.{Step, settle_step}
+use Rattle.transcripts.specs.Serial.{CommandStep, settle_step}
 use Rattle.transcripts.specs.Fits.{made_by}
 use Rattle.transcript_check.specs.Section.{Cursor, Made, is_nil, line_step, told_text, tells, given_up, tells_given_up, is_told_here, told_from, is_settle, made_by_line, made_from}
 use Rattle.transcript_check.proofs.TextLemmas.{at_of, IsShort, same_at}
@@ -81,7 +81,7 @@ module _ (beside : Bool) (history : List Entry) (seat : ℕ) where
   made_seated : {start : List Entry} {line : Line} {made : List Entry} {text : List ℕ} → DoneBehind history start seat line made text
       → made_by seat made ≡ made
   made_seated {start} {line} {made} done =
-      made_by-all seat made (subst (λ (s : Step). AllByRecursion (λ (e : Entry). e.seat ≡ seat) s.added) done.step (stepped start line).own)
+      made_by-all seat made (subst (λ (s : CommandStep). AllByRecursion (λ (e : Entry). e.seat ≡ seat) s.added) done.step (stepped start line).own)
 
   -- a section may have seen less
   pub sooner : (lines : List Line) (len less : ℕ) (texts : List (List ℕ)) (own : List Entry) → less ≤ len
@@ -155,7 +155,7 @@ module _ (beside : Bool) (history : List Entry) (seat : ℕ) where
 
   told_is : (here : List Entry) (b : Bool) (line : Line) (text : List ℕ) → is_told_here b here seat line text ≡ true → Told here b line text
   told_is here b line text holds =
-      let step : Step = line_step here seat line in
+      let step : CommandStep = line_step here seat line in
       elim (or_cases (tells seat line.number step text) (b && tells_given_up seat line.number line.command text) holds) [
         | inl so ↦ (let parts = and_parts (is_nil step.added) (bytes_eq (told_text seat line.number step.answer) text) so in
             let none : step.added ≡ [] = is_nil-true step.added parts.0 in
@@ -176,7 +176,7 @@ module _ (beside : Bool) (history : List Entry) (seat : ℕ) where
   not_done here b line text stops done =
       both_ways (is_told_here b here seat line text) stops
       (or_left (tells seat line.number (line_step here seat line) text) (b && tells_given_up seat line.number line.command text)
-      (subst (λ (s : Step). tells seat line.number s text ≡ true) (sym done.step)
+      (subst (λ (s : CommandStep). tells seat line.number s text ≡ true) (sym done.step)
       ((bytes_eq-Decides (told_text seat line.number done.answer) text).1 done.told)))
 
   -- so is one that was given up, where the section isn't in a settle
@@ -198,8 +198,8 @@ module _ (beside : Bool) (history : List Entry) (seat : ℕ) where
   nothing_made here start b line text (f ∷ made) few late told done =
       let behind : List Entry = start ++ f ∷ made in
       let made_at : at_of done.answer ≡ Some (length behind) =
-      subst (λ (s : Step). at_of s.answer ≡ Some (length (start ++ s.added))) done.step
-      ((stepped start line).something f made (ap (λ (s : Step). s.added) done.step)) in
+      subst (λ (s : CommandStep). at_of s.answer ≡ Some (length (start ++ s.added))) done.step
+      ((stepped start line).something f made (ap (λ (s : CommandStep). s.added) done.step)) in
       let long = front_length behind history done.stands in
       let whole = length-append start (f ∷ made) in
       let same : at_of told.answer ≡ Some (length behind) =
@@ -415,10 +415,10 @@ module _ (beside : Bool) (history : List Entry) (seat : ℕ) where
         };
       }
   goes_on_by here line lines text texts e more own between false is done at rest =
-      let none : more ≡ [] = (stepped here line).one is e more (ap (λ (s : Step). s.added) done.step) in
+      let none : more ≡ [] = (stepped here line).one is e more (ap (λ (s : CommandStep). s.added) done.step) in
       let told : is_text here line text ≡ true =
       (bytes_eq-Decides (told_text seat line.number (line_step here seat line).answer) text).1
-      (ap (λ (s : Step). told_text seat line.number s.answer) done.step ∙ done.told) in
+      (ap (λ (s : CommandStep). told_text seat line.number s.answer) done.step ∙ done.told) in
       record {
         cursor = behind_line lines texts;
         makes = λ i. made_by_line (is i) (told i) (on_the_way line lines text texts) (behind_line lines texts) (done.step i).added;
@@ -490,7 +490,7 @@ module _ (beside : Bool) (history : List Entry) (seat : ℕ) where
               answer = behind.first.0.answer;
               stands = subst (λ (es : List Entry). IsFront es history) moved behind.first.0.stands;
               step = settles ∙ settle_sooner seat line.number here m.entry made.more behind.made behind.first.0.answer
-                  (sym (ap (λ (s : Step). s.added) settles) ∙ made.added_is) (sym later ∙ behind.first.0.step);
+                  (sym (ap (λ (s : CommandStep). s.added) settles) ∙ made.added_is) (sym later ∙ behind.first.0.step);
               told = behind.first.0.told;
             } in
             record {

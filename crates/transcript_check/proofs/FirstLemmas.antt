@@ -11,7 +11,7 @@ use Rattle.script_lang.specs.declared.line.Line.{Line}
 use Rattle.script_lang.specs.Parts.{Parts}
 use Rattle.transcripts.specs.declared.loaded.Loaded.{Loaded}
 use Rattle.transcripts.specs.declared.record.Record.{Record}
-use Rattle.transcripts.specs.Serial.{Step, Done, Ended, after_step, step_of, done_from, lanes_from, before_last, last_from, end_of, run_of, first_load, later_loads}
+use Rattle.transcripts.specs.Serial.{CommandStep, Done, RunEnd, after_step, step_of, done_from, lanes_from, before_last, last_from, end_of, run_of, first_load, later_loads}
 use Rattle.transcripts.specs.Fits.{run_beside}
 use Rattle.transcripts.specs.Transcript.{record_text}
 use Rattle.transcript_check.specs.declared.misfit.Misfit.TheVariants as misfit
@@ -58,7 +58,7 @@ record_at entries records left told is =
 
 -- what a line does at which a section stops
 abbrev step_at : {seat : ℕ} {history : List Entry} {lines : List Line} {loads : List Loaded} {entries records : List (List ℕ)} {stop : LineStop}
-    → StopsAtLine seat history lines loads entries records stop → Step
+    → StopsAtLine seat history lines loads entries records stop → CommandStep
 step_at {seat} {history} {lines} {loads} st =
     step_of (first_load (loads_behind st.before loads)) (history ++ st.own) seat st.line.number st.line.command
 
@@ -78,7 +78,7 @@ in_section : (seat : ℕ) (history : List Entry) (lines : List Line) (loads : Li
 in_section seat history lines loads entries records stop st =
     let behind : List Loaded = loads_behind st.before loads in
     let here : List Entry = history ++ st.own in
-    let step : Step = step_at st in
+    let step : CommandStep = step_at st in
     let reply : Record = record { seat = seat; line = st.line.number; answer = step.answer } in
     let rest = serial_fits seat st.later (later_loads behind) (here ++ step.added) in
     record {
@@ -205,8 +205,8 @@ module _ (loads : List Loaded) (script : Parts) (entries records : List (List �
             history = prelude.own ++ last.own;
             records = all;
           }) stop (stops_at_line 0 prelude.own script.last [] came.entries came.records stop end_is) first.1 first.2 (last.made prelude.records)
-          (ap (λ (e : Ended). e.history) run ∙ sym (append-nil (prelude.own ++ last.own)))
-          (ap (λ (e : Ended). e.records ++ e.last) run ∙ sym (append-nil all)) h
+          (ap (λ (e : RunEnd). e.history) run ∙ sym (append-nil (prelude.own ++ last.own)))
+          (ap (λ (e : RunEnd). e.records ++ e.last) run ∙ sym (append-nil all)) h
 
       -- the prelude stops, or goes
       by : (came : Result Came LineStop) → serial_or 0 [] script.prelude loads entries records ≡ came
@@ -216,7 +216,7 @@ module _ (loads : List Loaded) (script : Parts) (entries records : List (List �
             history = prelude.own;
             records = prelude.records;
           }) stop (stops_at_line 0 [] script.prelude loads entries records stop came_is) refl refl (prelude.made [])
-          (ap (λ (e : Ended). e.history) run) (ap (λ (e : Ended). e.records ++ e.last) run) h
+          (ap (λ (e : RunEnd). e.history) run) (ap (λ (e : RunEnd). e.records ++ e.last) run) h
       by (Ok came) came_is h =
           let going : serial_from 0 [] script.prelude loads entries records ≡ Some came =
           sym (serial_ok 0 [] script.prelude loads entries records) ∙ ap result_ok came_is in

@@ -21,10 +21,10 @@ use Rattle.query_engine.specs.declared.answer.Row.{Row}
 use Rattle.query_engine.specs.declared.answer.WordRow.{WordRow}
 use Rattle.query_engine.specs.declared.answer.PlaceRow.{PlaceRow}
 use Rattle.query_engine.specs.declared.answer.LevelRow.{LevelRow}
-use Rattle.query_engine.specs.declared.answer.Answer.{Answer as Finding}
-use Rattle.query_engine.specs.declared.answer.Answer.TheVariants.{Rows}
+use Rattle.query_engine.specs.declared.answer.Finding.{Finding}
+use Rattle.query_engine.specs.declared.answer.Finding.TheVariants.{Rows}
 use Rattle.query_engine.specs.Fits.{is_class, has_super, is_method}
-use Rattle.query_engine.specs.Inheritors.{Listing, names_any, names_of, levels_from, inheritors_of}
+use Rattle.query_engine.specs.Inheritors.{ListedType, names_any, names_of, levels_from, inheritors_of}
 use Rattle.query_engine.specs.Reply.{row_of, rows_in, word_row, word_in, of_kind, of_files, of_world, place_row, uses_in, keys_in, types_in, types_of, listed_row, level_row, unless_unready, all_rows, listing_reply, NoAnswer, reply}
 use Rattle.transcripts.specs.Transcript.{joined, mask_text, word_line, kind_text, indent, super_text, supers_text, place_text, name_place_text, declared_text, found_line, outline_line, usage_line, key_line, level_line, count_line, files_text, open_text, unready_text, counts_line, found_text}
 use Rattle.transcript_check.specs.Blocks.{space, EndsOnce}
@@ -223,7 +223,7 @@ module _ (texts : Texts) (world : World) (live : (id : ℕ) → IsShownFile (fil
       each (at ∷ ats) = (shown, each ats)
 
   -- the types of a world
-  abbrev TypeShown : Listing → Type 0
+  abbrev TypeShown : ListedType → Type 0
   TypeShown t = IsShownStub t.1
 
   types-shown : AllByRecursion TypeShown (types_of world)
@@ -231,19 +231,19 @@ module _ (texts : Texts) (world : World) (live : (id : ℕ) → IsShownFile (fil
       (λ id file shown. all-map IsShownStub TypeShown (λ stub. (id, stub)) (filter is_type (listing_of (shown_text file))) (λ stub is. is)
       (all-filter IsShownStub is_type (listing_of (shown_text file)) (texts.stubs (shown_text file))))
 
-  levels-shown : (more level : ℕ) (names : List (List ℕ)) (left : List Listing) → AllByRecursion TypeShown left
-      → AllByRecursion (λ (found : ℕ × Listing). TypeShown found.1) (levels_from more level names left)
+  levels-shown : (more level : ℕ) (names : List (List ℕ)) (left : List ListedType) → AllByRecursion TypeShown left
+      → AllByRecursion (λ (found : ℕ × ListedType). TypeShown found.1) (levels_from more level names left)
   unfolding levels_from
   levels-shown zero level names left all = tt
   levels-shown (suc more) level names left all =
-      let found : List Listing = filter (names_any names) left in
-      let later : List Listing = filter (λ t. not (names_any names t)) left in
-      let Shown : ℕ × Listing → Type 0 = λ found. TypeShown found.1 in
+      let found : List ListedType = filter (names_any names) left in
+      let later : List ListedType = filter (λ t. not (names_any names t)) left in
+      let Shown : ℕ × ListedType → Type 0 = λ found. TypeShown found.1 in
       all-append Shown (map (λ t. (level, t)) found) (levels_from more (level + 1) (names_of found) later)
       (all-map TypeShown Shown (λ t. (level, t)) found (λ t is. is) (all-filter TypeShown (names_any names) left all))
       (levels-shown more (level + 1) (names_of found) later (all-filter TypeShown (λ t. not (names_any names t)) left all))
 
-  listed-shown : (t : Listing) → TypeShown t → IsShownRow (listed_row world t)
+  listed-shown : (t : ListedType) → TypeShown t → IsShownRow (listed_row world t)
   listed-shown t is = by (file_of world t.0) (live t.0)
     where
       by : (file : Option File) → IsShownFile file
@@ -283,7 +283,7 @@ module _ (texts : Texts) (world : World) (live : (id : ℕ) → IsShownFile (fil
       (files-end Java (λ (row : PlaceRow). IsShown row.path × IsShown name) (usage_line name) (uses_in name) (usage-goes_on name) (uses_in-shown name))
   reply-ends (query.Inheritors name) = unless-ends _
       (rows-end (λ (found : LevelRow). IsShownRow found.row) level_line (map (level_row world) (inheritors_of name (types_of world))) level-goes_on
-      (all-map (λ (found : ℕ × Listing). TypeShown found.1) (λ (found : LevelRow). IsShownRow found.row) (level_row world) (inheritors_of name (types_of world))
+      (all-map (λ (found : ℕ × ListedType). TypeShown found.1) (λ (found : LevelRow). IsShownRow found.row) (level_row world) (inheritors_of name (types_of world))
       (λ found is. listed-shown found.1 is) (levels-shown (length (types_of world)) 1 (name ∷ []) (types_of world) types-shown)))
   reply-ends (query.Key key) =
       unless-ends _ (files-end Properties (λ (row : PlaceRow). IsShown row.path) key_line (keys_in key) key-goes_on (keys_in-shown key))

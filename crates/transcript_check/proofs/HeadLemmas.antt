@@ -10,7 +10,7 @@ use Rattle.list_laws.proofs.BoolLemmas.{bool_cases}
 use Rattle.write_history.specs.World.{World, lowest_unready}
 use Rattle.write_history.specs.Effect.{max_entries}
 use Rattle.write_history.specs.Fold.{list_refusal, ListRefusal}
-use Rattle.query_engine.specs.declared.answer.Answer.{Answer as Finding}
+use Rattle.query_engine.specs.declared.answer.Finding.{Finding}
 use Rattle.query_engine.specs.Reply.{NoAnswer, no_such_file, not_ready, reply}
 use Rattle.script_lang.specs.declared.command.Command.{Command}
 use Rattle.script_lang.specs.declared.command.Command.TheVariants as command

@@ -17,7 +17,7 @@ use Rattle.script_lang.specs.declared.command.Command.TheVariants as command
 use Rattle.script_lang.specs.declared.line.Line.{Line}
 use Rattle.transcripts.specs.declared.loaded.Loaded.TheVariants.{Nothing}
 use Rattle.transcripts.specs.declared.record.Answer.TheVariants.{Accepted, NotText, Refused}
-use Rattle.transcripts.specs.Serial.{Step, told as no_more, step_unless, changes_step, step_of}
+use Rattle.transcripts.specs.Serial.{CommandStep, told as no_more, step_unless, changes_step, step_of}
 use Rattle.transcript_check.proofs.StepLemmas.{SettleGoes, over, full, goes, settle_goes, settle_steps}
 use Rattle.transcript_check.specs.Section.{Cursor, told_text, is_settle, made_by_line, line_step}
 use Rattle.transcript_check.specs.Here.{goes_in, HasGoneIn, IsTakenLowest, HasTakenLowest, HasEnteredSo, HasChangedBy, HasChanged, IsMadeAs, HasMadeNext}
@@ -103,7 +103,7 @@ module _ (history : List Entry) (after : World) where
       history after done text went
   line_made line on_the_way done told text went seat no_settle h = by_command line.command no_settle h
     where
-      load : Bool → Step
+      load : Bool → CommandStep
       load b = if b then no_more (NotText 0) else no_more (Refused (length history) None BadPath)
 
       Loads : Bool → Type 0
@@ -131,7 +131,7 @@ taken_next world after seat line later told rest settling text went settles h = 
       let on_the_way : Cursor = record { seat = seat; lines = line ∷ later; texts = told ∷ rest; settling = true } in
       let done : Cursor = record { seat = seat; lines = later; texts = rest; settling = false } in
       let said : Bool = bytes_eq (told_text seat line.number (line_step history seat line).answer) told in
-      subst (λ (p : Bool × Step). IsMadeAs (made_by_line p.0 said on_the_way done p.1.added) history after on_the_way text went)
+      subst (λ (p : Bool × CommandStep). IsMadeAs (made_by_line p.0 said on_the_way done p.1.added) history after on_the_way text went)
       (λ i. (sym settles i, sym (settle_steps seat Nothing history line.number line.command settles) i))
       (settle_made history after on_the_way done said went text seat line.number
       (subst (λ (w : World). IsTakenLowest (lowest_unready w) w after seat line.number text went) (sym is) h.is)));

@@ -8,7 +8,7 @@ use Rattle.write_history.specs.declared.entry.Entry.{Entry}
 use Rattle.script_lang.specs.declared.line.Line.{Line}
 use Rattle.transcripts.specs.declared.loaded.Loaded.{Loaded}
 use Rattle.transcripts.specs.declared.record.Record.{Record}
-use Rattle.transcripts.specs.Serial.{Step, step_of, first_load, later_loads}
+use Rattle.transcripts.specs.Serial.{CommandStep, step_of, first_load, later_loads}
 use Rattle.transcript_check.specs.declared.stop.LineStop.{LineStop}
 use Rattle.transcript_check.specs.declared.stop.SideStop.{SideStop}
 use Rattle.transcript_check.specs.declared.stop.SideStop.TheVariants as side
@@ -24,7 +24,7 @@ use Rattle.transcript_check.proofs.SerialLemmas.{went_so, goes_so, texts_on}
 -- ---- a section alone
 
 -- a line that doesn't go differs
-differs_so : (history : List Entry) (seat number : ℕ) (step : Step) (text : List ℕ) (entries records : List (List ℕ))
+differs_so : (history : List Entry) (seat number : ℕ) (step : CommandStep) (text : List ℕ) (entries records : List (List ℕ))
     → line_so history seat number step text entries ≡ None → DiffersFrom history seat number step entries (text ∷ records)
 differs_so history seat number step text entries records none left rest told made =
     let same : text ≡ told_text seat number step.answer = cc in
@@ -63,7 +63,7 @@ later_stops : (seat : ℕ) (history : List Entry) (line : Line) (lines : List Li
     → StopsAtLine seat (history ++ (step_of (first_load loads) history seat line.number line.command).added) lines (later_loads loads) left records stop
     → StopsAtLine seat history (line ∷ lines) loads entries (text ∷ records) stop
 later_stops seat history line lines loads entries left text records stop went rest =
-    let step : Step = step_of (first_load loads) history seat line.number line.command in
+    let step : CommandStep = step_of (first_load loads) history seat line.number line.command in
     let reply : Record = record { seat = seat; line = line.number; answer = step.answer } in
     let parts = went_so history seat line.number step text entries left went in
     let whole : (history ++ step.added) ++ rest.own ≡ history ++ (step.added ++ rest.own) = append_assoc history step.added rest.own in
@@ -95,7 +95,7 @@ stops_at_line seat history [] loads entries records stop is = absurd (cc)
 stops_at_line seat history (line ∷ lines) loads entries [] stop is =
     first_stops seat history line lines loads entries [] stop (cc) (λ left rest told made. cc)
 stops_at_line seat history (line ∷ lines) loads entries (text ∷ records) stop is =
-    let step : Step = step_of (first_load loads) history seat line.number line.command in
+    let step : CommandStep = step_of (first_load loads) history seat line.number line.command in
     let on : List (List ℕ) → Result Came LineStop = λ left. serial_or seat (history ++ step.added) lines (later_loads loads) left records in
     elim (stopped on (line_so history seat line.number step text entries) (stops_at seat line entries (text ∷ records)) stop is) [
       | inl none ↦ first_stops seat history line lines loads entries (text ∷ records) stop (sym none.1)

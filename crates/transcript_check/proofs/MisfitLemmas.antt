@@ -5,7 +5,7 @@ use Rattle.std.specs.List.{find, list_all}
 use Rattle.std.specs.Option.{option_and_then, option_map_or}
 use Rattle.std.specs.Result.{result_ok}
 use Rattle.list_laws.proofs.BoolLemmas.{bool_cases}
-use Rattle.ide_io.specs.Files.{Files}
+use Rattle.ide_io.specs.Files.{TreeFiles}
 use Rattle.write_history.specs.declared.entry.Entry.{Entry}
 use Rattle.script_lang.specs.declared.line.Line.{Line}
 use Rattle.script_lang.specs.Held.{AreOfScript}
@@ -157,7 +157,7 @@ all_found loads script workers bytes (Ok found) sound complete lawful few is =
     found_none loads script workers bytes found (sound loads script workers bytes) (complete loads script workers bytes lawful (omega (arith, few))) is
 
 -- the verdict is good exactly where nothing is found
-pub judges : (files : Option Files) (script : Parts) (workers : ℕ) (bytes : List ℕ) (found : Option Misfit)
+pub judges : (files : Option TreeFiles) (script : Parts) (workers : ℕ) (bytes : List ℕ) (found : Option Misfit)
     → FindsMisfit files script workers bytes found → Judges files script workers bytes (told_verdict (is_none found))
 judges files script workers bytes found finds = record {
   loads = finds.loads;

@@ -22,7 +22,7 @@ use Rattle.script_lang.specs.declared.command.Command.{Command}
 use Rattle.script_lang.specs.declared.command.Command.TheVariants as command
 use Rattle.script_lang.specs.declared.line.Line.{Line}
 use Rattle.script_lang.specs.Parts.{Parts}
-use Rattle.query_engine.specs.declared.answer.Answer.{Answer as Finding}
+use Rattle.query_engine.specs.declared.answer.Finding.{Finding}
 use Rattle.query_engine.specs.Reply.{NoAnswer, no_such_file, not_ready, reply}
 use Rattle.query_engine.specs.Listed.{path_at}
 use Rattle.queries.specs.declared.query.Query.{Query}
@@ -32,7 +32,7 @@ use Rattle.transcripts.specs.declared.loaded.Loaded.TheVariants as loaded
 use Rattle.transcripts.specs.declared.record.Answer.{Answer}
 use Rattle.transcripts.specs.declared.record.Answer.TheVariants.{Accepted, Refused, NotText, TooLong, Smart, NotReady, Found, Cancelled}
 use Rattle.transcripts.specs.declared.record.Record.{Record}
-use Rattle.transcripts.specs.Serial.{Ended, Step, step_unless, create_of, settle_answer, answer_of, step_of, first_load, later_loads}
+use Rattle.transcripts.specs.Serial.{RunEnd, CommandStep, step_unless, create_of, settle_answer, answer_of, step_of, first_load, later_loads}
 use Rattle.transcripts.specs.Fits.{Mark, mark_at, Fits, SectionFits, LanesFit, RunFits, made_by, run_beside}
 use Rattle.transcripts.specs.Transcript.{place_of_refusal, prefix_text, answer_text, record_text, entry_lines, transcript_of}
 use Rattle.transcript_check.specs.Blocks.{blocks_of, EndsOnce, IsBlock}
@@ -156,7 +156,7 @@ module _ (texts : Texts) where
   step-ends load start legal seat line (command.Change change) = unless-ends _ (λ place. None) start _
   step-ends load start legal seat line (command.Group changes) = unless-ends _ Some start _
   step-ends load start legal seat line (command.Load path) =
-      cond_both (is_path path) _ _ (λ (step : Step). AnswerEnds step.answer) (λ _. create-ends start seat line path load)
+      cond_both (is_path path) _ _ (λ (step : CommandStep). AnswerEnds step.answer) (λ _. create-ends start seat line path load)
       (λ _. refused-ends (length start) None why.BadPath)
   step-ends load start legal seat line command.Settle = settle-ends _ (settled start seat line).refused
   step-ends load start legal seat line (command.Ask query) = asked-ends start legal query
@@ -197,7 +197,7 @@ module _ (texts : Texts) where
       (lanes-blocks beside history low (suc seat) lanes entries first.others legal first.rest))
 
   -- the records of a run that fits are blocks
-  run-blocks : (loads : List Loaded) (script : Parts) (told : List Worked) (ended : Ended) → RunFits loads script told ended
+  run-blocks : (loads : List Loaded) (script : Parts) (told : List Worked) (ended : RunEnd) → RunFits loads script told ended
       → AreBlocks (ended.records ++ ended.last)
   run-blocks loads script told ended fits =
       let parts : IsLegal ((fits.opening ++ fits.middle) ++ fits.closing) = subst IsLegal fits.history fits.legal in
@@ -225,7 +225,7 @@ module _ (texts : Texts) where
   history-block entries = record { begins = refl; ends = numbered-ends (codes "history ") entries refl }
 
   -- each text of the transcript of a run that fits is one block
-  pub texts-blocks : (loads : List Loaded) (script : Parts) (told : List Worked) (ended : Ended) → RunFits loads script told ended
+  pub texts-blocks : (loads : List Loaded) (script : Parts) (told : List Worked) (ended : RunEnd) → RunFits loads script told ended
       → All IsBlock (texts_of ended)
   texts-blocks loads script told ended fits =
       All-from_recursion IsBlock (texts_of ended) (
@@ -246,7 +246,7 @@ records-joined [] = refl
 records-joined (r ∷ records) = ap (λ l. record_text r ++ l) (records-joined records)
 
 -- the texts of a transcript, joined, are it
-pub texts-joined : (ended : Ended) → concat (texts_of ended) ≡ transcript_of ended
+pub texts-joined : (ended : RunEnd) → concat (texts_of ended) ≡ transcript_of ended
 texts-joined ended =
     let line : List ℕ = history_line (length ended.history) in
     let records : List Record = ended.records ++ ended.last in
@@ -255,7 +255,7 @@ texts-joined ended =
     ∙ sym (append_assoc line (entry_lines 1 ended.history) (flat_map record_text records))
 
 -- the transcript of a run that fits is cut into its texts
-pub transcript-cut : Texts → (loads : List Loaded) (script : Parts) (told : List Worked) (ended : Ended) → RunFits loads script told ended
+pub transcript-cut : Texts → (loads : List Loaded) (script : Parts) (told : List Worked) (ended : RunEnd) → RunFits loads script told ended
     → blocks_of (transcript_of ended) ≡ texts_of ended
 transcript-cut texts loads script told ended fits =
     ap blocks_of (sym (texts-joined ended)) ∙ blocks-of-texts (texts_of ended) (texts-blocks texts loads script told ended fits)

@@ -16,7 +16,7 @@ use Rattle.write_history.specs.Fold.{IsLegal}
 use Rattle.script_lang.specs.declared.line.Line.{Line}
 use Rattle.transcripts.specs.declared.loaded.Loaded.{Loaded}
 use Rattle.transcripts.specs.declared.record.Record.{Record}
-use Rattle.transcripts.specs.Serial.{Step, step_of, done_from, first_load, later_loads}
+use Rattle.transcripts.specs.Serial.{CommandStep, step_of, done_from, first_load, later_loads}
 use Rattle.transcripts.specs.Fits.{Mark, SectionFits}
 use Rattle.transcript_check.proofs.StepLemmas.{step_is}
 
@@ -34,7 +34,7 @@ is_behind (first ∷ wanted) left =
     cond-true (bytes_eq first first) (texts_behind wanted (wanted ++ left)) None ((bytes_eq-Decides first first).1 refl) ∙ is_behind wanted left
 
 -- what was found of a line, and what is left: its record has the text, and the texts of entries begin with its own
-pub went_so : (history : List Entry) (seat number : ℕ) (step : Step) (text : List ℕ) (entries left : List (List ℕ))
+pub went_so : (history : List Entry) (seat number : ℕ) (step : CommandStep) (text : List ℕ) (entries left : List (List ℕ))
     → line_so history seat number step text entries ≡ Some left
     → (text ≡ told_text seat number step.answer) × (entries ≡ entry_texts (length history + 1) step.added ++ left)
 went_so history seat number step text entries left h =
@@ -43,7 +43,7 @@ went_so history seat number step text entries left h =
     (sym (text_is (told_text seat number step.answer) text parts.0), behind_is first entries left parts.1)
 
 -- where they do, that is found
-pub goes_so : (history : List Entry) (seat number : ℕ) (step : Step) (left : List (List ℕ))
+pub goes_so : (history : List Entry) (seat number : ℕ) (step : CommandStep) (left : List (List ℕ))
     → line_so history seat number step (told_text seat number step.answer) (entry_texts (length history + 1) step.added ++ left) ≡ Some left
 goes_so history seat number step left =
     let text : List ℕ = told_text seat number step.answer in
@@ -93,7 +93,7 @@ serial_fits seat [] loads start =
           (sym (ap (λ (c : Came). c.history) is) ∙ whole, ap (λ (c : Came). c.entries) is, ap (λ (c : Came). c.records) is));
     }
 serial_fits seat (line ∷ lines) loads start =
-    let step : Step = step_of (first_load loads) start seat line.number line.command in
+    let step : CommandStep = step_of (first_load loads) start seat line.number line.command in
     let reply : Record = record { seat = seat; line = line.number; answer = step.answer } in
     let here : List Entry = start ++ step.added in
     let rest = serial_fits seat lines (later_loads loads) here in

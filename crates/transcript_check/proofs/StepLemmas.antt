@@ -22,9 +22,9 @@ use Rattle.transcripts.specs.declared.loaded.Loaded.{Loaded}
 use Rattle.transcripts.specs.declared.loaded.Loaded.TheVariants as loaded
 use Rattle.transcripts.specs.declared.record.Answer.{Answer}
 use Rattle.transcripts.specs.declared.record.Answer.TheVariants.{Refused, NotText, TooLong}
-use Rattle.transcripts.specs.Serial.{Step, told, step_unless, create_of, settle_answer, settle_step, answer_of, step_of}
+use Rattle.transcripts.specs.Serial.{CommandStep, told, step_unless, create_of, settle_answer, settle_step, answer_of, step_of}
 use Rattle.transcripts.specs.Fits.{made_by}
-use Rattle.query_engine.specs.declared.answer.Answer.{Answer as Finding}
+use Rattle.query_engine.specs.declared.answer.Finding.{Finding}
 use Rattle.query_engine.specs.Reply.{NoAnswer, no_such_file, not_ready, reply}
 use Rattle.transcript_check.specs.Section.{is_settle}
 use Rattle.transcript_check.proofs.TextLemmas.{at_of}
@@ -45,7 +45,7 @@ abbrev pub TellsAt : List Entry → Answer → Type 0
 TellsAt history answer = (at_of answer ≡ None) ⊎ (at_of answer ≡ Some (length history))
 
 -- what holds of a step behind a history
-pub record IsStep (history : List Entry) (seat : ℕ) (settles : Bool) (step : Step) : Type 0 where
+pub record IsStep (history : List Entry) (seat : ℕ) (settles : Bool) (step : CommandStep) : Type 0 where
   -- what it adds has its seat
   pub own : AllByRecursion (λ (e : Entry). e.seat ≡ seat) step.added
   -- the first entry isn't refused where it stands
@@ -194,9 +194,9 @@ module _ (seat : ℕ) where
       → settle_step history seat line ≡ record { added = entry ∷ more; answer = answer }
       → settle_step (history ++ entry ∷ []) seat line ≡ record { added = more; answer = answer }
   settle_later line history entry more answer is =
-      let on : Step = settle_step (history ++ entry ∷ []) seat line in
-      let both = sym (settle_on line history entry (settle_begins line history entry more (ap (λ (s : Step). s.added) is)).goes_on) ∙ is in
-      let adds : entry ∷ on.added ≡ entry ∷ more = ap (λ (s : Step). s.added) both in
+      let on : CommandStep = settle_step (history ++ entry ∷ []) seat line in
+      let both = sym (settle_on line history entry (settle_begins line history entry more (ap (λ (s : CommandStep). s.added) is)).goes_on) ∙ is in
+      let adds : entry ∷ on.added ≡ entry ∷ more = ap (λ (s : CommandStep). s.added) both in
       let same : on.added ≡ more = cc in
       λ i. record { added = same i; answer = (both i).answer }
 

@@ -11,7 +11,7 @@ use Rattle.script_lang.specs.Parts.{Parts}
 use Rattle.transcripts.specs.Worked.{Worked}
 use Rattle.transcripts.specs.declared.loaded.Loaded.{Loaded}
 use Rattle.transcripts.specs.declared.record.Record.{Record}
-use Rattle.transcripts.specs.Serial.{Ended, run_of, later_loads}
+use Rattle.transcripts.specs.Serial.{RunEnd, run_of, later_loads}
 use Rattle.transcripts.specs.Fits.{Mark, SectionFits, LanesFit, RunFits}
 use Rattle.transcripts.specs.Play.{PlaysWith, IsTranscriptOf}
 use Rattle.transcripts.specs.Transcript.{transcript_of}
@@ -29,12 +29,12 @@ use Rattle.transcripts.specs.Transcript.{record_text}
 
 -- a transcript is cut into its texts
 abbrev pub IsCut : Type 0
-IsCut = (loads : List Loaded) (script : Parts) (told : List Worked) (ended : Ended) → RunFits loads script told ended
+IsCut = (loads : List Loaded) (script : Parts) (told : List Worked) (ended : RunEnd) → RunFits loads script told ended
     → blocks_of (transcript_of ended) ≡ texts_of ended
 
 -- a run without lanes and workers is the one on one thread
 abbrev pub IsAlone : Type 0
-IsAlone = (loads : List Loaded) (script : Parts) (ended : Ended) → script.lanes ≡ [] → RunFits loads script [] ended → ended ≡ run_of loads script
+IsAlone = (loads : List Loaded) (script : Parts) (ended : RunEnd) → script.lanes ≡ [] → RunFits loads script [] ended → ended ≡ run_of loads script
 
 -- all texts of a run are checked
 abbrev pub AreAllChecked : Type 0
@@ -46,7 +46,7 @@ length-entry_texts position [] = refl
 length-entry_texts position (e ∷ entries) = ap suc (length-entry_texts (position + 1) entries)
 
 -- a run without workers is alone where it has no lanes
-plays : IsAlone → (loads : List Loaded) (script : Parts) (workers : ℕ) (told : List Worked) (ended : Ended) → length told ≡ workers
+plays : IsAlone → (loads : List Loaded) (script : Parts) (workers : ℕ) (told : List Worked) (ended : RunEnd) → length told ≡ workers
     → RunFits loads script told ended
     → PlaysWith loads script workers told ended
 plays serial loads script workers told ended count fits = record { count = count; fits = fits; alone = λ none nobody. alone told (count ∙ nobody) none fits }
@@ -97,7 +97,7 @@ lanes_count beside history low seat (lane ∷ lanes) entries records fits =
     let parts = length-append fits.own_records fits.others in
     let parts' = length-append lane (flat_map (λ (l : List Line). l) lanes) in omega arith
 
-run_count : (loads : List Loaded) (script : Parts) (told : List Worked) (ended : Ended) → RunFits loads script told ended
+run_count : (loads : List Loaded) (script : Parts) (told : List Worked) (ended : RunEnd) → RunFits loads script told ended
     → length (ended.records ++ ended.last) ≡ length (all_lines script)
 run_count loads script told ended fits =
     let prelude = section_count false fits.opening 0 _ fits.prelude_end script.prelude loads fits.prelude_records fits.opening fits.prelude in
@@ -113,7 +113,7 @@ run_count loads script told ended fits =
 pub verdict_complete : IsCut → AreAllChecked → (loads : List Loaded) (script : Parts) (workers : ℕ) (bytes : List ℕ) → AreOfScript script → workers < 2 ^ 32
     → IsTranscriptOf loads script workers bytes → verdict_of loads script workers bytes ≡ true
 verdict_complete cut complete loads script workers bytes are few is =
-    let ended : Ended = is.ended in
+    let ended : RunEnd = is.ended in
     let fits : RunFits loads script is.told ended = is.played.fits in
     let entries : List (List ℕ) = entry_texts 1 ended.history in
     let records : List (List ℕ) = record_texts (ended.records ++ ended.last) in

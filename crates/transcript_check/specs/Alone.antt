@@ -3,7 +3,7 @@ use Rattle.std.specs.Prelude.{ℕ, ◌≡◌, Bool, false, List, [], ◌∷◌, 
 use Rattle.write_history.specs.declared.entry.Entry.{Entry}
 use Rattle.write_history.specs.World.{World}
 use Rattle.write_history.specs.Fold.{fold}
-use Rattle.transcripts.specs.Serial.{Step}
+use Rattle.transcripts.specs.Serial.{CommandStep}
 use Rattle.transcript_check.specs.Checked.{line_so}
 use Rattle.transcript_check.specs.Here.{HasTakenLowest}
 
@@ -18,7 +18,7 @@ IsGoneTo after history (Some left) = after ≡ fold history
 
 -- A step went from one world to another where its record has this text: what is left of the texts of entries behind it, and none where
 -- the texts aren't those of the step
-pub record HasGone (step_at : List Entry → Step) (seat number : ℕ) (text : List ℕ) (entries : List (List ℕ)) (world after : World)
+pub record HasGone (step_at : List Entry → CommandStep) (seat number : ℕ) (text : List ℕ) (entries : List (List ℕ)) (world after : World)
     (left : Option (List (List ℕ))) : Type 0 where
   pub left_is : (history : List Entry) → fold history ≡ world → left ≡ line_so history seat number (step_at history) text entries
   pub leads : (history : List Entry) → fold history ≡ world → IsGoneTo after (history ++ (step_at history).added) left

@@ -7,7 +7,7 @@ use Rattle.script_lang.specs.Parts.{Parts}
 use Rattle.transcripts.specs.declared.loaded.Loaded.{Loaded}
 use Rattle.transcripts.specs.declared.record.Record.{Record}
 use Rattle.transcripts.specs.Worked.{Worked}
-use Rattle.transcripts.specs.Serial.{Step, Ended, step_of, first_load, later_loads}
+use Rattle.transcripts.specs.Serial.{CommandStep, RunEnd, step_of, first_load, later_loads}
 use Rattle.transcripts.specs.Fits.{run_beside, RunFits}
 use Rattle.transcripts.specs.Transcript.{record_text}
 use Rattle.transcript_check.specs.Section.{is_nil, told_text}
@@ -35,7 +35,7 @@ pub record Came : Type 0 where
   pub records : List (List ℕ)
 
 -- what is left of the texts of entries behind those of a step, whose record has this text
-abbrev pub line_so : List Entry → ℕ → ℕ → Step → List ℕ → List (List ℕ) → Option (List (List ℕ))
+abbrev pub line_so : List Entry → ℕ → ℕ → CommandStep → List ℕ → List (List ℕ) → Option (List (List ℕ))
 line_so history seat number step text entries =
     if bytes_eq (told_text seat number step.answer) text then texts_behind (entry_texts (length history + 1) step.added) entries else None
 
@@ -79,7 +79,7 @@ are_checked loads script workers entries records = begins_so script workers (ser
 -- these are the texts of the entries and records of a run of the script with so many workers, where this was read for its prelude
 pub record AreTextsOfRun (loads : List Loaded) (script : Parts) (workers : ℕ) (entries records : List (List ℕ)) : Type 0 where
   pub told : List Worked
-  pub ended : Ended
+  pub ended : RunEnd
   pub count : length told ≡ workers
   pub fits : RunFits loads script told ended
   pub entries_are : entries ≡ entry_texts 1 ended.history

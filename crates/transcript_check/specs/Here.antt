@@ -17,11 +17,11 @@ use Rattle.script_lang.specs.declared.command.Command.TheVariants as command
 use Rattle.script_lang.specs.declared.line.Line.{Line}
 use Rattle.transcripts.specs.declared.record.Answer.{Answer}
 use Rattle.transcripts.specs.declared.record.Answer.TheVariants.{Accepted, Refused, NotText, Smart}
-use Rattle.transcripts.specs.Serial.{Step, answer_of}
+use Rattle.transcripts.specs.Serial.{CommandStep, answer_of}
 use Rattle.transcript_check.specs.Section.{Cursor, Made, is_nil, told_text, told_here, made_here, is_told_here}
 
 -- the answer of a step that adds nothing
-abbrev pub told_by : Step → Option Answer
+abbrev pub told_by : CommandStep → Option Answer
 told_by step = if is_nil step.added then Some step.answer else None
 
 -- what changes are answered where they are refused; the place of the refused one is told as said

@@ -7,7 +7,7 @@ use Rattle.script_lang.specs.declared.line.Line.{Line}
 use Rattle.script_lang.specs.Parts.{Parts}
 use Rattle.transcripts.specs.declared.loaded.Loaded.{Loaded}
 use Rattle.transcripts.specs.declared.record.Record.{Record}
-use Rattle.transcripts.specs.Serial.{Step, run_of, done_from, step_of, first_load, later_loads}
+use Rattle.transcripts.specs.Serial.{CommandStep, run_of, done_from, step_of, first_load, later_loads}
 use Rattle.transcripts.specs.Transcript.{record_text}
 use Rattle.transcript_check.specs.declared.stop.LineStop.{LineStop}
 use Rattle.transcript_check.specs.declared.stop.SideStop.{SideStop}
@@ -24,7 +24,7 @@ loads_behind [] loads = loads
 loads_behind (line ∷ lines) loads = loads_behind lines (later_loads loads)
 
 -- the texts of a record and of entries don't begin with those of a step of a line behind a history
-abbrev pub DiffersFrom : List Entry → ℕ → ℕ → Step → (entries records : List (List ℕ)) → Type 0
+abbrev pub DiffersFrom : List Entry → ℕ → ℕ → CommandStep → (entries records : List (List ℕ)) → Type 0
 DiffersFrom history seat number step entries records =
     (left rest : List (List ℕ)) → records ≡ told_text seat number step.answer ∷ rest → entries ≡ entry_texts (length history + 1) step.added ++ left → ⊥
 

@@ -1,7 +1,7 @@
 -- Which block of some bytes is the first that doesn't fit: where the verdict on them stops. Blocks are counted from 0, so that the block of
 -- an entry has the number of its position.
 use Rattle.std.specs.Prelude.{ℕ, ◌≡◌, ◌↔◌, ◌+◌, ◌-◌, List, [], ◌∷◌, ◌++◌, length, take, drop, Option, Some, None, Result, Ok, Err, if◌then◌else◌, bytes_eq}
-use Rattle.ide_io.specs.Files.{Files}
+use Rattle.ide_io.specs.Files.{TreeFiles}
 use Rattle.write_history.specs.declared.entry.Entry.{Entry}
 use Rattle.script_lang.specs.Parts.{Parts}
 use Rattle.transcripts.specs.declared.loaded.Loaded.{Loaded}
@@ -90,7 +90,7 @@ misfit_of loads script workers bytes = misfit_in loads script workers (blocks_of
 
 -- These bytes were gone through with what was read for the loads, which are the tree's bytes where it tells its files: this is the first
 -- misfit, and there is none exactly where they are a transcript of the script with so many workers and with these loads
-pub record FindsMisfit (files : Option Files) (script : Parts) (workers : ℕ) (bytes : List ℕ) (found : Option Misfit) : Type 0 where
+pub record FindsMisfit (files : Option TreeFiles) (script : Parts) (workers : ℕ) (bytes : List ℕ) (found : Option Misfit) : Type 0 where
   pub loads : List Loaded
   pub read : AreLoadsOf files script.prelude loads
   pub is : found ≡ misfit_of loads script workers bytes

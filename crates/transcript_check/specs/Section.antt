@@ -7,7 +7,7 @@ use Rattle.script_lang.specs.declared.line.Line.{Line}
 use Rattle.transcripts.specs.declared.loaded.Loaded.TheVariants.{Nothing}
 use Rattle.transcripts.specs.declared.record.Answer.{Answer}
 use Rattle.transcripts.specs.declared.record.Answer.TheVariants.{Cancelled}
-use Rattle.transcripts.specs.Serial.{Step, step_of}
+use Rattle.transcripts.specs.Serial.{CommandStep, step_of}
 use Rattle.transcripts.specs.Transcript.{record_text}
 
 -- a section on its way: its seat, the lines that are left with the texts of their records, and whether it is in the middle of a settle
@@ -23,7 +23,7 @@ is_nil [] = true
 is_nil (x ∷ xs) = false
 
 -- what a line of a section does behind a history, where nothing was read for it
-abbrev pub line_step : List Entry → ℕ → Line → Step
+abbrev pub line_step : List Entry → ℕ → Line → CommandStep
 line_step history seat line = step_of Nothing history seat line.number line.command
 
 -- the text of the record of a line with a number, where it is answered so
@@ -31,7 +31,7 @@ abbrev pub told_text : ℕ → ℕ → Answer → List ℕ
 told_text seat number answer = record_text (record { seat = seat; line = number; answer = answer })
 
 -- whether a step adds nothing, and this is the text of its record
-abbrev pub tells : ℕ → ℕ → Step → List ℕ → Bool
+abbrev pub tells : ℕ → ℕ → CommandStep → List ℕ → Bool
 tells seat number step text = is_nil step.added && bytes_eq (told_text seat number step.answer) text
 
 -- the answer to a soft question that was given up after so many attempts; its sights aren't printed

@@ -1,7 +1,7 @@
 -- Whether some bytes are a transcript: they are cut into blocks, and each block is compared with what is expected at its place; and when
 -- they are judged rightly.
 use Rattle.std.specs.Prelude.{ℕ, ◌≡◌, ◌↔◌, Option, ◌-◌, ◌&&◌, Bool, true, false, List, [], ◌∷◌, length, take, drop, bytes_eq}
-use Rattle.ide_io.specs.Files.{Files}
+use Rattle.ide_io.specs.Files.{TreeFiles}
 use Rattle.script_lang.specs.Held.{all_lines}
 use Rattle.script_lang.specs.Parts.{Parts}
 use Rattle.transcripts.specs.declared.loaded.Loaded.{Loaded}
@@ -38,7 +38,7 @@ told_verdict false = Bad
 
 -- these bytes were judged with what was read for the loads, which are the tree's bytes where it tells its files: good exactly where they are
 -- a transcript of the script with so many workers and with these loads
-pub record Judges (files : Option Files) (script : Parts) (workers : ℕ) (bytes : List ℕ) (verdict : Verdict) : Type 0 where
+pub record Judges (files : Option TreeFiles) (script : Parts) (workers : ℕ) (bytes : List ℕ) (verdict : Verdict) : Type 0 where
   pub loads : List Loaded
   pub read : AreLoadsOf files script.prelude loads
   pub good : (verdict ≡ Good) ↔ IsTranscriptOf loads script workers bytes

@@ -50,7 +50,8 @@ pub(crate) fn come_alone<'a>(
     records: &'a [Block<'a>],
 ) -> Result<Result<(&'a [Block<'a>], &'a [Block<'a>]), LineStop>, AllocError>
     requires { AreOfPrelude lines.now }
-    ensures { IfOk result (λ left. HasComeAlone seat lines.now loads.now entries.now records.now replay.old replay.new
+    ensures { IfOk result
+        (λ left. HasComeAlone seat lines.now loads.now entries.now records.now replay.old replay.new
         (result_map_both (λ l. (l.0.now, l.1.now)) (λ stop. stop) left)) }
 {
     let mut made = Texts { left: entries };
@@ -82,9 +83,13 @@ fn line_so(
     made: &mut Texts<'_>,
 ) -> Result<bool, AllocError>
     requires { IsOfLine line.now.command }
-    ensures { IfOk result (λ went. HasGone
-        (λ history. step_of (unwrap_or (option_map (λ l. l.now) load.entry) loaded.Nothing) history seat line.now.number line.now.command)
-        seat line.now.number text.now made.old replay.old replay.new (left_where went made.new)) }
+    ensures { IfOk result
+        (λ went. HasGone
+        (λ history. step_of
+        (unwrap_or (option_map (λ l. l.now) load.entry) loaded.Nothing) history seat
+        line.now.number line.now.command)
+        seat line.now.number text.now made.old replay.old replay.new
+        (left_where went made.new)) }
 {
     match &line.command {
         Command::Settle => settle_so(alloc, replay, seat, line, text, made),
@@ -144,9 +149,12 @@ fn load_so(
     made: &mut Texts<'_>,
 ) -> Result<bool, AllocError>
     requires { line.now.command ≡ command.Load path.now }
-    ensures { IfOk result (λ went. HasGone
-        (λ history. load_step history seat line.now.number path.now (unwrap_or (option_map (λ l. l.now) load.entry) loaded.Nothing))
-        seat line.now.number text.now made.old replay.old replay.new (left_where went made.new)) }
+    ensures { IfOk result
+        (λ went. HasGone
+        (λ history. load_step history seat line.now.number path.now
+        (unwrap_or (option_map (λ l. l.now) load.entry) loaded.Nothing))
+        seat line.now.number text.now made.old replay.old replay.new
+        (left_where went made.new)) }
 {
     let Some(load) = load else {
         return plain_so(alloc, replay, seat, line, text, made);
@@ -177,7 +185,9 @@ fn load_so(
 
 /// The line that creates what a load read.
 fn creating(number: u32, path: &Name, content: &SharedText) -> Result<Line, AllocError>
-    ensures { IfOk result (λ line. line ≡ record { number = number; command = command.Change (Create path.now content.now) }) }
+    ensures { IfOk result
+        (λ line. line
+        ≡ record { number = number; command = command.Change (Create path.now content.now) }) }
 {
     let change = Change::Create {
         path: path.copy()?,

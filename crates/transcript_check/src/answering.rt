@@ -47,7 +47,9 @@ fn change_refusal(
     changes: &Changes,
 ) -> Result<Option<Answer>, AllocError>
     requires { list_all is_edit changes.now ≡ true }
-    ensures { IfOk result (λ answer. answer ≡ refused_in replay.now (λ place. None) (list_refusal replay.now changes.now)) }
+    ensures { IfOk result
+        (λ answer. answer
+        ≡ refused_in replay.now (λ place. None) (list_refusal replay.now changes.now)) }
 {
     let at = replay.entries();
     match replay.refusal(alloc, changes)? {
@@ -67,7 +69,8 @@ fn group_refusal(
     changes: &Changes,
 ) -> Result<Option<Answer>, AllocError>
     requires { list_all is_edit changes.now ≡ true }
-    ensures { IfOk result (λ answer. answer ≡ refused_in replay.now Some (list_refusal replay.now changes.now)) }
+    ensures { IfOk result
+        (λ answer. answer ≡ refused_in replay.now Some (list_refusal replay.now changes.now)) }
 {
     let at = replay.entries();
     match replay.refusal(alloc, changes)? {
@@ -126,7 +129,9 @@ fn question_answer(
     replay: &Replay,
     query: &Query,
 ) -> Result<Option<Answer>, AllocError>
-    ensures { IfOk result (λ answer. answer ≡ Some (answer_of replay.now replay.now.entries (reply replay.now query.now))) }
+    ensures { IfOk result
+        (λ answer. answer
+        ≡ Some (answer_of replay.now replay.now.entries (reply replay.now query.now))) }
 {
     unready_files_have_an_order();
     let at = replay.entries();

@@ -7,7 +7,7 @@ ghost use Rattle.write_history.specs.Print.{entry_line};
 ghost use Rattle.script_lang.specs.Parts.{Parts};
 ghost use Rattle.transcripts.specs.Worked.{Worked};
 ghost use Rattle.transcripts.specs.declared.loaded.Loaded.{Loaded};
-ghost use Rattle.transcripts.specs.Serial.{Ended};
+ghost use Rattle.transcripts.specs.Serial.{RunEnd};
 ghost use Rattle.transcripts.specs.Fits.{RunFits};
 ghost use Rattle.transcripts.specs.Transcript.{transcript_of};
 ghost use Rattle.transcript_check.specs.Blocks.{blocks_of, ends_block, first_len, IsBlock};
@@ -84,11 +84,11 @@ pub fn texts_are_cut()
 /// A transcript is its texts, joined: the line of the history, then one for each entry, then one for each record. Of a run
 /// that fits each is one block, whatever its loads read, and the transcript is cut into them.
 pub fn transcripts_are_cut()
-    ensures joined { (ended : Ended) → concat (texts_of ended) ≡ transcript_of ended }
-    ensures blocks { (loads : List Loaded) (script : Parts) (told : List Worked) (ended : Ended) → RunFits loads script told ended
-        → All IsBlock (texts_of ended) }
-    ensures cut { (loads : List Loaded) (script : Parts) (told : List Worked) (ended : Ended) → RunFits loads script told ended
-        → blocks_of (transcript_of ended) ≡ texts_of ended }
+    ensures joined { (ended : RunEnd) → concat (texts_of ended) ≡ transcript_of ended }
+    ensures blocks { (loads : List Loaded) (script : Parts) (told : List Worked) (ended : RunEnd)
+        → RunFits loads script told ended → All IsBlock (texts_of ended) }
+    ensures cut { (loads : List Loaded) (script : Parts) (told : List Worked) (ended : RunEnd)
+        → RunFits loads script told ended → blocks_of (transcript_of ended) ≡ texts_of ended }
 {
     names_are_identifiers();
     supers_are_identifiers();
@@ -98,7 +98,11 @@ pub fn transcripts_are_cut()
 /// The seat that is read from an entry's text is the entry's, and the file that is read from that of an intake the one that
 /// it takes in.
 pub fn what_was_printed_is_read()
-    ensures seat { (position : ℕ) (entry : Entry) → entry.seat < 2 ^ 64 → seat_in (entry_line position entry) ≡ entry.seat }
+    ensures seat { (position : ℕ) (entry : Entry) → entry.seat < 2 ^ 64
+        → seat_in (entry_line position entry) ≡ entry.seat }
     ensures file { (position : ℕ) (seat : ℕ) (line : ℕ) (file : ℕ) (stamp : ℕ) → file < 2 ^ 64
-        → file_in (entry_line position (record { seat = seat; line = line; changes = Intake file stamp ∷ [] })) ≡ file }
+        → file_in
+        (entry_line position
+        (record { seat = seat; line = line; changes = Intake file stamp ∷ [] }))
+        ≡ file }
 {}

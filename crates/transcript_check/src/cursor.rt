@@ -54,7 +54,8 @@ impl<'a> Cursor<'a> {
     /// Goes behind the next record where it is told here, and answers whether it is.
     fn tell_one(&mut self, alloc: Global, replay: &Replay, beside: bool) -> Result<bool, AllocError>
         ensures told { IfOk result (HasToldOne beside replay.now self.old self.new) }
-        ensures fewer { IfOk result (λ told. told ≡ true → length self.new.lines < length self.old.lines) }
+        ensures fewer { IfOk result
+            (λ told. told ≡ true → length self.new.lines < length self.old.lines) }
     {
         let lines = self.lines;
         let texts = self.texts;

@@ -49,7 +49,8 @@ pub(crate) fn take_so(
     file: u32,
     text: &Block<'_>,
 ) -> Result<bool, AllocError>
-    ensures { IfOk result (HasGoneIn replay.old replay.new seat line (intake_of replay.old file) text.now) }
+    ensures { IfOk result
+        (HasGoneIn replay.old replay.new seat line (intake_of replay.old file) text.now) }
 {
     let Some(stamp) = replay.stamp_of(file) else {
         return Ok(false);

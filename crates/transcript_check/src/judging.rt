@@ -42,9 +42,12 @@ pub fn verdict<T: Tree>(
     requires few { workers ≤ 8 }
     ensures verdict { IfOk result (Judges (T.files tree.old) script.now workers bytes.now) }
     ensures asks { AsksFront T.asks tree.old (paths_of script.now.prelude) tree.new }
-    ensures asks_each { OnOk result (AsksEach T.asks tree.old (paths_of script.now.prelude) tree.new) }
-    ensures asks_some { result ≡ Err VerdictRefusal.TreeFault → AsksSome T.asks tree.old (paths_of script.now.prelude) tree.new }
-    ensures fault { result ≡ Err VerdictRefusal.TreeFault → HasFault (T.faults tree.old) (T.faults tree.new) }
+    ensures asks_each { OnOk result
+        (AsksEach T.asks tree.old (paths_of script.now.prelude) tree.new) }
+    ensures asks_some { result ≡ Err VerdictRefusal.TreeFault
+        → AsksSome T.asks tree.old (paths_of script.now.prelude) tree.new }
+    ensures fault { result ≡ Err VerdictRefusal.TreeFault
+        → HasFault (T.faults tree.old) (T.faults tree.new) }
     ensures files { T.files tree.new ≡ T.files tree.old }
     ensures quiet { result ≢ Err VerdictRefusal.TreeFault → T.faults tree.new ≡ T.faults tree.old }
 {
@@ -75,9 +78,12 @@ pub fn first_misfit<T: Tree>(
     requires few { workers ≤ 8 }
     ensures misfit { IfOk result (FindsMisfit (T.files tree.old) script.now workers bytes.now) }
     ensures asks { AsksFront T.asks tree.old (paths_of script.now.prelude) tree.new }
-    ensures asks_each { OnOk result (AsksEach T.asks tree.old (paths_of script.now.prelude) tree.new) }
-    ensures asks_some { result ≡ Err VerdictRefusal.TreeFault → AsksSome T.asks tree.old (paths_of script.now.prelude) tree.new }
-    ensures fault { result ≡ Err VerdictRefusal.TreeFault → HasFault (T.faults tree.old) (T.faults tree.new) }
+    ensures asks_each { OnOk result
+        (AsksEach T.asks tree.old (paths_of script.now.prelude) tree.new) }
+    ensures asks_some { result ≡ Err VerdictRefusal.TreeFault
+        → AsksSome T.asks tree.old (paths_of script.now.prelude) tree.new }
+    ensures fault { result ≡ Err VerdictRefusal.TreeFault
+        → HasFault (T.faults tree.old) (T.faults tree.new) }
     ensures files { T.files tree.new ≡ T.files tree.old }
     ensures quiet { result ≢ Err VerdictRefusal.TreeFault → T.faults tree.new ≡ T.faults tree.old }
 {
@@ -102,7 +108,8 @@ fn judged(
 ) -> Result<Option<Misfit>, AllocError>
     requires { workers ≤ 8 }
     ensures is { IfOk result (λ found. found ≡ misfit_of loads.now script.now workers bytes.now) }
-    ensures none { IfOk result (λ found. (found ≡ None) ↔ IsTranscriptOf loads.now script.now workers bytes.now) }
+    ensures none { IfOk result
+        (λ found. (found ≡ None) ↔ IsTranscriptOf loads.now script.now workers bytes.now) }
 {
     a_verdict_is_good_for_transcripts_alone();
     script.is_of_script();
@@ -183,7 +190,8 @@ fn misfit_among(
     records: &[Block<'_>],
 ) -> Result<Option<Misfit>, AllocError>
     requires { workers ≤ 8 }
-    ensures { IfOk result (λ found. found ≡ misfit_among loads.now script.now workers entries.now records.now) }
+    ensures { IfOk result
+        (λ found. found ≡ misfit_among loads.now script.now workers entries.now records.now) }
 {
     let mut replay = Replay::empty(alloc);
     goes_through(alloc, &mut replay, script, workers, loads, entries, records)
@@ -201,7 +209,8 @@ fn goes_through(
 ) -> Result<Option<Misfit>, AllocError>
     requires few { workers ≤ 8 }
     requires empty { replay.old ≡ empty_world }
-    ensures { IfOk result (λ found. found ≡ misfit_among loads.now script.now workers entries.now records.now) }
+    ensures { IfOk result
+        (λ found. found ≡ misfit_among loads.now script.now workers entries.now records.now) }
 {
     let opened = come_alone(alloc, replay, 0, script.prelude(), loads, entries, records)?;
     let (made, told) = match opened {
@@ -229,8 +238,11 @@ fn go_beside<'a>(
     records: &[Block<'_>],
 ) -> Result<Result<&'a [Block<'a>], SideStop>, AllocError>
     requires { workers ≤ 8 }
-    ensures { IfOk result (λ left. HasReached (run_beside (length script.now.lanes) workers) (length script.now.lanes) workers
-        (cursors_of 1 script.now.lanes records.now) entries.now replay.old replay.new (result_map_both (λ l. l.now) (λ stop. stop) left)) }
+    ensures { IfOk result
+        (λ left. HasReached (run_beside (length script.now.lanes) workers)
+        (length script.now.lanes) workers
+        (cursors_of 1 script.now.lanes records.now) entries.now replay.old replay.new
+        (result_map_both (λ l. l.now) (λ stop. stop) left)) }
 {
     let mut cursors = cursors_of(alloc, script, records)?;
     let lanes = script.lanes() as u32;
@@ -244,7 +256,9 @@ fn last_misfit(
     records: &[Block<'_>],
     closed: Result<(&[Block<'_>], &[Block<'_>]), LineStop>,
 ) -> Option<Misfit>
-    ensures { result ≡ last_misfit entries.now records.now (result_map_both (λ l. (l.0.now, l.1.now)) (λ stop. stop) closed.entry) }
+    ensures { result
+        ≡ last_misfit entries.now records.now
+        (result_map_both (λ l. (l.0.now, l.1.now)) (λ stop. stop) closed.entry) }
 {
     match closed {
         Ok((made, told)) => left_misfit(entries, records, made, told),

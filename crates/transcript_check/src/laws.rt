@@ -22,9 +22,12 @@ use transcripts::laws::{a_run_alone_is_serial, a_section_alone_is_serial};
 
 /// Texts of entries and records that are checked are those of a run of the script, and all those of a run are checked.
 pub fn checked_texts_are_those_of_a_run()
-    ensures sound { (loads : List Loaded) (script : Parts) (workers : ℕ) (entries : List (List ℕ)) (records : List (List ℕ))
-        → are_checked loads script workers entries records ≡ true → AreTextsOfRun loads script workers entries records }
-    ensures complete { (loads : List Loaded) (script : Parts) (workers : ℕ) (entries : List (List ℕ)) (records : List (List ℕ))
+    ensures sound { (loads : List Loaded) (script : Parts) (workers : ℕ) (entries : List (List ℕ))
+        (records : List (List ℕ))
+        → are_checked loads script workers entries records ≡ true
+        → AreTextsOfRun loads script workers entries records }
+    ensures complete { (loads : List Loaded) (script : Parts) (workers : ℕ)
+        (entries : List (List ℕ)) (records : List (List ℕ))
         → AreOfScript script → workers < 2 ^ 32 → AreTextsOfRun loads script workers entries records
         → are_checked loads script workers entries records ≡ true }
 {
@@ -54,17 +57,21 @@ pub fn bad_bytes_have_a_misfit()
 /// on with what it makes of this one. Where lanes and workers stop, the entries before that go in one after another, and
 /// this one doesn't; or all of theirs do, and a lane isn't over.
 pub fn what_comes_before_a_stop_fits()
-    ensures line { (seat : ℕ) (history : List Entry) (lines : List Line) (loads : List Loaded) (entries : List (List ℕ)) (records : List (List ℕ))
-        (stop : LineStop) → serial_or seat history lines loads entries records ≡ Err stop
+    ensures line { (seat : ℕ) (history : List Entry) (lines : List Line) (loads : List Loaded)
+        (entries : List (List ℕ)) (records : List (List ℕ)) (stop : LineStop)
+        → serial_or seat history lines loads entries records ≡ Err stop
         → StopsAtLine seat history lines loads entries records stop }
-    ensures beside { (sides : Sides) (cursors : List Cursor) (entries : List (List ℕ)) (stop : SideStop) → phase_or sides [] cursors entries ≡ Err stop
-        → StopsBeside sides [] cursors entries stop }
+    ensures beside { (sides : Sides) (cursors : List Cursor) (entries : List (List ℕ))
+        (stop : SideStop)
+        → phase_or sides [] cursors entries ≡ Err stop → StopsBeside sides [] cursors entries stop }
 {}
 
 /// Of a script without lanes, and without workers, a line that is the misfit is the first at which the texts differ from
 /// those of its one run.
 pub fn a_line_is_the_first_to_differ()
-    ensures { (loads : List Loaded) (script : Parts) (entries : List (List ℕ)) (records : List (List ℕ)) (seat : ℕ) (number : ℕ) (entry : ℕ)
-        (block : ℕ) → script.lanes ≡ [] → misfit_among loads script 0 entries records ≡ Some (line_of.Line seat number entry block)
+    ensures { (loads : List Loaded) (script : Parts) (entries : List (List ℕ))
+        (records : List (List ℕ)) (seat : ℕ) (number : ℕ) (entry : ℕ) (block : ℕ)
+        → script.lanes ≡ []
+        → misfit_among loads script 0 entries records ≡ Some (line_of.Line seat number entry block)
         → DiffersFromRun loads script entries records seat number entry block }
 {}

@@ -31,7 +31,8 @@ pub(crate) fn reach<'a>(
     entries: &'a [Block<'a>],
 ) -> Result<Result<&'a [Block<'a>], SideStop>, AllocError>
     requires few { lanes + workers ≤ 65536 }
-    ensures { IfOk result (λ left. HasReached beside lanes workers cursors.old entries.now replay.old replay.new
+    ensures { IfOk result
+        (λ left. HasReached beside lanes workers cursors.old entries.now replay.old replay.new
         (result_map_both (λ l. l.now) (λ stop. stop) left)) }
 {
     let mut taken = Taken::new(alloc);
@@ -96,7 +97,9 @@ fn seat_goes(
     cursors: &mut [Cursor<'_>],
     text: &Block<'_>,
 ) -> Result<bool, AllocError>
-    ensures { IfOk result (HasSeatGone lanes replay.old replay.new taken.old taken.new seat cursors.old cursors.new text.now) }
+    ensures { IfOk result
+        (HasSeatGone lanes replay.old replay.new taken.old taken.new seat cursors.old cursors.new
+        text.now) }
 {
     if seat <= lanes {
         section_goes(alloc, replay, seat, cursors, text)
@@ -114,7 +117,8 @@ fn section_goes(
     cursors: &mut [Cursor<'_>],
     text: &Block<'_>,
 ) -> Result<bool, AllocError>
-    ensures { IfOk result (HasSectionGone replay.old replay.new seat cursors.old cursors.new text.now) }
+    ensures { IfOk result
+        (HasSectionGone replay.old replay.new seat cursors.old cursors.new text.now) }
 {
     let Some(place) = place_of(cursors, seat) else {
         return Ok(false);
@@ -135,7 +139,8 @@ fn place_of(cursors: &[Cursor<'_>], seat: u32) -> Option<usize>
 /// Whether a section beside the one at a place is in the middle of a settle.
 fn is_busy_beside(cursors: &[Cursor<'_>], place: usize) -> bool
     requires { place < length cursors.now }
-    ensures { result ≡ (is_busy (take place cursors.now) || is_busy (drop (place + 1) cursors.now)) }
+    ensures { result
+        ≡ (is_busy (take place cursors.now) || is_busy (drop (place + 1) cursors.now)) }
 {
     is_busy(&cursors[..place]) || is_busy(&cursors[place + 1..])
 }

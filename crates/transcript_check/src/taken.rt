@@ -35,8 +35,10 @@ impl Taken {
     /// number of intakes.
     pub(crate) fn add(&mut self, seat: u32, file: u32, stamp: u64) -> Result<bool, AllocError>
         ensures fresh { IfOk result (λ fresh. fresh ≡ not (is_among seat file stamp self.old)) }
-        ensures among { OnOk result ((s : ℕ) (f : ℕ) (t : ℕ)
-            → is_among s f t self.new ≡ (is_taking s f t (seat, file, stamp) || is_among s f t self.old)) }
+        ensures among { OnOk result
+            ((s : ℕ) (f : ℕ) (t : ℕ)
+            → is_among s f t self.new
+            ≡ (is_taking s f t (seat, file, stamp) || is_among s f t self.old)) }
     {
         Ok(self.intakes.insert((seat, file, stamp))?)
     }

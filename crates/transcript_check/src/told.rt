@@ -38,7 +38,9 @@ pub(crate) fn is_told_here(
 
 /// Whether another section runs beside and the text tells that the line was given up.
 fn is_left(alloc: Global, beside: bool, line: &Line, text: &Block<'_>) -> Result<bool, AllocError>
-    ensures { IfOk result (λ left. (seat : ℕ) → left ≡ (beside && tells_given_up seat line.now.number line.now.command text.now)) }
+    ensures { IfOk result
+        (λ left. (seat : ℕ)
+        → left ≡ (beside && tells_given_up seat line.now.number line.now.command text.now)) }
 {
     if !beside {
         return Ok(false);
@@ -48,7 +50,9 @@ fn is_left(alloc: Global, beside: bool, line: &Line, text: &Block<'_>) -> Result
 
 /// Whether the text is that of the record of a soft question that was given up.
 fn is_given_up(alloc: Global, line: &Line, text: &Block<'_>) -> Result<bool, AllocError>
-    ensures { IfOk result (λ told. (seat : ℕ) → told ≡ tells_given_up seat line.now.number line.now.command text.now) }
+    ensures { IfOk result
+        (λ told. (seat : ℕ)
+        → told ≡ tells_given_up seat line.now.number line.now.command text.now) }
 {
     match &line.command {
         Command::Soft { attempts, query: _ } => {
@@ -71,7 +75,8 @@ fn given_up_text(alloc: Global, number: u32, attempts: u32) -> Result<Vec<u8>, A
 
 /// Adds how many attempts were allowed.
 fn add_attempts(alloc: Global, out: &mut Vec<u8>, attempts: u32) -> Result<(), AllocError>
-    ensures { OnOk result (out.new.items ≡ out.old.items ++ (codes "cancelled " ++ decimal attempts ++ codes "\n")) }
+    ensures { OnOk result
+        (out.new.items ≡ out.old.items ++ (codes "cancelled " ++ decimal attempts ++ codes "\n")) }
 {
     out.extend_from_slice(format!(in alloc; "cancelled {attempts}\n")?.as_bytes())
 }
@@ -83,7 +88,10 @@ fn holds_here(
     line: &Line,
     text: &Block<'_>,
 ) -> Result<bool, AllocError>
-    ensures { IfOk result (λ holds. holds ≡ bytes_eq (take (length (head_in replay.now line.now.number)) text.now) (head_in replay.now line.now.number)) }
+    ensures { IfOk result
+        (λ holds. holds
+        ≡ bytes_eq (take (length (head_in replay.now line.now.number)) text.now)
+        (head_in replay.now line.now.number)) }
 {
     let number = line.number;
     let at = replay.entries();

@@ -23,7 +23,9 @@ pub(crate) fn worker_goes(
     cursors: &[Cursor<'_>],
     text: &Block<'_>,
 ) -> Result<bool, AllocError>
-    ensures { IfOk result (HasWorkerGone replay.old replay.new taken.old taken.new seat (file_in text.now) cursors.now text.now) }
+    ensures { IfOk result
+        (HasWorkerGone replay.old replay.new taken.old taken.new seat
+        (file_in text.now) cursors.now text.now) }
 {
     if is_busy(cursors) {
         return Ok(false);

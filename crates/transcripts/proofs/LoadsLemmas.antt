@@ -1,7 +1,7 @@
 -- What was read for the lines of a prelude, and which files the tree was asked for.
 use Rattle.std.proofs.Common.{◌≡◌, ℕ, ◌+◌, ◌<◌, ◌≤◌, true, List, [], ◌∷◌, ◌++◌, length, drop, get_or, refl, sym, ap, subst, ◌∙◌, append-nil, append_assoc, arith, Option, if◌then◌else◌}
 use Rattle.std.proofs.lemmas.List.{drop_all, drop_more}
-use Rattle.ide_io.specs.Files.{Files}
+use Rattle.ide_io.specs.Files.{TreeFiles}
 use Rattle.ide_io.specs.Asks.{AsksEach, AsksFront, AsksSome, IsAskedInTurn}
 use Rattle.write_history.specs.Path.{is_path}
 use Rattle.script_lang.specs.declared.command.Command.{Command}
@@ -11,7 +11,7 @@ use Rattle.transcripts.specs.declared.loaded.Loaded.{Loaded}
 use Rattle.transcripts.specs.Loads.{AreLoadsOf, IsLoadOf, paths_asked, paths_of}
 
 -- what was read for all lines, once no line is left
-pub loads_end : (files : Option Files) (lines : List Line) (loads : List Loaded) (i : ℕ) → length lines ≤ i
+pub loads_end : (files : Option TreeFiles) (lines : List Line) (loads : List Loaded) (i : ℕ) → length lines ≤ i
     → ((rest : List Loaded) → AreLoadsOf files (drop i lines) rest → AreLoadsOf files lines (loads ++ rest)) → AreLoadsOf files lines loads
 loads_end files lines loads i past read =
     subst (AreLoadsOf files lines) (append-nil loads) (read [] (subst (λ (left : List Line). AreLoadsOf files left []) (sym (drop_all i lines past)) refl))
@@ -21,7 +21,7 @@ pub drop_at : (lines : List Line) (i : ℕ) (line : Line) → i < length lines �
 drop_at lines i line within is = drop_more lines i line within ∙ ap (λ l. l ∷ drop (i + 1) lines) (sym is)
 
 -- what was read for all lines, with one load more
-pub loads_turn : (files : Option Files) (lines : List Line) (line : Line) (loads more : List Loaded) (load : Loaded) (i : ℕ) → i < length lines → line ≡ get_or lines i line
+pub loads_turn : (files : Option TreeFiles) (lines : List Line) (line : Line) (loads more : List Loaded) (load : Loaded) (i : ℕ) → i < length lines → line ≡ get_or lines i line
     → more ≡ loads ++ load ∷ [] → IsLoadOf files line.command load
     → ((rest : List Loaded) → AreLoadsOf files (drop i lines) rest → AreLoadsOf files lines (loads ++ rest))
     → (rest : List Loaded) → AreLoadsOf files (drop (i + 1) lines) rest → AreLoadsOf files lines (more ++ rest)

@@ -6,7 +6,7 @@ use Rattle.script_lang.specs.declared.line.Line.{Line}
 use Rattle.transcripts.specs.declared.loaded.Loaded.{Loaded}
 use Rattle.transcripts.specs.declared.record.Record.{Record}
 use Rattle.script_lang.specs.Parts.{Parts}
-use Rattle.transcripts.specs.Serial.{Done, Ended, done_from, end_of, last_from, run_of}
+use Rattle.transcripts.specs.Serial.{Done, RunEnd, done_from, end_of, last_from, run_of}
 use Rattle.transcripts.specs.Fits.{Mark, mark_at, LanesFit, IsSeatOf, RunFits, run_beside}
 use Rattle.transcripts.proofs.SectionLemmas.{section_serial}
 
@@ -34,7 +34,7 @@ serial_ends loads prelude last opening whole records last_records first second =
     ∙ ap (λ (done : Done). end_of (record { history = opening; records = records }) done) second
 
 -- a run with no lane and no worker
-pub run_serial : (loads : List Loaded) (script : Parts) (ended : Ended) → script.lanes ≡ [] → RunFits loads script [] ended → ended ≡ run_of loads script
+pub run_serial : (loads : List Loaded) (script : Parts) (ended : RunEnd) → script.lanes ≡ [] → RunFits loads script [] ended → ended ≡ run_of loads script
 run_serial loads script ended none fits =
     let count : length script.lanes ≡ 0 = ap length none in
     let middle : fits.middle ≡ [] = no_entry (length script.lanes + 0) fits.middle (omega arith) fits.seats in

@@ -20,7 +20,7 @@ use Rattle.transcripts.specs.declared.loaded.Loaded.{Loaded}
 use Rattle.transcripts.specs.declared.record.Answer.{Answer}
 use Rattle.transcripts.specs.declared.record.Answer.TheVariants.{Cancelled}
 use Rattle.transcripts.specs.declared.record.Record.{Record}
-use Rattle.transcripts.specs.Serial.{Ended, step_of, first_load, later_loads}
+use Rattle.transcripts.specs.Serial.{RunEnd, step_of, first_load, later_loads}
 
 -- how far a section has come: how many entries it has seen, and how often it has found that a write waits
 pub record Mark : Type 0 where
@@ -141,7 +141,7 @@ pub record IsSeatOf (count seat : ℕ) : Type 0 where
 -- A whole run, where this was read for the prelude, with what each worker tells. The history is what the prelude made, then what the lanes and
 -- workers made, then what the last section made. The prelude's records fit the first part, those of the lanes the first two, and those of the
 -- last section the whole, each behind all that stood before it
-pub record RunFits (loads : List Loaded) (script : Parts) (workers : List Worked) (ended : Ended) : Type 0 where
+pub record RunFits (loads : List Loaded) (script : Parts) (workers : List Worked) (ended : RunEnd) : Type 0 where
   pub opening : List Entry
   pub middle : List Entry
   pub closing : List Entry

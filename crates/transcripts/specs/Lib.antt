@@ -14,7 +14,7 @@ pub use Rattle.query_engine.specs.Reply
 pub use Rattle.write_history.specs.World
 pub use Rattle.write_history.specs.Effect
 pub use Rattle.write_history.specs.Fold
-pub use Rattle.query_engine.specs.declared.answer.Answer
+pub use Rattle.query_engine.specs.declared.answer.Finding
 pub use Rattle.write_history.specs.Settle
 pub use Rattle.index_workers.specs.Sighting
 pub use Rattle.index_workers.specs.Work

@@ -7,15 +7,16 @@ use Rattle.write_history.specs.declared.refusal.Refusal.{Refusal}
 use Rattle.write_history.specs.declared.refusal.Refusal.TheVariants as why
 use Rattle.write_history.specs.Path.{is_path}
 use Rattle.write_history.specs.World.{World}
-use Rattle.write_history.specs.Fold.{fold, list_refusal, ListRefusal}
-use Rattle.write_history.specs.Settle.{entry_of, settled}
+use Rattle.write_history.specs.Fold.{fold, ListRefusal}
+use Rattle.write_history.specs.Serial as serial
 use Rattle.script_lang.specs.declared.command.Command.{Command}
 use Rattle.script_lang.specs.declared.command.Command.TheVariants as command
 use Rattle.script_lang.specs.declared.line.Line.{Line}
 use Rattle.script_lang.specs.Parts.{Parts}
 use Rattle.queries.specs.declared.query.Query.{Query}
-use Rattle.query_engine.specs.declared.answer.Answer.{Answer as Finding}
-use Rattle.query_engine.specs.Reply.{NoAnswer, no_such_file, not_ready, reply}
+use Rattle.query_engine.specs.declared.answer.Finding.{Finding}
+use Rattle.query_engine.specs.Reply as engine
+use Rattle.query_engine.specs.Reply.{NoAnswer, no_such_file, not_ready}
 use Rattle.query_engine.specs.Listed.{path_at}
 use Rattle.transcripts.specs.declared.loaded.Loaded.{Loaded}
 use Rattle.transcripts.specs.declared.loaded.Loaded.TheVariants as loaded
@@ -24,40 +25,47 @@ use Rattle.transcripts.specs.declared.record.Answer.TheVariants.{Accepted, Refus
 use Rattle.transcripts.specs.declared.record.Record.{Record}
 
 -- what a command adds to the history, and what it is answered
-pub record Step : Type 0 where
-  pub added : List Entry
-  pub answer : Answer
+abbrev pub CommandStep : Type 0
+CommandStep = serial.SerialStep Answer
 
 -- an answer adds nothing
-abbrev pub told : Answer → Step
+abbrev pub told : Answer → CommandStep
 told answer = record { added = []; answer = answer }
 
--- an entry is added where none of its changes is refused; the place of a refused change is told as said
-abbrev pub step_unless : Option ListRefusal → (ℕ → Option ℕ) → List Entry → Entry → Step
-step_unless None told_place history entry = record { added = entry ∷ []; answer = Accepted (length history + 1) }
-step_unless (Some refusal) told_place history entry = told (Refused (length history) (told_place refusal.place) refusal.why)
+-- a step whose answer, which is of a history of some length, is told so
+abbrev pub retold : {A : Type 0} → (ℕ → A → Answer) → serial.SerialStep (ℕ × A) → CommandStep
+retold tell step = record { added = step.added; answer = tell step.answer.0 step.answer.1 }
+
+-- what changes that go in together are answered; the place of a refused one is told as said
+abbrev pub changes_answer : (ℕ → Option ℕ) → ℕ → Option ListRefusal → Answer
+changes_answer told_place at None = Accepted at
+changes_answer told_place at (Some refusal) = Refused at (told_place refusal.place) refusal.why
+
+-- an entry is added where none of its changes is refused
+abbrev pub step_unless : Option ListRefusal → (ℕ → Option ℕ) → List Entry → Entry → CommandStep
+step_unless refusal told_place history entry = retold (changes_answer told_place) (serial.step_unless refusal history entry)
 
 -- what changes that go in together add and are answered
-abbrev pub changes_step : (ℕ → Option ℕ) → List Entry → ℕ → ℕ → List Change → Step
-changes_step told_place history seat line changes = step_unless (list_refusal (fold history) changes) told_place history (entry_of seat line changes)
+abbrev pub changes_step : (ℕ → Option ℕ) → List Entry → ℕ → ℕ → List Change → CommandStep
+changes_step told_place history seat line changes = retold (changes_answer told_place) (serial.changes_step history seat line changes)
 
 -- one change: no place is told
-abbrev pub change_step : List Entry → ℕ → ℕ → Change → Step
+abbrev pub change_step : List Entry → ℕ → ℕ → Change → CommandStep
 change_step history seat line change = changes_step (λ place. None) history seat line (change ∷ [])
 
 -- a group of changes: the place of the refused one is told
-abbrev pub group_step : List Entry → ℕ → ℕ → List Change → Step
+abbrev pub group_step : List Entry → ℕ → ℕ → List Change → CommandStep
 group_step history seat line changes = changes_step Some history seat line changes
 
 -- a load creates a file of what was read, where that is a text
-abbrev pub create_of : List Entry → ℕ → ℕ → List ℕ → Loaded → Step
+abbrev pub create_of : List Entry → ℕ → ℕ → List ℕ → Loaded → CommandStep
 create_of history seat line path (loaded.Text content) = change_step history seat line (Create path content)
 create_of history seat line path (loaded.NotText at) = told (NotText at)
 create_of history seat line path (loaded.TooLong count) = told (TooLong count)
 create_of history seat line path loaded.Nothing = told (NotText 0)
 
 -- a load of what was read; for an unlawful path nothing is read
-abbrev pub load_step : List Entry → ℕ → ℕ → List ℕ → Loaded → Step
+abbrev pub load_step : List Entry → ℕ → ℕ → List ℕ → Loaded → CommandStep
 load_step history seat line path load =
     if is_path path then create_of history seat line path load else told (Refused (length history) None why.BadPath)
 
@@ -67,11 +75,8 @@ settle_answer at None = Smart at
 settle_answer at (Some why) = Refused at None why
 
 -- a settle takes in every unready file, in order of ids, one entry each
-abbrev pub settle_step : List Entry → ℕ → ℕ → Step
-settle_step history seat line = record {
-  added = (settled history seat line).added;
-  answer = settle_answer (length (history ++ (settled history seat line).added)) (settled history seat line).refused;
-}
+abbrev pub settle_step : List Entry → ℕ → ℕ → CommandStep
+settle_step history seat line = retold settle_answer (serial.settle_step history seat line)
 
 -- what a question is answered, told at a prefix
 abbrev pub answer_of : World → ℕ → Result Finding NoAnswer → Answer
@@ -80,11 +85,11 @@ answer_of world at (Err no_such_file) = Refused at None why.NoSuchFile
 answer_of world at (Err (not_ready file)) = NotReady at (path_at world file)
 
 -- a question adds nothing
-abbrev pub query_step : List Entry → Query → Step
-query_step history query = told (answer_of (fold history) (length history) (reply (fold history) query))
+abbrev pub query_step : List Entry → Query → CommandStep
+query_step history query = retold (answer_of (fold history)) (engine.query_step history query)
 
 -- what a command of a line of a section does, where this is what a load of it reads
-abbrev pub step_of : Loaded → List Entry → ℕ → ℕ → Command → Step
+abbrev pub step_of : Loaded → List Entry → ℕ → ℕ → Command → CommandStep
 step_of load history seat line (command.Change change) = change_step history seat line change
 step_of load history seat line (command.Group changes) = group_step history seat line changes
 step_of load history seat line (command.Load path) = load_step history seat line path load
@@ -98,7 +103,7 @@ pub record Done : Type 0 where
   pub records : List Record
 
 -- what stands after a step of a line
-abbrev pub after_step : Done → ℕ → ℕ → Step → Done
+abbrev pub after_step : Done → ℕ → ℕ → CommandStep → Done
 after_step done seat line step =
     record { history = done.history ++ step.added; records = done.records ++ record { seat = seat; line = line; answer = step.answer } ∷ [] }
 
@@ -124,13 +129,13 @@ lanes_from seat done [] = done
 lanes_from seat done (lane ∷ lanes) = lanes_from (seat + 1) (done_from seat done lane []) lanes
 
 -- a history, the records before the last section, and those of the last section
-pub record Ended : Type 0 where
+pub record RunEnd : Type 0 where
   pub history : List Entry
   pub records : List Record
   pub last : List Record
 
 -- the last section, after all others
-abbrev pub end_of : Done → Done → Ended
+abbrev pub end_of : Done → Done → RunEnd
 end_of before last = record { history = last.history; records = before.records; last = last.records }
 
 -- prelude and lanes, from the empty history
@@ -142,5 +147,5 @@ abbrev pub last_from : List Entry → List Line → Done
 last_from history lines = done_from 0 (record { history = history; records = [] }) lines []
 
 -- a whole script, where this was read for each line of its prelude, and nothing for others
-abbrev pub run_of : List Loaded → Parts → Ended
+abbrev pub run_of : List Loaded → Parts → RunEnd
 run_of loads script = end_of (before_last loads script) (last_from (before_last loads script).history script.last)

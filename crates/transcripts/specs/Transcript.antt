@@ -10,12 +10,12 @@ use Rattle.query_engine.specs.declared.answer.Row.{Row}
 use Rattle.query_engine.specs.declared.answer.WordRow.{WordRow}
 use Rattle.query_engine.specs.declared.answer.PlaceRow.{PlaceRow}
 use Rattle.query_engine.specs.declared.answer.LevelRow.{LevelRow}
-use Rattle.query_engine.specs.declared.answer.Answer.{Answer as Finding}
-use Rattle.query_engine.specs.declared.answer.Answer.TheVariants.{Rows, Outline, Words, Usages, Inheritors, Keys, Counts}
+use Rattle.query_engine.specs.declared.answer.Finding.{Finding}
+use Rattle.query_engine.specs.declared.answer.Finding.TheVariants.{Rows, Outline, Words, Usages, Inheritors, Keys, Counts}
 use Rattle.transcripts.specs.declared.record.Answer.{Answer}
 use Rattle.transcripts.specs.declared.record.Answer.TheVariants.{Accepted, Refused, NotText, TooLong, Smart, NotReady, Found, Cancelled}
 use Rattle.transcripts.specs.declared.record.Record.{Record}
-use Rattle.transcripts.specs.Serial.{Ended}
+use Rattle.transcripts.specs.Serial.{RunEnd}
 
 -- a place where a word stands is named where its bit is set
 abbrev pub place_if : ℕ → ℕ → List ℕ → List (List ℕ)
@@ -169,7 +169,7 @@ abbrev pub history_text : List Entry → List ℕ
 history_text entries = codes "history " ++ decimal (length entries) ++ codes "\n" ++ entry_lines 1 entries
 
 -- the whole transcript of a history and its records
-abbrev pub transcript_of : Ended → List ℕ
+abbrev pub transcript_of : RunEnd → List ℕ
 transcript_of ended = history_text ended.history ++ flat_map record_text (ended.records ++ ended.last)
 
 -- the record of a command as a summary tells it: without its line's number and its prefix
@@ -177,5 +177,5 @@ abbrev pub summary_text : Record → List ℕ
 summary_text reply = answer_text reply.answer
 
 -- the summary: the records of the last section
-abbrev pub summary_of : Ended → List ℕ
+abbrev pub summary_of : RunEnd → List ℕ
 summary_of ended = flat_map summary_text ended.last

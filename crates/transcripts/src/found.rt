@@ -3,40 +3,40 @@ ghost use Rattle.std.specs.Prelude.{◌≡◌, ◌++◌, OnOk, string_bytes};
 ghost use Rattle.transcripts.specs.Transcript.{found_text, count_line, counts_line};
 
 use crate::rows::{push_keys, push_levels, push_outline, push_rows, push_usages, push_words};
-use query_engine::Answer;
+use query_engine::Finding;
 use std::alloc::AllocError;
 use write_history::push_numbered;
 
 /// Adds what a question found: a line that says how much, and one for each row.
-pub(crate) fn push_found(out: &mut String, found: &Answer) -> Result<(), AllocError>
+pub(crate) fn push_found(out: &mut String, found: &Finding) -> Result<(), AllocError>
     ensures { OnOk result (string_bytes out.new ≡ string_bytes out.old ++ found_text found.now) }
 {
     match found {
-        Answer::Rows { rows } => {
+        Finding::Rows { rows } => {
             push_count(out, rows.len())?;
             push_rows(out, rows.as_slice())
         }
-        Answer::Outline { rows } => {
+        Finding::Outline { rows } => {
             push_count(out, rows.len())?;
             push_outline(out, rows.as_slice())
         }
-        Answer::Words { rows } => {
+        Finding::Words { rows } => {
             push_count(out, rows.len())?;
             push_words(out, rows.as_slice())
         }
-        Answer::Usages { name, rows } => {
+        Finding::Usages { name, rows } => {
             push_count(out, rows.len())?;
             push_usages(out, name, rows.as_slice())
         }
-        Answer::Inheritors { rows } => {
+        Finding::Inheritors { rows } => {
             push_count(out, rows.len())?;
             push_levels(out, rows.as_slice())
         }
-        Answer::Keys { rows } => {
+        Finding::Keys { rows } => {
             push_count(out, rows.len())?;
             push_keys(out, rows.as_slice())
         }
-        Answer::Counts {
+        Finding::Counts {
             files,
             docs,
             unready,
@@ -46,7 +46,8 @@ pub(crate) fn push_found(out: &mut String, found: &Answer) -> Result<(), AllocEr
 
 /// Adds how many files, open documents and unready files there are, in a line.
 fn push_counts(out: &mut String, files: u32, docs: u32, unready: u32) -> Result<(), AllocError>
-    ensures { OnOk result (string_bytes out.new ≡ string_bytes out.old ++ counts_line files docs unready) }
+    ensures { OnOk result
+        (string_bytes out.new ≡ string_bytes out.old ++ counts_line files docs unready) }
 {
     write!(out, "status files {files}")?;
     write!(out, " open {docs}")?;

@@ -24,8 +24,10 @@ pub fn read_loads<T: Tree>(
     ensures loads { IfOk result (λ loads. AreLoadsOf (T.files tree.old) lines.now loads.items) }
     ensures asks { AsksFront T.asks tree.old (paths_of lines.now) tree.new }
     ensures asks_each { OnOk result (AsksEach T.asks tree.old (paths_of lines.now) tree.new) }
-    ensures asks_some { result ≡ Err LoadRefusal.TreeFault → AsksSome T.asks tree.old (paths_of lines.now) tree.new }
-    ensures fault { result ≡ Err LoadRefusal.TreeFault → HasFault (T.faults tree.old) (T.faults tree.new) }
+    ensures asks_some { result ≡ Err LoadRefusal.TreeFault
+        → AsksSome T.asks tree.old (paths_of lines.now) tree.new }
+    ensures fault { result ≡ Err LoadRefusal.TreeFault
+        → HasFault (T.faults tree.old) (T.faults tree.new) }
     ensures files { T.files tree.new ≡ T.files tree.old }
     ensures quiet { result ≢ Err LoadRefusal.TreeFault → T.faults tree.new ≡ T.faults tree.old }
 {
@@ -44,8 +46,10 @@ fn read_load<T: Tree>(alloc: Global, command: &Command, tree: &mut T) -> Result<
     ensures load { IfOk result (λ load. IsLoadOf (T.files tree.old) command.now load) }
     ensures asks { AsksFront T.asks tree.old (paths_asked command.now) tree.new }
     ensures asks_each { OnOk result (AsksEach T.asks tree.old (paths_asked command.now) tree.new) }
-    ensures asks_some { result ≡ Err LoadRefusal.TreeFault → AsksSome T.asks tree.old (paths_asked command.now) tree.new }
-    ensures fault { result ≡ Err LoadRefusal.TreeFault → HasFault (T.faults tree.old) (T.faults tree.new) }
+    ensures asks_some { result ≡ Err LoadRefusal.TreeFault
+        → AsksSome T.asks tree.old (paths_asked command.now) tree.new }
+    ensures fault { result ≡ Err LoadRefusal.TreeFault
+        → HasFault (T.faults tree.old) (T.faults tree.new) }
     ensures files { T.files tree.new ≡ T.files tree.old }
     ensures quiet { result ≢ Err LoadRefusal.TreeFault → T.faults tree.new ≡ T.faults tree.old }
 {

@@ -4,6 +4,7 @@ ghost use Rattle.std.specs.List.{flat_map};
 ghost use Rattle.std.specs.Option.{option_map_or};
 ghost use Rattle.std.specs.Fmt.{decimal};
 ghost use Rattle.write_history.specs.Print.{why_text};
+ghost use Rattle.transcripts.specs.Play.{ended_of};
 ghost use Rattle.transcripts.specs.Transcript.{transcript_of, summary_of, history_text, entry_lines, record_text, summary_text, prefix_text, answer_text, place_of_refusal};
 
 use crate::found::push_found;
@@ -16,8 +17,7 @@ const USUAL_LINE: usize = 32;
 
 /// The transcript: the history, then one record for each command, in UTF-8.
 pub fn transcript(alloc: Global, played: &Played) -> Result<Vec<u8>, AllocError>
-    ensures { IfOk result (λ bytes. bytes.items
-        ≡ transcript_of (record { history = played.now.history.entries; records = played.now.records; last = played.now.last })) }
+    ensures { IfOk result (λ bytes. bytes.items ≡ transcript_of (ended_of played.now)) }
 {
     let mut out = String::new(alloc);
     out.reserve(usual_len(played))?;
@@ -38,8 +38,7 @@ fn usual_len(played: &Played) -> usize {
 
 /// The summary: what the commands of the last section were answered, without the numbers of lines and prefixes.
 pub fn summary(alloc: Global, played: &Played) -> Result<Vec<u8>, AllocError>
-    ensures { IfOk result (λ bytes. bytes.items
-        ≡ summary_of (record { history = played.now.history.entries; records = played.now.records; last = played.now.last })) }
+    ensures { IfOk result (λ bytes. bytes.items ≡ summary_of (ended_of played.now)) }
 {
     let mut out = String::new(alloc);
     push_answers(&mut out, played.last.as_slice())?;
@@ -57,7 +56,8 @@ pub fn record_text(alloc: Global, reply: &Record) -> Result<Vec<u8>, AllocError>
 
 /// Adds the history: its length, then the lines of each entry.
 fn push_history(out: &mut String, history: &History) -> Result<(), AllocError>
-    ensures { OnOk result (string_bytes out.new ≡ string_bytes out.old ++ history_text history.now.entries) }
+    ensures { OnOk result
+        (string_bytes out.new ≡ string_bytes out.old ++ history_text history.now.entries) }
 {
     let len = history.len();
     write!(out, "history {len}\n")?;
@@ -66,7 +66,8 @@ fn push_history(out: &mut String, history: &History) -> Result<(), AllocError>
 
 /// Adds the lines of each entry.
 fn push_entries(out: &mut String, history: &History) -> Result<(), AllocError>
-    ensures { OnOk result (string_bytes out.new ≡ string_bytes out.old ++ entry_lines 1 history.now.entries) }
+    ensures { OnOk result
+        (string_bytes out.new ≡ string_bytes out.old ++ entry_lines 1 history.now.entries) }
 {
     for before in 0..history.len() {
         let position = before + 1;
@@ -77,7 +78,8 @@ fn push_entries(out: &mut String, history: &History) -> Result<(), AllocError>
 
 /// Adds the records.
 fn push_records(out: &mut String, replies: &[Record]) -> Result<(), AllocError>
-    ensures { OnOk result (string_bytes out.new ≡ string_bytes out.old ++ flat_map record_text replies.now) }
+    ensures { OnOk result
+        (string_bytes out.new ≡ string_bytes out.old ++ flat_map record_text replies.now) }
 {
     for reply in replies {
         push_record(out, reply)?;
@@ -87,7 +89,8 @@ fn push_records(out: &mut String, replies: &[Record]) -> Result<(), AllocError>
 
 /// Adds the records as a summary tells them.
 fn push_answers(out: &mut String, replies: &[Record]) -> Result<(), AllocError>
-    ensures { OnOk result (string_bytes out.new ≡ string_bytes out.old ++ flat_map summary_text replies.now) }
+    ensures { OnOk result
+        (string_bytes out.new ≡ string_bytes out.old ++ flat_map summary_text replies.now) }
 {
     for reply in replies {
         push_answer(out, &reply.answer)?;
@@ -118,7 +121,8 @@ fn push_prefix(out: &mut String, answer: &Answer) -> Result<(), AllocError>
 
 /// The prefix at which an answer holds, where it has one.
 fn prefix(answer: &Answer) -> Option<u64>
-    ensures { option_map_or (λ at. codes "at " ++ decimal at ++ codes " ") result [] ≡ prefix_text answer.now }
+    ensures { option_map_or (λ at. codes "at " ++ decimal at ++ codes " ") result []
+        ≡ prefix_text answer.now }
 {
     match answer {
         Answer::NotText { .. } => None,
@@ -153,7 +157,9 @@ fn push_answer(out: &mut String, answer: &Answer) -> Result<(), AllocError>
 
 /// Adds a refusal, of a group with the place of the change that it refuses.
 fn push_refusal(out: &mut String, place: Option<u32>, why: Refusal) -> Result<(), AllocError>
-    ensures { OnOk result (string_bytes out.new ≡ string_bytes out.old ++ (codes "refused " ++ place_of_refusal place ++ why_text why ++ codes "\n")) }
+    ensures { OnOk result
+        (string_bytes out.new ≡ string_bytes out.old
+        ++ (codes "refused " ++ place_of_refusal place ++ why_text why ++ codes "\n")) }
 {
     match place {
         None => write!(out, "refused {why}\n"),

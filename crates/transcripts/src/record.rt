@@ -40,7 +40,7 @@ pub enum Answer {
     /// What a question found.
     Found {
         at: u64,
-        found: query_engine::Answer,
+        found: query_engine::Finding,
     },
     /// A soft question was given up: each of its attempts found that a write waits.
     Cancelled {
@@ -55,6 +55,7 @@ pub struct Record {
     pub seat: u32,
     /// From 1.
     pub line: u32,
+    /// What the command is answered.
     pub answer: Answer,
 }
 
@@ -121,8 +122,12 @@ impl Records {
 /// each worker did, in order of their seats.
 #[derive(Drop)]
 pub struct Played {
+    /// The accepted entries.
     pub history: History,
+    /// The answers before the last section.
     pub records: Records,
+    /// The answers of the last section.
     pub last: Records,
+    /// What each worker did.
     pub workers: Vec<Worked>,
 }

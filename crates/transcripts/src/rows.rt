@@ -10,7 +10,8 @@ use write_history::{push_named, push_numbered};
 
 /// Adds the lines of declarations that a question found.
 pub(crate) fn push_rows(out: &mut String, rows: &[Row]) -> Result<(), AllocError>
-    ensures { OnOk result (string_bytes out.new ≡ string_bytes out.old ++ flat_map found_line rows.now) }
+    ensures { OnOk result
+        (string_bytes out.new ≡ string_bytes out.old ++ flat_map found_line rows.now) }
 {
     for row in rows {
         push_row(out, row)?;
@@ -33,7 +34,8 @@ pub(crate) fn push_usages(
     name: &Name,
     rows: &[PlaceRow],
 ) -> Result<(), AllocError>
-    ensures { OnOk result (string_bytes out.new ≡ string_bytes out.old ++ flat_map (usage_line name.now) rows.now) }
+    ensures { OnOk result
+        (string_bytes out.new ≡ string_bytes out.old ++ flat_map (usage_line name.now) rows.now) }
 {
     for row in rows {
         push_usage(out, name, row)?;
@@ -43,7 +45,8 @@ pub(crate) fn push_usages(
 
 /// Adds the line of a place where a name stands.
 fn push_usage(out: &mut String, name: &Name, row: &PlaceRow) -> Result<(), AllocError>
-    ensures { OnOk result (string_bytes out.new ≡ string_bytes out.old ++ usage_line name.now row.now) }
+    ensures { OnOk result
+        (string_bytes out.new ≡ string_bytes out.old ++ usage_line name.now row.now) }
 {
     push_place(out, &row.path, row.line, row.column)?;
     push_named(out, " usage ", name)?;
@@ -52,7 +55,8 @@ fn push_usage(out: &mut String, name: &Name, row: &PlaceRow) -> Result<(), Alloc
 
 /// Adds the lines of places where a property key stands.
 pub(crate) fn push_keys(out: &mut String, rows: &[PlaceRow]) -> Result<(), AllocError>
-    ensures { OnOk result (string_bytes out.new ≡ string_bytes out.old ++ flat_map key_line rows.now) }
+    ensures { OnOk result
+        (string_bytes out.new ≡ string_bytes out.old ++ flat_map key_line rows.now) }
 {
     for row in rows {
         push_key(out, row)?;
@@ -70,7 +74,8 @@ fn push_key(out: &mut String, row: &PlaceRow) -> Result<(), AllocError>
 
 /// Adds the lines of types that come from a name.
 pub(crate) fn push_levels(out: &mut String, rows: &[LevelRow]) -> Result<(), AllocError>
-    ensures { OnOk result (string_bytes out.new ≡ string_bytes out.old ++ flat_map level_line rows.now) }
+    ensures { OnOk result
+        (string_bytes out.new ≡ string_bytes out.old ++ flat_map level_line rows.now) }
 {
     for found in rows {
         push_level(out, found)?;
@@ -91,7 +96,8 @@ fn push_level(out: &mut String, found: &LevelRow) -> Result<(), AllocError>
 
 /// Adds the lines of files that have a word.
 pub(crate) fn push_words(out: &mut String, rows: &[WordRow]) -> Result<(), AllocError>
-    ensures { OnOk result (string_bytes out.new ≡ string_bytes out.old ++ flat_map word_line rows.now) }
+    ensures { OnOk result
+        (string_bytes out.new ≡ string_bytes out.old ++ flat_map word_line rows.now) }
 {
     for row in rows {
         push_word(out, row)?;
@@ -111,7 +117,8 @@ fn push_word(out: &mut String, row: &WordRow) -> Result<(), AllocError>
 
 /// Adds the lines of a file's declarations.
 pub(crate) fn push_outline(out: &mut String, rows: &[Row]) -> Result<(), AllocError>
-    ensures { OnOk result (string_bytes out.new ≡ string_bytes out.old ++ flat_map outline_line rows.now) }
+    ensures { OnOk result
+        (string_bytes out.new ≡ string_bytes out.old ++ flat_map outline_line rows.now) }
 {
     for row in rows {
         push_declaration(out, row)?;
@@ -133,7 +140,8 @@ fn push_declaration(out: &mut String, row: &Row) -> Result<(), AllocError>
 
 /// Adds a place in a file.
 fn push_place(out: &mut String, path: &Name, line: u32, column: u32) -> Result<(), AllocError>
-    ensures { OnOk result (string_bytes out.new ≡ string_bytes out.old ++ place_text path.now line column) }
+    ensures { OnOk result
+        (string_bytes out.new ≡ string_bytes out.old ++ place_text path.now line column) }
 {
     push_named(out, "  ", path)?;
     push_numbered(out, ":", line as u64)?;
@@ -172,7 +180,8 @@ fn push_supers(out: &mut String, supers: &[Name]) -> Result<(), AllocError>
 
 /// Adds names, each after a space.
 fn push_names(out: &mut String, names: &[Name]) -> Result<(), AllocError>
-    ensures { OnOk result (string_bytes out.new ≡ string_bytes out.old ++ flat_map super_text names.now) }
+    ensures { OnOk result
+        (string_bytes out.new ≡ string_bytes out.old ++ flat_map super_text names.now) }
 {
     for name in names {
         push_name(out, name)?;

@@ -91,18 +91,6 @@ found_after rows rows' path kept id row found each free other =
     by true = refl
     by false = refl
 
--- rows whose paths stay are found as before
-pub found_same : (rows rows' : Rows) (path : List ℕ) (kept : Option ℕ) (id : ℕ) (row : Option FileRow) → IsFound rows path kept
-    → ((other : ℕ) → row_in rows' other ≡ (if id == other then row else row_in rows other))
-    → has_path path row ≡ has_path path (row_in rows id)
-    → IsFound rows' path kept
-found_same rows rows' path kept id row found each same other =
-    found other
-    ∙ bool_cases (eqb id other) (λ e. has_path path (row_in rows other) ≡ has_path path (cond e row (row_in rows other)))
-    (λ e. ap (λ k. has_path path (row_in rows k)) (sym (eqb-true id other e)) ∙ sym same)
-    (λ ne. refl)
-    ∙ ap (has_path path) (sym (each other))
-
 abbrev Entries : Type 0
 Entries = List (List ℕ × Option ℕ)
 

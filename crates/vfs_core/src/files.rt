@@ -50,7 +50,8 @@ impl Files {
     pub fn by_path(&self, path: &Name) -> Option<u32>
         ensures first { result ≡ id_at self.now path.now }
         ensures has { IfSome result (λ id. IsTrue (has_path path.now (row_of self.now id))) }
-        ensures only { (id : ℕ) → IsTrue (has_path path.now (row_of self.now id)) → result ≡ Some id }
+        ensures only { (id : ℕ) → IsTrue (has_path path.now (row_of self.now id))
+            → result ≡ Some id }
     {
         self.paths.get(path)
     }
@@ -121,7 +122,8 @@ impl Files {
         ensures stamp { self.new.next_stamp ≡ self.old.next_stamp }
         ensures gone { id_at self.old path.now ≡ None → HasPathRoom self.new path.now → ⊥ }
         ensures keeps_rows { self.old.capacity ≤ self.new.capacity }
-        ensures keeps_paths { (other : List ℕ) → bytes_eq path.now other ≡ false → HasPathRoom self.old other → HasPathRoom self.new other }
+        ensures keeps_paths { (other : List ℕ) → bytes_eq path.now other ≡ false
+            → HasPathRoom self.old other → HasPathRoom self.new other }
     {
         self.paths.sweep(path);
     }
@@ -149,7 +151,8 @@ impl Files {
         requires stamped { IfSome row (λ r. IsStamped self.old.next_stamp (Some r)) }
         ensures old { result ≡ row_of self.old id }
         ensures rows { self.new.rows ≡ with_row id row self.old.rows }
-        ensures each { (other : ℕ) → row_of self.new other ≡ (if id == other then row else row_of self.old other) }
+        ensures each { (other : ℕ)
+            → row_of self.new other ≡ (if id == other then row else row_of self.old other) }
         ensures stamp { self.new.next_stamp ≡ self.old.next_stamp }
         ensures keeps_room { KeepsRoom self.old self.new }
     {
@@ -166,8 +169,12 @@ impl Files {
         requires free { id_at self.old path ≡ None }
         requires stamps { self.old.next_stamp < u64.MAX }
         ensures id { result ≡ length self.old.rows + 1 }
-        ensures rows { self.new.rows ≡ self.old.rows ++ Some (new_row path content self.old.next_stamp) ∷ [] }
-        ensures each { (other : ℕ) → row_of self.new other ≡ (if result == other then Some (new_row path content self.old.next_stamp) else row_of self.old other) }
+        ensures rows { self.new.rows ≡ self.old.rows
+            ++ Some (new_row path content self.old.next_stamp) ∷ [] }
+        ensures each { (other : ℕ)
+            → row_of self.new other
+            ≡ (if result == other then Some (new_row path content self.old.next_stamp)
+            else row_of self.old other) }
         ensures stamp { self.new.next_stamp ≡ self.old.next_stamp + 1 }
         ensures keeps_room { KeepsRoom self.old self.new }
     {
@@ -187,8 +194,14 @@ impl Files {
     pub fn write(&mut self, id: u32, content: SharedText)
         requires live { IsSome (row_of self.old id) }
         requires stamps { self.old.next_stamp < u64.MAX }
-        ensures rows { self.new.rows ≡ slice_set self.old.rows (id - 1) (option_map (rewritten content self.old.next_stamp) (row_of self.old id)) }
-        ensures each { (other : ℕ) → row_of self.new other ≡ (if id == other then option_map (rewritten content self.old.next_stamp) (row_of self.old id) else row_of self.old other) }
+        ensures rows { self.new.rows
+            ≡ slice_set self.old.rows (id - 1)
+            (option_map (rewritten content self.old.next_stamp) (row_of self.old id)) }
+        ensures each { (other : ℕ)
+            → row_of self.new other
+            ≡ (if id == other
+            then option_map (rewritten content self.old.next_stamp) (row_of self.old id)
+            else row_of self.old other) }
         ensures stamp { self.new.next_stamp ≡ self.old.next_stamp + 1 }
         ensures keeps_room { KeepsRoom self.old self.new }
     {
@@ -209,7 +222,8 @@ impl Files {
     pub fn remove(&mut self, id: u32)
         requires live { IsSome (row_of self.old id) }
         ensures rows { self.new.rows ≡ slice_set self.old.rows (id - 1) None }
-        ensures each { (other : ℕ) → row_of self.new other ≡ (if id == other then None else row_of self.old other) }
+        ensures each { (other : ℕ)
+            → row_of self.new other ≡ (if id == other then None else row_of self.old other) }
         ensures stamp { self.new.next_stamp ≡ self.old.next_stamp }
         ensures keeps_room { KeepsRoom self.old self.new }
     {
@@ -219,8 +233,12 @@ impl Files {
     /// Lets a live file count as indexed at its stamp. It takes no memory and constant time.
     pub fn set_indexed(&mut self, id: u32)
         requires live { IsSome (row_of self.old id) }
-        ensures rows { self.new.rows ≡ slice_set self.old.rows (id - 1) (option_map indexed_now (row_of self.old id)) }
-        ensures each { (other : ℕ) → row_of self.new other ≡ (if id == other then option_map indexed_now (row_of self.old id) else row_of self.old other) }
+        ensures rows { self.new.rows
+            ≡ slice_set self.old.rows (id - 1) (option_map indexed_now (row_of self.old id)) }
+        ensures each { (other : ℕ)
+            → row_of self.new other
+            ≡ (if id == other then option_map indexed_now (row_of self.old id)
+            else row_of self.old other) }
         ensures stamp { self.new.next_stamp ≡ self.old.next_stamp }
         ensures keeps_room { KeepsRoom self.old self.new }
     {
@@ -236,8 +254,14 @@ impl Files {
         requires place { HasPathRoom self.old to }
         requires free { id_at self.old to ≡ None }
         requires stamps { self.old.next_stamp < u64.MAX }
-        ensures rows { self.new.rows ≡ slice_set self.old.rows (id - 1) (option_map (renamed to self.old.next_stamp) (row_of self.old id)) }
-        ensures each { (other : ℕ) → row_of self.new other ≡ (if id == other then option_map (renamed to self.old.next_stamp) (row_of self.old id) else row_of self.old other) }
+        ensures rows { self.new.rows
+            ≡ slice_set self.old.rows (id - 1)
+            (option_map (renamed to self.old.next_stamp) (row_of self.old id)) }
+        ensures each { (other : ℕ)
+            → row_of self.new other
+            ≡ (if id == other
+            then option_map (renamed to self.old.next_stamp) (row_of self.old id)
+            else row_of self.old other) }
         ensures stamp { self.new.next_stamp ≡ self.old.next_stamp + 1 }
         ensures keeps_room { KeepsRoom self.old self.new }
     {
@@ -272,10 +296,17 @@ impl Files {
 
 /// Lets the ids of paths follow a row that took the place of another.
 fn follow(paths: &mut Paths, id: u32, gone: Option<&FileRow>, come: Option<&FileRow>)
-    requires kept { (path : List ℕ) → IsTrue (has_path path (option_copied gone)) → id_kept path paths.old ≡ Some id }
-    requires place { IfSome come (λ row. has_path row.now.path (option_copied gone) ≡ false → IsTrue (has_name (keys_of paths.old) row.now.path)) }
-    ensures ids { (path : List ℕ) → id_kept path paths.new ≡ id_after id (option_copied gone.entry) (option_copied come.entry) path (id_kept path paths.old) }
-    ensures keeps_room { (path : List ℕ) → IsTrue (has_name (keys_of paths.old) path) → IsTrue (has_name (keys_of paths.new) path) }
+    requires kept { (path : List ℕ) → IsTrue (has_path path (option_copied gone))
+        → id_kept path paths.old ≡ Some id }
+    requires place { IfSome come
+        (λ row. has_path row.now.path (option_copied gone) ≡ false
+        → IsTrue (has_name (keys_of paths.old) row.now.path)) }
+    ensures ids { (path : List ℕ)
+        → id_kept path paths.new
+        ≡ id_after id (option_copied gone.entry) (option_copied come.entry) path
+        (id_kept path paths.old) }
+    ensures keeps_room { (path : List ℕ) → IsTrue (has_name (keys_of paths.old) path)
+        → IsTrue (has_name (keys_of paths.new) path) }
 {
     if let (Some(gone), Some(come)) = (gone, come)
         && gone.path == come.path

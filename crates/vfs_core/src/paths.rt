@@ -46,7 +46,8 @@ impl Paths {
     pub(crate) fn reserve(&mut self, path: &Name) -> Result<(), AllocError>
         ensures same { (other : List ℕ) → id_kept other self.new ≡ id_kept other self.old }
         ensures room { OnOk result (IsTrue (has_name (keys_of self.new) path.now)) }
-        ensures keeps_room { (other : List ℕ) → IsTrue (has_name (keys_of self.old) other) → IsTrue (has_name (keys_of self.new) other) }
+        ensures keeps_room { (other : List ℕ) → IsTrue (has_name (keys_of self.old) other)
+            → IsTrue (has_name (keys_of self.new) other) }
     {
         if !self.ids.contains_key(path) {
             self.ids.insert(path.copy()?, None)?;
@@ -57,8 +58,11 @@ impl Paths {
     /// Gives a path an id, or none. It takes no memory.
     pub(crate) fn set(&mut self, path: &Name, id: Option<u32>)
         requires { IsTrue (has_name (keys_of self.old) path.now) }
-        ensures ids { (other : List ℕ) → id_kept other self.new ≡ (if bytes_eq path.now other then id else id_kept other self.old) }
-        ensures keeps_room { (other : List ℕ) → IsTrue (has_name (keys_of self.old) other) → IsTrue (has_name (keys_of self.new) other) }
+        ensures ids { (other : List ℕ)
+            → id_kept other self.new
+            ≡ (if bytes_eq path.now other then id else id_kept other self.old) }
+        ensures keeps_room { (other : List ℕ) → IsTrue (has_name (keys_of self.old) other)
+            → IsTrue (has_name (keys_of self.new) other) }
     {
         let Some(kept) = self.ids.get_mut(path) else {
             unreachable!()
@@ -69,7 +73,10 @@ impl Paths {
     /// Gives up the place of a path that has no id.
     pub(crate) fn sweep(&mut self, path: &Name)
         ensures same { (other : List ℕ) → id_kept other self.new ≡ id_kept other self.old }
-        ensures places { (other : List ℕ) → has_name (keys_of self.new) other ≡ (has_name (keys_of self.old) other && (not (bytes_eq path.now other) || is_some (id_kept path.now self.old))) }
+        ensures places { (other : List ℕ)
+            → has_name (keys_of self.new) other
+            ≡ (has_name (keys_of self.old) other &&
+            (not (bytes_eq path.now other) || is_some (id_kept path.now self.old))) }
     {
         if self.get(path).is_none() {
             self.ids.swap_remove(path);
@@ -78,7 +85,8 @@ impl Paths {
 
     /// The same ids once more.
     pub(crate) fn copy(&self) -> Result<Paths, AllocError>
-        ensures { IfOk result (λ copy. (path : List ℕ) → id_kept path copy ≡ id_kept path self.now) }
+        ensures { IfOk result
+            (λ copy. (path : List ℕ) → id_kept path copy ≡ id_kept path self.now) }
     {
         let mut ids = IndexMap::with_capacity(self.alloc, self.ids.len())?;
         for (path, id) in &self.ids {

@@ -82,8 +82,11 @@ impl Rows {
         requires room { length self.old.rows < id → id ≤ self.old.capacity }
         ensures old { result ≡ row_in self.old.rows id }
         ensures rows { self.new.rows ≡ with_row id row self.old.rows }
-        ensures each { (other : ℕ) → row_in self.new.rows other ≡ (if id == other then row else row_in self.old.rows other) }
-        ensures kept { id ≤ length self.old.rows → self.new.rows ≡ slice_set self.old.rows (id - 1) row }
+        ensures each { (other : ℕ)
+            → row_in self.new.rows other
+            ≡ (if id == other then row else row_in self.old.rows other) }
+        ensures kept { id ≤ length self.old.rows
+            → self.new.rows ≡ slice_set self.old.rows (id - 1) row }
         ensures made { id ≤ length self.old.rows → length self.new.rows ≡ length self.old.rows }
         ensures keeps_room { self.old.capacity ≤ self.new.capacity }
     {

@@ -1,7 +1,7 @@
 //! Questions about a name, and what their answers show.
 use ide_text::Name;
 use queries::Query;
-use query_engine::{Answer, LevelRow, PlaceRow};
+use query_engine::{Finding, LevelRow, PlaceRow};
 use std::alloc::{AllocError, Global};
 
 /// A question about a name or a key.
@@ -40,22 +40,22 @@ pub fn extension_of(asked: Asked) -> &'static str {
 }
 
 /// The number of rows of an answer, if it has rows.
-pub fn row_count(answer: &Answer) -> Option<usize> {
+pub fn row_count(answer: &Finding) -> Option<usize> {
     match answer {
-        Answer::Rows { rows } => Some(rows.len()),
-        Answer::Usages { rows, .. } => Some(rows.len()),
-        Answer::Inheritors { rows } => Some(rows.len()),
-        Answer::Keys { rows } => Some(rows.len()),
+        Finding::Rows { rows } => Some(rows.len()),
+        Finding::Usages { rows, .. } => Some(rows.len()),
+        Finding::Inheritors { rows } => Some(rows.len()),
+        Finding::Keys { rows } => Some(rows.len()),
         _ => None,
     }
 }
 
 /// Adds the rows of an answer: of usages and keys the places, of inheritors places and levels.
-pub fn push_rows(alloc: Global, answer: &Answer, out: &mut String) -> Result<(), AllocError> {
+pub fn push_rows(alloc: Global, answer: &Finding, out: &mut String) -> Result<(), AllocError> {
     match answer {
-        Answer::Usages { rows, .. } => push_places(alloc, rows.as_slice(), out),
-        Answer::Inheritors { rows } => push_levels(alloc, rows.as_slice(), out),
-        Answer::Keys { rows } => push_places(alloc, rows.as_slice(), out),
+        Finding::Usages { rows, .. } => push_places(alloc, rows.as_slice(), out),
+        Finding::Inheritors { rows } => push_levels(alloc, rows.as_slice(), out),
+        Finding::Keys { rows } => push_places(alloc, rows.as_slice(), out),
         _ => out.push_str("other rows; "),
     }
 }

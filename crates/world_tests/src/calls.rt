@@ -9,7 +9,7 @@ use ide_calls::{IdeHome, IdeShare};
 use ide_text::{Name, SharedText, Text};
 use ide_world::{State, prepare};
 use queries::Query;
-use query_engine::{Answer, ask_unwatched};
+use query_engine::{Finding, ask_unwatched};
 use std::alloc::{AllocError, Global};
 use write_history::{Change, Changes, Entry};
 
@@ -121,7 +121,7 @@ pub fn rows(alloc: Global, state: &State, name: &str) -> Result<Option<usize>, A
         name: Name::of(alloc, name)?,
     };
     match ask_unwatched(alloc, state, &query) {
-        Ok(Answer::Rows { rows }) => Ok(Some(rows.len())),
+        Ok(Finding::Rows { rows }) => Ok(Some(rows.len())),
         Ok(_) => Ok(None),
         Err(_) => Ok(None),
     }

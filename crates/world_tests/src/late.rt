@@ -57,8 +57,11 @@ pub fn late_intake(
 
 /// The index data of a file, if it is unready.
 fn made_of(alloc: Global, home: &IdeHome, file: u32) -> Result<Option<Made>, AllocError>
-    ensures { IfOk result (λ made. IfSome made (λ m.
-        task_with_id (fold home.now) file ≡ Some (record { file = m.file; kind = m.kind; stamp = m.stamp; content = m.text }))) }
+    ensures { IfOk result
+        (λ made. IfSome made
+        (λ m. task_with_id (fold home.now) file
+        ≡ Some
+        (record { file = m.file; kind = m.kind; stamp = m.stamp; content = m.text }))) }
 {
     let share = share_of(alloc, home)?;
     match job(share.state(), file)? {
@@ -69,7 +72,8 @@ fn made_of(alloc: Global, home: &IdeHome, file: u32) -> Result<Option<Made>, All
 
 /// Has index data taken in.
 fn taken_in(alloc: Global, home: &mut IdeHome, made: Made) -> Result<Late, AllocError>
-    requires { IsOfWorld (fold home.old) (record { file = made.file; kind = made.kind; stamp = made.stamp; content = made.text }) }
+    requires { IsOfWorld (fold home.old)
+        (record { file = made.file; kind = made.kind; stamp = made.stamp; content = made.text }) }
 {
     let intake = Change::Intake {
         file: made.file,

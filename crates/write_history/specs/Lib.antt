@@ -5,6 +5,7 @@ pub mod Changes
 pub mod Effect
 pub mod Fold
 pub mod Settle
+pub mod Serial
 pub mod Stamps
 pub mod Counts
 -- The kept history and its print

@@ -8,5 +8,6 @@ pub struct Entry {
     pub seat: u32,
     /// From 1; 0 where no line of the script asked for it.
     pub line: u32,
+    /// The changes, in order.
     pub changes: Changes,
 }

@@ -7,7 +7,8 @@ use std::alloc::AllocError;
 
 /// Adds a text, and a number in decimal behind it.
 pub fn push_numbered(out: &mut String, before: &str, number: u64) -> Result<(), AllocError>
-    ensures { OnOk result (string_bytes out.new ≡ string_bytes out.old ++ (before.now ++ decimal number)) }
+    ensures { OnOk result
+        (string_bytes out.new ≡ string_bytes out.old ++ (before.now ++ decimal number)) }
 {
     let mut digits = Buffer::new();
     out.push_str(before)?;
@@ -16,7 +17,8 @@ pub fn push_numbered(out: &mut String, before: &str, number: u64) -> Result<(), 
 
 /// Adds a text, and a name behind it.
 pub fn push_named(out: &mut String, before: &str, name: &Name) -> Result<(), AllocError>
-    ensures { OnOk result (string_bytes out.new ≡ string_bytes out.old ++ (before.now ++ encode_utf8_all name.now)) }
+    ensures { OnOk result
+        (string_bytes out.new ≡ string_bytes out.old ++ (before.now ++ encode_utf8_all name.now)) }
 {
     out.push_str(before)?;
     out.push_str(name.as_str())

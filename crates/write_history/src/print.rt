@@ -18,7 +18,8 @@ pub fn line_of(alloc: Global, position: u64, entry: &Entry) -> Result<Vec<u8>, A
 
 /// Adds that line.
 pub fn push_line(out: &mut String, position: u64, entry: &Entry) -> Result<(), AllocError>
-    ensures { OnOk result (string_bytes out.new ≡ string_bytes out.old ++ entry_line position entry.now) }
+    ensures { OnOk result
+        (string_bytes out.new ≡ string_bytes out.old ++ entry_line position entry.now) }
 {
     push_numbered(out, "", position)?;
     push_numbered(out, " ", entry.seat as u64)?;
@@ -29,7 +30,8 @@ pub fn push_line(out: &mut String, position: u64, entry: &Entry) -> Result<(), A
 
 /// Adds what the line of an entry ends in, and the lines of a group.
 fn push_changes(out: &mut String, changes: &[Change]) -> Result<(), AllocError>
-    ensures { OnOk result (string_bytes out.new ≡ string_bytes out.old ++ changes_text changes.now) }
+    ensures { OnOk result
+        (string_bytes out.new ≡ string_bytes out.old ++ changes_text changes.now) }
 {
     match changes {
         [change] => {

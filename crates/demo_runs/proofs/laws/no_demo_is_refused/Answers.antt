@@ -1,8 +1,5 @@
-use Rattle.demo.specs.Script.{demo_bytes}
-use Rattle.demo_runs.specs.Parts.{demo_parts}
 use Rattle.demo_runs.proofs.laws.no_demo_is_refused.Goals as goal
 
 pub returns : goal.returns
 returns c = λ seed files edits line some few fits refused.
-    c.scripts_are_not_refused.ensures (demo_bytes seed files edits) (demo_parts seed files edits) line
-    (c.a_demo_is_lawful.ensures.script seed files edits some few fits) refused
+    c.scripts_are_not_refused.ensures _ _ line (c.a_demo_is_lawful.ensures.script seed files edits some few fits) refused

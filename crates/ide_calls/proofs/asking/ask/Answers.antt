@@ -9,4 +9,4 @@ returns-after-is_ok-clause-ok g c =
     let stands = c.share.ensures.stands in
     has_replied _ _ _ (view_of c.in-Ok.reading.pass.now) _ _
     (record { waited = read.3; advances = read.4; stands = c.state.ensures ∙ stands.0; legal = stands.1; left = search rules })
-    _ _ c.reply_to_end-replied.ensures
+    c.number-seat.result _ _ c.number-seat.ensures c.reply_to_end-replied.ensures

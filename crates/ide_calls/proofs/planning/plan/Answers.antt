@@ -9,7 +9,7 @@ returns-in-Ok-clause-refused g c =
     let stands = c.share.ensures.stands in
     has_refused _ _ _ (view_of c.in-Ok.reading.pass.now) _ _
     (record { waited = read.3; advances = read.4; stands = c.state.ensures ∙ stands.0; legal = stands.1; left = search rules })
-    _ _ c.plan_in-planned.ensures.refused
+    c.args.changes.now _ c.plan_in-planned.ensures.refused
 
 pub returns-in-Ok-clause-ok : goal.returns-in-Ok-clause-ok
 returns-in-Ok-clause-ok g c =

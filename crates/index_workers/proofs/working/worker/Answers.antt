@@ -20,7 +20,7 @@ returns-in_err-step-clause-hints g c = only_taken _ _ _ _ c.loop-turn.invariant.
 pub returns-in_err-step-clause-err : goal.returns-in_err-step-clause-err
 returns-in_err-step-clause-err g c =
     let step = c.in_err-step.ensures in
-    let short = cut_short _ _ _ _ _ _ _ _ _ _ _ c.loop-turn.invariant.on step.step.2 step.advances step.err in
+    let short = cut_short _ _ _ _ _ _ _ _ _ _ _ c.loop-turn.invariant.on step.step.2 step.pass.advances step.err in
     search (rules, short)
 
 pub returns-in-Some-clause-hints : goal.returns-in-Some-clause-hints
@@ -41,8 +41,8 @@ loop-turn-preserved g c =
     let step = c.in_ok-step.ensures.step in
     let on = goes_on _ _ _ _ _ _ _ _ _ _ _ _ _ c.loop-turn.invariant.on step.2 step.3 step.4 c.in_default.ensures in
     record {
-      rests = c.in_ok-step.ensures.pass.0;
-      same = same_on _ _ _ c.loop-turn.invariant.same c.in_ok-step.ensures.pass.1;
+      rests = c.in_ok-step.ensures.pass.rests;
+      same = same_on _ _ _ c.loop-turn.invariant.same c.in_ok-step.ensures.pass.same;
       hints = only_taken _ _ _ _ c.loop-turn.invariant.hints step.2;
       on = subst
           (λ (n : ℕ). HasGoneOn (g.G.Gate.may_say c.args.gate.now) c.number-seat.result (c.loop-turn.turn + 1) (c.loop-turn.entries + n)

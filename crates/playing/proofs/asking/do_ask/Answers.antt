@@ -1,7 +1,7 @@
 use Rattle.std.proofs.Common.{sym, subst}
+use Rattle.ide_calls.specs.Made.{IsAnswered}
 use Rattle.index_workers.specs.Passes.{ide_view}
 use Rattle.transcripts.specs.Serial.{query_step}
-use Rattle.playing.specs.Answered.{IsAnswered}
 use Rattle.playing.proofs.AnsweredLemmas.{replies}
 use Rattle.playing.proofs.asking.do_ask.Goals as goal
 

@@ -1,9 +1,11 @@
 use Rattle.std.proofs.Common.{ℕ, None}
-use Rattle.playing.proofs.AnsweredLemmas.{accepted, refused}
+use Rattle.transcripts.specs.Serial.{changes_answer}
+use Rattle.playing.proofs.AnsweredLemmas.{told_so}
 use Rattle.playing.proofs.changing.do_change.Goals as goal
 
 pub returns-in-Ok-clause-answer : goal.returns-in-Ok-clause-answer
-returns-in-Ok-clause-answer g c = accepted _ _ _ _ _ (λ (place : ℕ). None) c.in-Ok.ensures.accepted
+returns-in-Ok-clause-answer g c = told_so _ (λ start. changes_answer (λ (place : ℕ). None)) _ _ _ _ c.in-Ok.ensures.accepted.answered
 
 pub returns-in-Err-Refused-clause-answer : goal.returns-in-Err-Refused-clause-answer
-returns-in-Err-Refused-clause-answer g c = refused _ _ _ _ _ _ _ (λ (place : ℕ). None) (rw c.in-Err-Refused.field-0-is at c.in-Err-Refused.ensures.refused)
+returns-in-Err-Refused-clause-answer g c =
+    told_so _ (λ start. changes_answer (λ (place : ℕ). None)) _ _ _ _ (rw c.in-Err-Refused.field-0-is at c.in-Err-Refused.ensures.refused).answered.answered

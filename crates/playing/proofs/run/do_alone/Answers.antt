@@ -14,6 +14,6 @@ returns-clause-done g c =
     let done = c.do_section-done in
     on_ok_weaker done.result
     (λ added. subst (λ (w : View Entry). HasDoneAlone c.args.lines.now c.args.loads.now v w c.args.records.now done.new.records) (sym c.is_last.ensures.view)
-    (done_alone c.args.lines.now c.args.loads.now v (ide_view done.new.pass) c.args.records.now done.new.records c.requires.alone done.ensures.advances
+    (done_alone c.args.lines.now c.args.loads.now v (ide_view done.new.pass) c.args.records.now done.new.records c.requires.alone done.ensures.pass.advances
     (subst (λ (w : View Entry). KnowsItsLists (λ (e : Entry). e.seat) w) c.is_last.ensures.view c.is_last.ensures.knows) added))
     done.ensures.done

@@ -6,9 +6,7 @@ use Rattle.playing.proofs.section.do_section.Goals as goal
 
 pub loop-line-init : goal.loop-line-init
 loop-line-init g c = record {
-  rests = c.requires.pass;
-  same = search rules;
-  advances = advances_not (ide_view c.args.pass.now);
+  pass = record { rests = c.requires.pass; same = search rules; advances = advances_not (ide_view c.args.pass.now) };
   nothing = refl;
   under_way = subst (λ records. IsUnderWay c.args.beside c.args.seat c.args.lines.now c.args.loads.now
       (ide_view c.args.pass.now) (ide_view c.args.pass.now) c.args.records.now records c.args.lines.now c.args.loads.now)
@@ -21,13 +19,15 @@ loop-line-preserved g c =
     let before = c.loop-line.invariant in
     let done = c.in_ok-do_line.ensures in
     record {
-      rests = done.pass.0;
-      same = c.passes_stay_the_same.ensures _ _ _ before.same done.pass.1;
-      advances = advances_on _ _ _ before.advances done.advances;
+      pass = record {
+        rests = done.pass.rests;
+        same = c.passes_stay_the_same.ensures _ _ _ before.pass.same done.pass.same;
+        advances = advances_on _ _ _ before.pass.advances done.pass.advances;
+      };
       nothing = before.nothing;
       under_way = section_turn c.args.beside c.args.seat c.args.lines.now c.args.loads.now _ _ _ _ _ _ c.loop-line.line-index _ _ _ _
           c.requires.seat c.loop-line-test.true c.line-item.is
-          c.first_load-load.ensures c.later_loads-left.ensures before.advances done.advances before.under_way done.answered;
+          c.first_load-load.ensures c.later_loads-left.ensures before.pass.advances done.pass.advances before.under_way done.answered;
     }
 
 pub returns-clause-done : goal.returns-clause-done

@@ -1,7 +1,6 @@
 use Rattle.std.proofs.Common.{◌≡◌, drop}
-use Rattle.action_lock.specs.Advances.{Advances}
-use Rattle.index_workers.specs.Passes.{ide_view, IsSameIdePass}
-use Rattle.shared_ide.specs.Passes.{IsIdePassOf}
+use Rattle.index_workers.specs.Passes.{ide_view}
+use Rattle.shared_ide.specs.Passes.{Continues}
 use Rattle.transcripts.specs.declared.loaded.Loaded.TheVariants.{Nothing}
 use Rattle.playing.proofs.SectionLemmas.{IsUnderWay}
 use Rattle.playing.proofs.section.do_section.Given as goal
@@ -9,9 +8,7 @@ use Rattle.playing.proofs.section.do_section.Given as goal
 -- the pass is the same and at rest, and the section is under way
 abbrev pub invariant-loop-line : goal.invariant-loop-line
 invariant-loop-line g l = record {
-  rests : IsIdePassOf l.ide l.pass;
-  same : IsSameIdePass l.fn.pass l.pass;
-  advances : Advances (ide_view l.fn.pass) (ide_view l.pass);
+  pass : Continues l.ide l.fn.pass l.pass;
   nothing : l.nothing ≡ Nothing;
   under_way : IsUnderWay l.beside l.seat l.lines l.loads (ide_view l.fn.pass) (ide_view l.pass) l.fn.records l.records (drop l.line-index l.lines) l.left;
 }

@@ -1,12 +1,10 @@
-use Rattle.std.proofs.Common.{Some, None}
-use Rattle.write_history.specs.declared.refusal.Refusal.TheVariants.{HistoryFull}
-use Rattle.playing.proofs.AnsweredLemmas.{settles}
+use Rattle.transcripts.specs.Serial.{settle_answer}
+use Rattle.playing.proofs.AnsweredLemmas.{told_so}
 use Rattle.playing.proofs.settling.do_settle.Goals as goal
 
 pub returns-in-Ok-clause-answer : goal.returns-in-Ok-clause-answer
-returns-in-Ok-clause-answer g c = settles _ _ _ _ None c.in-Ok.ensures.ok.done c.in-Ok.ensures.ok.whole
+returns-in-Ok-clause-answer g c = told_so _ (λ start. settle_answer) _ _ _ _ c.in-Ok.ensures.ok.answered.answered
 
 pub returns-in-Err-HistoryFull-clause-answer : goal.returns-in-Err-HistoryFull-clause-answer
 returns-in-Err-HistoryFull-clause-answer g c =
-    let filled = rw c.in-Err-HistoryFull.field-0-is at c.in-Err-HistoryFull.ensures.err in
-    settles _ _ _ _ (Some HistoryFull) filled.done filled.whole
+    told_so _ (λ start. settle_answer) _ _ _ _ (rw c.in-Err-HistoryFull.field-0-is at c.in-Err-HistoryFull.ensures.err).answered.answered

@@ -1,7 +1,7 @@
 use Rattle.std.proofs.Common.{map, refl, ap, le_refl}
 use Rattle.queries.specs.declared.query.Query.TheVariants as query
-use Rattle.query_engine.specs.declared.answer.Answer.{Answer}
-use Rattle.query_engine.specs.declared.answer.Answer.TheVariants.{Inheritors}
+use Rattle.query_engine.specs.declared.answer.Finding.{Finding}
+use Rattle.query_engine.specs.declared.answer.Finding.TheVariants.{Inheritors}
 use Rattle.query_engine.specs.declared.answer.AskRefusal.TheVariants.{OutOfMemory}
 use Rattle.query_engine.specs.declared.reached.Reached.{Reached}
 use Rattle.query_engine.specs.Inheritors.{inheritors_of}
@@ -46,7 +46,7 @@ returns-in_err-rows-clause-replied g c =
     let looks = c.in_ok-reached.ensures.looked in
     let smart = c.in_ok-ready.ensures.smart in
     early_replied _ _ g.W.Watch.stays world (query.Inheritors name) (Inheritors (map (level_row world) (inheritors_of name (types_of world)))) refl
-    Answer looks.number OutOfMemory _ _ smart (few_may world name looks.number smart looks.few) tt
+    Finding looks.number OutOfMemory _ _ smart (few_may world name looks.number smart looks.few) tt
     (looked_unseen _ _ looks.number looks.number _ _
     (le_refl looks.number) looks.looked) c.from_residual-in_err-rows.result c.from_residual-in_err-rows.ensures.1
 

@@ -1,6 +1,6 @@
 use Rattle.std.proofs.Common.{map, ap}
 use Rattle.write_history.specs.World.{lowest_unready}
-use Rattle.query_engine.specs.declared.answer.Answer.TheVariants.{Keys}
+use Rattle.query_engine.specs.declared.answer.Finding.TheVariants.{Keys}
 use Rattle.query_engine.specs.declared.answer.PlaceRow.{PlaceRow}
 use Rattle.query_engine.specs.declared.answer.RowList.{RowList}
 use Rattle.query_engine.specs.Listed.{place_found}

@@ -2,7 +2,7 @@ use Rattle.std.proofs.Common.{None, refl, sym, subst}
 use Rattle.dumb_mode.specs.declared.kind.FileKind.TheVariants.{Java, Properties}
 use Rattle.property_index.specs.Keys.{places_of_key}
 use Rattle.ide_world.specs.Found.{stubs_in, masks_in}
-use Rattle.query_engine.specs.declared.answer.Answer.TheVariants.{Rows, Words, Keys}
+use Rattle.query_engine.specs.declared.answer.Finding.TheVariants.{Rows, Words, Keys}
 use Rattle.query_engine.specs.Fits.{is_class, has_super, is_method}
 use Rattle.query_engine.specs.Reply.{row_of, place_row}
 use Rattle.query_engine.specs.Listed.{AreAhead, AreLive, itself, stub_at, row_found, word_found, place_found}

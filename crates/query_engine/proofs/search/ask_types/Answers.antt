@@ -1,6 +1,6 @@
 use Rattle.std.proofs.Common.{◌≤◌, ◌+◌, length, List, sym, subst, ◌∙◌}
 use Rattle.query_engine.specs.Reply.{types_of}
-use Rattle.query_engine.specs.Inheritors.{Listing}
+use Rattle.query_engine.specs.Inheritors.{ListedType}
 use Rattle.query_engine.specs.Search.{asked_supers}
 use Rattle.query_engine.proofs.CostLemmas.{cost_more, cost_same}
 use Rattle.query_engine.proofs.PaceLemmas.{paces_none, paces_wanting, paces_met}
@@ -27,7 +27,7 @@ returns-then-branch-clause-paced g c =
     let name = c.args.name.now in
     paces_met _ _ g.W.Watch.stays (types_of world) c.meet_each.result
     (length c.super_rows-found.result) c.args.search.now.asked c.args.search.now.met c.add.new.self c.meet_each.new.met _ _
-    (subst (λ (walk : List Listing). length walk + asked_supers (types_of world) c.args.search.now.asked ≤ asked_supers (types_of world) c.add.new.self)
+    (subst (λ (walk : List ListedType). length walk + asked_supers (types_of world) c.args.search.now.asked ≤ asked_supers (types_of world) c.add.new.self)
     (sym (c.super_rows-found.ensures.ready c.requires.smart ∙ namers_are name world))
     (cost_more c.args.search.now.asked c.add.new.self name c.in_ok-add.ensures.asks (not-true _ (sym c.in_ok-add.ensures.fresh ∙ c.if-branch.true))
     (types_of world)))

@@ -2,8 +2,8 @@ use Rattle.std.proofs.Common.{length, filter, refl, sym, subst, le_refl}
 use Rattle.dumb_mode.specs.declared.kind.FileKind.TheVariants.{Java}
 use Rattle.queries.specs.declared.query.Query.TheVariants as query
 use Rattle.ide_world.specs.Found.{masks_in}
-use Rattle.query_engine.specs.declared.answer.Answer.{Answer}
-use Rattle.query_engine.specs.declared.answer.Answer.TheVariants.{Usages}
+use Rattle.query_engine.specs.declared.answer.Finding.{Finding}
+use Rattle.query_engine.specs.declared.answer.Finding.TheVariants.{Usages}
 use Rattle.query_engine.specs.declared.answer.AskRefusal.TheVariants.{OutOfMemory}
 use Rattle.query_engine.specs.declared.answer.PlaceRow.{PlaceRow}
 use Rattle.query_engine.specs.declared.answer.RowList.{RowList}
@@ -48,7 +48,7 @@ returns-in_err-copy-clause-replied g c =
     let law = c.masks_tell_uses.ensures in
     let looks = length (filter has_code c.word_rows.result) in
     early_replied _ _ g.W.Watch.stays world (query.Usages name) (Usages name (of_world Java (uses_in name) world)) refl
-    Answer looks OutOfMemory _ _ c.in_ok-ready.ensures.smart
+    Finding looks OutOfMemory _ _ c.in_ok-ready.ensures.smart
     (uses_may law.unused law.used world name c.word_rows.result c.word_rows.ensures.ready c.in_ok-ready.ensures.smart)
     tt (looked_unseen _ _ _ _ _ _ (le_refl looks) c.in_ok-rows.ensures.looked) c.from_residual-in_err-copy.result c.from_residual-in_err-copy.ensures.1
 

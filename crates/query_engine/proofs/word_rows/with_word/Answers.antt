@@ -1,6 +1,6 @@
 use Rattle.std.proofs.Common.{map, ap}
 use Rattle.write_history.specs.World.{lowest_unready}
-use Rattle.query_engine.specs.declared.answer.Answer.TheVariants.{Words}
+use Rattle.query_engine.specs.declared.answer.Finding.TheVariants.{Words}
 use Rattle.query_engine.specs.declared.answer.RowList.{RowList}
 use Rattle.query_engine.specs.declared.answer.WordRow.{WordRow}
 use Rattle.query_engine.specs.Listed.{word_found}

@@ -1,5 +1,5 @@
 use Rattle.std.proofs.Common.{◌∙◌, sym}
-use Rattle.script_lang.proofs.ContentLemmas.{content_of-bad, content_of-result}
+use Rattle.script_lang.proofs.GrammarContents.{content_of-bad, content_of-result}
 use Rattle.script_lang.proofs.content.content_of.Goals as goal
 
 pub returns-in_default : goal.returns-in_default

@@ -19,7 +19,8 @@ pub loop-c-preserved : goal.loop-c-preserved
 loop-c-preserved c =
     let old = chars (string_bytes c.loop-c.text) in
     let one : chars (string_bytes c.match-meant.text) ≡ old ++ option_to_list c.in-Some-step.meant = elim c.match-meant.branch [
-      | in-Some-meant+in_ok-push w ↦ rw (w.text-is, w.in-Some-meant.is) (chars-push _ _ _ (IsUtf8-string_bytes c.loop-c.text) (IsUtf8-string_bytes w.push.new.self) w.in_ok-push.ensures.bytes)
+      | in-Some-meant+in_ok-push w ↦ rw (w.text-is, w.in-Some-meant.is)
+          (chars-push _ _ _ (IsUtf8-string_bytes c.loop-c.text) (IsUtf8-string_bytes w.push.new.self) w.in_ok-push.ensures.bytes)
       | in_default-meant w ↦ rw (w.text-is, w.in_default-meant.is) (sym (append-nil old))
     ] in
     let step : step_of c.loop-c.place c.in-Some.c ≡ Some (c.in-Some-step.next, c.in-Some-step.meant) = sym c.step.ensures ∙ c.in-Some-step.is in

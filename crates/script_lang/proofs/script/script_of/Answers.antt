@@ -1,6 +1,6 @@
 use Rattle.std.proofs.Common.{◌∙◌, sym, arith}
 use Rattle.script_lang.proofs.GrammarAnswers.{refusal_passed, AreOfScript-script_of}
-use Rattle.script_lang.proofs.ReadingLemmas.{reads_more, reads_bad, reads_end}
+use Rattle.script_lang.proofs.GrammarReading.{reads_more, reads_bad, reads_end}
 use Rattle.script_lang.proofs.script.script_of.Goals as goal
 
 pub returns-in_default-2-clause-err : goal.returns-in_default-2-clause-err

@@ -1,6 +1,6 @@
 use Rattle.std.proofs.Common.{◌∙◌, ◌+◌, sym, add-one}
 use Rattle.std.proofs.lemmas.List.{take_rest}
-use Rattle.script_lang.proofs.LineLemmas.{lines_of-cut}
+use Rattle.script_lang.proofs.GrammarLines.{lines_of-cut}
 use Rattle.script_lang.proofs.split.first_line.Goals as goal
 use Rattle.script_lang.proofs.split.first_line.Goals.{in-Some, in-None}
 

@@ -7,7 +7,7 @@ use Rattle.write_history.specs.declared.entry.Entry.{Entry}
 use Rattle.write_history.specs.declared.refusal.Refusal.{Refusal}
 use Rattle.ide_calls.specs.Ahead.{StaysOfWorld}
 use Rattle.ide_calls.specs.Turn.{HasGoneOn, HasGonePartly}
-use Rattle.ide_calls.proofs.settling.settle_now.Given as goal
+use Rattle.ide_calls.proofs.settling.settle_with_intent.Given as goal
 
 -- what a settle from here leads to is what it leads to from the start
 abbrev pub invariant-loop : goal.invariant-loop

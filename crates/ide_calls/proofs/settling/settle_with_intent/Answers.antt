@@ -2,7 +2,7 @@ use Rattle.std.proofs.Common.{◌∙◌, Some, None}
 use Rattle.lock_laws.proofs.AdvanceLemmas.{advances_on}
 use Rattle.write_history.specs.declared.refusal.Refusal.TheVariants as why
 use Rattle.ide_calls.proofs.TurnLemmas.{smart_on, end_on, nothing_yet, turn_on, part_on}
-use Rattle.ide_calls.proofs.settling.settle_now.Goals as goal
+use Rattle.ide_calls.proofs.settling.settle_with_intent.Goals as goal
 
 pub loop-preserved : goal.loop-preserved
 loop-preserved g c =
