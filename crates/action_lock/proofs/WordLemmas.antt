@@ -1,19 +1,16 @@
 -- The bits of the gate word.
-use Rattle.std.proofs.Common.{◌≡◌, ℕ, zero, suc, ◌+◌, ◌*◌, ◌/◌, ◌%◌, ◌<◌, not, nat_eq, true, false, eqb, sym, refl, ap, ◌∙◌, ⊎_elim, eqb-true, arith, bit_or, bit_and}
-use Rattle.std.proofs.lemmas.Bool.{false≢true}
-use Rattle.std.proofs.lemmas.Bool.Decides.{eqb_tells}
+use Rattle.std.proofs.Common.{◌≡◌, ℕ, zero, suc, ◌+◌, ◌*◌, ◌/◌, ◌%◌, ◌<◌, not, nat_eq, true, false, eqb, refl, ap, ◌∙◌, eqb-true, arith, bit_or}
+use Rattle.std.proofs.Common.{bit_and}
+use Rattle.std.proofs.lemmas.Bool.{eqb-false}
 use Rattle.std.proofs.lemmas.Nat.Bits.{and_pow}
 use Rattle.std.specs.Int.Bits.{or_step, or_zero_r}
 use Rattle.action_lock.specs.Words.{has_turn, has_pending}
-
-below_two : (n : ℕ) → eqb (n % 2) 1 ≡ false → n % 2 ≡ 0
-below_two n e = ⊎_elim (λ t. absurd (false≢true (sym e ∙ t.0))) (λ t. let apart = t.1 in omega arith) (eqb_tells (n % 2) 1)
 
 pub turn_set : (n : ℕ) → has_turn n ≡ true → n % 2 ≡ 1
 turn_set n e = eqb-true (n % 2) 1 e
 
 pub turn_clear : (n : ℕ) → has_turn n ≡ false → n % 2 ≡ 0
-turn_clear n e = below_two n e
+turn_clear n e = omega (arith, eqb-false (n % 2) 1 e)
 
 pub or_odd : (n : ℕ) → n % 2 ≡ 1 → bit_or n 1 ≡ n
 or_odd n odd = or_step n 1 ∙ (let e : bit_or (n / 2) 0 ≡ n / 2 = or_zero_r (n / 2) in omega arith)

@@ -1,20 +1,17 @@
 -- Index data that are made ahead: what is taken out and added, and that it stays of the world.
-use Rattle.std.proofs.Common.{◌≡◌, ℕ, true, List, [], ◌∷◌, ◌++◌, refl, sym, ap, ◌∙◌, subst, append_assoc, Some, None, Option, Result, Ok, Err, IfSome}
-use Rattle.std.specs.Prelude.{OnOk, option_map, if◌then◌else◌}
+use Rattle.std.proofs.Common.{◌≡◌, List, [], ◌∷◌, ◌++◌, refl, sym, ap, ◌∙◌, subst, append_assoc, Some, None, Option, Result, Ok, Err, IfSome}
+use Rattle.std.specs.Prelude.{OnOk}
 use Rattle.std.specs.List.{All, flat_map}
-use Rattle.std.specs.Option.{option_map_or, option_and_then}
+use Rattle.std.specs.Option.{option_map_or}
 use Rattle.std.specs.declared.alloc.AllocError.{AllocError}
 use Rattle.std.proofs.lemmas.List.{append-nil}
 use Rattle.std.proofs.lemmas.List.Elements.{All-nil, All-append, All-weaker, All-tail, All-same}
 use Rattle.std.proofs.lemmas.List.Concat.{flat_map-append}
 use Rattle.list_laws.specs.Fronts.{IsFront}
-use Rattle.dumb_mode.specs.declared.kind.FileKind.{FileKind}
-use Rattle.dumb_mode.specs.Filter.{kind_of}
 use Rattle.write_history.specs.declared.entry.Entry.{Entry}
-use Rattle.write_history.specs.World.{World, File, file_of, is_unready}
-use Rattle.write_history.specs.Effect.{stamp_of}
+use Rattle.write_history.specs.World.{World}
 use Rattle.write_history.specs.Fold.{fold, IsLegal}
-use Rattle.ide_world.specs.Task.{Task, task_of, work_of, task_with_id, IsOfWorld}
+use Rattle.ide_world.specs.Task.{Task, IsOfWorld}
 use Rattle.ide_world.specs.declared.data.Job.{Job}
 use Rattle.ide_world.specs.declared.data.Made.{Made}
 use Rattle.ide_calls.specs.Choice.{task_of_job}
@@ -56,20 +53,6 @@ begun world made old new making is unready = record {
       ∙ ap (λ (l : List Task). made ++ l) (flat_map-append tasks_of old (making ∷ []) ∙ ap (λ (l : List Task). flat_map tasks_of old ++ l) (append-nil (tasks_of making)))
       ∙ sym (append_assoc made (flat_map tasks_of old) (tasks_of making));
 }
-
--- the work of an unready file is that of the file at its stamp
-work_task : (id : ℕ) (file : File) (k : Option FileKind) (task : Task) → Some task ≡ option_map (task_of id file) k → (task.file ≡ id) × (task.stamp ≡ file.stamp)
-work_task id file None task is = absurd (cc)
-work_task id file (Some kind) task is = let t : task ≡ task_of id file kind = cc in (ap (λ (x : Task). x.file) t, ap (λ (x : Task). x.stamp) t)
-
-file_task : (id : ℕ) (file : Option File) (task : Task) → is_unready file ≡ true
-    → Some task ≡ (if is_unready file then option_and_then (work_of id) file else None) → (task.file ≡ id) × (task.stamp ≡ stamp_of file)
-file_task id None task unready is = absurd (cc)
-file_task id (Some file) task unready is = work_task id file (kind_of file.path) task (rw unready at is)
-
-pub unready_task : (world : World) (id : ℕ) (task : Task) → is_unready (file_of world id) ≡ true → Some task ≡ task_with_id world id
-    → (task.file ≡ id) × (task.stamp ≡ stamp_of (file_of world id))
-unready_task world id = file_task id (file_of world id)
 
 -- what is left of such a list has it
 pub rest_has : (P : Task → Type 0) (gone kept : List Task) → All P (gone ++ kept) → All P kept

@@ -3,8 +3,6 @@ pub mod MadeLemmas
 pub mod StepLemmas
 pub mod TurnLemmas
 pub mod SettleLemmas
-pub mod FoundLemmas
-pub mod PlanLemmas
-pub mod AcceptedLemmas
+pub mod ChangeLemmas
 pub mod AheadLemmas
 pub mod ChoiceLemmas

@@ -1,5 +1,5 @@
 -- A settle under an intent of its own.
-use Rattle.std.proofs.Common.{◌≡◌, ℕ, List, ◌++◌, length, refl, sym, ap, ◌∙◌, subst, Some, None, Option, Result, IfOk, IfErr}
+use Rattle.std.proofs.Common.{◌≡◌, ℕ, List, ◌++◌, length, refl, sym, ap, ◌∙◌, subst, Some, None, Option, Result, IfOk, IfErr, rules}
 use Rattle.std.specs.Prelude.{IsSome}
 use Rattle.std.proofs.lemmas.Result.{IfOk-weaker, IfErr-weaker}
 use Rattle.action_lock.specs.declared.view.View.{View}
@@ -18,7 +18,7 @@ use Rattle.ide_calls.specs.declared.settle_refusal.SettleRefusal.{SettleRefusal}
 use Rattle.ide_calls.specs.declared.settle_refusal.SettleRefusal.TheVariants.{HistoryFull, OutOfMemory}
 use Rattle.ide_calls.specs.Settling.{IsSettled, HasStopped}
 use Rattle.ide_calls.specs.Turn.{HasGoneOn, GoesThrough, Stops}
-use Rattle.ide_calls.proofs.MadeLemmas.{made_by_step, made_within, seen_within, mine_within, front_within}
+use Rattle.ide_calls.proofs.MadeLemmas.{made_by_step, made_within}
 
 abbrev settled_at : List Entry → ℕ → Option Refusal → SerialStep (ℕ × Option Refusal)
 settled_at own len refused = record { added = own; answer = (len, refused) }
@@ -51,16 +51,7 @@ module _ (seat line : ℕ) (v inner inner' w : View Entry) (number : v.number �
     full = gone.full.full;
     unready = subst IsSome (sym (ap (λ (l : List Entry). lowest_unready (fold l)) same_end ∙ gone.full.unready)) refl;
   }
-  stopped_within advances OutOfMemory gone = record {
-    seat = seat;
-    number = number;
-    before = gone.before;
-    own = gone.own;
-    known = front_within v inner inner' w intended after gone.before gone.known;
-    seen = seen_within v inner inner' w intended after _ gone.seen;
-    mine = mine_within v inner inner' w intended after gone.own gone.mine;
-    part = gone.part;
-  }
+  stopped_within advances OutOfMemory gone = search (rules, number, intended, after, gone)
 
   pub ok_within : (answer : Result ℕ SettleRefusal) → Advances v w → IfOk answer (GoesThrough seat line inner inner') → IfOk answer (IsSettled line v w)
   ok_within answer advances =

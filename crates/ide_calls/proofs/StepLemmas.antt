@@ -1,14 +1,9 @@
 -- The parts of a step put together.
-use Rattle.std.proofs.Common.{◌≡◌, ℕ, ◌+◌, true, List, [], ◌∷◌, ◌++◌, length, sym, ap, ◌∙◌, subst, append_assoc, Some, None, Option, Result, IfOk}
-use Rattle.std.specs.Prelude.{option_map, if◌then◌else◌}
-use Rattle.std.specs.Option.{option_and_then}
+use Rattle.std.proofs.Common.{rules, ◌≡◌, ℕ, ◌+◌, List, [], ◌∷◌, ◌++◌, length, sym, ap, ◌∙◌, subst, append_assoc, Some, None, Option, Result, IfOk}
 use Rattle.std.specs.declared.alloc.AllocError.{AllocError}
 use Rattle.std.proofs.lemmas.Option.{same_Some}
 use Rattle.std.proofs.lemmas.Result.{IfOk-weaker}
-use Rattle.list_laws.proofs.BoolLemmas.{bool_cases}
 use Rattle.action_lock.specs.declared.view.View.{View}
-use Rattle.dumb_mode.specs.declared.kind.FileKind.{FileKind}
-use Rattle.dumb_mode.specs.Filter.{kind_of}
 use Rattle.action_lock.specs.Advances.{Advances}
 use Rattle.action_lock.specs.Steps.{finished, released}
 use Rattle.action_lock.specs.Writings.{HasIntended}
@@ -16,29 +11,29 @@ use Rattle.ide_world.specs.declared.step.Step.{Step}
 use Rattle.write_history.specs.declared.change.Change.{Change}
 use Rattle.write_history.specs.declared.change.Change.TheVariants.{Intake}
 use Rattle.write_history.specs.declared.entry.Entry.{Entry}
-use Rattle.write_history.specs.World.{World, File, file_of, is_unready}
-use Rattle.write_history.specs.Effect.{stamp_of}
+use Rattle.write_history.specs.World.{World}
 use Rattle.write_history.specs.Fold.{fold, IsLegal}
 use Rattle.ide_world.specs.declared.data.Job.{Job}
-use Rattle.ide_world.specs.Task.{Task, task_of, work_of}
+use Rattle.ide_world.specs.Task.{Task}
 use Rattle.write_history.specs.Settle.{entry_of}
 use Rattle.ide_calls.specs.declared.step.Stepped.{Stepped}
-use Rattle.ide_calls.specs.declared.step.Stepped.TheVariants.{Idle, Gone, Stale, Refused, Taken}
+use Rattle.ide_calls.specs.declared.step.Stepped.TheVariants.{Idle, Taken}
 use Rattle.ide_calls.specs.declared.judge.Judged.TheVariants.{Prepared}
 use Rattle.ide_calls.specs.declared.first_look.FirstLook.{FirstLook}
 use Rattle.ide_calls.specs.Choice.{file_to_index, IsWork, IsChoice, task_of_job}
 use Rattle.ide_calls.specs.Step.{IsIdle, IsAnswer, HasTried, HasStepped}
 use Rattle.ide_calls.specs.Reads.{HasReadOnce}
 use Rattle.ide_calls.specs.Intake.{HasLooked, HasJudged, HasAnswered, IsAnsweredBy}
-use Rattle.ide_calls.proofs.MadeLemmas.{found_by_read, made_behind_read, made_later, made_within, reads_within}
+use Rattle.ide_calls.proofs.ChoiceLemmas.{has_task}
+use Rattle.ide_calls.proofs.MadeLemmas.{found_by_read, made_behind_read, made_later, made_within}
 
 -- where the first read found no unready file
 pub idle : (seat : ℕ) (hint : Option ℕ) (v w : View Entry) (look : FirstLook) → HasLooked seat hint v w look → look.job ≡ None → IsIdle v w look.at
 idle seat hint v w look looked none = record {
   found = found_by_read v w looked.read;
   whole = looked.whole;
-  reads = looked.read.reads ∙ ap (λ n. v.reads ++ n ∷ []) (sym looked.whole);
-  smart = subst (IsChoice (fold w.seen) seat hint) none looked.choice;
+  reads = search (rules, looked);
+  smart = rw none at looked.choice;
 }
 
 -- an answer that makes nothing is of what its one read found
@@ -53,7 +48,7 @@ pub taken_in : (seat file stamp len : ℕ) (steps : List Step) (changes : List C
 taken_in seat file stamp len steps changes v u w judged intake advances after legal = record {
   last = u.seen;
   own = entry_of seat 0 changes ∷ [];
-  reads = ap (λ (x : View Entry). x.reads) after ∙ judged.read.reads;
+  reads = search (rules, after, judged);
   made = made_behind_read v u w (entry_of seat 0 changes) judged.read advances after legal;
   answer = (ap (λ n. n + 1) (judged.judged_so.whole ∙ judged.entries), ap (λ (l : List Change). entry_of seat 0 l ∷ []) intake, judged.judged_so.live);
 }
@@ -69,28 +64,11 @@ answered_within seat file stamp v inner inner' w answer number intended after ad
       answered = record {
         last = given.last;
         own = given.own;
-        reads = reads_within v inner inner' w intended after (length given.last ∷ []) given.reads;
+        reads = search (rules, intended, after, given);
         made = made_within v inner inner' w intended after given.last given.own advances given.made;
         answer = given.answer;
       };
     })
-
--- a file whose work there is
-pub record HasTask (file : Option File) (task : Task) : Type 0 where
-  pub unready : is_unready file ≡ true
-  pub stamped : stamp_of file ≡ task.stamp
-
-has_work : (file : File) (id : ℕ) (k : Option FileKind) (task : Task) → is_unready (Some file) ≡ true → option_map (task_of id file) k ≡ Some task → HasTask (Some file) task
-has_work file id None task ready is = absurd (cc)
-has_work file id (Some kind) task ready is = let same : task_of id file kind ≡ task = cc in record { unready = ready; stamped = ap (λ (t : Task). t.stamp) same }
-
-pub has_task : (file : Option File) (id : ℕ) (task : Task) → (if is_unready file then option_and_then (work_of id) file else None) ≡ Some task → HasTask file task
-has_task None id task is = absurd (cc)
-has_task (Some file) id task found =
-    bool_cases (is_unready (Some file)) (λ b. (if b then work_of id file else None) ≡ Some task → HasTask (Some file) task)
-    (λ ready is. has_work file id (kind_of file.path) task ready is)
-    (λ ready is. absurd (cc))
-    found
 
 -- the first read, and what was answered of the file that was taken up
 tried : (seat : ℕ) (hint : Option ℕ) (task : Task) (v u w : View Entry) (step : Stepped) → v.number ≡ Some seat → HasReadOnce v u
@@ -99,7 +77,7 @@ tried seat hint task v u w step number read work advances by =
     let given = by.answered in
     let by_number : v.number ≡ Some by.seat = sym read.learned.advances.number ∙ by.number in
     let same_seat : seat ≡ by.seat = same_Some seat by.seat (sym number ∙ by_number) in
-    let has = has_task (file_of (fold u.seen) task.file) task.file task work.task_of_file in
+    let has = has_task (fold u.seen) task.file task (sym work.task_of_file) in
     record {
       seat = by.seat;
       number = by_number;
@@ -122,10 +100,7 @@ tried seat hint task v u w step number read work advances by =
 
 stepped_by : (hint : Option ℕ) (v w : View Entry) (step : Stepped) → HasTried hint v w step → HasStepped hint v w step
 stepped_by hint v w (Idle len) by = absurd by.answer
-stepped_by hint v w (Gone id) by = by
-stepped_by hint v w (Stale id made present) by = by
-stepped_by hint v w (Refused len) by = by
-stepped_by hint v w (Taken place) by = by
+stepped_by hint v w step by = by
 
 -- the work of the job that was chosen
 chosen_work : (world : World) (seat : ℕ) (hint : Option ℕ) (choice : Option Job) (job : Job) → choice ≡ Some job

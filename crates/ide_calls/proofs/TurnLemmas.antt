@@ -1,7 +1,6 @@
 -- Turns of a settle, one after another.
-use Rattle.std.proofs.Common.{◌≡◌, ◌≤◌, ℕ, Bool, List, [], ◌∷◌, ◌++◌, length, refl, sym, ap, ◌∙◌, subst, append_assoc, arith, Some, None, Option}
+use Rattle.std.proofs.Common.{rules, ◌≡◌, ◌≤◌, ℕ, Bool, List, [], ◌∷◌, ◌++◌, length, refl, ap, ◌∙◌, subst, append_assoc, arith, Some, None, Option}
 use Rattle.std.specs.Prelude.{option_map, if◌then◌else◌}
-use Rattle.std.proofs.lemmas.List.{append-nil}
 use Rattle.std.proofs.lemmas.Bool.{le-leb}
 use Rattle.list_laws.specs.Fronts.{IsFront}
 use Rattle.list_laws.proofs.FrontLemmas.{front_self, front_nil}
@@ -25,8 +24,8 @@ nothing_more : (seat line : ℕ) (v w : View Entry) (so : Settled) (refused : Op
 nothing_more seat line v w so refused is none why read = record {
   before = w.seen;
   still = read.learned.still;
-  made = subst (HasMade v w w.seen) (sym (ap (λ (s : Settled). s.added) is ∙ none)) (found_by_read v w read);
-  ends = ap (λ (s : Settled). s.refused) is ∙ why;
+  made = rw is (rw none (found_by_read v w read));
+  ends = rw is why;
 }
 
 -- a turn that finds no unready file ends the settle
@@ -54,15 +53,17 @@ end_on seat line len v w turn =
 
 -- what was only learned is a part of what a settle adds: nothing of it
 pub nothing_yet : (seat line : ℕ) (v w : View Entry) → HasOnlyLearned v w → HasGonePartly seat line v w
-nothing_yet seat line v w learned = record {
-  before = w.seen;
-  own = [];
-  still = learned.still;
-  known = learned.advances.seen;
-  seen = sym (append-nil w.seen);
-  mine = learned.mine ∙ sym (append-nil v.mine);
-  part = front_nil (settled w.seen seat line).added;
-}
+nothing_yet seat line v w learned =
+    let learned_still = learned.still in
+    record {
+      before = w.seen;
+      own = [];
+      still = learned.still;
+      known = learned.advances.seen;
+      seen = search rules;
+      mine = search (rules, learned);
+      part = front_nil (settled w.seen seat line).added;
+    }
 
 module _ (seat line : ℕ) (v w : View Entry) (turn : HasTaken seat line v w) where
   -- the entry of the turn
@@ -72,15 +73,6 @@ module _ (seat line : ℕ) (v w : View Entry) (turn : HasTaken seat line v w) wh
   -- what a settle adds after the turn
   abbrev after_turn : Settled
   after_turn = settled (turn.between.seen ++ taken ∷ []) seat line
-
-  seen_after : w.seen ≡ turn.between.seen ++ taken ∷ []
-  seen_after = ap (λ (x : View Entry). x.seen) turn.after
-
-  mine_after : w.mine ≡ v.mine ++ taken ∷ []
-  mine_after = ap (λ (x : View Entry). x.mine) turn.after ∙ ap (λ (l : List Entry). l ++ taken ∷ []) turn.read.learned.mine
-
-  reads_after : w.reads ≡ v.reads ++ length turn.between.seen ∷ []
-  reads_after = ap (λ (x : View Entry). x.reads) turn.after ∙ turn.read.reads
 
   -- a settle goes on after the turn
   goes_after : settled turn.between.seen seat line ≡ with_entry taken after_turn
@@ -93,40 +85,40 @@ module _ (seat line : ℕ) (v w : View Entry) (turn : HasTaken seat line v w) wh
       record {
         advances = advances_on v w x turn.advances made.advances;
         known = turn.read.learned.advances.seen;
-        seen = made.seen ∙ append_assoc turn.between.seen (taken ∷ []) own;
-        mine = made.mine ∙ ap (λ (l : List Entry). l ++ own) mine_after ∙ append_assoc v.mine (taken ∷ []) own;
+        seen = search (rules, made, append_assoc turn.between.seen (taken ∷ []) own);
+        mine = search (rules, made, turn, append_assoc v.mine (taken ∷ []) own);
         legal = made.legal;
         read = record {
           earlier = v.reads;
           later = more;
           gained = front_self v.reads;
-          reads = made.advances.reads.1 ∙ ap (λ (l : List ℕ). l ++ more) reads_after ∙ append_assoc v.reads (length turn.between.seen ∷ []) more;
+          reads = search (rules, made.advances.reads.1, turn, append_assoc v.reads (length turn.between.seen ∷ []) more);
         };
       }
 
   -- a settle that goes on after the turn has gone on before it
   pub turn_on : (x : View Entry) (refused : Option Refusal) → HasGoneOn seat line w x refused → HasGoneOn seat line v x refused
   turn_on x refused rest =
-      let here : rest.before ≡ turn.between.seen ++ taken ∷ [] = rest.still turn.current ∙ seen_after in
+      let here : rest.before ≡ turn.between.seen ++ taken ∷ [] = let still = rest.still turn.current in let after = turn.after in cc in
       let made = subst (λ (b : List Entry). HasMade w x b (settled b seat line).added) here rest.made in
       record {
         before = turn.between.seen;
         still = turn.read.learned.still;
-        made = subst (HasMade v x turn.between.seen) (sym (ap (λ (s : Settled). s.added) goes_after)) (made_with x after_turn.added made);
-        ends = ap (λ (s : Settled). s.refused) goes_after ∙ ap (λ (b : List Entry). (settled b seat line).refused) (sym here) ∙ rest.ends;
+        made = rw goes_after (made_with x after_turn.added made);
+        ends = rw goes_after (rw here at rest.ends);
       }
 
   -- and so has one of which a part was made
   pub part_on : (x : View Entry) → HasGonePartly seat line w x → HasGonePartly seat line v x
   part_on x rest =
-      let here : rest.before ≡ turn.between.seen ++ taken ∷ [] = rest.still turn.current ∙ seen_after in
+      let here : rest.before ≡ turn.between.seen ++ taken ∷ [] = let still = rest.still turn.current in let after = turn.after in cc in
       let part = subst (λ (b : List Entry). IsFront rest.own (settled b seat line).added) here rest.part in
       record {
         before = turn.between.seen;
         own = taken ∷ rest.own;
         still = turn.read.learned.still;
         known = turn.read.learned.advances.seen;
-        seen = rest.seen ∙ ap (λ (l : List Entry). l ++ rest.own) here ∙ append_assoc turn.between.seen (taken ∷ []) rest.own;
-        mine = rest.mine ∙ ap (λ (l : List Entry). l ++ rest.own) mine_after ∙ append_assoc v.mine (taken ∷ []) rest.own;
-        part = (part.0, ap (λ (s : Settled). s.added) goes_after ∙ ap (λ (l : List Entry). taken ∷ l) part.1);
+        seen = search (rules, rest, here, append_assoc turn.between.seen (taken ∷ []) rest.own);
+        mine = search (rules, rest, turn, append_assoc v.mine (taken ∷ []) rest.own);
+        part = (part.0, rw goes_after (let more = part.1 in cc));
       }

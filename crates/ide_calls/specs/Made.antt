@@ -45,9 +45,11 @@ pub record IsAnswered {A : Type 0} (step : List Entry → ℕ → SerialStep A) 
   pub mine : w.mine ≡ v.mine ++ own
   pub is : (seat : ℕ) → v.number ≡ Some seat → step start seat ≡ record { added = own; answer = answer }
 
--- A call has done a step of a serial run behind a history that one of its reads found, and no entry of what is now seen is refused where it
--- stands
+-- A call has done a step of a serial run behind a history that one of its reads found; its pass has a number, by which the step is the one that
+-- was done; and no entry of what is now seen is refused where it stands
 pub record IsAnsweredByRead {A : Type 0} (step : List Entry → ℕ → SerialStep A) (v w : View Entry) (answer : A) : Type 0 where
+  pub seat : ℕ
+  pub number : v.number ≡ Some seat
   pub answered : IsAnswered step v w answer
   pub read : HasReadOf v w answered.start
   pub legal : IsLegal w.seen

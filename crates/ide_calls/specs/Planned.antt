@@ -1,5 +1,5 @@
 -- Changes that are ready to go in, or refused.
-use Rattle.std.specs.Prelude.{◌≡◌, List, true, false, Some}
+use Rattle.std.specs.Prelude.{◌≡◌, List, false, Some}
 use Rattle.action_lock.specs.declared.view.View.{View}
 use Rattle.nonblocking_read.specs.Soft.{HasOnlyRead}
 use Rattle.write_history.specs.declared.change.Change.{Change}
@@ -8,7 +8,7 @@ use Rattle.write_history.specs.World.{World}
 use Rattle.write_history.specs.Fold.{fold, list_refusal}
 use Rattle.ide_world.specs.Ready.{IsReadyFor, Makes, IsFirstAccepted}
 use Rattle.write_history.specs.Effect.{is_want_of_memory}
-use Rattle.ide_calls.specs.Made.{HasFound}
+use Rattle.ide_calls.specs.Reads.{HasReadOnce}
 use Rattle.ide_calls.specs.declared.group_refusal.GroupChangeRefusal.{GroupChangeRefusal}
 use Rattle.ide_calls.specs.declared.group_refusal.GroupChangeRefusal.TheVariants.{Refused, OutOfMemory}
 use Rattle.ide_calls.specs.declared.planning.Planned.{Planned}
@@ -27,11 +27,10 @@ IsRefusedIn world changes OutOfMemory = IsFirstAccepted world changes
 
 -- the pass has read under its intent, and the changes may go in behind what it found
 pub record HasPlanned (v w : View Entry) (changes : List Change) (planned : Planned) : Type 0 where
-  pub found : HasFound v w
-  pub current : w.current ≡ true
+  pub read : HasReadOnce v w
   pub is : IsPlanned (fold w.seen) changes planned
 
 -- the changes are refused by what the pass has read under its intent; of running out of memory, that nothing was made
 abbrev pub IsUnplanned : View Entry → View Entry → List Change → GroupChangeRefusal → Type 0
-IsUnplanned v w changes (Refused at place why) = HasFound v w × IsRefusedIn (fold w.seen) changes (Refused at place why)
+IsUnplanned v w changes (Refused at place why) = HasReadOnce v w × IsRefusedIn (fold w.seen) changes (Refused at place why)
 IsUnplanned v w changes OutOfMemory = HasOnlyRead v w

@@ -59,7 +59,4 @@ pub record HasTried (hint : Option ℕ) (v w : View Entry) (step : Stepped) : Ty
 -- what a step leaves of the view, by its answer
 abbrev pub HasStepped : Option ℕ → View Entry → View Entry → Stepped → Type 0
 HasStepped hint v w (Idle len) = IsIdle v w len
-HasStepped hint v w (Gone id) = HasTried hint v w (Gone id)
-HasStepped hint v w (Stale id made present) = HasTried hint v w (Stale id made present)
-HasStepped hint v w (Refused len) = HasTried hint v w (Refused len)
-HasStepped hint v w (Taken place) = HasTried hint v w (Taken place)
+HasStepped hint v w step = HasTried hint v w step

@@ -33,7 +33,8 @@ pub fn change<R: Wait>(
     ensures mine { OnErr result ((view_of pass.new).mine ≡ (view_of pass.old).mine) }
     ensures accepted { IfOk result
         (λ done. HasAccepted (view_of pass.old) (view_of pass.new) line (change ∷ []) done.at) }
-    ensures one { OnOk result (length (view_of pass.new).mine ≡ length (view_of pass.old).mine + 1) }
+    ensures one { OnOk result
+        (length (view_of pass.new).mine ≡ length (view_of pass.old).mine + 1) }
     ensures few { OnOk result (length (view_of pass.new).mine ≤ max_entries) }
     ensures unready { IfOk result (λ done. HasLeft (view_of pass.new) (change ∷ []) done.unready) }
     ensures refused { IfErr result
@@ -48,8 +49,7 @@ pub fn change<R: Wait>(
     }
 }
 
-/// Makes the changes of a group together, as one entry, or none of them. No change of them is an intake. It may wait
-/// for ever.
+/// Makes the changes of a group together, as one entry, or none of them. No change of them is an intake. May block.
 pub fn change_group<R: Wait>(
     rt: &R,
     alloc: Global,
@@ -64,7 +64,8 @@ pub fn change_group<R: Wait>(
     ensures mine { OnErr result ((view_of pass.new).mine ≡ (view_of pass.old).mine) }
     ensures accepted { IfOk result
         (λ done. HasAccepted (view_of pass.old) (view_of pass.new) line changes done.at) }
-    ensures one { OnOk result (length (view_of pass.new).mine ≡ length (view_of pass.old).mine + 1) }
+    ensures one { OnOk result
+        (length (view_of pass.new).mine ≡ length (view_of pass.old).mine + 1) }
     ensures few { OnOk result (length (view_of pass.new).mine ≤ max_entries) }
     ensures unready { IfOk result (λ done. HasLeft (view_of pass.new) changes done.unready) }
     ensures refused { IfErr result
@@ -99,7 +100,8 @@ fn change_with_intent<R: Wait>(
     ensures accepted { IfOk result
         (λ done. HasAccepted (view_of pass.old)
         (view_of pass.new) entry.line entry.changes done.at) }
-    ensures one { OnOk result (length (view_of pass.new).mine ≡ length (view_of pass.old).mine + 1) }
+    ensures one { OnOk result
+        (length (view_of pass.new).mine ≡ length (view_of pass.old).mine + 1) }
     ensures few { OnOk result (length (view_of pass.new).mine ≤ max_entries) }
     ensures unready { IfOk result (λ done. HasLeft (view_of pass.new) entry.changes done.unready) }
     ensures refused { IfErr result

@@ -4,11 +4,11 @@ ghost use Rattle.std.specs.Option.{option_and_then};
 ghost use Rattle.ide_world.specs.Task.{task_with_id};
 ghost use Rattle.ide_calls.specs.Choice.{IsChoice, task_of_job};
 
-use crate::place::place_in;
+use crate::probe::probe_in;
 use ide_world::{Job, State, job};
 use std::alloc::AllocError;
 
-/// The job of the hinted file where it is unready, else of the first unready one from the place on where the worker with this
+/// The job of the hinted file where it is unready, else of the first unready one from the id on at which the worker with this
 /// number begins to look. None where no file is unready.
 pub(crate) fn find_work(
     state: &State,
@@ -20,7 +20,7 @@ pub(crate) fn find_work(
     if let Some(found) = job_of(state, hint)? {
         return Ok(Some(found));
     }
-    job_of(state, state.first_unready_from(place_in(state, seat)))
+    job_of(state, state.first_unready_from(probe_in(state, seat)))
 }
 
 /// The job of a file, where one is named and it is unready.

@@ -14,7 +14,7 @@ use index_store::Store;
 use std::alloc::{AllocError, Global};
 use std::sync::Wait;
 
-/// Takes up the hinted file where it is unready, else the first unready one from a place that goes by the pass's number and the
+/// Takes up the hinted file where it is unready, else the first unready one from an id that goes by the pass's number and the
 /// length of the history, so that passes seldom take up the same one. Its index data are the store's, or are made, outside the lock,
 /// and go in where the file is still at the same stamp. The gate is told `Reading` while the first read is still held, and `Made`
 /// before the intent is asked for. May block.

@@ -74,10 +74,8 @@ RunEnds source tree sink (Some Index) status = IndexEnds source tree sink status
 -- words that ask for no script: faulty ones, and those of a demo
 abbrev pub AsksNothing : Option Request → Type 0
 AsksNothing None = Unit {0}
-AsksNothing (Some (Play workers store)) = ⊥
 AsksNothing (Some (Demo seed files edits workers)) = Unit {0}
-AsksNothing (Some (Check path workers)) = ⊥
-AsksNothing (Some Index) = ⊥
+AsksNothing request = ⊥
 
 -- the end was told once, or not at all
 abbrev pub TellsEndOnce : ℕ → ℕ → Type 0

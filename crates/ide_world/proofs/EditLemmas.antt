@@ -6,8 +6,8 @@ use Rattle.document_buf.specs.Document.{Document, with_piece, without_part}
 use Rattle.ide_world.specs.declared.step.DocEdit.{DocEdit}
 use Rattle.ide_world.specs.declared.step.DocEdit.TheVariants.{Keep, Insert, Erase, Commit, MarkSaved}
 use Rattle.ide_world.specs.DocEdits.{edited_document, IsDocEditFit}
-use Rattle.ide_world.specs.declared.look.Look.{Look}
-use Rattle.ide_world.specs.Walk.{look_of, edited_look, edited_committed, edited_text, IsTextEditFit, keeps_texts, is_open_after}
+use Rattle.ide_world.specs.declared.summary.Summary.{Summary}
+use Rattle.ide_world.specs.Walk.{summary_of, edited_summary, edited_committed, edited_text, IsTextEditFit, keeps_texts, is_open_after}
 
 abbrev pub text_of_document : Option Document → Option (List ℕ)
 text_of_document document = option_map (λ d. d.text) document
@@ -30,15 +30,15 @@ length-without_part from to text ordered inside =
     let d = length-drop to text in
     omega arith
 
-abbrev look_with : ℕ → Option Look
-look_with n = Some (record { len = n; saved = false })
+abbrev summary_with : ℕ → Option Summary
+summary_with n = Some (record { len = n; saved = false })
 
-pub look-edited : (edit : DocEdit) (d : Option Document) → IsDocEditFit edit d → option_map look_of (edited_document edit d) ≡ edited_look edit (option_map look_of d)
-look-edited (Insert at text) (Some d) fit = ap (λ n. look_with n) (length-with_piece at text d.text fit.inside)
-look-edited (Erase from to) (Some d) fit = ap (λ n. look_with n) (length-without_part from to d.text fit.ordered fit.inside)
-look-edited Keep d fit = refl
-look-edited edit None fit = refl
-look-edited edit (Some d) fit = refl
+pub summary-edited : (edit : DocEdit) (d : Option Document) → IsDocEditFit edit d → option_map summary_of (edited_document edit d) ≡ edited_summary edit (option_map summary_of d)
+summary-edited (Insert at text) (Some d) fit = ap (λ n. summary_with n) (length-with_piece at text d.text fit.inside)
+summary-edited (Erase from to) (Some d) fit = ap (λ n. summary_with n) (length-without_part from to d.text fit.ordered fit.inside)
+summary-edited Keep d fit = refl
+summary-edited edit None fit = refl
+summary-edited edit (Some d) fit = refl
 
 pub committed-edited : (edit : DocEdit) (d : Option Document) → IsDocEditFit edit d → committed_of (edited_document edit d) ≡ edited_committed edit (committed_of d)
 committed-edited (Commit text) (Some d) fit = ap Some (sym fit)

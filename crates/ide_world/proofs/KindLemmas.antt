@@ -1,22 +1,21 @@
 -- The step of each kind of change makes it.
-use Rattle.std.proofs.Common.{ℕ, ◌≡◌, ◌+◌, Bool, true, false, List, length, refl, ap, sym, ◌∙◌, subst, arith, Some, None, ltb-false}
-use Rattle.std.specs.Prelude.{Option, IfSome, is_some, is_none, unwrap_or, option_map, not, nat_lt, ◌==◌, bytes_eq}
+use Rattle.std.proofs.Common.{ℕ, ◌≡◌, ◌+◌, Bool, true, false, List, length, refl, ap, sym, ◌∙◌, subst, arith, Some, None}
+use Rattle.std.specs.Prelude.{Option, IfSome, is_some, is_none, unwrap_or, option_map, not, ◌==◌, bytes_eq}
 use Rattle.std.specs.Option.{option_and_then}
 use Rattle.std.specs.Cmp.Lexicographic.{bytes_decides}
-use Rattle.std.proofs.lemmas.Bool.{leb-false, eqb-true, false≢true, not-false, or_parts}
+use Rattle.std.proofs.lemmas.Bool.{leb-false, eqb-true, false≢true, not-false}
 use Rattle.std.proofs.lemmas.Option.{none-some, same_Some}
 use Rattle.vfs_core.specs.declared.row.FileRow.{FileRow}
-use Rattle.ide_text.specs.Text.{max_chars}
-use Rattle.document_buf.specs.Document.{Document, opened, inserted, erased, committed, marked_saved, replaced}
+use Rattle.document_buf.specs.Document.{Document, opened, committed, marked_saved, replaced}
 use Rattle.document_buf.specs.Held.{HeldDoc}
 use Rattle.dumb_mode.specs.declared.kind.FileKind.{FileKind}
 use Rattle.dumb_mode.specs.declared.kind.FileKind.TheVariants.{Java, Properties}
 use Rattle.dumb_mode.specs.Filter.{kind_of}
 use Rattle.dumb_mode.specs.Unready.{is_indexed_at}
 use Rattle.overlay_index.specs.Parts.{Parts, parts_of, no_parts}
-use Rattle.write_history.specs.declared.change.Change.TheVariants.{Create, Write, Delete, OpenDoc, Insert, Erase, Commit, Save, CloseDoc, Intake, Move}
-use Rattle.write_history.specs.World.{World, File, file_of, id_at, document_at, next_id}
-use Rattle.write_history.specs.Effect.{refusal_of, document_len, is_unsaved, is_uncommitted, max_files, new_file, rewritten, with_document, edited, saved, taken_in, closed, moved, stamp_of}
+use Rattle.write_history.specs.declared.change.Change.TheVariants.{Create, Write, Delete, OpenDoc, Save, CloseDoc, Intake, Move}
+use Rattle.write_history.specs.World.{World, File, file_of, document_at, next_id}
+use Rattle.write_history.specs.Effect.{refusal_of, is_unsaved, is_uncommitted, max_files, new_file, rewritten, with_document, saved, taken_in, closed, moved, stamp_of}
 use Rattle.write_history.specs.Fold.{after_put}
 use Rattle.list_laws.proofs.RowLemmas.{live_is_made}
 use Rattle.history_laws.proofs.PutLemmas.{none_at_free, accepted_reasons}
@@ -30,9 +29,9 @@ use Rattle.ide_world.specs.declared.step.IndexEdit.TheVariants as index_edit
 use Rattle.ide_world.specs.IndexEdits.{Indexed, edited_index}
 use Rattle.ide_world.specs.Step.{file_with, row_part, document_part, stepped}
 use Rattle.ide_world.specs.Sound.{IsSoundFile, AreSoundFiles, HoldsIndex, HoldsLive}
-use Rattle.ide_world.specs.declared.look.Look.{Look}
-use Rattle.ide_world.specs.Walk.{look_of}
-use Rattle.ide_world.specs.Builds.{Builds, IsLiveAt, edit_step, overlay_edit, show_index, open_index, commit_index, renewed_index, moved_index, close_index, intake_index}
+use Rattle.ide_world.specs.declared.summary.Summary.{Summary}
+use Rattle.ide_world.specs.Walk.{summary_of}
+use Rattle.ide_world.specs.Builds.{Builds, IsLiveAt, open_index, renewed_index, moved_index, close_index, intake_index}
 use Rattle.ide_world.proofs.FoundLemmas.{indexed_at}
 use Rattle.ide_world.proofs.BuildLemmas.{IsFileAt, file_of_row, is_file_at, makes, builds, kept_path, sound_at, sound_shown, sound_stamped, not_yet}
 
@@ -119,42 +118,6 @@ delete_builds w path id row doc sound h =
     builds w path row doc step h (Delete path) (λ f. None) refl refl
     (record { free = tt; fit = tt; whole = λ e. refl; sound = tt; index = λ held k. (refl, refl) })
 
--- ---- insert and erase
-
-pub insert_builds : (w : World) (path : List ℕ) (id at : ℕ) (text : List ℕ) (row : FileRow) (doc : Option Document) → AreSoundFiles w → IsFileAt w path id row doc
-    → refusal_of w (Insert path at text) ≡ None → Builds w (Insert path at text) (edit_step id (doc_edit.Insert at text))
-insert_builds w path id at text row None sound h accepted = absurd (not_closed w path id row h (accepted_reasons w (Insert path at text) accepted).1.0)
-insert_builds w path id at text row (Some d) sound h accepted =
-    let r = accepted_reasons w (Insert path at text) accepted in
-    let e = document_is w path id row (Some d) h in
-    builds w path row (Some d) (edit_step id (doc_edit.Insert at text)) h (Insert path at text) (λ f. Some (edited (inserted at text) f)) refl refl (record {
-      free = tt;
-      fit = record {
-        inside = ltb-false (length d.text) at (sym (ap (λ o. nat_lt (document_len o) at) e) ∙ r.1.1.0);
-        fits = ltb-false max_chars (length d.text + length text) (sym (ap (λ o. nat_lt max_chars (document_len o + length text)) e) ∙ r.1.1.1.0);
-      };
-      whole = λ n. absurd (none-some _ (sym n));
-      sound = sound_shown w path id row (Some d) sound h (Some (inserted at text d)) (λ s. absurd (false≢true s));
-      index = λ held. index_kept (kind_of row.path) (file_with (Some d) row) (file_with (Some (inserted at text d)) row) held (λ kind. refl) (λ i. (i, refl));
-    })
-
-pub erase_builds : (w : World) (path : List ℕ) (id from to : ℕ) (row : FileRow) (doc : Option Document) → AreSoundFiles w → IsFileAt w path id row doc
-    → refusal_of w (Erase path from to) ≡ None → Builds w (Erase path from to) (edit_step id (doc_edit.Erase from to))
-erase_builds w path id from to row None sound h accepted = absurd (not_closed w path id row h (accepted_reasons w (Erase path from to) accepted).1.0)
-erase_builds w path id from to row (Some d) sound h accepted =
-    let r = accepted_reasons w (Erase path from to) accepted in
-    let both = or_parts (nat_lt (document_len (document_at w path)) to) (nat_lt to from) r.1.1.0 in
-    builds w path row (Some d) (edit_step id (doc_edit.Erase from to)) h (Erase path from to) (λ f. Some (edited (erased from to) f)) refl refl (record {
-      free = tt;
-      fit = record {
-        ordered = ltb-false to from both.1;
-        inside = ltb-false (length d.text) to (sym (ap (λ o. nat_lt (document_len o) to) (document_is w path id row (Some d) h)) ∙ both.0);
-      };
-      whole = λ n. absurd (none-some _ (sym n));
-      sound = sound_shown w path id row (Some d) sound h (Some (erased from to d)) (λ s. absurd (false≢true s));
-      index = λ held. index_kept (kind_of row.path) (file_with (Some d) row) (file_with (Some (erased from to d)) row) held (λ kind. refl) (λ i. (i, refl));
-    })
-
 -- ---- open
 
 -- index data that are made, or those of the content, which are shown on
@@ -185,7 +148,7 @@ open_builds w path id row None new index sound h accepted e i =
       index = λ held. index_opened is_indexed (kind_of row.path) row held refl;
     }))
 
--- ---- commit
+-- ---- what is committed
 
 -- a text that isn't uncommitted is the committed one
 unchanged : (d : Document) → is_uncommitted (Some d) ≡ false → d.committed ≡ d.text
@@ -195,30 +158,6 @@ unchanged d e = sym ((bytes_decides d.text d.committed).0 (not-false (bytes_eq d
 pub kept_text : (doc : Option Document) → is_uncommitted doc ≡ false → option_map (λ d. d.committed) doc ≡ option_map (λ d. d.text) doc
 kept_text None e = refl
 kept_text (Some d) e = ap Some (unchanged d e)
-
-index_commit : (is_new : Bool) (k : Option FileKind) (row : FileRow) (d : Document) (held : Indexed) → is_new ≡ is_uncommitted (Some d) → HoldsLive k (file_with (Some d) row) held
-    → HoldsLive k (file_with (Some (committed d)) row) (edited_index (commit_index is_new k d.text) held)
-index_commit true None row d held e h = h
-index_commit true (Some kind) row d held e h = (refl, λ closed. absurd (none-some _ (sym closed)))
-index_commit false k row d held e h =
-    subst (λ t. HoldsLive k (file_with (Some (record { text = d.text; committed = t; saved = d.saved })) row) held) (unchanged d (sym e)) h
-
-pub commit_builds : (w : World) (path : List ℕ) (id : ℕ) (row : FileRow) (doc : Option Document) (text : List ℕ) (index : IndexEdit) (is_new : Bool) → AreSoundFiles w → IsFileAt w path id row doc
-    → Some text ≡ option_map (λ d. d.text) doc → is_new ≡ is_uncommitted doc → index ≡ commit_index is_new (kind_of row.path) text
-    → Builds w (Commit path) (kept_step id (doc_edit.Commit text) index)
-commit_builds w path id row None text index is_new sound h t n i = absurd (none-some text (sym t))
-commit_builds w path id row (Some d) text index is_new sound h t n i =
-    let same : text ≡ d.text = same_Some text d.text t in
-    let is : index ≡ commit_index is_new (kind_of row.path) d.text = i ∙ ap (commit_index is_new (kind_of row.path)) same in
-    let step = kept_step id (doc_edit.Commit d.text) (commit_index is_new (kind_of row.path) d.text) in
-    subst (Builds w (Commit path)) (λ k. kept_step id (doc_edit.Commit (sym same k)) (sym is k))
-    (builds w path row (Some d) step h (Commit path) (λ f. Some (edited committed f)) refl refl (record {
-      free = tt;
-      fit = refl;
-      whole = λ n. absurd (none-some _ (sym n));
-      sound = sound_shown w path id row (Some d) sound h (Some (committed d)) (sound_at w path id row (Some d) sound h).saved;
-      index = λ held. index_commit is_new (kind_of row.path) row d held n;
-    }))
 
 -- ---- save
 
@@ -280,13 +219,13 @@ close_from w path id row row' index sound live same accepted i = by (document_pa
 abbrev write_step : ℕ → FileRow → List ℕ → List ℕ → ℕ → DocEdit → Step
 write_step id row path content stamp doc = put_step id (row_with path content stamp row.indexed) doc index_edit.Keep true
 
-pub write_open_from : (w : World) (path : List ℕ) (id : ℕ) (row : FileRow) (path' content' text : List ℕ) (stamp : ℕ) (doc : DocEdit) (new : HeldDoc) (look : Option Look) (l : Look) → AreSoundFiles w → IsLiveAt w path id row
-    → path' ≡ row.path → content' ≡ text → stamp ≡ w.next_stamp → look ≡ option_map look_of (document_part (file_of w id)) → look ≡ Some l
+pub write_open_from : (w : World) (path : List ℕ) (id : ℕ) (row : FileRow) (path' content' text : List ℕ) (stamp : ℕ) (doc : DocEdit) (new : HeldDoc) (summary : Option Summary) (l : Summary) → AreSoundFiles w → IsLiveAt w path id row
+    → path' ≡ row.path → content' ≡ text → stamp ≡ w.next_stamp → summary ≡ option_map summary_of (document_part (file_of w id)) → summary ≡ Some l
     → new.document ≡ opened text → doc ≡ doc_edit.Replace new → Builds w (Write path text) (write_step id row path' content' stamp doc)
-write_open_from w path id row path' content' text stamp doc new look l sound live p t s e f document is =
+write_open_from w path id row path' content' text stamp doc new summary l sound live p t s e f document is =
     by (document_part (file_of w id)) (is_file_at w path id row live) (sym f ∙ e)
   where
-    by : (was : Option Document) → IsFileAt w path id row was → Some l ≡ option_map look_of was
+    by : (was : Option Document) → IsFileAt w path id row was → Some l ≡ option_map summary_of was
         → Builds w (Write path text) (write_step id row path' content' stamp doc)
     by None h n = absurd (none-some l (sym n))
     by (Some d) h n =
@@ -303,13 +242,13 @@ write_open_from w path id row path' content' text stamp doc new look l sound liv
               (λ i. absurd (not_yet w path id row (Some d) sound h i));
         }))
 
-pub write_closed_from : (w : World) (path : List ℕ) (id : ℕ) (row : FileRow) (path' content' text : List ℕ) (stamp : ℕ) (doc : DocEdit) (look : Option Look) → AreSoundFiles w → IsLiveAt w path id row
-    → path' ≡ row.path → content' ≡ text → stamp ≡ w.next_stamp → look ≡ option_map look_of (document_part (file_of w id)) → look ≡ None
+pub write_closed_from : (w : World) (path : List ℕ) (id : ℕ) (row : FileRow) (path' content' text : List ℕ) (stamp : ℕ) (doc : DocEdit) (summary : Option Summary) → AreSoundFiles w → IsLiveAt w path id row
+    → path' ≡ row.path → content' ≡ text → stamp ≡ w.next_stamp → summary ≡ option_map summary_of (document_part (file_of w id)) → summary ≡ None
     → doc ≡ doc_edit.Keep → Builds w (Write path text) (write_step id row path' content' stamp doc)
-write_closed_from w path id row path' content' text stamp doc look sound live p t s e f is =
+write_closed_from w path id row path' content' text stamp doc summary sound live p t s e f is =
     by (document_part (file_of w id)) (is_file_at w path id row live) (sym f ∙ e)
   where
-    by : (was : Option Document) → IsFileAt w path id row was → None ≡ option_map look_of was
+    by : (was : Option Document) → IsFileAt w path id row was → None ≡ option_map summary_of was
         → Builds w (Write path text) (write_step id row path' content' stamp doc)
     by (Some d) h n = absurd (none-some _ n)
     by None h n =

@@ -1,8 +1,8 @@
 -- What room is left after a step.
-use Rattle.std.proofs.Common.{◌≡◌, ℕ, zero, suc, ◌+◌, ◌*◌, ◌<◌, ◌≤◌, false, cond, eqb, List, [], ◌∷◌, ◌++◌, length, get_or, take, Some, None, refl, sym, ap, ◌∙◌, subst, arith}
-use Rattle.std.specs.Prelude.{Option, is_some, IsSome, IfSome}
+use Rattle.std.proofs.Common.{◌≡◌, ℕ, zero, suc, ◌+◌, ◌*◌, ◌<◌, ◌≤◌, false, cond, eqb, List, [], ◌∷◌, ◌++◌, length, get_or, take, refl, sym, ap, ◌∙◌, subst, arith}
+use Rattle.std.specs.Prelude.{is_some, IsSome}
 use Rattle.std.proofs.lemmas.List.{take_more}
-use Rattle.std.proofs.lemmas.Bool.{eq-eqb, eqb-true, cond-true}
+use Rattle.std.proofs.lemmas.Bool.{eqb-true}
 use Rattle.std.proofs.lemmas.Option.{IfSome_then}
 use Rattle.vfs_core.specs.Held as files
 use Rattle.document_buf.specs.Held as docs
@@ -74,28 +74,10 @@ ready_after old new step steps ready world keeps rows chars = record {
   stamps = omega (arith, ready.stamps, ap (λ (w : World). w.next_stamp) world, ap (λ (w : World). w.entries) world, one_if_le step.draws);
 }
 
--- an insert needs room for what it inserts
-inserted_before : (edit : DocEdit) (n : ℕ) → inserted_by edit ≤ room_before edit n
-inserted_before Keep n = omega arith
-inserted_before edit n = omega arith
-
--- and no other edit needs room where none is needed behind it
+-- only an insert needs room where none is needed behind it
 some_inserted : (edit : DocEdit) → 0 < room_before edit 0 → 0 < inserted_by edit
 some_inserted Keep above = omega (arith, above)
 some_inserted edit above = omega (arith, above)
-
--- what carrying out the first of them asks
-pub first_rows : (held : Held) (step : Step) (steps : List Step) → IsReady held (step ∷ steps) → files.HasRowRoom held.room.files (one_if (is_some (put_row step.row)))
-first_rows held step steps ready = omega (arith, ready.room.rows)
-
-pub first_chars : (held : Held) (step : Step) (steps : List Step) → IsReady held (step ∷ steps) → IsSome (docs.document_of held.room.docs step.id) → inserted_by step.doc ≤ docs.room_of held.room.docs step.id
-first_chars held step steps ready some =
-    let needed = room_needed step.id steps in
-    let here : room_before_step step.id step needed ≡ room_before step.doc needed = cond-true (eqb step.id step.id) (room_before step.doc needed) needed (eq-eqb step.id step.id refl) in
-    omega (arith, ready.room.chars step.id some, here, inserted_before step.doc needed)
-
-pub first_stamps : (held : Held) (step : Step) (steps : List Step) → IsReady held (step ∷ steps) → held.world.next_stamp + 1 ≤ 64 * held.world.entries + 1
-first_stamps held step steps ready = omega (arith, ready.stamps)
 
 -- lawful steps are so where one entry more is counted
 lawful_counted : (world : World) (step : Step) → IsLawfulStep world step → IsLawfulStep (counted world) step

@@ -1,12 +1,12 @@
 -- What a lawful step makes of each file, and that the files stay sound.
-use Rattle.std.proofs.Common.{ℕ, ◌≡◌, ◌≢◌, ◌+◌, List, [], ◌∷◌, refl, ap, sym, ◌∙◌, subst, arith, Some, None}
+use Rattle.std.proofs.Common.{ℕ, ◌≡◌, ◌+◌, List, [], ◌∷◌, refl, ap, sym, ◌∙◌, subst, arith, Some, None}
 use Rattle.std.specs.Prelude.{Option, IfSome, is_some, if◌then◌else◌, ◌==◌}
 use Rattle.list_laws.specs.Rows.{one_if}
 use Rattle.std.specs.List.{fold}
 use Rattle.std.proofs.lemmas.Bool.{eqb-true}
 use Rattle.std.proofs.lemmas.Option.{IfSome_then, same_Some}
 use Rattle.list_laws.proofs.BoolLemmas.{bool_cases}
-use Rattle.list_laws.proofs.RowLemmas.{row_in-here, row_in-there, row_in-with_row, count-with_row}
+use Rattle.list_laws.proofs.RowLemmas.{row_in-here, row_in-with_row, count-with_row}
 use Rattle.vfs_core.specs.declared.row.FileRow.{FileRow}
 use Rattle.document_buf.specs.Document.{Document}
 use Rattle.write_history.specs.World.{World, File, file_of, is_open, count_of}
@@ -27,10 +27,6 @@ put_by w s = record { id = s.id; file = stepped s (file_of w s.id); drawn = draw
 -- a step changes what has its id
 pub file_here : (w : World) (s : Step) → IsLawfulStep w s → file_of (after_step w s) s.id ≡ stepped s (file_of w s.id)
 file_here w s l = row_in-here s.id (stepped s (file_of w s.id)) w.files l.some l.within
-
--- and nothing else
-pub file_there : (w : World) (s : Step) (id : ℕ) → id ≢ s.id → file_of (after_step w s) id ≡ file_of w id
-file_there w s id n = row_in-there s.id (stepped s (file_of w s.id)) w.files id n
 
 pub file_after : (w : World) (s : Step) (id : ℕ) → IsLawfulStep w s
     → file_of (after_step w s) id ≡ (if s.id == id then stepped s (file_of w s.id) else file_of w id)

@@ -15,10 +15,10 @@ use Rattle.ide_world.specs.DocEdits.{edited_document, IsDocEditFit}
 use Rattle.ide_world.specs.Step.{row_part, document_part, stepped, after_step, after_steps}
 use Rattle.ide_world.specs.Sound.{AreSoundFiles}
 use Rattle.ide_world.specs.Lawful.{IsLawfulStep, AreLawfulFrom}
-use Rattle.ide_world.specs.declared.look.Look.{Look}
+use Rattle.ide_world.specs.declared.summary.Summary.{Summary}
 use Rattle.ide_world.specs.Drafted.{Drafted, IsDraft, world_now, drafted, IsKept}
 use Rattle.ide_world.specs.declared.draft.Draft.TheInside.{Inside}
-use Rattle.ide_world.specs.Walk.{row_after, look_of, edited_committed, edited_text, id_after, edits_texts, keeps_texts, IsTextEditFit, AreTextEditsFit, is_open_after}
+use Rattle.ide_world.specs.Walk.{row_after, summary_of, edited_committed, edited_text, id_after, edits_texts, keeps_texts, IsTextEditFit, AreTextEditsFit, is_open_after}
 use Rattle.ide_world.proofs.StepLemmas.{is_open-part, open_count-step, part-after_step, row_part-stepped, document_part-stepped, reads_steps, sound_after_step}
 use Rattle.ide_world.proofs.EditLemmas.{text_of_document, committed_of, committed-edited, text-edited, text_edit_fits, is_some-edited, kept_text, kept_committed}
 use Rattle.ide_world.proofs.PathLemmas.{id_at-after_step}
@@ -127,7 +127,7 @@ read_ok edit (Err e) first old now ss kept walked f s read = tt
 pub fits_as : (id : ℕ) (first old : Option (List ℕ)) (ss kept : List Step) → first ≡ old → ss ≡ kept → AreTextEditsFit id old kept → AreTextEditsFit id first ss
 fits_as id first old ss kept f s h = subst (λ o. AreTextEditsFit id o ss) (sym f) (subst (AreTextEditsFit id old) (sym s) h)
 
-is_some-looked : (doc : Option Document) → is_some (option_map look_of doc) ≡ is_some doc
+is_some-looked : (doc : Option Document) → is_some (option_map summary_of doc) ≡ is_some doc
 is_some-looked None = refl
 is_some-looked (Some doc) = refl
 
@@ -141,19 +141,19 @@ pub record IsKeptAs (inside : Inside) (now : Drafted) : Type 0 where
 pub kept_as : (inside : Inside) (now : Drafted) → drafted inside ≡ now → IsKept inside → IsKeptAs inside now
 kept_as inside now same kept = subst (IsKeptAs inside) same (record { draft = kept.draft; made = kept.made; opened = kept.opened; stamp = kept.stamp })
 
-pub open_count-after : (inside : Inside) (now : Drafted) (s : Step) (result : ℕ) (was is : Bool) (look : Option Look) → IsKeptAs inside now
-    → IsLawfulStep (world_now now) s → look ≡ option_map look_of (document_part (file_of (world_now now) s.id)) → was ≡ is_some look
+pub open_count-after : (inside : Inside) (now : Drafted) (s : Step) (result : ℕ) (was is : Bool) (summary : Option Summary) → IsKeptAs inside now
+    → IsLawfulStep (world_now now) s → summary ≡ option_map summary_of (document_part (file_of (world_now now) s.id)) → was ≡ is_some summary
     → is ≡ is_open_after s.doc was
     → result + one_if was ≡ inside.opened + one_if is → result ≡ count_of is_open (after_step (world_now now) s)
-open_count-after inside now s result was is look kept l looked w i e =
+open_count-after inside now s result was is summary kept l looked w i e =
     let doc = document_part (file_of (world_now now) s.id) in
     let before : was ≡ is_some doc = w ∙ ap is_some looked ∙ is_some-looked doc in
     let after : is ≡ is_some (edited_document s.doc doc) = i ∙ ap (is_open_after s.doc) before ∙ sym (is_some-edited s.doc doc l.doc) in
     omega (arith, e, kept.opened, open_count-step (world_now now) s l, ap one_if before, ap one_if after)
 
-pub some_open : (inside : Inside) (now : Drafted) (id : ℕ) (was : Bool) (look : Option Look) → IsKeptAs inside now
-    → look ≡ option_map look_of (document_part (file_of (world_now now) id)) → was ≡ is_some look → one_if was ≤ inside.opened
-some_open inside now id was look kept looked w =
+pub some_open : (inside : Inside) (now : Drafted) (id : ℕ) (was : Bool) (summary : Option Summary) → IsKeptAs inside now
+    → summary ≡ option_map summary_of (document_part (file_of (world_now now) id)) → was ≡ is_some summary → one_if was ≤ inside.opened
+some_open inside now id was summary kept looked w =
     let file = file_of (world_now now) id in
     let is : was ≡ is_open file = w ∙ ap is_some looked ∙ is_some-looked (document_part file) ∙ sym (is_open-part file) in
     omega (arith, kept.opened, counted_in is_open refl id (world_now now).files, ap one_if is)

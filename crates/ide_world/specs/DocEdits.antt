@@ -28,33 +28,20 @@ pub record IsEraseFit (from to : ℕ) (document : Document) : Type 0 where
 
 -- when an edit may be made
 abbrev pub IsDocEditFit : DocEdit → Option Document → Type 0
-IsDocEditFit Keep document = Unit {0}
 IsDocEditFit (Open doc) document = document ≡ None
 IsDocEditFit (Insert at text) document = IsSomeAnd document (IsInsertFit at text)
 IsDocEditFit (Erase from to) document = IsSomeAnd document (IsEraseFit from to)
 IsDocEditFit (Commit text) document = IsSomeAnd document (λ d. text ≡ d.text)
-IsDocEditFit MarkSaved document = Unit {0}
 IsDocEditFit (Replace doc) document = IsSome document × (doc.document ≡ opened doc.document.text)
-IsDocEditFit Close document = Unit {0}
+IsDocEditFit edit document = Unit {0}
 
 -- how many characters an edit inserts
 abbrev pub inserted_by : DocEdit → ℕ
-inserted_by Keep = 0
-inserted_by (Open doc) = 0
 inserted_by (Insert at text) = length text
-inserted_by (Erase from to) = 0
-inserted_by (Commit text) = 0
-inserted_by MarkSaved = 0
-inserted_by (Replace doc) = 0
-inserted_by Close = 0
+inserted_by edit = 0
 
 -- the document that an edit brings has room for so many characters more
 abbrev pub IsWide : ℕ → DocEdit → Type 0
-IsWide n Keep = Unit {0}
 IsWide n (Open doc) = n ≤ doc.spare
-IsWide n (Insert at text) = Unit {0}
-IsWide n (Erase from to) = Unit {0}
-IsWide n (Commit text) = Unit {0}
-IsWide n MarkSaved = Unit {0}
 IsWide n (Replace doc) = n ≤ doc.spare
-IsWide n Close = Unit {0}
+IsWide n edit = Unit {0}

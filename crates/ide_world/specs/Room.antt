@@ -7,7 +7,7 @@ use Rattle.overlay_index.specs.Parts.{Parts}
 use Rattle.ide_world.specs.declared.step.DocEdit.{DocEdit}
 use Rattle.ide_world.specs.declared.step.DocEdit.TheVariants.{Keep as KeepDoc, Open, Insert, Erase, Commit, MarkSaved, Replace, Close}
 use Rattle.ide_world.specs.declared.step.IndexEdit.{IndexEdit}
-use Rattle.ide_world.specs.declared.step.IndexEdit.TheVariants.{Keep as KeepIndex, SetBase, SetOverlay, ToOverlay, ToBase, Drop}
+use Rattle.ide_world.specs.declared.step.IndexEdit.TheVariants.{SetBase, SetOverlay, ToOverlay}
 use Rattle.ide_world.specs.declared.step.Step.{Step}
 use Rattle.ide_world.specs.RowEdits.{put_row}
 use Rattle.list_laws.specs.Rows.{one_if}
@@ -22,32 +22,19 @@ pub record Room : Type 0 where
 
 -- whether an edit opens a document
 abbrev pub opens : DocEdit → Bool
-opens KeepDoc = false
 opens (Open doc) = true
-opens (Insert at text) = false
-opens (Erase from to) = false
-opens (Commit text) = false
-opens MarkSaved = false
-opens (Replace doc) = false
-opens Close = false
+opens edit = false
 
 -- the data that an edit brings
 abbrev pub brought : IndexEdit → Option Parts
-brought KeepIndex = None
 brought (SetBase parts) = Some parts
 brought (SetOverlay parts) = Some parts
-brought ToOverlay = None
-brought ToBase = None
-brought Drop = None
+brought edit = None
 
 -- whether an edit lets what a file shows be its overlay
 abbrev pub shows_on : IndexEdit → Bool
-shows_on KeepIndex = false
-shows_on (SetBase parts) = false
-shows_on (SetOverlay parts) = false
 shows_on ToOverlay = true
-shows_on ToBase = false
-shows_on Drop = false
+shows_on edit = false
 
 -- how many rows steps may make
 abbrev pub rows_of : List Step → ℕ

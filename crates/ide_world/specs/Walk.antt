@@ -10,41 +10,37 @@ use Rattle.ide_world.specs.declared.step.RowEdit.TheVariants as row_edit
 use Rattle.ide_world.specs.declared.step.DocEdit.{DocEdit}
 use Rattle.ide_world.specs.declared.step.DocEdit.TheVariants.{Keep, Open, Insert, Erase, Commit, MarkSaved, Replace, Close}
 use Rattle.ide_world.specs.RowEdits.{edited_row}
-use Rattle.ide_world.specs.declared.look.Look.{Look}
+use Rattle.ide_world.specs.declared.summary.Summary.{Summary}
 
 -- the row of an id after a step
 abbrev pub row_after : ℕ → Option FileRow → Step → Option FileRow
 row_after id row step = if step.id == id then edited_row step.row row else row
 
 -- what a document looks like
-abbrev pub look_of : Document → Look
-look_of document = record { len = length document.text; saved = document.saved }
+abbrev pub summary_of : Document → Summary
+summary_of document = record { len = length document.text; saved = document.saved }
 
 -- what a document looks like after an edit
-abbrev pub edited_look : DocEdit → Option Look → Option Look
-edited_look Keep look = look
-edited_look (Open doc) look = Some (look_of doc.document)
-edited_look (Insert at text) look = option_map (λ l. record { len = l.len + length text; saved = false }) look
-edited_look (Erase from to) look = option_map (λ l. record { len = l.len - (to - from); saved = false }) look
-edited_look (Commit text) look = look
-edited_look MarkSaved look = option_map (λ l. record { len = l.len; saved = true }) look
-edited_look (Replace doc) look = option_map (λ l. record { len = length doc.document.text; saved = true }) look
-edited_look Close look = None
+abbrev pub edited_summary : DocEdit → Option Summary → Option Summary
+edited_summary Keep summary = summary
+edited_summary (Open doc) summary = Some (summary_of doc.document)
+edited_summary (Insert at text) summary = option_map (λ l. record { len = l.len + length text; saved = false }) summary
+edited_summary (Erase from to) summary = option_map (λ l. record { len = l.len - (to - from); saved = false }) summary
+edited_summary (Commit text) summary = summary
+edited_summary MarkSaved summary = option_map (λ l. record { len = l.len; saved = true }) summary
+edited_summary (Replace doc) summary = option_map (λ l. record { len = length doc.document.text; saved = true }) summary
+edited_summary Close summary = None
 
 -- what the document of an id looks like after a step
-abbrev pub look_after : ℕ → Option Look → Step → Option Look
-look_after id look step = if step.id == id then edited_look step.doc look else look
+abbrev pub summary_after : ℕ → Option Summary → Step → Option Summary
+summary_after id summary step = if step.id == id then edited_summary step.doc summary else summary
 
 -- the committed text of a document after an edit
 abbrev pub edited_committed : DocEdit → Option (List ℕ) → Option (List ℕ)
-edited_committed Keep text = text
 edited_committed (Open doc) text = Some doc.document.committed
-edited_committed (Insert at piece) text = text
-edited_committed (Erase from to) text = text
 edited_committed (Commit new) text = option_map (λ t. new) text
-edited_committed MarkSaved text = text
-edited_committed (Replace doc) text = text
 edited_committed Close text = None
+edited_committed edit text = text
 
 -- the committed text of the document of an id after a step
 abbrev pub committed_after : ℕ → Option (List ℕ) → Step → Option (List ℕ)
@@ -52,14 +48,12 @@ committed_after id text step = if step.id == id then edited_committed step.doc t
 
 -- the text of a document after an edit
 abbrev pub edited_text : DocEdit → Option (List ℕ) → Option (List ℕ)
-edited_text Keep text = text
 edited_text (Open doc) text = Some doc.document.text
 edited_text (Insert at piece) text = option_map (with_piece at piece) text
 edited_text (Erase from to) text = option_map (without_part from to) text
-edited_text (Commit new) text = text
-edited_text MarkSaved text = text
 edited_text (Replace doc) text = option_map (λ t. doc.document.text) text
 edited_text Close text = None
+edited_text edit text = text
 
 -- the text of the document of an id after a step
 abbrev pub text_after : ℕ → Option (List ℕ) → Step → Option (List ℕ)
@@ -68,13 +62,8 @@ text_after id text step = if step.id == id then edited_text step.doc text else t
 -- whether an edit leaves a document's two texts as they are
 abbrev pub keeps_texts : DocEdit → Bool
 keeps_texts Keep = true
-keeps_texts (Open doc) = false
-keeps_texts (Insert at piece) = false
-keeps_texts (Erase from to) = false
-keeps_texts (Commit new) = false
 keeps_texts MarkSaved = true
-keeps_texts (Replace doc) = false
-keeps_texts Close = false
+keeps_texts edit = false
 
 -- whether a step changes a text of the document of an id
 abbrev pub edits_texts : ℕ → Step → Bool
@@ -96,14 +85,9 @@ id_after path found step = moved_id path step.id step.row found
 
 -- when an edit may be made to a text
 abbrev pub IsTextEditFit : DocEdit → Option (List ℕ) → Type 0
-IsTextEditFit Keep text = Unit {0}
-IsTextEditFit (Open doc) text = Unit {0}
 IsTextEditFit (Insert at piece) text = IfSome text (λ t. (at ≤ length t) × (length t + length piece ≤ max_chars))
 IsTextEditFit (Erase from to) text = IfSome text (λ t. (from ≤ to) × (to ≤ length t))
-IsTextEditFit (Commit new) text = Unit {0}
-IsTextEditFit MarkSaved text = Unit {0}
-IsTextEditFit (Replace doc) text = Unit {0}
-IsTextEditFit Close text = Unit {0}
+IsTextEditFit edit text = Unit {0}
 
 -- the edits of the document of an id may be made one after another
 abbrev pub AreTextEditsFit : ℕ → Option (List ℕ) → List Step → Type 0
@@ -113,11 +97,6 @@ AreTextEditsFit id text (step ∷ steps) =
 
 -- whether a document is open after an edit
 abbrev pub is_open_after : DocEdit → Bool → Bool
-is_open_after Keep was = was
 is_open_after (Open doc) was = true
-is_open_after (Insert at piece) was = was
-is_open_after (Erase from to) was = was
-is_open_after (Commit new) was = was
-is_open_after MarkSaved was = was
-is_open_after (Replace doc) was = was
 is_open_after Close was = false
+is_open_after edit was = was

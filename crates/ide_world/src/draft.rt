@@ -7,9 +7,9 @@ ghost use Rattle.write_history.specs.Effect.{is_uncommitted, document_len, is_un
 ghost use Rattle.ide_world.specs.Step.{row_part, document_part, after_step};
 ghost use Rattle.ide_world.specs.Lawful.{IsLawfulStep, AreWide};
 ghost use Rattle.ide_world.specs.Alike.{AreAlike};
-ghost use Rattle.ide_world.specs.Walk.{look_of, is_open_after};
+ghost use Rattle.ide_world.specs.Walk.{summary_of, is_open_after};
 
-use crate::look::Look;
+use crate::summary::Summary;
 use crate::{DocEdit, State, Step, Steps, walk};
 use ide_text::{Name, SharedText, Text};
 use std::alloc::{AllocError, Global};
@@ -50,7 +50,7 @@ pub(crate) struct Found<'a> {
 
 impl<'a> Draft<'a> {
     ghost use Rattle.ide_world.specs.Drafted.{world_now, IsDraft};
-    ghost use Rattle.ide_world.specs.Walk.{look_of};
+    ghost use Rattle.ide_world.specs.Walk.{summary_of};
     ghost use Rattle.ide_world.specs.Builds.{IsLiveAt};
 
     /// The draft of a state, with no step so far.
@@ -135,21 +135,21 @@ impl<'a> Draft<'a> {
     }
 
     /// What the document of an id looks like, where it is open.
-    pub(crate) fn look(&self, id: u32) -> Option<Look>
+    pub(crate) fn summary(&self, id: u32) -> Option<Summary>
         ensures value { result
-            ≡ option_map look_of (document_part (file_of (world_now self.now) id)) }
-        ensures short { IfSome result (λ look. look.len ≤ 65 * 1048576) }
+            ≡ option_map summary_of (document_part (file_of (world_now self.now) id)) }
+        ensures short { IfSome result (λ summary. summary.len ≤ 65 * 1048576) }
     {
-        let first = look_of(self.state, id);
-        walk::look(self.steps.as_slice(), id, first)
+        let first = summary_of(self.state, id);
+        walk::summary(self.steps.as_slice(), id, first)
     }
 
     /// What the document of the live file at a path looks like, where it is open.
-    pub(crate) fn look_at(&self, path: &Name) -> Option<Look>
-        ensures value { result ≡ option_map look_of (document_at (world_now self.now) path.now) }
-        ensures short { IfSome result (λ look. look.len ≤ 65 * 1048576) }
+    pub(crate) fn summary_at(&self, path: &Name) -> Option<Summary>
+        ensures value { result ≡ option_map summary_of (document_at (world_now self.now) path.now) }
+        ensures short { IfSome result (λ summary. summary.len ≤ 65 * 1048576) }
     {
-        self.look(self.id_of(path)?)
+        self.summary(self.id_of(path)?)
     }
 
     /// The committed text of an open document.
@@ -217,7 +217,7 @@ impl<'a> Draft<'a> {
         ensures { result ≡ count_of is_open (after_step (world_now self.now) step.now) }
     {
         let _ = &self.steps;
-        let was_open = self.look(step.id).is_some();
+        let was_open = self.summary(step.id).is_some();
         exchanged(self.opened, was_open, is_open_after(&step.doc, was_open))
     }
 
@@ -265,12 +265,12 @@ impl<'a> Draft<'a> {
 }
 
 /// What the document of an id looks like in the state.
-fn look_of(state: &State, id: u32) -> Option<Look>
-    ensures value { result ≡ option_map look_of (document_part (file_of state.now.world id)) }
-    ensures short { IfSome result (λ look. look.len ≤ 1048576) }
+fn summary_of(state: &State, id: u32) -> Option<Summary>
+    ensures value { result ≡ option_map summary_of (document_part (file_of state.now.world id)) }
+    ensures short { IfSome result (λ summary. summary.len ≤ 1048576) }
 {
     let doc = state.document(id)?;
-    Some(Look {
+    Some(Summary {
         len: doc.len(),
         saved: doc.saved(),
     })

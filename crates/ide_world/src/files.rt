@@ -51,7 +51,7 @@ pub(crate) fn written(
     let Some(found) = draft.find(path) else {
         unreachable!()
     };
-    let doc = match draft.look(found.id) {
+    let doc = match draft.summary(found.id) {
         Some(_) => DocEdit::Replace {
             doc: Doc::open(alloc, text, 0)?,
         },

@@ -12,7 +12,6 @@ mod group;
 mod index;
 mod index_walks;
 pub mod laws;
-mod look;
 mod marks;
 mod readers;
 mod refusal;
@@ -20,6 +19,7 @@ mod room;
 mod state;
 mod step;
 mod steps;
+mod summary;
 mod walk;
 
 pub use data::{Job, Made};

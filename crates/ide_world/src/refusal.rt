@@ -78,7 +78,7 @@ fn open_refusal(draft: &Draft<'_>, path: &Name) -> Option<Refusal>
     if !draft.has_file_at(path) {
         return Some(Refusal::NoSuchFile);
     }
-    if draft.look_at(path).is_some() {
+    if draft.summary_at(path).is_some() {
         return Some(Refusal::AlreadyOpen);
     }
     if draft.open_count() >= MAX_DOCUMENTS {
@@ -95,15 +95,17 @@ fn insert_refusal(draft: &Draft<'_>, path: &Name, at: u32, count: u32) -> Option
     if !draft.has_file_at(path) {
         return Some(Refusal::NoSuchFile);
     }
-    let Some(look) = draft.look_at(path) else {
+    let Some(summary) = draft.summary_at(path) else {
         return Some(Refusal::NotOpen);
     };
-    if at > look.len {
-        return Some(Refusal::BadRange { length: look.len });
+    if at > summary.len {
+        return Some(Refusal::BadRange {
+            length: summary.len,
+        });
     }
-    if (look.len + count) as usize > MAX_CHARS {
+    if (summary.len + count) as usize > MAX_CHARS {
         return Some(Refusal::TextFull {
-            count: look.len + count,
+            count: summary.len + count,
         });
     }
     fullness(draft)
@@ -115,11 +117,13 @@ fn erase_refusal(draft: &Draft<'_>, path: &Name, from: u32, to: u32) -> Option<R
     if !draft.has_file_at(path) {
         return Some(Refusal::NoSuchFile);
     }
-    let Some(look) = draft.look_at(path) else {
+    let Some(summary) = draft.summary_at(path) else {
         return Some(Refusal::NotOpen);
     };
-    if to > look.len || from > to {
-        return Some(Refusal::BadRange { length: look.len });
+    if to > summary.len || from > to {
+        return Some(Refusal::BadRange {
+            length: summary.len,
+        });
     }
     fullness(draft)
 }
@@ -132,7 +136,7 @@ fn closed_refusal(draft: &Draft<'_>, path: &Name) -> Option<Refusal>
     if !draft.has_file_at(path) {
         return Some(Refusal::NoSuchFile);
     }
-    if draft.look_at(path).is_none() {
+    if draft.summary_at(path).is_none() {
         return Some(Refusal::NotOpen);
     }
     fullness(draft)
@@ -146,10 +150,10 @@ fn close_refusal(draft: &Draft<'_>, path: &Name) -> Result<Option<Refusal>, Allo
     let Some(id) = draft.id_of(path) else {
         return Ok(Some(Refusal::NoSuchFile));
     };
-    let Some(look) = draft.look(id) else {
+    let Some(summary) = draft.summary(id) else {
         return Ok(Some(Refusal::NotOpen));
     };
-    if !look.saved {
+    if !summary.saved {
         return Ok(Some(Refusal::Unsaved));
     }
     if draft.is_uncommitted(id)? {
@@ -192,8 +196,8 @@ fn move_refusal(draft: &Draft<'_>, path: &Name, to: &Name) -> Option<Refusal>
 fn is_unsaved_at(draft: &Draft<'_>, path: &Name) -> bool
     ensures { result ≡ is_unsaved (document_at (world_now draft.now) path.now) }
 {
-    match draft.look_at(path) {
-        Some(look) => !look.saved,
+    match draft.summary_at(path) {
+        Some(summary) => !summary.saved,
         None => false,
     }
 }

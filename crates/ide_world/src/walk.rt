@@ -4,10 +4,10 @@ ghost use Rattle.std.specs.List.{fold, list_any};
 ghost use Rattle.std.specs.Option.{option_copied};
 ghost use Rattle.ide_text.specs.Text.{max_chars};
 ghost use Rattle.ide_world.specs.RowEdits.{edited_row};
-ghost use Rattle.ide_world.specs.Walk.{row_after, look_after, edited_look, committed_after, edited_committed, id_after, moved_id, other_than, keeps_texts, edits_texts, text_after, edited_text, IsTextEditFit, AreTextEditsFit};
+ghost use Rattle.ide_world.specs.Walk.{row_after, summary_after, edited_summary, committed_after, edited_committed, id_after, moved_id, other_than, keeps_texts, edits_texts, text_after, edited_text, IsTextEditFit, AreTextEditsFit};
 ghost use Rattle.document_buf.specs.Document.{with_piece, without_part};
 
-use crate::look::Look;
+use crate::summary::Summary;
 use crate::{DocEdit, RowEdit, Step};
 use ide_text::{Name, SharedText, Text};
 use std::alloc::AllocError;
@@ -37,49 +37,49 @@ fn edited_row<'a>(edit: &'a RowEdit, row: Option<&'a FileRow>) -> Option<&'a Fil
 }
 
 /// What the document of an id looks like after steps.
-pub(crate) fn look(steps: &[Step], id: u32, first: Option<Look>) -> Option<Look>
+pub(crate) fn summary(steps: &[Step], id: u32, first: Option<Summary>) -> Option<Summary>
     requires few { length steps.now ≤ 64 }
-    requires short { IfSome first (λ look. look.len ≤ max_chars) }
-    ensures value { result ≡ fold (look_after id) first steps.now }
-    ensures short { IfSome result (λ look. look.len ≤ 65 * max_chars) }
+    requires short { IfSome first (λ summary. summary.len ≤ max_chars) }
+    ensures value { result ≡ fold (summary_after id) first steps.now }
+    ensures short { IfSome result (λ summary. summary.len ≤ 65 * max_chars) }
 {
-    let mut look = first;
+    let mut summary = first;
     for step in steps {
         if step.id == id {
-            look = edited_look(&step.doc, look);
+            summary = edited_summary(&step.doc, summary);
         }
     }
-    look
+    summary
 }
 
-fn edited_look(edit: &DocEdit, look: Option<Look>) -> Option<Look>
-    requires { IfSome look (λ look. look.len ≤ 64 * max_chars) }
-    ensures value { result ≡ edited_look edit.now look }
-    ensures short { (n : ℕ) → 1 ≤ n → IfSome look (λ look. look.len ≤ n * max_chars)
-        → IfSome result (λ look. look.len ≤ (n + 1) * max_chars) }
+fn edited_summary(edit: &DocEdit, summary: Option<Summary>) -> Option<Summary>
+    requires { IfSome summary (λ summary. summary.len ≤ 64 * max_chars) }
+    ensures value { result ≡ edited_summary edit.now summary }
+    ensures short { (n : ℕ) → 1 ≤ n → IfSome summary (λ summary. summary.len ≤ n * max_chars)
+        → IfSome result (λ summary. summary.len ≤ (n + 1) * max_chars) }
 {
     match edit {
-        DocEdit::Keep => look,
-        DocEdit::Open { doc } => Some(Look {
+        DocEdit::Keep => summary,
+        DocEdit::Open { doc } => Some(Summary {
             len: doc.len(),
             saved: doc.saved(),
         }),
-        DocEdit::Insert { at: _, text } => Some(Look {
-            len: look?.len + text.as_text().len(),
+        DocEdit::Insert { at: _, text } => Some(Summary {
+            len: summary?.len + text.as_text().len(),
             saved: false,
         }),
-        DocEdit::Erase { from, to } => Some(Look {
-            len: look?.len.saturating_sub(to.saturating_sub(*from)),
+        DocEdit::Erase { from, to } => Some(Summary {
+            len: summary?.len.saturating_sub(to.saturating_sub(*from)),
             saved: false,
         }),
-        DocEdit::Commit { .. } => look,
-        DocEdit::MarkSaved => Some(Look {
-            len: look?.len,
+        DocEdit::Commit { .. } => summary,
+        DocEdit::MarkSaved => Some(Summary {
+            len: summary?.len,
             saved: true,
         }),
         DocEdit::Replace { doc } => {
-            look?;
-            Some(Look {
+            summary?;
+            Some(Summary {
                 len: doc.len(),
                 saved: true,
             })

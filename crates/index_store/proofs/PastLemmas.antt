@@ -14,14 +14,13 @@ module _ {A : Type 0} where
 
   module _ (one : Option A → List ℕ → Result (A × List ℕ) ℕ) where
     -- a turn of the loop
-    pub goes_on : (before : Option A) (count i : ℕ) (bytes : List ℕ) (x : A) (after : List ℕ) (total : Result (List ℕ) ℕ) → i < count → one before bytes ≡ Ok (x, after)
-        → behind (many_at one (count - i) before bytes) ≡ total → behind (many_at one (count - (i + 1)) (Some x) after) ≡ total
+    pub goes_on : (before : Option A) (count i : ℕ) (bytes : List ℕ) (x : A) (after : List ℕ) (total : Result (List ℕ) ℕ) → i < count
+        → one before bytes ≡ Ok (x, after) → behind (many_at one (count - i) before bytes) ≡ total → behind (many_at one (count - (i + 1)) (Some x) after) ≡ total
     unfolding many_at
     goes_on before count i bytes x after total less read so_far =
         let more : count - i ≡ suc (count - (i + 1)) = omega arith in
-        let turn : behind (many_at one (count - i) before bytes) ≡ behind (many_at one (count - (i + 1)) (Some x) after) =
-        rw (more, read) (behind-cons x (many_at one (count - (i + 1)) (Some x) after)) in
-        sym turn ∙ so_far
+        let turned = rw (more, read) at so_far in
+        sym (behind-cons x (many_at one (count - (i + 1)) (Some x) after)) ∙ turned
 
     -- a turn that meets a fault
     pub ends : (fault : Fault) (before : Option A) (count i : ℕ) (bytes : List ℕ) (total : Result (List ℕ) ℕ) → i < count → Fails fault (one before bytes)
@@ -30,13 +29,14 @@ module _ {A : Type 0} where
     ends faults.Memory before count i bytes total less fails so_far = tt
     ends (faults.Unlawful left) before count i bytes total less fails so_far =
         let more : count - i ≡ suc (count - (i + 1)) = omega arith in
-        let fault : behind (many_at one (count - i) before bytes) ≡ Err left = rw (more, fails) refl in
-        sym so_far ∙ fault
+        let turned = rw (more, fails) at so_far in
+        sym turned
 
     -- the end of the loop
-    pub is_done : (before : Option A) (count i : ℕ) (bytes : List ℕ) (total : Result (List ℕ) ℕ) → count ≤ i → behind (many_at one (count - i) before bytes) ≡ total → total ≡ Ok bytes
+    pub is_done : (before : Option A) (count i : ℕ) (bytes : List ℕ) (total : Result (List ℕ) ℕ) → count ≤ i
+        → behind (many_at one (count - i) before bytes) ≡ total → total ≡ Ok bytes
     unfolding many_at
     is_done before count i bytes total all so_far =
         let none : count - i ≡ 0 = omega arith in
-        let left : behind (many_at one (count - i) before bytes) ≡ Ok bytes = rw none refl in
-        sym so_far ∙ left
+        let turned = rw none at so_far in
+        sym turned

@@ -1,12 +1,10 @@
 -- A pass that goes on is the same pass, and has only taken hints.
-use Rattle.std.proofs.Common.{◌≡◌, ◌≤◌, [], ◌∷◌, length, refl, ap, sym, ◌∙◌, subst, arith, Some, None}
+use Rattle.std.proofs.Common.{rules, ◌≤◌, ◌≡◌, [], ◌∷◌, length, refl, ap, ◌∙◌, arith, Some, None}
 use Rattle.std.specs.Prelude.{List, Option, IfSome, IfNone}
 use Rattle.job_queue.specs.Fifo.{Held}
 use Rattle.job_queue.specs.Rule.{Stood}
 use Rattle.job_queue.specs.Views.{taking}
-use Rattle.list_laws.specs.Fronts.{IsFront}
 use Rattle.list_laws.proofs.FrontLemmas.{front_self, front_trans, front_length}
-use Rattle.action_lock.specs.declared.view.View.{View}
 use Rattle.write_history.specs.declared.entry.Entry.{Entry}
 use Rattle.job_queue.specs.declared.hint.Hint.{Hint}
 use Rattle.job_queue.specs.declared.view.QueueView.{QueueView}
@@ -22,26 +20,14 @@ use Rattle.ide_calls.specs.declared.home.IdeHome.{IdeHome}
 use Rattle.ide_calls.specs.declared.share.IdeShare.{IdeShare}
 
 pub same_on : (p q r : IdePass) → IsSameIdePass p q → IsSameIdePass q r → IsSameIdePass p r
-same_on p q r a b = record {
-  of_lock = record { table = b.of_lock.table ∙ a.of_lock.table; seat = b.of_lock.seat ∙ a.of_lock.seat };
-  of_queue = (
-    (b.of_queue.0.0 ∙ a.of_queue.0.0, b.of_queue.0.1 ∙ a.of_queue.0.1, b.of_queue.0.2 ∙ a.of_queue.0.2),
-    b.of_queue.1 ∙ a.of_queue.1,
-  );
-}
+same_on p q r a b = search (rules, a, b, a.of_lock, b.of_lock, a.of_queue, b.of_queue)
 
 pub none_taken : (q : QueueView) → HasOnlyTaken q q
 none_taken q = record { same = refl; took = front_self q.took }
 
 pub one_taken : (q r : QueueView) (hint : Option Hint) → HasTaken hint q r → HasOnlyTaken q r
-one_taken q r None takes = subst (HasOnlyTaken q) (sym takes.0) (none_taken q)
-one_taken q r (Some hint) takes = subst (HasOnlyTaken q) (sym takes.0) (record { same = refl; took = (hint ∷ [], refl) })
-
-taken_on : (q r s : QueueView) → HasOnlyTaken q r → HasOnlyTaken r s → HasOnlyTaken q s
-taken_on q r s a b = record {
-  same = b.same ∙ ap (λ (u : QueueView). record u { took = s.took }) a.same;
-  took = front_trans q.took r.took s.took a.took b.took;
-}
+one_taken q r None takes = rw takes.0 (none_taken q)
+one_taken q r (Some hint) takes = rw takes.0 (record { same = refl; took = (hint ∷ [], refl) })
 
 -- what `take` answers
 pub has_taken : (q r : QueueView) (hint : Option Hint) → IfSome hint (λ h. (r ≡ taking h q) × ((rest : List Hint) × Stood q (h ∷ rest)))
@@ -51,23 +37,22 @@ has_taken q r None some none = none
 
 -- after one more step
 pub only_taken : (q r s : QueueView) (hint : Option Hint) → HasOnlyTaken q r → HasTaken hint r s → HasOnlyTaken q s
-only_taken q r s hint a takes = taken_on q r s a (one_taken r s hint takes)
-
--- a pass that made entries, and put no hint, has put no more hints than entries
-pub few_still : (v w : View Entry) (q r : QueueView) → length q.put ≤ length v.mine → IsFront v.mine w.mine → r.put ≡ q.put → length r.put ≤ length w.mine
-few_still v w q r few front same =
-    let longer = front_length v.mine w.mine front in
-    let equal = ap length same in
-    omega arith
+only_taken q r s hint a takes =
+    let b = one_taken r s hint takes in
+    record {
+      same = b.same ∙ ap (λ (u : QueueView). record u { took = s.took }) a.same;
+      took = front_trans q.took r.took s.took a.took b.took;
+    }
 
 -- a pass that has gone on with the lock and put no hint is one of the two still
 pub rests_on : (l : ActionLock IdeHome Entry IdeShare) (j : JobQueue) (p p' : IdePass) → IsIdePassOf l j p → IsPassOf l p'.lock → IsQueuePassOf j p'.queue
     → Advances (ide_view p) (ide_view p') → HasOnlyTaken (queue_view p.queue) (queue_view p'.queue) → IsIdePassOf l j p'
-rests_on l j p p' old rests queued advances taken = record {
-  rests = rests;
-  queued = queued;
-  number = ap (λ (q : QueueView). q.number) taken.same ∙ old.number ∙ sym advances.number;
-  drawn = ap (λ (q : QueueView). q.drawn) taken.same ∙ old.drawn ∙ sym advances.drawn;
-  ended = ap (λ (q : QueueView). length q.ended) taken.same ∙ old.ended ∙ sym (ap length advances.ended);
-  few = few_still (ide_view p) (ide_view p') (queue_view p.queue) (queue_view p'.queue) old.few advances.mine (ap (λ (q : QueueView). q.put) taken.same);
-}
+rests_on l j p p' old rests queued advances taken =
+    let few : length (queue_view p'.queue).put ≤ length (ide_view p').mine = omega (
+      arith,
+      old.few,
+      front_length (ide_view p).mine (ide_view p').mine
+          advances.mine,
+      ap (λ (q : QueueView). length q.put) taken.same,
+    ) in
+    search (rules, rests, queued, old, advances, taken.same, few)

@@ -1,21 +1,20 @@
 -- A file that was taken in at a stamp is ready while it has that stamp.
-use Rattle.std.proofs.Common.{ℕ, ◌≡◌, inl, inr, ◌<◌, Bool, true, false, not, List, [], ◌∷◌, ◌++◌, refl, ap, sym, ◌∙◌, subst, arith, Some, None}
-use Rattle.std.specs.Prelude.{Option, ◌&&◌, ◌==◌, is_none, is_some, option_map}
+use Rattle.std.proofs.Common.{ℕ, ◌≡◌, inl, inr, ◌<◌, true, false, not, List, [], ◌∷◌, refl, ap, sym, ◌∙◌, arith, Some, None}
+use Rattle.std.specs.Prelude.{Option, ◌&&◌, ◌==◌, is_none, is_some}
 use Rattle.dumb_mode.specs.Filter.{passes_filter}
 use Rattle.dumb_mode.specs.Unready.{is_indexed_at}
-use Rattle.std.proofs.lemmas.Bool.{eq-eqb, eqb-true}
+use Rattle.std.proofs.lemmas.Bool.{and_parts, eq-eqb, eqb-true, not-false}
 use Rattle.write_history.specs.declared.change.Change.{Change}
 use Rattle.write_history.specs.declared.change.Change.TheVariants.{Intake}
 use Rattle.write_history.specs.declared.entry.Entry.{Entry}
 use Rattle.write_history.specs.World.{World, File, file_of, is_unready}
-use Rattle.write_history.specs.Effect.{Put, put_of, refusal_of, stamp_of, taken_in}
-use Rattle.write_history.specs.Fold.{effect_of, after_list, list_refusal, fold, IsLegal}
+use Rattle.write_history.specs.Effect.{Put, put_of, refusal_of, stamp_of}
+use Rattle.write_history.specs.Fold.{effect_of, after_list, fold, IsLegal}
 use Rattle.write_history.specs.Changes.{files_made}
 use Rattle.history_laws.proofs.PutLemmas.{IsAccepted, makes, ends, edits, is_place, by_place, accepted_reasons}
 use Rattle.history_laws.proofs.ChangeLemmas.{is_accepted}
 use Rattle.history_laws.proofs.FoldLemmas.{along, list_accepted, fold-append, IsLegal-split}
 use Rattle.history_laws.proofs.SoundLemmas.{stamp_below}
-use Rattle.list_laws.proofs.BoolLemmas.{bool_cases}
 use Rattle.index_workers.specs.Work.{StandsIn}
 
 -- a file that is live with this stamp is indexed at it
@@ -25,16 +24,13 @@ IsReadyAt stamp (Some file) = file.stamp ≡ stamp → file.indexed ≡ Some sta
 
 ready_here : (world : World) (put : Put) (made stamp : ℕ) → IsAccepted world put made → stamp < world.next_stamp
     → IsReadyAt stamp (file_of world put.id) → IsReadyAt stamp put.file
-ready_here world put made stamp (makes new one id file fresh indexed free) less h =
-    subst (IsReadyAt stamp) (sym file) (λ e. absurd (let s = fresh.0 in omega arith))
-ready_here world put made stamp (ends old none found file) less h = subst (IsReadyAt stamp) (sym file) tt
-ready_here world put made stamp (edits old new none found file (inr fresh) path indexed) less h =
-    subst (IsReadyAt stamp) (sym file) (λ e. absurd (let s = fresh.0 in omega arith))
+ready_here world put made stamp (makes new one id file fresh indexed free) less h = rw file (λ e. absurd (omega (arith, fresh.0)))
+ready_here world put made stamp (ends old none found file) less h = rw file tt
+ready_here world put made stamp (edits old new none found file (inr fresh) path indexed) less h = rw file (λ e. absurd (omega (arith, fresh.0)))
 ready_here world put made stamp (edits old new none found file (inl same) path (inl keeps)) less h =
-    let was : IsReadyAt stamp (Some old) = subst (IsReadyAt stamp) found h in
-    subst (IsReadyAt stamp) (sym file) (λ e. keeps ∙ was (sym same.stamp ∙ e))
+    rw file (λ e. keeps ∙ (rw found at h) (sym same.stamp ∙ e))
 ready_here world put made stamp (edits old new none found file (inl same) path (inr renews)) less h =
-    subst (IsReadyAt stamp) (sym file) (λ e. renews ∙ ap Some (sym same.stamp ∙ e))
+    rw file (λ e. renews ∙ ap Some (sym same.stamp ∙ e))
 
 -- the file with an id is ready at a stamp that was drawn
 record StaysReady (id stamp : ℕ) (world : World) : Type 0 where
@@ -45,72 +41,48 @@ ready-effect_of : (id stamp : ℕ) (world : World) (change : Change) → refusal
     → StaysReady id stamp (effect_of world change)
 ready-effect_of id stamp world change accepted h =
     let put = put_of world change in
-    let made = files_made change in
     let a = is_accepted world change accepted in
-    let place = is_place world put made a in
+    let place = is_place world put (files_made change) a in
     record {
-      drawn = let d = h.drawn in omega arith;
+      drawn = omega (arith, h.drawn);
       ready = by_place world put id (IsReadyAt stamp) place.0 place.1
-          (λ e. ready_here world put made stamp a h.drawn (subst (λ (n : ℕ). IsReadyAt stamp (file_of world n)) e h.ready))
-          (λ n. h.ready);
+          (λ e. ready_here world put (files_made change) stamp a h.drawn (rw e at h.ready)) (λ n. h.ready);
     }
-
-not_false : (b : Bool) → not b ≡ false → b ≡ true
-not_false true h = refl
-not_false false h = absurd (cc)
 
 -- an intake that is accepted is of a live file with its stamp
 live_at_stamp : (file : Option File) (stamp : ℕ) → is_none file ≡ false → not (stamp == stamp_of file) ≡ false
     → (old : File) × (file ≡ Some old) × (stamp ≡ old.stamp)
 live_at_stamp None stamp live same = absurd (cc)
-live_at_stamp (Some old) stamp live same = (old, refl, eqb-true stamp old.stamp (not_false (stamp == old.stamp) same))
+live_at_stamp (Some old) stamp live same = (old, refl, eqb-true stamp old.stamp (not-false (stamp == old.stamp) same))
 
 -- what an intake leaves
 ready_after : (before : List Entry) (id stamp : ℕ) → IsLegal before → refusal_of (fold before) (Intake id stamp) ≡ None
     → StaysReady id stamp (after_list (fold before) (Intake id stamp ∷ []))
 ready_after before id stamp legal accepted =
     let world = fold before in
-    let change = Intake id stamp in
-    let put = put_of world change in
-    let a = is_accepted world change accepted in
-    let place = is_place world put (files_made change) a in
-    let none = accepted_reasons world change accepted in
+    let put = put_of world (Intake id stamp) in
+    let place = is_place world put 0 (is_accepted world (Intake id stamp) accepted) in
+    let none = accepted_reasons world (Intake id stamp) accepted in
     let live = live_at_stamp (file_of world id) stamp none.0 none.1.0 in
-    let below = stamp_below before id live.0 legal live.1 in
     record {
-      drawn = let s = live.2 in omega arith;
-      ready = by_place world put id (IsReadyAt stamp) place.0 place.1
-          (λ e. subst (λ (o : Option File). IsReadyAt stamp (option_map (taken_in stamp) o)) (sym live.1) (λ s. refl))
-          (λ n. absurd (n refl));
+      drawn = omega (arith, live.2, stamp_below before id live.0 legal live.1);
+      ready = by_place world put id (IsReadyAt stamp) place.0 place.1 (λ e. rw live.1 (λ s. refl)) (λ n. absurd (n refl));
     }
-
-ready_with : (before behind : List Entry) (e : Entry) (id stamp : ℕ) → e.changes ≡ Intake id stamp ∷ [] → IsLegal (before ++ e ∷ behind)
-    → StaysReady id stamp (fold (before ++ e ∷ behind))
-ready_with before behind e id stamp is legal =
-    let parts = IsLegal-split before (e ∷ behind) legal in
-    let accepted : list_refusal (fold before) (Intake id stamp ∷ []) ≡ None = ap (list_refusal (fold before)) (sym is) ∙ parts.1.0 in
-    let here = ready_after before id stamp parts.0 (list_accepted (fold before) (Intake id stamp) [] accepted).0 in
-    let start : StaysReady id stamp (after_list (fold before) e.changes) =
-    subst (λ (cs : List Change). StaysReady id stamp (after_list (fold before) cs)) (sym is) here in
-    subst (StaysReady id stamp) (sym (fold-append before (e ∷ behind)))
-    (along (StaysReady id stamp) (ready-effect_of id stamp) (λ world h. record { drawn = h.drawn; ready = h.ready })
-    behind (after_list (fold before) e.changes) parts.1.1 start)
 
 ready_in : (history : List Entry) (e : Entry) (id stamp : ℕ) → StandsIn history e → e.changes ≡ Intake id stamp ∷ [] → IsLegal history
     → StaysReady id stamp (fold history)
-ready_in history e id stamp at is legal = subst (λ (h : List Entry). StaysReady id stamp (fold h)) (sym at.are)
-    (ready_with at.before at.behind e id stamp is (subst IsLegal at.are legal))
-
-and_false : (a b : Bool) → (a && b && false) ≡ false
-and_false a b = bool_cases a (λ c. (c && b && false) ≡ false) (λ _. bool_cases b (λ c. (true && c && false) ≡ false) (λ _. refl) (λ _. refl)) (λ _. refl)
+ready_in history e id stamp at is legal =
+    let parts = IsLegal-split at.before (e ∷ at.behind) (rw at.are at legal) in
+    let here = ready_after at.before id stamp parts.0 (list_accepted (fold at.before) (Intake id stamp) [] (rw is at parts.1.0)).0 in
+    rw (at.are, fold-append at.before (e ∷ at.behind))
+    (along (StaysReady id stamp) (ready-effect_of id stamp) (λ world h. record { drawn = h.drawn; ready = h.ready })
+    at.behind (after_list (fold at.before) e.changes) parts.1.1 (rw is here))
 
 ready_file : (file : Option File) (stamp : ℕ) → IsReadyAt stamp file → stamp_of file ≡ stamp → is_unready file ≡ true → ⊥
 ready_file None stamp ready same unready = absurd (cc)
 ready_file (Some f) stamp ready same unready =
-    let at : f.indexed ≡ Some f.stamp = ready same ∙ ap Some (sym same) in
-    let indexed : is_indexed_at f.stamp f.indexed ≡ true = ap (is_indexed_at f.stamp) at ∙ eq-eqb f.stamp f.stamp refl in
-    let none : is_unready (Some f) ≡ false =
-    ap (λ (b : Bool). passes_filter f.path && not (is_some f.document) && not b) indexed ∙ and_false (passes_filter f.path) (not (is_some f.document)) in
+    let stale = (and_parts (passes_filter f.path && not (is_some f.document)) (not (is_indexed_at f.stamp f.indexed)) unready).1 in
+    let indexed : is_indexed_at f.stamp f.indexed ≡ true = rw (ready same, same) (eq-eqb stamp stamp refl) in
     absurd (cc)
 
 -- a file that was taken in at a stamp isn't unready at it

@@ -43,11 +43,8 @@ Leads v q (d ∷ ds) w r =
 
 -- how many entries a step made
 abbrev pub taken_by : Stepped → ℕ
-taken_by (step.Idle len) = 0
-taken_by (step.Gone id) = 0
-taken_by (step.Stale id made present) = 0
-taken_by (step.Refused len) = 0
 taken_by (step.Taken place) = 1
+taken_by answer = 0
 
 -- what a gate may answer at a point
 abbrev pub Sayings : Type 1
@@ -61,10 +58,8 @@ any_answer point answer = ⊤
 -- tell it to
 abbrev pub GoesOn : Sayings → ℕ → Stepped → Type 0
 GoesOn said seat (step.Idle len) = said (point.Idle seat) true
-GoesOn said seat (step.Gone id) = ⊤
-GoesOn said seat (step.Stale id made present) = ⊤
 GoesOn said seat (step.Refused len) = ⊥
-GoesOn said seat (step.Taken place) = ⊤
+GoesOn said seat answer = ⊤
 
 -- the worker with this number ends so with this answer: where nothing was to be done only where the gate may tell it to
 abbrev pub IsEndOf : Sayings → ℕ → Stepped → End → Type 0
@@ -86,9 +81,8 @@ pub record WorkEnds (said : Sayings) (seat : ℕ) (end : End) (steps : List Done
 
 -- why the worker ended with these steps
 abbrev pub EndsBy : Sayings → ℕ → End → List Done → Type 0
-EndsBy said seat (Idle len) steps = WorkEnds said seat (Idle len) steps
-EndsBy said seat (Refused len) steps = WorkEnds said seat (Refused len) steps
 EndsBy said seat Turns steps = (length steps ≡ max_turns) × WentOn said seat steps
+EndsBy said seat end steps = WorkEnds said seat end steps
 
 -- what holds of what a worker has seen when it ends so
 abbrev pub IsAtEnd : End → View Entry → Type 0

@@ -15,7 +15,7 @@ use std::alloc::{AllocError, Global};
 use std::sync::Wait;
 
 /// Takes a hint, if there is one, and does a step of indexing: of the hinted file, or without a hint of the next of the walk, if that is
-/// unready, else of the first unready one from a place of its own on. Its index data are the store's, where it has them.
+/// unready, else of the first unready one from an id of its own on. Its index data are the store's, where it has them.
 pub fn index_step<R: Wait, G: Gate>(
     rt: &R,
     alloc: Global,

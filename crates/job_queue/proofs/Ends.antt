@@ -1,166 +1,87 @@
--- The rule at the beginning, and what it says at the end.
-use Rattle.std.proofs.Common.{◌≡◌, ◌≢◌, ℕ, zero, suc, ◌+◌, ◌<◌, List, [], ◌∷◌, ◌++◌, length, refl, ap, ◌∙◌, sym, subst}
-use Rattle.std.proofs.Common.{arith, Some, All, nat_lt, eqb, eq-eqb, ne_eqb, ltb-false, length-append}
-use mathlib.Core.Option.{some, some-injective, some-ne-none}
-use lib.ListN.{get_elem?}
-use Rattle.std.proofs.lemmas.Bool.Decides.{nat_tests}
-use Rattle.crossbeam_queue.specs.Fifo.{Learns}
+-- What the rule says of the passes that were met, of one pass's hints, and of all once a pass has met all others.
+use Rattle.std.proofs.Common.{◌≡◌, ℕ, ◌+◌, ◌*◌, ◌<◌, List, [], ◌∷◌, length, refl, ap, ◌∙◌, sym, subst, arith, All}
+use Rattle.std.proofs.Common.{nat_lt, eqb, eqb-true, ltb-false, length-append}
+use Rattle.std.proofs.Math.Nat.{add-mul}
+use Rattle.std.proofs.lemmas.Bool.{eqb-false}
+use Rattle.std.proofs.lemmas.List.{nil_from_length}
+use Rattle.std.proofs.lemmas.List.Elements.{All-head, All-tail}
 use Rattle.job_queue.specs.declared.hint.Hint.{Hint}
 use Rattle.job_queue.specs.declared.view.Hand.{Hand}
 use Rattle.job_queue.specs.declared.view.QueueView.{QueueView}
+use Rattle.job_queue.specs.declared.pass.QueuePass.{QueuePass}
+use Rattle.job_queue.specs.Passes.{queue_view}
 use Rattle.job_queue.specs.Hints.{bit, is_hint, times, hints_of, IsNumbered}
-use Rattle.job_queue.specs.Views.{hand, hands, weigh, first_view, joined, IsLast}
-use Rattle.job_queue.specs.Rule.{IsHand, IsSound, IsKept, Stood}
+use Rattle.job_queue.specs.Views.{hands, weigh, joined, IsLast}
+use Rattle.job_queue.specs.Rule.{IsHand, Stood}
 use Rattle.job_queue.specs.Accounts.{IsHandOf, IsKnown, IsAccounted}
-use Rattle.job_queue.proofs.HintLemmas.{by_number, times_own, times_other, times_few}
-use Rattle.job_queue.proofs.ViewLemmas.{hands_are, own_weighs, count, apart}
+use Rattle.job_queue.proofs.HintLemmas.{sent, times_own, times_other, times_few}
+use Rattle.job_queue.proofs.ViewLemmas.{count, hands_are, own_weighs}
 use Rattle.list_laws.specs.Totals.{total}
 use Rattle.list_laws.proofs.BoolLemmas.{bool_cases}
 use Rattle.list_laws.proofs.TotalLemmas.{total-append, total-at, total-only}
-use Rattle.list_laws.proofs.FrontLemmas.{All-cons, All-weaken}
-
-first_once : (n : ℕ) → (bit (eqb 0 n) + 0) + 0 ≡ bit (nat_lt n 1)
-first_once zero = refl
-first_once (suc n) = grind (arith, nat_tests)
-
-abbrev no_hints : ℕ → List Hint
-no_hints n = []
-
-first_sound : IsSound no_hints [] 1 first_view
-first_sound = record {
-  spent = λ none_there. absurd (cc);
-  counts = λ _. refl;
-  hands_are = All-cons (IsHand no_hints []) (hand 0 [] []) []
-      record { put = refl; rises = λ i j d less l. absurd (omega arith); early = λ k d l. absurd (omega arith) } (λ k d l. absurd (omega arith));
-}
-
-only_first : (seat : ℕ) (v : QueueView) → get_elem? (first_view ∷ []) seat ≡ some v → IsSound no_hints [] 1 v
-only_first zero v e = subst (IsSound no_hints [] 1) (some-injective first_view v e) first_sound
-only_first (suc seat) v e = absurd (some-ne-none v (sym e))
-
--- an empty queue and its first pass
-pub begins : IsKept [] (first_view ∷ [])
-begins = record {
-  drawn = 1;
-  gone = no_hints;
-  counted = record { one_leads = refl; once = first_once; in_all = refl; limit = omega arith };
-  numbered = λ n. tt;
-  unused = λ n le. refl;
-  taken = λ x. refl;
-  each = only_first;
-}
-
--- what a look tells
-pub stands : (id : ℕ) (v : QueueView) → Learns IsKept id v (Stood v)
-stands id v items views r at = record { views = views; seat = id; here = at; kept = r }
 
 count_length : (hs : List Hand) → total (λ (h : Hand). 1) hs ≡ length hs
 count_length [] = refl
-count_length (h ∷ hs) = let r = count_length hs in omega arith
+count_length (h ∷ hs) = omega (arith, count_length hs)
 
-no_weight : (f : Hand → ℕ) (hs : List Hand) → total (λ (h : Hand). 1) hs ≡ 0 → total f hs ≡ 0
-no_weight f [] e = refl
-no_weight f (h ∷ hs) e = absurd (omega arith)
+-- how many passes were met, once another was met: fewer than there are numbers
+pub joined_met : (p q : QueuePass) {u : QueueView} {items : List Hint} → u ≡ joined (queue_view p) (queue_view q) → Stood u items
+    → (length u.ended ≡ p.met + (q.met + 1)) × (p.met + (q.met + 1) < 65536)
+joined_met p q {u} e at =
+    let v : QueueView = queue_view p in let w : QueueView = queue_view q in let c = at.kept.counted in
+    let sum : length u.ended ≡ p.met + (q.met + 1) =
+    omega (arith, ap (λ (x : QueueView). length x.ended) e, length-append v.ended (hands w), ap length (hands_are w q.numbered)) in
+    let own = own_weighs u (ap (λ (x : QueueView). x.number) e ∙ p.numbered) (λ h. 1) in
+    (sum, omega (arith, own, total-at count at.views at.seat u at.here, count_length u.ended))
 
-module _ (items : List Hint) (views : List QueueView) (r : IsKept items views) (id : ℕ) (v : QueueView) (at : get_elem? views id ≡ some v) where
-  hand_is : (h : Hand) → IsHand r.gone items h → IsHandOf items h
-  hand_is h is = record { numbered = subst (IsNumbered h.number 1) (sym is.put) (r.numbered h.number); waiting = (r.gone h.number, is.put); rises = is.rises }
-
-  -- what the pass with this number put
-  abbrev sent : ℕ → List Hint
-  sent n = r.gone n ++ hints_of n items
+module _ (v : QueueView) (items : List Hint) (at : Stood v items) where
+  -- how often the hint's pusher put it
+  abbrev puts : Hint → ℕ
+  puts x = times x (sent at.kept.gone items x.pusher)
 
   -- a hint that is gone or in the queue is one that its pusher put
-  sent_times : (x : Hint) → times x (r.gone x.pusher) + times x items ≡ times x (sent x.pusher)
-  sent_times x =
-      let c = total-append (λ (y : Hint). bit (is_hint x y)) (r.gone x.pusher) (hints_of x.pusher items) in
-      let d = times_own x items in omega arith
+  sent_times : (x : Hint) → times x (at.kept.gone x.pusher) + times x items ≡ puts x
+  sent_times x = omega (arith, total-append (λ y. bit (is_hint x y)) (at.kept.gone x.pusher) (hints_of x.pusher items), times_own x items)
 
-  known : IsKnown v items
-  known = record {
-    each = All-weaken (IsHand r.gone items) (IsHandOf items) (hands v) hand_is (r.each id v at).hands_are;
-    once = λ x.
-        let a = total-at (weigh (λ (h : Hand). times x h.took)) views id v at in
-        let b = r.taken x in
-        let c = sent_times x in
-        let d = times_few x x.pusher 1 (sent x.pusher) (r.numbered x.pusher) in omega arith;
+  hand_is : (h : Hand) → IsHand at.kept.gone items h → IsHandOf items h
+  hand_is h is = record {
+    numbered = subst (IsNumbered h.number 1) (sym is.put) (at.kept.numbered h.number);
+    waiting = (at.kept.gone h.number, is.put);
+    rises = is.rises;
   }
 
-  module _ (last : IsLast v) where
-    -- the last pass has all hands
-    has_all : (f : Hand → ℕ) → total (weigh f) views ≡ weigh f v
-    has_all f = total-only count (weigh f) views id v at
-        (let own = own_weighs (λ (h : Hand). 1) v 0 last.leads in let c = count_length v.ended in let all = r.counted.in_all in
-        let d = (r.each id v at).counts last.leads in let met = last.all_met in omega arith)
-        (λ j w e none_there. no_weight f (hands w) none_there)
+  -- what a pass knows of hints
+  pub knows : IsKnown v items
+  knows = record {
+    each = λ k d l. hand_is _ ((at.kept.each at.seat v at.here).hands_are k d l);
+    once = λ x. let few = times_few x x.pusher 1 (sent at.kept.gone items x.pusher) (at.kept.numbered x.pusher) in
+        omega (arith, few, total-at (weigh (λ h. times x h.took)) at.views at.seat v at.here, at.kept.taken x, sent_times x);
+  }
 
-    own_put : (x : Hint) (h : Hand) → IsHand r.gone items h → h.number ≡ x.pusher → times x h.put ≡ times x (sent x.pusher)
-    own_put x h is e = ap (times x) (is.put ∙ ap sent e)
+  -- hands put a hint as often as its pusher did, if this one is among them
+  put_once : (x : Hint) (h : Hand) → IsHand at.kept.gone items h → times x h.put ≡ bit (eqb h.number x.pusher) * puts x
+  put_once x h is = bool_cases (eqb h.number x.pusher) (λ b. times x h.put ≡ bit b * puts x)
+      (λ e. omega (arith, ap (times x) (is.put ∙ ap (sent at.kept.gone items) (eqb-true h.number x.pusher e))))
+      (λ e. omega (arith, times_other x h.number 1 h.put (hand_is h is).numbered (eqb-false h.number x.pusher e)))
 
-    other_put : (x : Hint) (h : Hand) → IsHand r.gone items h → h.number ≢ x.pusher → times x h.put ≡ 0
-    other_put x h is ne = times_other x h.number 1 h.put (hand_is h is).numbered ne
+  put_total : (x : Hint) (hs : List Hand) → All (IsHand at.kept.gone items) hs
+      → total (λ (h : Hand). times x h.put) hs ≡ total (λ (h : Hand). bit (eqb h.number x.pusher)) hs * puts x
+  put_total x [] all = omega arith
+  put_total x (h ∷ hs) all = let Hands : Hand → Type 0 = IsHand at.kept.gone items in
+      (λ k. put_once x h (All-head Hands h hs all) k + put_total x hs (All-tail Hands h hs all) k)
+      ∙ sym (add-mul (bit (eqb h.number x.pusher)) (total (λ (g : Hand). bit (eqb g.number x.pusher)) hs) (puts x))
 
-    none_put : (x : Hint) (hs : List Hand) → All (IsHand r.gone items) hs → total (λ (h : Hand). bit (eqb h.number x.pusher)) hs ≡ 0
-        → total (λ (h : Hand). times x h.put) hs ≡ 0
-    none_put x [] all e = refl
-    none_put x (h ∷ hs) all e =
-        let rest = none_put x hs (λ k d l. all (suc k) d (omega arith)) (omega arith) in
-        let first = other_put x h (all 0 h (omega arith)) (apart h.number x.pusher (omega arith)) in omega arith
-
-    once_put : (x : Hint) (hs : List Hand) → All (IsHand r.gone items) hs → total (λ (h : Hand). bit (eqb h.number x.pusher)) hs ≡ 1
-        → total (λ (h : Hand). times x h.put) hs ≡ times x (sent x.pusher)
-    once_put x [] all e = absurd (omega arith)
-    once_put x (h ∷ hs) all e = by_number h.number x.pusher (total (λ (g : Hand). times x g.put) (h ∷ hs) ≡ times x (sent x.pusher))
-        (λ same.
-        let b = ap bit (eq-eqb h.number x.pusher same) in
-        let rest = none_put x hs (λ k d l. all (suc k) d (omega arith)) (omega arith) in
-        let first = own_put x h (all 0 h (omega arith)) same in omega arith)
-        (λ ne.
-        let b = ap bit (ne_eqb h.number x.pusher ne) in
-        let rest = once_put x hs (λ k d l. all (suc k) d (omega arith)) (omega arith) in
-        let first = other_put x h (all 0 h (omega arith)) ne in omega arith)
-
-    put_times : (x : Hint) → weigh (λ (h : Hand). times x h.put) v ≡ times x (sent x.pusher)
-    put_times x =
-        let one = sym (has_all (λ (h : Hand). bit (eqb h.number x.pusher))) ∙ r.counted.once x.pusher in
-        let are = (r.each id v at).hands_are in
-        bool_cases (nat_lt x.pusher r.drawn) (λ b. bit (nat_lt x.pusher r.drawn) ≡ bit b → weigh (λ (h : Hand). times x h.put) v ≡ times x (sent x.pusher))
-        (λ _ e. once_put x (hands v) are (one ∙ e))
-        (λ e d. none_put x (hands v) are (one ∙ d) ∙ sym (ap (times x) (r.unused x.pusher (ltb-false x.pusher r.drawn e))))
-        refl
-
-    accounted : IsAccounted v items
-    accounted = record {
-      known = known;
-      all = λ x.
-          let a = has_all (λ (h : Hand). times x h.took) in
-          let b = r.taken x in
-          let c = sent_times x in
-          let d = put_times x in omega arith;
-    }
-
--- what a pass knows of hints
-pub knows : (v : QueueView) (items : List Hint) → Stood v items → IsKnown v items
-knows v items at = known items at.views at.kept at.seat v at.here
-
--- what the last pass knows of all hints
-pub accounts : (v : QueueView) (items : List Hint) → Stood v items → IsLast v → IsAccounted v items
-accounts v items at last = accounted items at.views at.kept at.seat v at.here last
-
--- no pass has met more than there are numbers
-pub few : (v : QueueView) (items : List Hint) → Stood v items → (n : ℕ) → v.number ≡ Some n → length v.ended < 65536
-few v items at n has =
-    let a = total-at count at.views at.seat v at.here in
-    let own = own_weighs (λ (h : Hand). 1) v n has in
-    let c = count_length v.ended in
-    let all = at.kept.counted.in_all in let limit = at.kept.counted.limit in omega arith
-
--- how many passes were met, once another was met
-pub joined_met : (v w : QueueView) (n m a b : ℕ) → v.number ≡ Some n → w.number ≡ Some m → length v.ended ≡ a → length w.ended ≡ b
-    → (u : QueueView) → u ≡ joined v w → (items : List Hint) → Stood u items → (length u.ended ≡ a + (b + 1)) × (a + (b + 1) < 65536)
-joined_met v w n m a b has has' is is' u e items at =
-    let f = few u items at n (ap (λ (x : QueueView). x.number) e ∙ has) in
-    let g = ap (λ (x : QueueView). length x.ended) e in
-    let h = length-append v.ended (hands w) in
-    let i = ap length (hands_are w m has') in
-    let sum : length u.ended ≡ a + (b + 1) = omega arith in (sum, omega arith)
+  -- what the last pass knows of all hints
+  pub accounts : IsLast v → IsAccounted v items
+  accounts last =
+      let sound = at.kept.each at.seat v at.here in
+      let has_all : (f : Hand → ℕ) → total (weigh f) at.views ≡ weigh f v =
+      λ f. total-only count (weigh f) at.views at.seat v at.here
+      (omega (arith, own_weighs v last.leads (λ h. 1), count_length v.ended, at.kept.counted.in_all, sound.counts last.leads, last.all_met))
+      (λ j w e none_there. ap (total f) (nil_from_length (hands w) (omega (arith, count_length (hands w))))) in
+      let numbered = (λ (x : Hint). sym (has_all (λ h. bit (eqb h.number x.pusher))) ∙ at.kept.counted.once x.pusher) in
+      let put_times : (x : Hint) → weigh (λ h. times x h.put) v ≡ puts x =
+      λ x. put_total x (hands v) sound.hands_are ∙ (ap (λ (k : ℕ). k * puts x) (numbered x)
+      ∙ bool_cases (nat_lt x.pusher at.kept.drawn) (λ b. bit b * puts x ≡ puts x) (λ _. omega arith)
+      (λ e. omega (arith, ap (times x) (at.kept.unused x.pusher (ltb-false x.pusher at.kept.drawn e))))) in
+      record { known = knows; all = λ x. omega (arith, has_all (λ h. times x h.took), at.kept.taken x, sent_times x, put_times x) }

@@ -1,31 +1,31 @@
--- What the views weigh, and whose numbers are whose.
-use Rattle.std.proofs.Common.{◌≡◌, ◌≢◌, ℕ, ◌+◌, ◌<◌, Bool, List, ◌∷◌, ◌++◌, get_or, set, refl, ap, ◌∙◌, sym, Option}
-use Rattle.std.proofs.Common.{Some, None, All, arith, nat_lt, ltb-true, eqb, eq-eqb}
+-- Views: what each weighs, which are sound, and what holds of each of a list.
+use Rattle.std.proofs.Common.{◌≡◌, ◌≢◌, ℕ, ◌+◌, ◌<◌, List, [], ◌∷◌, ◌++◌, set, refl, ap, sym, subst, ⊎_elim, Option, Some, All, arith, eqb}
 use mathlib.Core.Option.{some}
 use lib.ListN.{get_elem?}
+use Rattle.std.proofs.lemmas.Bool.Decides.{nat_tests}
+use Rattle.std.proofs.lemmas.List.Elements.{All-nil, All-cons}
+use Rattle.crossbeam_queue.proofs.Lists.{at_set, at_snoc}
+use Rattle.job_queue.specs.declared.hint.Hint.{Hint}
 use Rattle.job_queue.specs.declared.view.Hand.{Hand}
 use Rattle.job_queue.specs.declared.view.QueueView.{QueueView}
 use Rattle.job_queue.specs.Hints.{bit}
-use Rattle.job_queue.specs.Views.{hand, own_hand, hands, weigh, number_is, leading}
-use Rattle.job_queue.specs.Rule.{IsCounted}
-use Rattle.job_queue.proofs.HintLemmas.{bit_few}
+use Rattle.job_queue.specs.Views.{hand, own_hand, hands, weigh, fresh}
+use Rattle.job_queue.specs.Rule.{IsCounted, IsHand, IsSound}
+use Rattle.job_queue.proofs.HintLemmas.{sent}
 use Rattle.list_laws.specs.Totals.{total}
-use Rattle.list_laws.proofs.BoolLemmas.{bool_cases}
-use Rattle.list_laws.proofs.TotalLemmas.{total-at, total-two, total-same, total-zero}
+use Rattle.list_laws.proofs.TotalLemmas.{total-at}
 
-pub some_number : (o : Option ℕ) (n : ℕ) → o ≡ Some n → o ≡ None → ⊥
-some_number o n e d = cc
+module _ {A : Type 0} where
+  -- it holds of each element
+  abbrev pub Each : (A → Type 0) → List A → Type 0
+  Each P xs = (i : ℕ) (x : A) → get_elem? xs i ≡ some x → P x
 
--- where each element is so and so, each is both
-pub all_both : {A : Type 0} (P Q R : A → Type 0) (xs : List A) → ((x : A) → P x → Q x → R x) → All P xs → All Q xs → All R xs
-all_both P Q R xs f p q = λ k d l. f (get_or xs k d) (p k d l) (q k d l)
+  pub each_set : (P : A → Type 0) (xs : List A) (i : ℕ) (y : A) → P y → ((j : ℕ) (x : A) → j ≢ i → get_elem? xs j ≡ some x → P x) → Each P (set xs i y)
+  each_set P xs i y here others j x e =
+      ⊎_elim (λ (t : (j ≡ i) × (y ≡ x)). subst P t.1 here) (λ (t : (j ≢ i) × (get_elem? xs j ≡ some x)). others j x t.0 t.1) (at_set xs i j y x e)
 
--- the hands of a view with a number: its own, and then those that it was told
-pub hands_are : (v : QueueView) (n : ℕ) → v.number ≡ Some n → hands v ≡ hand n v.put v.took ∷ v.ended
-hands_are v n has = ap (λ (o : Option ℕ). own_hand o v.put v.took ++ v.ended) has
-
-pub own_weighs : (f : Hand → ℕ) (v : QueueView) (n : ℕ) → v.number ≡ Some n → weigh f v ≡ f (hand n v.put v.took) + total f v.ended
-own_weighs f v n has = ap (total f) (hands_are v n has)
+  pub each_snoc : (P : A → Type 0) (xs : List A) (y : A) → Each P xs → P y → Each P (xs ++ y ∷ [])
+  each_snoc P xs y all last j x e = ⊎_elim (λ (t : get_elem? xs j ≡ some x). all j x t) (λ (t : y ≡ x). subst P t last) (at_snoc xs y x j e)
 
 -- 1 where the hand has this number
 abbrev pub numbers : ℕ → QueueView → ℕ
@@ -35,50 +35,25 @@ numbers n = weigh (λ h. bit (eqb h.number n))
 abbrev pub count : QueueView → ℕ
 count = weigh (λ h. 1)
 
-bit_less : (n m : ℕ) → 0 < bit (nat_lt n m) → n < m
-bit_less n m some_bit = bool_cases (nat_lt n m) (λ b. 0 < bit b → n < m) (λ e _. ltb-true n m e) (λ e none_bit. absurd (omega arith)) some_bit
+module _ (v : QueueView) {n : ℕ} (has : v.number ≡ Some n) where
+  -- the hands of a view with a number: its own, and then those that it was told
+  pub hands_are : hands v ≡ hand n v.put v.took ∷ v.ended
+  hands_are = ap (λ (o : Option ℕ). own_hand o v.put v.took ++ v.ended) has
 
--- numbers that weigh nothing by each other differ
-pub apart : (n m : ℕ) → bit (eqb n m) ≡ 0 → n ≢ m
-apart n m none_bit e = let one : bit (eqb n m) ≡ 1 = ap bit (eq-eqb n m e) in absurd (omega arith)
-
--- of hands that weigh nothing by a number none has it
-apart_all : (n : ℕ) (hs : List Hand) → total (λ (h : Hand). bit (eqb h.number n)) hs ≡ 0 → All (λ (h : Hand). h.number ≢ n) hs
-apart_all n hs none_there = let zeros = total-zero (λ (h : Hand). bit (eqb h.number n)) hs none_there in λ k d l. apart (get_or hs k d).number n (zeros k d l)
-
-module _ (drawn : ℕ) (views : List QueueView) (c : IsCounted drawn views) (id : ℕ) (v : QueueView) (at : get_elem? views id ≡ some v)
-    (n : ℕ) (has : v.number ≡ Some n) where
-  own_number : numbers n v ≡ 1 + total (λ (h : Hand). bit (eqb h.number n)) v.ended
-  own_number =
-      own_weighs (λ (h : Hand). bit (eqb h.number n)) v n has
-      ∙ ap (λ (b : Bool). bit b + total (λ (h : Hand). bit (eqb h.number n)) v.ended) (eq-eqb n n refl)
+  pub own_weighs : (f : Hand → ℕ) → weigh f v ≡ f (hand n v.put v.took) + total f v.ended
+  own_weighs f = ap (total f) hands_are
 
   -- a number that a view has was given
-  pub given : n < drawn
-  given = bit_less n drawn (let a = total-at (numbers n) views id v at in let b = c.once n in let o = own_number in omega arith)
+  pub given : {drawn : ℕ} (views : List QueueView) (id : ℕ) → IsCounted drawn views → get_elem? views id ≡ some v → n < drawn
+  given views id c at = grind (arith, nat_tests, own_weighs (λ h. bit (eqb h.number n)), total-at (numbers n) views id v at, c.once n)
 
-  -- no other hand of the view has its number
-  pub ended_apart : All (λ (h : Hand). h.number ≢ n) v.ended
-  ended_apart = apart_all n v.ended
-      (let a = total-at (numbers n) views id v at in let b = c.once n in let few = bit_few (nat_lt n drawn) in let o = own_number in omega arith)
+module _ {gone : ℕ → List Hint} {items : List Hint} {drawn : ℕ} where
+  -- a view with a number
+  pub sound_with : (v : QueueView) {n : ℕ} → v.number ≡ Some n → (v.number ≡ Some 0 → v.drawn ≡ drawn) → All (IsHand gone items) (hands v)
+      → IsSound gone items drawn v
+  sound_with v has counts are = record { spent = λ none_there. absurd (cc); counts = counts; hands_are = are }
 
-  -- nor of another view
-  pub others_apart : (j : ℕ) (u : QueueView) → j ≢ id → get_elem? views j ≡ some u → All (λ (h : Hand). h.number ≢ n) (hands u)
-  others_apart j u other there = apart_all n (hands u)
-      (let a = total-two (numbers n) views id j v u other at there in
-      let b = c.once n in let few = bit_few (nat_lt n drawn) in let o = own_number in omega arith)
-
-  -- a weight of numbers alone stays where the number and what was told stay
-  same_weight : (w : QueueView) → w.number ≡ v.number → w.ended ≡ v.ended → (f : Hand → ℕ) → f (hand n w.put w.took) ≡ f (hand n v.put v.took)
-      → weigh f w ≡ weigh f v
-  same_weight w number ended f own =
-      own_weighs f w n (number ∙ has) ∙ ((λ k. own k + total f (ended k)) ∙ sym (own_weighs f v n has))
-
-  -- a view that keeps its numbers takes the place of another
-  pub counted_set : (w : QueueView) → w.number ≡ v.number → w.ended ≡ v.ended → IsCounted drawn (set views id w)
-  counted_set w number ended = record {
-    one_leads = total-same leading views id v w at (ap (number_is 0) number) ∙ c.one_leads;
-    once = λ m. total-same (numbers m) views id v w at (same_weight w number ended (λ (h : Hand). bit (eqb h.number m)) refl) ∙ c.once m;
-    in_all = total-same count views id v w at (same_weight w number ended (λ (h : Hand). 1) refl) ∙ c.in_all;
-    limit = c.limit;
-  }
+  -- the view of a new pass, which has put nothing and taken nothing
+  pub fresh_sound : (n given : ℕ) → (n ≡ 0 → given ≡ drawn) → sent gone items n ≡ [] → IsSound gone items drawn (fresh (Some n) given)
+  fresh_sound n given counts none_sent = sound_with (fresh (Some n) given) refl (λ e. counts (cc)) (All-cons (IsHand gone items) (hand n [] []) []
+      record { put = sym none_sent; rises = λ i j d less l. absurd (omega arith); early = All-nil _ } (All-nil (IsHand gone items)))

@@ -1,3 +1,3 @@
-//! Laws of what the calls of `action_lock` leave of a pass's view, for the proofs of the crates above it.
-//! It has no code and no words of its own: see `proofs/` for the laws.
+//! Laws of a view of `action_lock` that advances, for the proofs of the crates above it. There is no code: see `proofs/` for
+//! the laws.
 #![tactic(auto)]

@@ -11,7 +11,7 @@ use Rattle.ide_calls.specs.Made.{IsAnswered}
 use Rattle.ide_calls.specs.Sighting.{Sighting}
 use Rattle.ide_calls.specs.SoftRefusal.{HasSighted}
 use Rattle.script_lang.specs.declared.command.Command.{Command}
-use Rattle.script_lang.specs.declared.command.Command.TheVariants.{Change, Group, Load, Settle, Ask, Soft}
+use Rattle.script_lang.specs.declared.command.Command.TheVariants.{Soft}
 use Rattle.script_lang.specs.declared.line.Line.{Line}
 use Rattle.transcripts.specs.declared.loaded.Loaded.{Loaded}
 use Rattle.transcripts.specs.declared.record.Answer.{Answer}
@@ -39,12 +39,8 @@ IsSoftlyAnswered attempts query v w answer =
 
 -- a question that gives way to writes
 abbrev pub is_soft : Command → Bool
-is_soft (Change change) = false
-is_soft (Group changes) = false
-is_soft (Load path) = false
-is_soft Settle = false
-is_soft (Ask query) = false
 is_soft (Soft attempts query) = true
+is_soft command = false
 
 -- the answer came from a read that looked whether a write waits, where it had to
 abbrev pub HasCheckedIf : Bool → View Entry → View Entry → Type 0

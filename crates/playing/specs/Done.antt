@@ -8,7 +8,7 @@ use Rattle.write_history.specs.declared.entry.Entry.{Entry}
 use Rattle.script_lang.specs.declared.line.Line.{Line}
 use Rattle.transcripts.specs.declared.loaded.Loaded.{Loaded}
 use Rattle.transcripts.specs.declared.record.Answer.{Answer}
-use Rattle.transcripts.specs.declared.record.Answer.TheVariants.{Accepted, Refused, NotText, TooLong, Smart, NotReady, Found, Cancelled}
+use Rattle.transcripts.specs.declared.record.Answer.TheVariants.{Cancelled}
 use Rattle.transcripts.specs.declared.record.Record.{Record}
 use Rattle.transcripts.specs.Fits.{Mark, SectionFits}
 use Rattle.playing.specs.Answered.{is_soft}
@@ -20,13 +20,7 @@ mark_of v = record { seen = length v.seen; sights = v.sights }
 -- a question wasn't given up
 abbrev pub is_reply : Answer → Bool
 is_reply (Cancelled sighted) = false
-is_reply (Accepted at) = true
-is_reply (Refused at place why) = true
-is_reply (NotText at) = true
-is_reply (TooLong count) = true
-is_reply (Smart at) = true
-is_reply (NotReady at path) = true
-is_reply (Found at finding) = true
+is_reply answer = true
 
 -- how many looks the answers to some lines take at least: one for each soft question, where another section runs beside
 abbrev pub looks_owed : Bool → List Line → List Record → ℕ

@@ -4,8 +4,8 @@ pub mod Done
 pub mod Gates
 -- Internal: how the command of one line is answered
 pub mod Answered
--- Parts of a round: what each does, and what number 0 learns of it
-pub mod Parts
+-- Players of a round: what each does, and what number 0 learns of it
+pub mod Players
 -- Rounds, and the sections of number 0 before and behind them
 pub mod Rounds
 -- The whole of a script

@@ -1,8 +1,8 @@
-//! What parts have done, put together in order of their seats.
+//! What players have done, put together in order of their seats.
 ghost use Rattle.std.specs.Prelude.{◌≡◌, [], OnOk};
-ghost use Rattle.playing.specs.Parts.{HasTaken};
+ghost use Rattle.playing.specs.Players.{HasTaken};
 
-use crate::part::Outcome;
+use crate::player::Outcome;
 use index_workers::Worked;
 use std::alloc::{AllocError, Global};
 use transcripts::Records;
@@ -25,7 +25,7 @@ impl Answers {
         }
     }
 
-    /// Puts what one part has done behind the rest. An outcome that tells nothing is taken for running out of memory.
+    /// Puts what one player has done behind the rest. An outcome that tells nothing is taken for running out of memory.
     pub(crate) fn take(&mut self, outcome: Outcome) -> Result<(), AllocError>
         ensures { OnOk result (HasTaken outcome self.old self.new) }
     {

@@ -35,8 +35,7 @@ pub(crate) fn do_ask<R: Wait, G: Gate>(
     Ok(answer_of(replied))
 }
 
-/// Answers a question that gives way to writes, or answers that it was given up after so many attempts. It may wait for
-/// ever.
+/// Answers a question that gives way to writes, or answers that it was given up after so many attempts. May block.
 pub(crate) fn do_soft_ask<R: Wait, G: Gate>(
     rt: &R,
     alloc: Global,

@@ -8,7 +8,7 @@ mod asking;
 mod changing;
 mod lane_gate;
 mod line;
-mod part;
+mod player;
 mod round;
 mod run;
 mod section;

@@ -3,11 +3,11 @@ ghost use Rattle.std.specs.Prelude.{◌≡◌, ℕ, ◌+◌, ◌<◌, ◌≤◌,
 ghost use Rattle.transcripts.specs.Fits.{run_beside};
 ghost use Rattle.index_workers.specs.Passes.{ide_view, IsSameIdePass};
 ghost use Rattle.shared_ide.specs.Passes.{IsIdePassOf};
-ghost use Rattle.playing.specs.Parts.{CanRun, HasRun, IsDutyAt, HasBegun, CanMeet, HasMet, HaveTaken};
+ghost use Rattle.playing.specs.Players.{CanRun, HasRun, IsDutyAt, HasBegun, CanMeet, HasMet, HaveTaken};
 ghost use Rattle.playing.specs.Rounds.{IsAlone, HasPlayed};
 
 use crate::answers::Answers;
-use crate::part::{Duty, Outcome, Part, run_part};
+use crate::player::{Duty, Outcome, Player, run_player};
 use action_lock::Gate;
 use crossbeam_utils::CachePadded;
 use index_workers::IdePass;
@@ -34,7 +34,7 @@ impl Round {
         1 < self.lanes + self.workers
     }
 
-    /// What the part at this place is for: lanes come first.
+    /// What the player at this place is for: lanes come first.
     fn duty(self, place: usize) -> Duty
         ensures { IsDutyAt self.lanes place result }
     {
@@ -72,33 +72,33 @@ pub(crate) fn play_round<R: Threads + Wait + Sync, G: Gate + Sync>(
         lanes: script.lanes(),
         workers: workers as usize,
     };
-    let mut parts = begin_parts(alloc, ide, pass, round)?;
-    run_parts(rt, alloc, ide, script, round.beside(), &mut parts, gate);
-    let met = meet_parts(ide, pass, parts, answers);
+    let mut players = begin_players(alloc, ide, pass, round)?;
+    run_players(rt, alloc, ide, script, round.beside(), &mut players, gate);
+    let met = meet_players(ide, pass, players, answers);
     ide.is_last(pass);
     met
 }
 
-/// A part for each lane and worker of a round, in order of their seats. When memory runs out no number is given.
-fn begin_parts(
+/// A player for each lane and worker of a round, in order of their seats. When memory runs out no number is given.
+fn begin_players(
     alloc: Global,
     ide: &SharedIde,
     pass: &mut IdePass,
     round: Round,
-) -> Result<Vec<Part>, AllocError>
+) -> Result<Vec<Player>, AllocError>
     requires pass { IsIdePassOf ide.now pass.old }
     requires leads { (ide_view pass.old).number ≡ Some 0 }
     requires few { (ide_view pass.old).drawn + round.lanes + round.workers ≤ 65536 }
     ensures pass { IsIdePassOf ide.now pass.new × IsSameIdePass pass.old pass.new }
-    ensures parts { IfOk result
-        (λ parts. HasBegun ide.now round.lanes (ide_view pass.old)
-        (ide_view pass.new) parts.items) }
-    ensures count { IfOk result (λ parts. length parts.items ≡ round.lanes + round.workers) }
+    ensures players { IfOk result
+        (λ players. HasBegun ide.now round.lanes (ide_view pass.old)
+        (ide_view pass.new) players.items) }
+    ensures count { IfOk result (λ players. length players.items ≡ round.lanes + round.workers) }
     ensures none { OnErr result (ide_view pass.new ≡ ide_view pass.old) }
 {
     passes_stay_the_same();
     let count = round.lanes + round.workers;
-    let mut parts = Vec::with_capacity(alloc, count)?;
+    let mut players = Vec::with_capacity(alloc, count)?;
     for place in 0..count {
         let pass = match ide.split(pass) {
             Ok(pass) => pass,
@@ -107,8 +107,8 @@ fn begin_parts(
         let duty = round.duty(place);
         let outcome = Outcome::Nothing;
         let apart = CachePadded::new(());
-        parts
-            .push(Part {
+        players
+            .push(Player {
                 pass,
                 duty,
                 outcome,
@@ -116,29 +116,29 @@ fn begin_parts(
             })
             .unwrap();
     }
-    Ok(parts)
+    Ok(players)
 }
 
-/// Runs all parts, each on a thread of its own where one can be had. May block.
-fn run_parts<R: Threads + Wait + Sync, G: Gate + Sync>(
+/// Runs all players, each on a thread of its own where one can be had. May block.
+fn run_players<R: Threads + Wait + Sync, G: Gate + Sync>(
     rt: &R,
     alloc: Global,
     ide: &SharedIde,
     script: &Script,
     beside: bool,
-    parts: &mut Vec<Part>,
+    players: &mut Vec<Player>,
     gate: &G,
 )
-    requires { All (CanRun ide.now script.now) parts.old.items }
-    ensures same { length parts.new.items ≡ length parts.old.items }
-    ensures run { (k : ℕ) (d : Part) → k < length parts.old.items
-        → HasRun ide.now script.now beside (slice_index_or parts.old.items k d)
-        (slice_index_or parts.new.items k d) }
+    requires { All (CanRun ide.now script.now) players.old.items }
+    ensures same { length players.new.items ≡ length players.old.items }
+    ensures run { (k : ℕ) (d : Player) → k < length players.old.items
+        → HasRun ide.now script.now beside (slice_index_or players.old.items k d)
+        (slice_index_or players.new.items k d) }
 {
-    run_reversed(rt, alloc, ide, script, beside, parts.as_mut_slice(), gate);
+    run_reversed(rt, alloc, ide, script, beside, players.as_mut_slice(), gate);
 }
 
-/// Runs all parts, the first of them first where threads are wanting: so a lane never waits behind a worker that waits for
+/// Runs all players, the first of them first where threads are wanting: so a lane never waits behind a worker that waits for
 /// it. May block.
 fn run_reversed<R: Threads + Wait + Sync, G: Gate + Sync>(
     rt: &R,
@@ -146,70 +146,71 @@ fn run_reversed<R: Threads + Wait + Sync, G: Gate + Sync>(
     ide: &SharedIde,
     script: &Script,
     beside: bool,
-    parts: &mut [Part],
+    players: &mut [Player],
     gate: &G,
 )
-    requires { All (CanRun ide.now script.now) parts.old }
-    ensures same { length parts.new ≡ length parts.old }
-    ensures run { (k : ℕ) (d : Part) → k < length parts.old
-        → HasRun ide.now script.now beside (slice_index_or parts.old k d)
-        (slice_index_or parts.new k d) }
+    requires { All (CanRun ide.now script.now) players.old }
+    ensures same { length players.new ≡ length players.old }
+    ensures run { (k : ℕ) (d : Player) → k < length players.old
+        → HasRun ide.now script.now beside (slice_index_or players.old k d)
+        (slice_index_or players.new k d) }
 {
-    parts.reverse();
-    run_each(rt, alloc, ide, script, beside, parts, gate);
-    parts.reverse();
+    players.reverse();
+    run_each(rt, alloc, ide, script, beside, players, gate);
+    players.reverse();
 }
 
-/// Runs all parts, with as many threads as there are parts. A thread that can't be had leaves its work to the caller, the
-/// last part first. May block.
+/// Runs all players, with as many threads as there are players. A thread that can't be had leaves its work to the caller, the
+/// last player first. May block.
 fn run_each<R: Threads + Wait + Sync, G: Gate + Sync>(
     rt: &R,
     alloc: Global,
     ide: &SharedIde,
     script: &Script,
     beside: bool,
-    parts: &mut [Part],
+    players: &mut [Player],
     gate: &G,
 )
-    requires { All (CanRun ide.now script.now) parts.old }
-    ensures same { length parts.new ≡ length parts.old }
-    ensures run { (k : ℕ) (d : Part) → k < length parts.old
-        → HasRun ide.now script.now beside (slice_index_or parts.old k d)
-        (slice_index_or parts.new k d) }
+    requires { All (CanRun ide.now script.now) players.old }
+    ensures same { length players.new ≡ length players.old }
+    ensures run { (k : ℕ) (d : Player) → k < length players.old
+        → HasRun ide.now script.now beside (slice_index_or players.old k d)
+        (slice_index_or players.new k d) }
 {
-    let threads = parts.len();
+    let threads = players.len();
     if threads == 0 {
         return;
     }
     for_each_mut(
         rt,
-        parts,
+        players,
         threads,
-        &|_index: usize, part: &mut Part| -> ()
-            requires { CanRun ide.now script.now part.now }
-            ensures { HasRun ide.entry.now script.entry.now beside part.entry.now part.exit.now }
-        { run_part(rt, alloc, ide, script, beside, part, gate) },
+        &|_index: usize, player: &mut Player| -> ()
+            requires { CanRun ide.now script.now player.now }
+            ensures { HasRun ide.entry.now script.entry.now beside
+                player.entry.now player.exit.now }
+        { run_player(rt, alloc, ide, script, beside, player, gate) },
     );
 }
 
-/// Meets the passes of all parts, and puts what they have done behind the answers, in order of their seats.
-fn meet_parts(
+/// Meets the passes of all players, and puts what they have done behind the answers, in order of their seats.
+fn meet_players(
     ide: &SharedIde,
     pass: &mut IdePass,
-    parts: Vec<Part>,
+    players: Vec<Player>,
     answers: &mut Answers,
 ) -> Result<(), AllocError>
     requires pass { IsIdePassOf ide.now pass.old }
-    requires parts { All (CanMeet ide.now) parts.items }
+    requires players { All (CanMeet ide.now) players.items }
     ensures pass { IsIdePassOf ide.now pass.new × IsSameIdePass pass.old pass.new }
-    ensures met { HasMet parts.items (ide_view pass.old) (ide_view pass.new) }
-    ensures taken { OnOk result (HaveTaken parts.items answers.old answers.new) }
+    ensures met { HasMet players.items (ide_view pass.old) (ide_view pass.new) }
+    ensures taken { OnOk result (HaveTaken players.items answers.old answers.new) }
 {
     passes_stay_the_same();
-    let mut left = parts;
+    let mut left = players;
     let mut whole = true;
     while !left.is_empty() {
-        let Part {
+        let Player {
             pass: other,
             duty: _,
             outcome,

@@ -1,70 +1,138 @@
 -- Where what is found stands in its files.
-use Rattle.std.proofs.Common.{ℕ, ◌≡◌, ◌≤◌, ◌<◌, List, ◌∷◌, length, drop, get_or, ◌+◌, Option, Some, IsSome, ap, sym, subst, ◌∙◌}
+use Rattle.std.proofs.Common.{◌≢◌, ◌⊎◌, inl, inr, ℕ, suc, ◌≡◌, ◌≤◌, ◌<◌, ◌+◌, true, Bool, List, [], ◌∷◌, map, filter, length, drop, take, get_or, Option, Some, None, IsSome, option_map, unwrap_or, position, All, refl, ap, sym, ◌∙◌, le_refl, le_trans, arith}
+use Rattle.std.specs.Option.{option_map_or}
+use Rattle.std.specs.List.{AllPairs}
+use Rattle.std.proofs.Math.ListN.{drop_of_length-le}
+use Rattle.std.proofs.Math.Seq.{take-nil}
+use Rattle.std.specs.Str.{bytes_eq}
+use Rattle.std.proofs.lemmas.Bool.{cases_lt, cond_both}
 use Rattle.std.proofs.lemmas.List.{drop_more}
-use Rattle.ide_text.specs.Text.{max_chars}
+use Rattle.std.proofs.lemmas.List.Elements.{All-nil, All-cons, All-head, All-tail}
+use Rattle.std.proofs.lemmas.List.Kept.{AllPairs-cons}
+use Rattle.std.proofs.lemmas.List.Quantifiers.{position-Some}
 use Rattle.stub_tree.specs.declared.stub.Stub.{Stub}
-use Rattle.write_history.specs.World.{World, file_of}
-use Rattle.query_engine.specs.Listed.{Listed, AreFrom, IsListed, AreAhead, listed_at, text_at, path_at, offset_in, stub_at}
+use Rattle.stub_tree.specs.Lawful.{IsLawfulList, IsLawfulAfter, MayFollow}
+use Rattle.decl_parser.specs.Listing.{listing_of, IsNamedIn}
+use Rattle.property_index.specs.Keys.{RiseFrom}
+use Rattle.write_history.specs.World.{World, File, file_of, id_at, has_path, shown_text}
+use Rattle.query_engine.specs.Listed.{Listed, AreFrom, IsListed, AreAhead, listed_at, text_at, path_at, offset_in, itself, stub_at}
+use Rattle.query_engine.proofs.MemberLemmas.{pairs_nil}
 
-module _ {X : Type 0} (at_of : X → ℕ) (world : World) (before : Option Listed) (id : ℕ) (x : X) (left left' : List (ℕ × X)) (next : left ≡ (id, x) ∷ left')
+module _ {X : Type 0} (at_of : X → ℕ) (world : World) (before : Option Listed) {id : ℕ} {x : X} {left left' : List (ℕ × X)} (next : left ≡ (id, x) ∷ left')
     (ahead : AreAhead at_of world before left) where
-  stands_first : AreAhead at_of world before ((id, x) ∷ left')
-  stands_first = subst (AreAhead at_of world before) next ahead
-
   -- the next of what is found is in a live file
   pub ahead_live : IsSome (file_of world id)
-  ahead_live = stands_first.0
+  ahead_live = (rw next at ahead).0
 
   -- and stands behind those before it, in its text
-  pub ahead_stands : (file : Listed) → file ≡ listed_at world id (offset_in before id) → IsListed world file
+  pub ahead_stands : {file : Listed} → file ≡ listed_at world id (offset_in before id) → IsListed world file
       → (file.at ≤ at_of x) × (at_of x ≤ length file.text)
-  ahead_stands file is listed =
-      let text_is : file.text ≡ text_at world id = ap (λ f. f.text) is in
-      let stands = stands_first.1 (subst (λ (text : List ℕ). length text ≤ max_chars) text_is listed.short) in (
-        subst (λ n. n ≤ at_of x) (sym (ap (λ f. f.at) is)) stands.0,
-        subst (λ (text : List ℕ). at_of x ≤ length text) (sym text_is) stands.1,
-      )
+  ahead_stands is listed = let short = rw is at listed.short in rw is ((rw next at ahead).1 short)
 
--- the file behind it
-pub moved_on : (world : World) (id at to : ℕ) (file file' : Listed) → file ≡ listed_at world id at → file' ≡ record file { at = to }
-    → file' ≡ listed_at world id to
-moved_on world id at to file file' is goes = let on : Listed → Listed = λ f. record f { at = to } in goes ∙ ap on is
-
--- the others stand behind it
-pub ahead_rest : {X : Type 0} (at_of : X → ℕ) (world : World) (before : Option Listed) (id : ℕ) (x : X) (left left' : List (ℕ × X)) (file file' : Listed)
-    → left ≡ (id, x) ∷ left' → AreAhead at_of world before left → file ≡ listed_at world id (offset_in before id) → file' ≡ record file { at = at_of x }
-    → AreAhead at_of world (Some file') left'
-ahead_rest at_of world before id x left left' file file' next h is goes =
-    subst (λ f. AreAhead at_of world (Some f) left') (sym (moved_on world id (offset_in before id) (at_of x) file file' is goes))
-    (subst (AreAhead at_of world before) next h).2
+  -- the others stand behind it
+  pub ahead_rest : {file file' : Listed} → file ≡ listed_at world id (offset_in before id) → file' ≡ record file { at = at_of x }
+      → AreAhead at_of world (Some file') left'
+  ahead_rest is goes = rw (goes, is) (rw next at ahead).2
 
 -- the file behind it is listed
-pub listed_rest : (world : World) (at to id : ℕ) (file file' : Listed) → file ≡ listed_at world id at → file' ≡ record file { at = to }
+pub listed_rest : {world : World} {at id to : ℕ} {file file' : Listed} → file ≡ listed_at world id at → file' ≡ record file { at = to }
     → IsListed world file → IsListed world file'
-listed_rest world at to id file file' is goes listed = record {
-  is = let e = moved_on world id at to file file' is goes in e ∙ sym (ap (λ f. listed_at world f.id f.at) e);
-  short = subst (λ (text : List ℕ). length text ≤ max_chars) (sym (ap (λ f. f.text) goes)) listed.short;
-}
+listed_rest is goes listed = rw goes (let short = rw is at listed.short in rw is record { is = refl; short = short })
+
+-- a file behind a place is at its own offset
+pub moved_on : (world : World) {id to : ℕ} {file file' : Listed} → file ≡ listed_at world id file.at → file' ≡ record file { at = to }
+    → file' ≡ listed_at world id file'.at
+moved_on world {to = to} is goes = let on : Listed → Listed = λ f. record f { at = to } in rw goes (ap on is)
 
 -- the row that is made in a file is one by its id, its path and its text
-pub made_at : {X R : Type 0} (row : ℕ → List ℕ → List ℕ → X → R) (world : World) (at id : ℕ) (x : X) (file : Listed) (made : R) → file ≡ listed_at world id at
+pub made_at : {X R : Type 0} (row : ℕ → List ℕ → List ℕ → X → R) (world : World) {at id : ℕ} (x : X) {file : Listed} {made : R} → file ≡ listed_at world id at
     → made ≡ row file.id file.path file.text x → made ≡ row id (path_at world id) (text_at world id) x
-made_at row world at id x file made is same = same ∙ ap (λ f. row f.id f.path f.text x) is
-
--- a file at its own offset
-pub placed : (world : World) (id at : ℕ) (file : Listed) → file ≡ listed_at world id at → file ≡ listed_at world id file.at
-placed world id at file is = is ∙ sym (ap (λ f. listed_at world id f.at) is)
-
--- the declarations of a file at its start
-pub from_start : (world : World) (id : ℕ) (file : Listed) (stubs : List Stub) → file ≡ listed_at world id 0
-    → AreFrom stub_at (length (text_at world id)) 0 stubs → AreFrom stub_at (length (text_at world id)) file.at stubs
-from_start world id file stubs is h = subst (λ n. AreFrom stub_at (length (text_at world id)) n stubs) (sym (ap (λ f. f.at) is)) h
+made_at row world x is same = same ∙ ap (λ f. row f.id f.path f.text x) is
 
 -- the next of a list, and those behind it
-pub next_left : {X : Type 0} (xs : List X) (i : ℕ) (x : X) → i < length xs → x ≡ get_or xs i x → drop i xs ≡ x ∷ drop (i + 1) xs
-next_left xs i x inside is = drop_more xs i x inside ∙ ap (λ y. y ∷ drop (i + 1) xs) (sym is)
+pub next_left : {X : Type 0} (xs : List X) (i : ℕ) {x : X} → i < length xs → x ≡ get_or xs i x → drop i xs ≡ x ∷ drop (i + 1) xs
+next_left xs i {x} inside is = drop_more xs i x inside ∙ ap (λ y. y ∷ drop (i + 1) xs) (sym is)
 
--- the next declaration, and those behind it
-pub from_next : (len at : ℕ) (stubs : List Stub) (i : ℕ) (s : Stub) → i < length stubs → s ≡ get_or stubs i s → AreFrom stub_at len at (drop i stubs)
-    → (at ≤ s.at) × (s.at ≤ len) × AreFrom stub_at len s.at (drop (i + 1) stubs)
-from_next len at stubs i s inside is h = subst (AreFrom stub_at len at) (next_left stubs i s inside is) h
+module _ {X : Type 0} (at_of : X → ℕ) (len : ℕ) where
+  -- of what stands in a text at rising offsets none stands before the first of these, or behind a later one
+  pub from_all : (at : ℕ) (xs : List X) → AreFrom at_of len at xs → All (λ x. (at ≤ at_of x) × (at_of x ≤ len)) xs
+  from_all at [] h = All-nil (λ x. (at ≤ at_of x) × (at_of x ≤ len))
+  from_all at (x ∷ xs) h =
+      All-cons (λ x. (at ≤ at_of x) × (at_of x ≤ len)) x xs (h.0, h.1)
+      (λ k d inside. let y = from_all (at_of x) xs h.2 k d inside in (le_trans h.0 y.0, y.1))
+
+  pub from_pairs : (at : ℕ) (xs : List X) → AreFrom at_of len at xs → AllPairs (λ a b. at_of a ≤ at_of b) xs
+  from_pairs at [] h = pairs_nil (λ a b. at_of a ≤ at_of b)
+  from_pairs at (x ∷ xs) h =
+      AllPairs-cons (λ a b. at_of a ≤ at_of b) x xs (λ k d inside. (from_all (at_of x) xs h.2 k d inside).0) (from_pairs (at_of x) xs h.2)
+
+  -- and so do those that pass a test
+  pub from_filter : (fits : X → Bool) (low at : ℕ) (xs : List X) → low ≤ at → AreFrom at_of len at xs → AreFrom at_of len low (filter fits xs)
+  from_filter fits low at [] le h = tt
+  from_filter fits low at (x ∷ xs) le h =
+      cond_both (fits x) (x ∷ filter fits xs) (filter fits xs) (AreFrom at_of len low)
+      (λ fit. (le_trans le h.0, h.1, from_filter fits (at_of x) (at_of x) xs (le_refl (at_of x)) h.2))
+      (λ unfit. from_filter fits low (at_of x) xs (le_trans le h.0) h.2)
+
+-- a name that isn't empty stands inside the text
+named_inside : (text : List ℕ) (s : Stub) → IsNamedIn text s → s.name ≢ [] → s.at ≤ length text
+named_inside text s named some = of (cases_lt s.at (length text))
+  where
+    of : (s.at < length text) ⊎ (length text ≤ s.at) → s.at ≤ length text
+    of (inl inside) = omega arith
+    of (inr past) =
+        absurd (some (named.name ∙ ap (take named.token.len) (drop_of_length-le text (omega (arith, past, named.place))) ∙ take-nil named.token.len))
+
+-- the declarations of a lawful list that are named in a text
+pub from_lawful : (text : List ℕ) (before : Option Stub) (stubs : List Stub) → IsLawfulAfter before stubs → All (IsNamedIn text) stubs
+    → AreFrom stub_at (length text) (option_map_or stub_at before 0) stubs
+from_lawful text before [] lawful named = tt
+from_lawful text before (s ∷ stubs) lawful named = (
+  follows before lawful.1,
+  named_inside text s (All-head (IsNamedIn text) s stubs named) lawful.0.named.some,
+  from_lawful text (Some s) stubs lawful.2 (All-tail (IsNamedIn text) s stubs named),
+)
+  where
+    follows : (before : Option Stub) → MayFollow before s → option_map_or stub_at before 0 ≤ s.at
+    follows None h = omega arith
+    follows (Some b) h = omega (arith, h.2)
+
+-- the places of a property key among keys that rise, from an offset that isn't behind them
+pub from_keys : (key : List ℕ) (low from len : ℕ) (rows : List (List ℕ × ℕ)) → low ≤ from → RiseFrom from len rows
+    → AreFrom itself len low (map (λ row. row.1) (filter (λ row. bytes_eq key row.0) rows))
+from_keys key low from len [] h rise = tt
+from_keys key low from len (row ∷ rows) h (some, behind, inside, rest) =
+    let others : List (List ℕ × ℕ) = filter (λ row. bytes_eq key row.0) rows in
+    cond_both (bytes_eq key row.0) (row ∷ others) others (λ rows. AreFrom itself len low (map (λ row. row.1) rows))
+    (λ this. (le_trans h behind, omega arith, from_keys key row.1 (suc row.1) len rows (omega arith) rest))
+    (λ other. from_keys key low (suc row.1) len rows (omega arith) rest)
+
+-- what a reader gives of a file is what the file has
+pub read_found : (read : File → List ℕ) (o : Option File) {x : List ℕ} → Some x ≡ option_map read o → x ≡ option_map_or read o []
+read_found read None is = absurd cc
+read_found read (Some file) is = cc
+
+-- the file with the id of a path is live
+pub id_live : (world : World) (path : List ℕ) {id : ℕ} → Some id ≡ id_at world path → IsSome (file_of world id)
+id_live world path {id} is = of (position (has_path path) world.files) refl (sym is)
+  where
+    live : (o : Option File) → has_path path o ≡ true → IsSome o
+    live None h = h
+    live (Some file) h = refl
+
+    of : (o : Option ℕ) → position (has_path path) world.files ≡ o → option_map suc o ≡ Some id → IsSome (file_of world id)
+    of None at none = absurd cc
+    of (Some i) at some =
+        rw (sym (ap (λ o. unwrap_or o 0) some)) (live (get_or world.files i None) (position-Some (has_path path) world.files i None at).1)
+
+-- so its text is there
+pub text_there : (o : Option File) → None ≡ option_map shown_text o → IsSome o → ⊥
+text_there None none some = absurd cc
+text_there (Some file) none some = absurd cc
+
+-- the declarations of a file stand in its text
+pub listing_from : ((text : List ℕ) → All (IsNamedIn text) (listing_of text)) → (world : World) (id : ℕ) {text : List ℕ} {stubs shown : List Stub}
+    → Some text ≡ option_map shown_text (file_of world id) → shown ≡ stubs → IsLawfulList stubs → stubs ≡ listing_of text
+    → AreFrom stub_at (length (text_at world id)) 0 shown
+listing_from named world id {text} {stubs} is same lawful listed =
+    rw (same, sym (read_found shown_text (file_of world id) is)) (from_lawful text None stubs lawful (rw listed (named text)))

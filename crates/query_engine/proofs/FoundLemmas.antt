@@ -1,10 +1,11 @@
 -- What is found in the files of a world.
-use Rattle.std.proofs.Common.{ℕ, suc, ◌≡◌, ◌≤◌, ◌<◌, ◌+◌, if◌then◌else◌, Bool, true, false, List, [], ◌∷◌, ◌++◌, map, length, get_or, Option, Some, None, option_map, option_to_list, IsSome, IfSome, All, refl, ap, sym, subst, ◌∙◌, le_refl, arith}
+use Rattle.std.proofs.Common.{ℕ, suc, ◌≡◌, ◌≤◌, ◌<◌, ◌⊎◌, inl, inr, ◌+◌, ◌==◌, if◌then◌else◌, Bool, true, false, cond, List, [], ◌∷◌, ◌++◌, map, length, get_or, Option, Some, None, option_map, option_to_list, IsSome, All, refl, ap, ◌∙◌, le_refl, arith}
+use Rattle.std.specs.List.{AllPairs}
 use Rattle.std.specs.Option.{option_map_or}
-use Rattle.std.proofs.lemmas.Bool.{eq-eqb, ne_eqb, cond_both}
+use Rattle.std.proofs.lemmas.Grind.{common_steps}
 use Rattle.std.proofs.lemmas.List.{map-append}
 use Rattle.std.proofs.lemmas.Simd.{map-map}
-use Rattle.std.proofs.lemmas.List.Elements.{All-tail, All-append, All-map}
+use Rattle.std.proofs.lemmas.List.Elements.{All-nil, All-head, All-tail, All-append, All-map, All-weaker}
 use Rattle.ide_text.specs.Text.{max_chars}
 use Rattle.dumb_mode.specs.declared.kind.FileKind.{FileKind}
 use Rattle.dumb_mode.specs.declared.kind.FileKind.TheVariants.{Java, Properties}
@@ -15,185 +16,175 @@ use Rattle.decl_parser.specs.Listing.{listing_of, IsNamedIn}
 use Rattle.java_tokens.specs.Words.{words_of, mask_in}
 use Rattle.property_index.specs.Keys.{RiseFrom, keys_of, places_of_key}
 use Rattle.write_history.specs.World.{World, File, file_of, shown_text}
-use Rattle.ide_world.specs.Found.{found, found_from, found_in, stubs_in, masks_in}
+use Rattle.ide_world.specs.Found.{found, found_from, stubs_in, masks_in}
 use Rattle.query_engine.specs.declared.answer.WordRow.{WordRow}
-use Rattle.query_engine.specs.Reply.{of_files, of_kind, of_world, word_in, word_row}
-use Rattle.query_engine.specs.Listed.{Listed, AreLive, AreAhead, AreFrom, itself, listed_at, offset_in, path_at, stub_at, text_at, word_found}
-use Rattle.query_engine.proofs.FromLemmas.{from_listing, from_filter, from_keys}
-
--- what a reader gives of a file is what the file has
-pub read_found : (read : File → List ℕ) (o : Option File) (x : List ℕ) → Some x ≡ option_map read o → x ≡ option_map_or read o []
-read_found read None x is = absurd cc
-read_found read (Some file) x is = cc
+use Rattle.query_engine.specs.Reply.{of_files, of_world, word_in, word_row}
+use Rattle.query_engine.specs.Listed.{Listed, AreLive, AreAhead, AreFrom, StandsIn, itself, listed_at, offset_in, path_at, stub_at, text_at, word_found}
+use Rattle.query_engine.proofs.AheadLemmas.{read_found, from_all, from_pairs, from_filter, from_lawful, from_keys}
+use Rattle.query_engine.proofs.MemberLemmas.{all_each, pairs_nil, pairs_head, pairs_tail, pairs_append, pairs_map}
 
 -- the row that is made for a word
-pub word_row_made : (world : World) (id mask : ℕ) (path copy : List ℕ) → Some path ≡ option_map (λ file. file.path) (file_of world id) → copy ≡ path
+pub word_row_made : (world : World) {id mask : ℕ} {path copy : List ℕ} → Some path ≡ option_map (λ file. file.path) (file_of world id) → copy ≡ path
     → ◌≡◌ {A = WordRow} (record { file = id; path = copy; mask = mask }) (word_found world (id, mask))
-word_row_made world id mask path copy is same =
-    ap (λ p. record { file = id; path = p; mask = mask }) (same ∙ read_found (λ file. file.path) (file_of world id) path is)
+word_row_made world {id} {mask} is same =
+    ap (λ p. record { file = id; path = p; mask = mask }) (same ∙ read_found (λ file. file.path) (file_of world id) is)
 
 -- what is left is of live files
-pub live_rest : {X : Type 0} (world : World) (x : ℕ × X) (left left' : List (ℕ × X)) → left ≡ x ∷ left' → AreLive world left → AreLive world left'
-live_rest {X = X} world x left left' next h = All-tail (λ (f : ℕ × X). IsSome (file_of world f.0)) x left' (subst (AreLive world) next h)
+pub live_rest : {X : Type 0} (world : World) {x : ℕ × X} {left left' : List (ℕ × X)} → left ≡ x ∷ left' → AreLive world left → AreLive world left'
+live_rest {X} world {x} {left' = left'} next h = All-tail (λ (f : ℕ × X). IsSome (file_of world f.0)) x left' (rw next at h)
 
--- these files are those of the world from an id on
-pub AreAt : World → ℕ → List (Option File) → Type 0
-AreAt world id files = (k : ℕ) → file_of world (id + k) ≡ get_or files k None
-
-pub at_all : (world : World) → AreAt world 1 world.files
-unfolding AreAt
-at_all world k = let e : 1 + k ≡ suc k = omega arith in ap (file_of world) e
-
-pub at_head : (world : World) (id : ℕ) (file : Option File) (files : List (Option File)) → AreAt world id (file ∷ files) → file_of world id ≡ file
-unfolding AreAt
-at_head world id file files h = let e : id ≡ id + 0 = omega arith in ap (file_of world) e ∙ h 0
-
-pub at_tail : (world : World) (id : ℕ) (file : Option File) (files : List (Option File)) → AreAt world id (file ∷ files) → AreAt world (id + 1) files
-unfolding AreAt
-at_tail world id file files h k = let e : id + 1 + k ≡ id + suc k = omega arith in ap (file_of world) e ∙ h (suc k)
-
--- a live file is there
-live_is : (world : World) (id : ℕ) (file : File) → file_of world id ≡ Some file → IsSome (file_of world id)
-live_is world id file is = subst (λ (o : Option File). IsSome o) (sym is) refl
-
-module _ {X R : Type 0} (kind : FileKind) (made : List (ℕ × X) → List R) (joins : (xs ys : List (ℕ × X)) → made (xs ++ ys) ≡ made xs ++ made ys)
-    (none : made [] ≡ []) (read : List ℕ → List X) (rows : ℕ → File → List R) (world : World)
-    (each : (id : ℕ) (file : File) → file_of world id ≡ Some file → made (map (λ x. (id, x)) (read (shown_text file))) ≡ rows id file) where
-  rows_from : (id : ℕ) (files : List (Option File)) → AreAt world id files → made (found_from kind read id files) ≡ of_files kind rows id files
-  rows_from id [] at = none
-  rows_from id (None ∷ files) at = rows_from (id + 1) files (at_tail world id None files at)
-  rows_from id (Some file ∷ files) at =
-      joins (map (λ x. (id, x)) (found_in kind read file)) (found_from kind read (id + 1) files)
-      ∙ ap (λ (rs : List R). rs ++ made (found_from kind read (id + 1) files)) (of (has_kind kind file.path))
-      ∙ ap (λ (rs : List R). of_kind kind rows id (Some file) ++ rs) (rows_from (id + 1) files (at_tail world id (Some file) files at))
+-- a law of what is found from an id on, with the rows that the files give from there
+module _ {X R : Type 0} (kind : FileKind) (read : List ℕ → List X) (rows : ℕ → File → List R) (world : World) (P : ℕ → List (ℕ × X) → List R → Type 0)
+    (none : (id : ℕ) → P id [] []) (skip : (id : ℕ) (xs : List (ℕ × X)) (rs : List R) → P (id + 1) xs rs → P id xs rs)
+    (more : (id : ℕ) (file : File) (xs : List (ℕ × X)) (rs : List R) → file_of world id ≡ Some file → P (id + 1) xs rs
+    → P id (map (λ x. (id, x)) (read (shown_text file)) ++ xs) (rows id file ++ rs)) where
+  law_from : (id : ℕ) (files : List (Option File)) → ((k : ℕ) → file_of world (id + k) ≡ get_or files k None)
+      → P id (found_from kind read id files) (of_files kind rows id files)
+  law_from id [] at = none id
+  law_from id (file ∷ files) at =
+      of file (at 0) (law_from (id + 1) files (λ k. let e : id + 1 + k ≡ id + suc k = omega arith in ap (file_of world) e ∙ at (suc k)))
     where
-      of : (b : Bool) → made (map (λ x. (id, x)) (if b then read (shown_text file) else [])) ≡ (if b then rows id file else [])
-      of true = each id file (at_head world id (Some file) files at)
-      of false = none
+      of : (file : Option File) → file_of world (id + 0) ≡ file → P (id + 1) (found_from kind read (id + 1) files) (of_files kind rows (id + 1) files)
+          → P id (found_from kind read id (file ∷ files)) (of_files kind rows id (file ∷ files))
+      of None is rest = skip id _ _ rest
+      of (Some file) is rest = by_kind (has_kind kind file.path)
+        where
+          by_kind : (b : Bool) → P id (map (λ x. (id, x)) (cond b (read (shown_text file)) []) ++ found_from kind read (id + 1) files)
+              (cond b (rows id file) [] ++ of_files kind rows (id + 1) files)
+          by_kind true = more id file _ _ (let e : id ≡ id + 0 = omega arith in ap (file_of world) e ∙ is) rest
+          by_kind false = skip id _ _ rest
 
-  -- what is made of all that is found is what the files give, where of each file's it is what that file gives
-  pub rows_found : made (found kind read world) ≡ of_world kind rows world
-  rows_found = rows_from 1 world.files (at_all world)
+  pub found_law : P 1 (found kind read world) (of_world kind rows world)
+  found_law = law_from 1 world.files (λ k. let e : 1 + k ≡ suc k = omega arith in ap (file_of world) e)
+
+-- what is made of all that is found is what the files give, where of each file's it is what that file gives
+pub rows_found : {X R : Type 0} (kind : FileKind) (made : List (ℕ × X) → List R)
+    → ((xs ys : List (ℕ × X)) → made (xs ++ ys) ≡ made xs ++ made ys) → made [] ≡ [] → (read : List ℕ → List X) (rows : ℕ → File → List R) (world : World)
+    → ((id : ℕ) (file : File) → file_of world id ≡ Some file → made (map (λ x. (id, x)) (read (shown_text file))) ≡ rows id file)
+    → made (found kind read world) ≡ of_world kind rows world
+rows_found {X} kind made joins none read rows world each =
+    found_law kind read rows world (λ id xs rs. made xs ≡ rs) (λ id. none) (λ id xs rs h. h)
+    (λ id file xs rs is h. let here : List (ℕ × X) = map (λ x. (id, x)) (read (shown_text file)) in cc (joins here xs, each id file is))
 
 -- what is found is what each file gives, with its id
 pub found_is : {X : Type 0} (kind : FileKind) (read : List ℕ → List X) (world : World)
     → found kind read world ≡ of_world kind (λ id file. map (λ x. (id, x)) (read (shown_text file))) world
-found_is kind read world =
-    rows_found kind (λ xs. xs) (λ xs ys. refl) refl read (λ id file. map (λ x. (id, x)) (read (shown_text file))) world (λ id file is. refl)
+found_is kind read world = rows_found kind (λ xs. xs) (λ xs ys. refl) refl read _ world (λ id file is. refl)
 
 -- the rows of what is found, each made by its file's id, path and text, are those of the files
-pub placed_found : {X R : Type 0} (kind : FileKind) (row : ℕ → List ℕ → List ℕ → X → R) (read : List ℕ → List X) (world : World)
-    → map (λ f. row f.0 (path_at world f.0) (text_at world f.0) f.1) (found kind read world)
-    ≡ of_world kind (λ id file. map (row id file.path (shown_text file)) (read (shown_text file))) world
-placed_found {X} {R} kind row read world =
-    rows_found kind (map made) (map-append made) refl read (λ id file. map (row id file.path (shown_text file)) (read (shown_text file))) world
+pub placed_found : {X R : Type 0} (kind : FileKind) (row : ℕ → List ℕ → List ℕ → X → R) (read : List ℕ → List X) (rows : ℕ → File → List R) (world : World)
+    → ((id : ℕ) (file : File) → map (row id file.path (shown_text file)) (read (shown_text file)) ≡ rows id file)
+    → map (λ f. row f.0 (path_at world f.0) (text_at world f.0) f.1) (found kind read world) ≡ of_world kind rows world
+placed_found {X} {R} kind row read rows world each =
+    rows_found kind (map made) (map-append made) refl read rows world
     (λ id file is. map-map made (λ x. (id, x)) (read (shown_text file))
-    ∙ ap (λ (o : Option File). map (row id (option_map_or (λ f. f.path) o []) (option_map_or shown_text o [])) (read (shown_text file))) is)
+    ∙ ap (λ (o : Option File). map (row id (option_map_or (λ f. f.path) o []) (option_map_or shown_text o [])) (read (shown_text file))) is ∙ each id file)
   where
     made : ℕ × X → R
     made f = row f.0 (path_at world f.0) (text_at world f.0) f.1
 
--- the row of a word of one file
-word_rows_of : (world : World) (id : ℕ) (file : File) → file_of world id ≡ Some file → (mask : Option ℕ)
-    → map (word_found world) (map (λ m. (id, m)) (option_to_list mask)) ≡ word_row id file mask
-word_rows_of world id file is None = refl
-word_rows_of world id file is (Some mask) = ap (λ o. record { file = id; path = option_map_or (λ f. f.path) o []; mask = mask } ∷ []) is
-
 -- the rows of a word that is found
 pub word_rows_found : (name : List ℕ) (world : World) → map (word_found world) (found Java (masks_in name) world) ≡ of_world Java (word_in name) world
 word_rows_found name world =
-    rows_found Java (map (word_found world)) (map-append (word_found world)) refl (masks_in name) (word_in name) world
-    (λ id file is. word_rows_of world id file is (mask_in (words_of (shown_text file)) name))
+    placed_found Java row (masks_in name) (word_in name) world (λ id file. of id file (mask_in (words_of (shown_text file)) name))
+  where
+    row : ℕ → List ℕ → List ℕ → ℕ → WordRow
+    row id path text mask = record { file = id; path = path; mask = mask }
+
+    of : (id : ℕ) (file : File) (mask : Option ℕ) → map (row id file.path (shown_text file)) (option_to_list mask) ≡ word_row id file mask
+    of id file None = refl
+    of id file (Some mask) = refl
 
 -- what is found is of live files
-live_from : {X : Type 0} (read : List ℕ → List X) (world : World) (id : ℕ) (files : List (Option File)) → AreAt world id files
-    → AreLive world (found_from Java read id files)
-live_from read world id [] at = λ k d inside. absurd (omega (arith, inside))
-live_from read world id (None ∷ files) at = live_from read world (id + 1) files (at_tail world id None files at)
-live_from {X} read world id (Some file ∷ files) at =
-    All-append (λ (f : ℕ × X). IsSome (file_of world f.0)) (map (λ x. (id, x)) (found_in Java read file)) (found_from Java read (id + 1) files)
-    (All-map (λ (f : ℕ × X). IsSome (file_of world f.0)) (λ x. (id, x)) (found_in Java read file)
-    (λ k d inside. live_is world id file (at_head world id (Some file) files at)))
-    (live_from read world (id + 1) files (at_tail world id (Some file) files at))
-
 pub live_found : {X : Type 0} (read : List ℕ → List X) (world : World) → AreLive world (found Java read world)
-live_found read world = live_from read world 1 world.files (at_all world)
+live_found {X} read world =
+    found_law {R = ℕ} Java read (λ id file. []) world (λ id xs rs. AreLive world xs) (λ id. All-nil (λ (f : ℕ × X). IsSome (file_of world f.0)))
+    (λ id xs rs h. h)
+    (λ id file xs rs is h. All-append (λ (f : ℕ × X). IsSome (file_of world f.0)) (map (λ x. (id, x)) (read (shown_text file))) xs
+    (All-map (λ (f : ℕ × X). IsSome (file_of world f.0)) (λ x. (id, x)) (read (shown_text file)) (λ k d inside. rw is refl)) h)
 
--- the rows before are of files with lower ids
-IsBelow : ℕ → Option Listed → Type 0
-IsBelow id before = IfSome before (λ listed. listed.id < id)
+-- one stands before the other: in a file with a lower id, or in one file as a relation says
+abbrev pub Stands : {X : Type 0} → (ℕ → X → X → Type 0) → ℕ × X → ℕ × X → Type 0
+Stands R a b = (a.0 < b.0) ⊎ ((a.0 ≡ b.0) × R a.0 a.1 b.1)
 
-below_more : (id : ℕ) (before : Option Listed) → IsBelow id before → IsBelow (id + 1) before
-unfolding IsBelow
-below_more id None h = tt
-below_more id (Some listed) h = omega (arith, h)
+-- what is found stands in order where it does in each file
+pub found_sorted : {X : Type 0} (kind : FileKind) (R : ℕ → X → X → Type 0) (read : List ℕ → List X) (world : World)
+    → ((id : ℕ) (file : File) → file_of world id ≡ Some file → AllPairs (R id) (read (shown_text file))) → AllPairs (Stands R) (found kind read world)
+found_sorted {X} kind R read world each =
+    (found_law {R = ℕ} kind read (λ id file. []) world (λ id xs rs. AllPairs (Stands R) xs × All (λ f. id ≤ f.0) xs)
+    (λ id. (pairs_nil (Stands R), All-nil (λ (f : ℕ × X). id ≤ f.0))) (λ id xs rs h. (h.0, lower id xs h.1))
+    (λ id file xs rs is h. let here : List X = read (shown_text file) in (
+      pairs_append (Stands R) (map (λ x. (id, x)) here) xs (pairs_map (R id) (Stands R) (λ x. (id, x)) (λ a b h. inr (refl, h)) here (each id file is)) h.0
+          (All-map (λ t. All (Stands R t) xs) (λ x. (id, x)) here (all_each (λ x. All (Stands R (id, x)) xs) here
+          (λ x. All-weaker (λ f. id + 1 ≤ f.0) (Stands R (id, x)) (λ f over. inl (omega arith)) xs h.1))),
+      All-append (λ f. id ≤ f.0) (map (λ x. (id, x)) here) xs (All-map (λ (f : ℕ × X). id ≤ f.0) (λ x. (id, x)) here (λ k d inside. le_refl id))
+          (lower id xs h.1),
+    ))).0
+  where
+    lower : (id : ℕ) (xs : List (ℕ × X)) → All (λ f. id + 1 ≤ f.0) xs → All (λ f. id ≤ f.0) xs
+    lower id xs above = All-weaker (λ f. id + 1 ≤ f.0) (λ f. id ≤ f.0) (λ f over. omega arith) xs above
 
--- of such a file no row is made yet
-offset_below : (id : ℕ) (before : Option Listed) → IsBelow id before → offset_in before id ≡ 0
-unfolding IsBelow
-offset_below id None h = refl
-offset_below id (Some listed) h = ap (λ b. if b then listed.at else 0) (ne_eqb listed.id id (λ same. omega (arith, h, same)))
+module _ {X : Type 0} (at_of : X → ℕ) (world : World) where
+  -- it is in a live file, and stands in its text
+  abbrev pub IsPlaced : ℕ × X → Type 0
+  IsPlaced f = IsSome (file_of world f.0) × StandsIn (text_at world f.0) 0 (at_of f.1)
 
--- of the file of the rows before they are made up to their offset
-offset_same : (world : World) (id at : ℕ) → offset_in (Some (listed_at world id at)) id ≡ at
-offset_same world id at = ap (λ b. if b then at else 0) (eq-eqb id id refl)
+  -- one doesn't stand before the other in a text that isn't too long
+  abbrev pub IsBehind : ℕ → X → X → Type 0
+  IsBehind id a b = length (text_at world id) ≤ max_chars → at_of a ≤ at_of b
 
--- what is found in one file, and others of files with higher ids
-ahead_chain : {X : Type 0} (at_of : X → ℕ) (world : World) (id : ℕ) → IsSome (file_of world id) → (rest : List (ℕ × X))
-    → ((before : Option Listed) → IsBelow (id + 1) before → AreAhead at_of world before rest)
-    → (xs : List X) (before : Option Listed) → IsBelow (id + 1) before
-    → (length (text_at world id) ≤ max_chars → AreFrom at_of (length (text_at world id)) (offset_in before id) xs)
-    → AreAhead at_of world before (map (λ x. (id, x)) xs ++ rest)
-unfolding IsBelow
-ahead_chain at_of world id live rest others [] before below from = others before below
-ahead_chain at_of world id live rest others (x ∷ xs) before below from = (
-  live,
-  (λ short. ((from short).0, (from short).1)),
-  ahead_chain at_of world id live rest others xs (Some (listed_at world id (at_of x))) (omega arith)
-      (λ short. subst (λ n. AreFrom at_of (length (text_at world id)) n xs) (sym (offset_same world id (at_of x))) (from short).2),
-)
-
--- what is read of a text stands there at rising offsets
-abbrev Rises : {X : Type 0} → (X → ℕ) → (List ℕ → List X) → Type 0
-Rises at_of read = (text : List ℕ) → length text ≤ max_chars → AreFrom at_of (length text) 0 (read text)
-
-module _ {X : Type 0} (kind : FileKind) (at_of : X → ℕ) (read : List ℕ → List X) (rises : Rises at_of read) (world : World) where
-  ahead_from : (id : ℕ) (files : List (Option File)) → AreAt world id files
-      → (before : Option Listed) → IsBelow id before → AreAhead at_of world before (found_from kind read id files)
-  ahead_from id [] at before below = tt
-  ahead_from id (None ∷ files) at before below = ahead_from (id + 1) files (at_tail world id None files at) before (below_more id before below)
-  ahead_from id (Some file ∷ files) at before below =
-      of (ahead_from (id + 1) files (at_tail world id (Some file) files at))
+  ahead_from : (before : Option Listed) (xs : List (ℕ × X)) → AllPairs (Stands IsBehind) xs → All IsPlaced xs
+      → All (λ f. length (text_at world f.0) ≤ max_chars → offset_in before f.0 ≤ at_of f.1) xs → AreAhead at_of world before xs
+  ahead_from before [] sorted placed above = tt
+  ahead_from before (x ∷ xs) sorted placed above =
+      let here = All-head IsPlaced x xs placed in (
+        here.0,
+        (λ short. (above 0 x (omega arith) short, (here.1 short).1)),
+        ahead_from (Some (listed_at world x.0 (at_of x.1))) xs (pairs_tail (Stands IsBehind) x xs sorted) (All-tail IsPlaced x xs placed)
+            (λ k d inside. behind (get_or xs k d) (pairs_head (Stands IsBehind) x xs sorted k d inside)),
+      )
     where
-      is : file_of world id ≡ Some file
-      is = at_head world id (Some file) files at
+      behind : (f : ℕ × X) → Stands IsBehind x f → length (text_at world f.0) ≤ max_chars → (if x.0 == f.0 then at_of x.1 else 0) ≤ at_of f.1
+      behind f (inl less) short = grind (arith, common_steps, less)
+      behind f (inr (file, rise)) short = let under : at_of x.1 ≤ at_of f.1 = rise (rw file short) in grind (arith, common_steps, under)
 
-      from : length (text_at world id) ≤ max_chars → AreFrom at_of (length (text_at world id)) (offset_in before id) (read (shown_text file))
-      from short = subst (λ n. AreFrom at_of (length (text_at world id)) n (read (shown_text file))) (sym (offset_below id before below))
-          (subst (λ (o : Option File). AreFrom at_of (length (text_at world id)) 0 (read (option_map_or shown_text o []))) is (rises (text_at world id) short))
+  -- what stands in order, and in its texts, stands one ahead of another
+  pub ahead_sorted : (xs : List (ℕ × X)) → AllPairs (Stands IsBehind) xs → All IsPlaced xs → AreAhead at_of world None xs
+  ahead_sorted xs sorted placed = ahead_from None xs sorted placed (λ k d inside short. omega arith)
 
-      of : ((before : Option Listed) → IsBelow (id + 1) before → AreAhead at_of world before (found_from kind read (id + 1) files))
-          → AreAhead at_of world before (found_from kind read id (Some file ∷ files))
-      of others = cond_both (has_kind kind file.path) (read (shown_text file)) []
-          (λ xs. AreAhead at_of world before (map (λ x. (id, x)) xs ++ found_from kind read (id + 1) files))
-          (λ on. ahead_chain at_of world id (live_is world id file is) (found_from kind read (id + 1) files) others (read (shown_text file)) before
-          (below_more id before below) from)
-          (λ off. others before (below_more id before below))
+  -- what is read of a text that isn't too long stands there at rising offsets
+  module _ (kind : FileKind) (read : List ℕ → List X) (rise : (text : List ℕ) → length text ≤ max_chars → AreFrom at_of (length text) 0 (read text)) where
+    pub found_placed : All IsPlaced (found kind read world)
+    found_placed =
+        found_law {R = ℕ} kind read (λ id file. []) world (λ id xs rs. All IsPlaced xs) (λ id. All-nil IsPlaced) (λ id xs rs h. h)
+        (λ id file xs rs is h. All-append IsPlaced (map (λ x. (id, x)) (read (shown_text file))) xs
+        (All-map IsPlaced (λ x. (id, x)) (read (shown_text file)) (λ k d within. (
+          rw is refl,
+          (λ short. rw is (
+              from_all at_of (length (shown_text file)) 0 (read (shown_text file)) (rise (shown_text file) (rw is at short)) k d within)),
+        ))) h)
 
-  -- what is found in files stands one behind another
-  pub rising_ahead : AreAhead at_of world None (found kind read world)
-  unfolding IsBelow
-  rising_ahead = ahead_from 1 world.files (at_all world) None tt
+    -- so what is found stands one ahead of another
+    pub found_ahead : AreAhead at_of world None (found kind read world)
+    found_ahead =
+        ahead_sorted (found kind read world) (found_sorted kind IsBehind read world (λ id file is i j d less within short.
+        from_pairs at_of (length (shown_text file)) 0 (read (shown_text file)) (rise (shown_text file) (rw is at short)) i j d less within)) found_placed
 
--- the declarations that are found stand one behind another
-pub ahead_found : ((text : List ℕ) → length text ≤ max_chars → IsLawfulList (listing_of text)) → ((text : List ℕ) → All (IsNamedIn text) (listing_of text))
-    → (fits : Stub → Bool) (world : World) → AreAhead stub_at world None (found Java (stubs_in fits) world)
-ahead_found lawful named fits world =
-    rising_ahead Java stub_at (stubs_in fits)
-    (λ text short. from_filter fits (length text) 0 (listing_of text) (from_listing text (listing_of text) (lawful text short) (named text))) world
+-- the declarations that are found stand in their texts, one ahead of another
+module _ (lawful : (text : List ℕ) → length text ≤ max_chars → IsLawfulList (listing_of text))
+    (named : (text : List ℕ) → All (IsNamedIn text) (listing_of text)) (fits : Stub → Bool) (world : World) where
+  rise : (text : List ℕ) → length text ≤ max_chars → AreFrom stub_at (length text) 0 (stubs_in fits text)
+  rise text short =
+      from_filter stub_at (length text) fits 0 0 (listing_of text) (le_refl 0) (from_lawful text None (listing_of text) (lawful text short) (named text))
+
+  pub stubs_placed : All (IsPlaced stub_at world) (found Java (stubs_in fits) world)
+  stubs_placed = found_placed stub_at world Java (stubs_in fits) rise
+
+  pub stubs_ahead : AreAhead stub_at world None (found Java (stubs_in fits) world)
+  stubs_ahead = found_ahead stub_at world Java (stubs_in fits) rise
 
 -- and so do the places of a property key
 pub keys_ahead : ((text : List ℕ) → RiseFrom 0 (length text) (keys_of text)) → (key : List ℕ) (world : World)
     → AreAhead itself world None (found Properties (places_of_key key) world)
 keys_ahead rise key world =
-    rising_ahead Properties itself (places_of_key key) (λ text short. from_keys key 0 0 (length text) (keys_of text) (le_refl 0) (rise text)) world
+    found_ahead itself world Properties (places_of_key key) (λ text short. from_keys key 0 0 (length text) (keys_of text) (le_refl 0) (rise text))

@@ -1,10 +1,9 @@
 -- Rows by their levels.
-use Rattle.std.proofs.Common.{ℕ, suc, ◌≡◌, ◌≤◌, ◌<◌, ◌⊎◌, inl, inr, ◌==◌, ◌&&◌, Bool, cond, List, [], ◌∷◌, length, map, filter, All, Option, Some, None, refl, ap, sym, subst, ◌∙◌, arith}
+use Rattle.std.proofs.Common.{ℕ, suc, ◌≡◌, ◌≤◌, ◌<◌, inl, inr, ◌==◌, ◌&&◌, Bool, cond, List, [], ◌∷◌, length, map, filter, get_or, All, Option, None, refl, ap, sym, ◌∙◌, le_refl, arith}
 use Rattle.std.specs.Prelude.{not, is_some}
 use Rattle.std.specs.List.{AllByRecursion, AllPairs}
 use Rattle.std.specs.List.Sorted.{IsSortedBy, IsNonDecreasingBy, IsStableBy, ties}
 use Rattle.std.specs.Ordering.{nat_cmp, is_lt}
-use Rattle.std.proofs.lemmas.Bool.{cases_lt, eq-eqb}
 use Rattle.std.proofs.lemmas.Grind.{common_steps}
 use Rattle.std.proofs.lemmas.List.Elements.{All-map, All-filter, All-from_recursion, recursion_from_All, filter_agree}
 use Rattle.std.proofs.lemmas.List.Kept.{AllPairs-filter}
@@ -12,12 +11,12 @@ use Rattle.std.proofs.lemmas.List.Sorted.{IsNonDecreasingBy-from_sort}
 use Rattle.write_history.specs.World.{World}
 use Rattle.query_engine.specs.declared.answer.LevelRow.{LevelRow}
 use Rattle.query_engine.specs.Inheritors.{ListedType, inheritors_of, StandsBefore}
-use Rattle.query_engine.specs.Search.{Seen, leveled, with_level, is_level, with_this, tagged, LevelsRise, IsFound}
+use Rattle.query_engine.specs.Search.{Seen, leveled, with_this, tagged, LevelsRise, IsFound}
 use Rattle.query_engine.specs.Listed.{AreAhead, stub_at}
 use Rattle.query_engine.specs.Leveled.{seen_listing, seen_row, RowsRise, with_row_level}
 use Rattle.query_engine.specs.Reply.{level_row}
 use Rattle.query_engine.proofs.MemberLemmas.{filter_of_map}
-use Rattle.query_engine.proofs.TypesLemmas.{IsPlaced, ahead_sorted}
+use Rattle.query_engine.proofs.FoundLemmas.{Stands, IsPlaced, IsBehind, ahead_sorted}
 
 -- the order by which rows are sorted
 abbrev pub lower : LevelRow → LevelRow → Bool
@@ -48,61 +47,46 @@ stable_levels (r ∷ rows) new len stable level =
     ∙ stable x
     ∙ filter_agree (ties lower x) (λ row. row.level == level) (λ row. ties_level level row.level) (r ∷ rows)
 
--- two lists of rows by levels with the same rows of each level are the same
-none_lower : (level : ℕ) (r : LevelRow) (rows : List LevelRow) → level < r.level → AllByRecursion (λ other. r.level ≤ other.level) rows
-    → with_row_level level rows ≡ []
-none_lower level r [] less all = refl
-none_lower level r (s ∷ rows) less all = grind (arith, common_steps, less, all.0, none_lower level r rows less all.1)
+-- no row of a lower level
+none_lower : (level low : ℕ) (rows : List LevelRow) → level < low → AllByRecursion (λ row. low ≤ row.level) rows → with_row_level level rows ≡ []
+none_lower level low [] less all = refl
+none_lower level low (row ∷ rows) less all = grind (arith, common_steps, less, all.0, none_lower level low rows less all.1)
 
-head_kept : (r : LevelRow) (rows : List LevelRow) → with_row_level r.level (r ∷ rows) ≡ r ∷ with_row_level r.level rows
-head_kept r rows = grind (arith, common_steps)
+head_kept : (level : ℕ) (row : LevelRow) (rows : List LevelRow) → row.level ≡ level → with_row_level level (row ∷ rows) ≡ row ∷ with_row_level level rows
+head_kept level row rows is = grind (arith, common_steps, is)
 
-lower_first : (x y : LevelRow) (xs ys : List LevelRow) → x.level < y.level → RowsRise (y ∷ ys)
-    → with_row_level x.level (x ∷ xs) ≡ with_row_level x.level (y ∷ ys) → ⊥
-lower_first x y xs ys less rise same =
-    let none = none_lower x.level y ys less rise.0 in
-    let kept = head_kept x xs in
-    let other : with_row_level x.level (y ∷ ys) ≡ with_row_level x.level ys = grind (arith, common_steps, less) in
-    let long : suc (length (with_row_level x.level xs)) ≡ 0 = ap length (sym kept ∙ same ∙ other ∙ none) in
-    omega (arith, long)
+no_first : (x : LevelRow) (xs : List LevelRow) → [] ≡ with_row_level x.level (x ∷ xs) → ⊥
+no_first x xs same = cc (same ∙ head_kept x.level x xs refl)
+
+lower_first : (x y : LevelRow) (xs ys : List LevelRow) → RowsRise (y ∷ ys) → with_row_level x.level (x ∷ xs) ≡ with_row_level x.level (y ∷ ys)
+    → x.level < y.level → ⊥
+lower_first x y xs ys rise same less = no_first x xs (sym (same ∙ none_lower x.level y.level (y ∷ ys) less (le_refl y.level, rise.0)))
 
 tails : (b c : Bool) (x y : LevelRow) (l m : List LevelRow) → b ≡ c → cond b (x ∷ l) l ≡ cond c (y ∷ m) m → l ≡ m
 tails b c x y l m e same = grind (arith, e, same)
 
-no_first : (x : LevelRow) (xs : List LevelRow) → [] ≡ with_row_level x.level (x ∷ xs) → ⊥
-no_first x xs same = let long : 0 ≡ suc (length (with_row_level x.level xs)) = ap length (same ∙ head_kept x xs) in omega (arith, long)
-
+-- two lists of rows by levels with the same rows of each level are the same
 pub same_rows : (xs ys : List LevelRow) → RowsRise xs → RowsRise ys → ((level : ℕ) → with_row_level level xs ≡ with_row_level level ys) → xs ≡ ys
 same_rows [] [] xs_rise ys_rise same = refl
 same_rows [] (y ∷ ys) xs_rise ys_rise same = absurd (no_first y ys (same y.level))
 same_rows (x ∷ xs) [] xs_rise ys_rise same = absurd (no_first x xs (sym (same x.level)))
-same_rows (x ∷ xs) (y ∷ ys) xs_rise ys_rise same = of (cases_lt x.level y.level) (cases_lt y.level x.level) (same_rows xs ys xs_rise.1 ys_rise.1)
-  where
-    of : (x.level < y.level) ⊎ (y.level ≤ x.level) → (y.level < x.level) ⊎ (x.level ≤ y.level)
-        → (((level : ℕ) → with_row_level level xs ≡ with_row_level level ys) → xs ≡ ys) → x ∷ xs ≡ y ∷ ys
-    of (inl less) other rest = absurd (lower_first x y xs ys less ys_rise (same x.level))
-    of (inr few) (inl less) rest = absurd (lower_first y x ys xs less xs_rise (sym (same y.level)))
-    of (inr few) (inr enough) rest =
-        let level : y.level ≡ x.level = omega (arith, few, enough) in
-        let firsts : x ∷ with_row_level x.level xs ≡ y ∷ with_row_level x.level ys =
-        sym (head_kept x xs) ∙ same x.level ∙ ap (λ b. cond b (y ∷ with_row_level x.level ys) (with_row_level x.level ys)) (eq-eqb y.level x.level level) in
-        let heads : x ≡ y = cc in
-        let behind : xs ≡ ys = rest (λ k. tails (x.level == k) (y.level == k) x y (with_row_level k xs) (with_row_level k ys) (ap (λ r. r.level == k) heads)
-        (same k)) in
-        cc
+same_rows (x ∷ xs) (y ∷ ys) xs_rise ys_rise same =
+    let few = lower_first x y xs ys ys_rise (same x.level) in
+    let enough = lower_first y x ys xs xs_rise (sym (same y.level)) in
+    let level : y.level ≡ x.level = omega arith in
+    let firsts : x ∷ with_row_level x.level xs ≡ y ∷ with_row_level x.level ys =
+    sym (head_kept x.level x xs refl) ∙ same x.level ∙ head_kept x.level y ys level in
+    let heads : x ≡ y = cc in
+    let behind : xs ≡ ys = same_rows xs ys xs_rise.1 ys_rise.1
+    (λ k. tails (x.level == k) (y.level == k) x y (with_row_level k xs) (with_row_level k ys) (ap (λ r. r.level == k) heads) (same k)) in
+    cc
 
 module _ (world : World) where
   -- the rows of one level
   level_rows_of : (levels : ListedType → Option ℕ) (level : ℕ) (types : List ListedType)
       → with_row_level level (map (seen_row world) (leveled levels types)) ≡ map (level_row world) (tagged level (with_this level levels types))
   level_rows_of levels level [] = refl
-  level_rows_of levels level (t ∷ ts) = of (levels t) (level_rows_of levels level ts)
-    where
-      of : (o : Option ℕ) → with_row_level level (map (seen_row world) (leveled levels ts)) ≡ map (level_row world) (tagged level (with_this level levels ts))
-          → with_row_level level (map (seen_row world) (with_level t o (leveled levels ts)))
-          ≡ map (level_row world) (tagged level (cond (is_level level o) (t ∷ with_this level levels ts) (with_this level levels ts)))
-      of None rest = rest
-      of (Some l) rest = grind (arith, common_steps, rest)
+  level_rows_of levels level (t ∷ ts) = grind (arith, common_steps, level_rows_of levels level ts)
 
   mapped_rise : (found : List (ℕ × ListedType)) → LevelsRise found → RowsRise (map (level_row world) found)
   mapped_rise [] rise = tt
@@ -125,9 +109,15 @@ module _ (world : World) where
   listings_of levels (t ∷ ts) = grind (arith, listings_of levels ts)
 
   -- what a search found stands ahead
-  pub found_ahead : (name : List ℕ) (types : List ListedType) (seen : Seen) → IsFound types name seen → AllPairs StandsBefore types → All (IsPlaced world) types
-      → AreAhead stub_at world None (map seen_listing seen)
+  pub found_ahead : (name : List ℕ) (types : List ListedType) (seen : Seen) → IsFound types name seen → AllPairs StandsBefore types
+      → All (IsPlaced stub_at world) types → AreAhead stub_at world None (map seen_listing seen)
   found_ahead name types seen found sorted placed =
-      subst (AreAhead stub_at world None) (sym (ap (map seen_listing) found.is ∙ listings_of found.levels types))
-      (ahead_sorted world (filter (λ t. is_some (found.levels t)) types) (AllPairs-filter StandsBefore (λ t. is_some (found.levels t)) types sorted)
-      (All-filter (λ t. is_some (found.levels t)) (IsPlaced world) types placed))
+      rw (found.is, listings_of found.levels types)
+      (ahead_sorted stub_at world (filter (λ t. is_some (found.levels t)) types)
+      (λ i j d less inside. let kept = filter (λ t. is_some (found.levels t)) types in
+      behind (get_or kept i d) (get_or kept j d) (AllPairs-filter StandsBefore (λ t. is_some (found.levels t)) types sorted i j d less inside))
+      (All-filter (λ t. is_some (found.levels t)) (IsPlaced stub_at world) types placed))
+    where
+      behind : (t u : ListedType) → StandsBefore t u → Stands (IsBehind stub_at world) t u
+      behind t u (inl less) = inl less
+      behind t u (inr (file, less)) = inr (file, (λ short. omega arith))

@@ -1,110 +1,109 @@
--- Looks of a search, one for each full 256 types that it meets.
-use Rattle.std.proofs.Common.{ℕ, ◌≡◌, ◌≤◌, ◌+◌, ◌/◌, ◌%◌, List, arith, Result, Ok, Err, OnOk, IsErrAnd}
+-- Looks of a search, one for each full 256 types that it meets. It meets those that name a name that is asked for, and each name is asked
+-- for once: so no more than there are names of supers.
+use Rattle.std.proofs.Common.{ℕ, ◌≡◌, ◌≤◌, ◌+◌, ◌/◌, ◌%◌, Bool, true, false, ◌||◌, List, [], ◌∷◌, length, filter, refl, sym, arith, Result, Ok, Err, OnOk, IsErrAnd}
+use Rattle.std.specs.List.{list_any}
+use Rattle.std.specs.Str.{bytes_eq}
+use Rattle.std.proofs.lemmas.Bool.{false≢true}
+use Rattle.std.proofs.lemmas.Slice.Eq.{bytes_eq-Decides}
 use Rattle.query_engine.specs.declared.answer.AskRefusal.{AskRefusal}
 use Rattle.query_engine.specs.declared.answer.AskRefusal.TheVariants.{OutOfMemory}
+use Rattle.query_engine.specs.Fits.{has_super}
 use Rattle.query_engine.specs.Inheritors.{ListedType}
-use Rattle.query_engine.specs.Search.{asked_supers}
-use Rattle.query_engine.specs.Looks.{rows_a_look, HasLooked}
+use Rattle.query_engine.specs.Search.{is_asked, asked_supers, all_supers}
+use Rattle.query_engine.specs.Looks.{rows_a_look, HasLooked, EndsEarly}
 use Rattle.query_engine.specs.Paces.{Paces, LooksFew}
-use Rattle.query_engine.proofs.LookLemmas.{looked_not, looks_as, looked_on, looked_unseen, looked_as}
-use Rattle.query_engine.proofs.MadeLemmas.{pace_sum}
-use Rattle.query_engine.proofs.CostLemmas.{cost_few}
+use Rattle.query_engine.proofs.LookLemmas.{looked_not, looked_on, looked_unseen, looked_early, pace_sum}
+use Rattle.query_engine.proofs.MemberLemmas.{filter_few}
 
-on_ok : (A B : Type 0) → {X E : Type 0} (r : Result X E) → A → OnOk r B → OnOk r (A × B)
-on_ok A B (Ok x) a b = (a, b)
-on_ok A B (Err e) a b = tt
+module _ {X : Type 0} where
+  -- a wider test keeps more
+  filter_wider : (p q : X → Bool) → ((x : X) → p x ≡ true → q x ≡ true) → (xs : List X) → length (filter p xs) ≤ length (filter q xs)
+  filter_wider p q wider [] = omega arith
+  filter_wider p q wider (x ∷ xs) = grind (arith, wider x, filter_wider p q wider xs)
 
-on_err : (A : Type 0) → {X : Type 0} (r : Result X AskRefusal) (e : AskRefusal) → IsErrAnd r (λ f. f ≡ e) → OnOk r A
-on_err A (Ok x) e is = absurd is
-on_err A (Err f) e is = tt
+  -- and what passes it alone is one more
+  filter_one_more : (p q r : X → Bool) → ((x : X) → p x ≡ true → q x ≡ true) → ((x : X) → r x ≡ true → p x ≡ false) → ((x : X) → r x ≡ true → q x ≡ true)
+      → (xs : List X) → list_any r xs ≡ true → 1 + length (filter p xs) ≤ length (filter q xs)
+  filter_one_more p q r wider fresh new [] any = absurd (false≢true any)
+  filter_one_more p q r wider fresh new (x ∷ xs) any =
+      grind (arith, any, wider x, fresh x, new x, filter_wider p q wider xs, filter_one_more p q r wider fresh new xs)
 
-module _ {W : Type 0} (l s : W → ℕ) (st : W → W → Type 0) (types : List ListedType) where
+module _ (asked asked' : List (List ℕ)) (name : List ℕ) (asks : (other : List ℕ) → is_asked other asked' ≡ (bytes_eq other name || is_asked other asked)) where
+  wider : (other : List ℕ) → is_asked other asked ≡ true → is_asked other asked' ≡ true
+  wider other h = grind (arith, h, asks other)
+
+  -- a name that wasn't asked for before
+  pub cost_more : is_asked name asked ≡ false → (types : List ListedType)
+      → length (filter (λ t. has_super name t.1) types) + asked_supers types asked ≤ asked_supers types asked'
+  cost_more fresh [] = omega arith
+  cost_more fresh (t ∷ ts) =
+      grind (
+        arith,
+        cost_more fresh ts,
+        filter_wider (λ n. is_asked n asked) (λ n. is_asked n asked') wider t.1.supers,
+        filter_one_more (λ n. is_asked n asked) (λ n. is_asked n asked') (λ n. bytes_eq name n) wider
+            (λ n h. rw (sym ((bytes_eq-Decides name n).0 h)) fresh)
+            (λ n h. rw (sym ((bytes_eq-Decides name n).0 h)) (grind (arith, asks name, (bytes_eq-Decides name name).1 refl))) t.1.supers,
+      )
+
+  -- a name that was
+  pub cost_same : (types : List ListedType) → asked_supers types asked ≤ asked_supers types asked'
+  cost_same [] = omega arith
+  cost_same (t ∷ ts) = omega (arith, cost_same ts, filter_wider (λ n. is_asked n asked) (λ n. is_asked n asked') wider t.1.supers)
+
+-- no more than all names of supers
+cost_few : (types : List ListedType) (asked : List (List ℕ)) → asked_supers types asked ≤ all_supers types
+cost_few [] asked = omega arith
+cost_few (t ∷ ts) asked = omega (arith, cost_few ts asked, filter_few (λ name. is_asked name asked) t.1.supers)
+
+module _ {W : Type 0} {l s : W → ℕ} {st : W → W → Type 0} {types : List ListedType} {asked asked' : List (List ℕ)} where
   -- nothing is met
-  pub paces_none : {X : Type 0} (x : X) (asked : List (List ℕ)) (met : ℕ) (asked' : List (List ℕ)) (watch : W)
-      → asked_supers types asked ≤ asked_supers types asked'
+  pub paces_none : {X : Type 0} {x : X} {met : ℕ} {watch : W} → asked_supers types asked ≤ asked_supers types asked'
       → Paces l s st types (Ok x) asked met asked' met watch watch
-  paces_none x asked met asked' watch more = record {
-    more = 0;
-    few = omega (arith, cost_few types asked);
-    looked = looks_as l s 0 ((met % rows_a_look + 0) / rows_a_look) watch watch (omega arith) (looked_not l s watch);
-    after = (omega (arith, more), omega arith);
-  }
+  paces_none more = record { more = 0; few = omega (arith, cost_few types asked); looked = looked_not (omega arith); after = (omega arith, omega arith) }
 
   -- nothing is met, and memory ran out
-  pub paces_wanting : {X : Type 0} (r : Result X AskRefusal) (asked : List (List ℕ)) (met : ℕ) (asked' : List (List ℕ)) (met' : ℕ) (watch : W)
-      → IsErrAnd r (λ f. f ≡ OutOfMemory)
+  pub paces_wanting : {X : Type 0} (r : Result X AskRefusal) {met met' : ℕ} {watch : W} → IsErrAnd r (λ f. f ≡ OutOfMemory)
       → Paces l s st types r asked met asked' met' watch watch
-  paces_wanting {X} r asked met asked' met' watch is = record {
-    more = 0;
-    few = omega (arith, cost_few types asked);
-    looked = looked_as l s st X X _ r OutOfMemory watch watch is (looked_unseen l s 0 _ watch watch (omega arith) (looked_not l s watch));
-    after = on_err ((0 + asked_supers types asked ≤ asked_supers types asked') × (met' % rows_a_look ≡ (met + 0) % rows_a_look)) r OutOfMemory is;
-  }
+  paces_wanting (Ok x) told = absurd told
+  paces_wanting (Err f) told =
+      record { more = 0; few = omega (arith, cost_few types asked); looked = rw told (looked_unseen (omega arith) (looked_not refl)); after = tt }
 
   -- the types that name a name are met
-  pub paces_met : {X : Type 0} (r : Result X AskRefusal) (more : ℕ) (asked : List (List ℕ)) (met : ℕ) (asked' : List (List ℕ)) (met' : ℕ) (old new : W)
-      → more + asked_supers types asked ≤ asked_supers types asked' → OnOk r (met' % rows_a_look ≡ (met + more) % rows_a_look)
-      → HasLooked l s st r ((met % rows_a_look + more) / rows_a_look) old new → Paces l s st types r asked met asked' met' old new
-  paces_met r more asked met asked' met' old new cost after q = record {
-    more = more;
-    few = omega (arith, cost_few types asked', cost);
-    looked = q;
-    after = on_ok (more + asked_supers types asked ≤ asked_supers types asked') (met' % rows_a_look ≡ (met + more) % rows_a_look) r cost after;
-  }
+  pub paces_met : {X : Type 0} (r : Result X AskRefusal) (more : ℕ) {met met' : ℕ} {old new : W} → more + asked_supers types asked ≤ asked_supers types asked'
+      → OnOk r (met' % rows_a_look ≡ (met + more) % rows_a_look) → HasLooked l s st r ((met % rows_a_look + more) / rows_a_look) old new
+      → Paces l s st types r asked met asked' met' old new
+  paces_met (Ok x) more cost after q = record { more = more; few = omega (arith, cost_few types asked'); looked = q; after = (cost, after) }
+  paces_met (Err e) more cost after q = record { more = more; few = omega (arith, cost_few types asked'); looked = q; after = tt }
 
-  -- one after the other
-  pub paces_on : {X Y : Type 0} (x : Y) (r : Result X AskRefusal) (asked : List (List ℕ)) (met : ℕ) (asked' : List (List ℕ)) (met' : ℕ)
-      (asked'' : List (List ℕ)) (met'' : ℕ) (old mid new : W)
-      → ((x y z : W) → st x y → st y z → st x z) → st old mid → Paces {X = Y} l s st types (Ok x) asked met asked' met' old mid
-      → Paces l s st types r asked' met' asked'' met'' mid new
-      → Paces l s st types r asked met asked'' met'' old new
-  paces_on x r asked met asked' met' asked'' met'' old mid new on kept p q = record {
-    more = p.more + q.more;
-    few = omega (arith, p.after.0, q.few);
-    looked = looked_on l s st _ _ _ r old mid new on (pace_sum met met' p.more q.more p.after.1) kept p.looked q.looked;
-    after = both r q.after;
-  }
-    where
-      both : {X : Type 0} (r : Result X AskRefusal)
-          → OnOk r ((q.more + asked_supers types asked' ≤ asked_supers types asked'') × (met'' % rows_a_look ≡ (met' + q.more) % rows_a_look))
-          → OnOk r ((p.more + q.more + asked_supers types asked ≤ asked_supers types asked'') × (met'' % rows_a_look ≡ (met + (p.more + q.more)) % rows_a_look))
-      both (Err e) h = tt
-      both (Ok y) h = (omega (arith, p.after.0, h.0), omega (arith, p.after.1, h.1))
+  module _ {X Y : Type 0} {y : Y} {asked'' : List (List ℕ)} {met met' met'' : ℕ} {old mid new : W} (on : (x y z : W) → st x y → st y z → st x z)
+      (kept : st old mid) (p : Paces {X = Y} l s st types (Ok y) asked met asked' met' old mid) where
+    -- one after the other
+    pub paces_on : {r : Result X AskRefusal} → Paces l s st types r asked' met' asked'' met'' mid new → Paces l s st types r asked met asked'' met'' old new
+    paces_on {r} q = record {
+      more = p.more + q.more;
+      few = omega (arith, p.after.0, q.few);
+      looked = looked_on _ r new on (pace_sum met met' p.more q.more p.after.1) kept p.looked q.looked;
+      after = both r q.after;
+    }
+      where
+        both : (r : Result X AskRefusal)
+            → OnOk r ((q.more + asked_supers types asked' ≤ asked_supers types asked'') × (met'' % rows_a_look ≡ (met' + q.more) % rows_a_look))
+            → OnOk r ((p.more + q.more + asked_supers types asked ≤ asked_supers types asked'')
+            × (met'' % rows_a_look ≡ (met + (p.more + q.more)) % rows_a_look))
+        both (Err e) h = tt
+        both (Ok y) h = (omega (arith, p.after.0, h.0), omega (arith, p.after.1, h.1))
 
-  -- a call that gives the refusal of another
-  pub paces_as : (X Y : Type 0) (r : Result Y AskRefusal) (e : AskRefusal) (asked : List (List ℕ)) (met : ℕ) (asked' : List (List ℕ)) (met' : ℕ) (old new : W)
-      → IsErrAnd r (λ f. f ≡ e)
-      → Paces {X = X} l s st types (Err e) asked met asked' met' old new → Paces l s st types r asked met asked' met' old new
-  paces_as X Y r e asked met asked' met' old new is p = record {
-    more = p.more;
-    few = p.few;
-    looked = looked_as l s st X Y _ r e old new is p.looked;
-    after = on_err ((p.more + asked_supers types asked ≤ asked_supers types asked') × (met' % rows_a_look ≡ (met + p.more) % rows_a_look)) r e is;
-  }
+    -- where the second ends early, a call that gives its refusal
+    pub paces_stopped : {e : AskRefusal} {Z : Type 0} (r : Result Z AskRefusal) → EndsEarly e → IsErrAnd r (λ f. f ≡ e)
+        → Paces {X = X} l s st types (Err e) asked' met' asked'' met'' mid new → Paces l s st types r asked met asked'' met'' old new
+    paces_stopped (Ok z) ends told q = absurd told
+    paces_stopped {e} {Z} (Err f) ends told q =
+        let h = paces_on q in
+        record { more = h.more; few = h.few; looked = looked_early l s st X Z (Err f) e old new told ends (omega arith) h.looked; after = tt }
 
   -- all looks of a search
-  pub looks_few : {X : Type 0} (r : Result X AskRefusal) (asked : List (List ℕ)) (asked' : List (List ℕ)) (met' : ℕ) (old new : W)
-      → Paces l s st types r asked 0 asked' met' old new → LooksFew l s st types r old new
-  looks_few r asked asked' met' old new p = record {
-    number = (0 % rows_a_look + p.more) / rows_a_look;
-    few = omega (arith, p.few);
-    looked = p.looked;
-  }
-
-  pub looks_few_wanting : {X : Type 0} (r : Result X AskRefusal) (asked asked' : List (List ℕ)) (met' : ℕ) (old new : W) → {Y : Type 0} (x : Y)
-      → IsErrAnd r (λ f. f ≡ OutOfMemory)
-      → Paces {X = Y} l s st types (Ok x) asked 0 asked' met' old new → LooksFew l s st types r old new
-  looks_few_wanting {X} r asked asked' met' old new x is p = record {
-    number = (0 % rows_a_look + p.more) / rows_a_look;
-    few = omega (arith, p.few);
-    looked = looked_as l s st X X _ r OutOfMemory old new is (looked_unseen l s _ _ old new (omega arith) p.looked);
-  }
-
-  -- the looks of a search that ended
-  pub looks_few_all : {X Y : Type 0} (x : X) (y : Y) (asked asked' : List (List ℕ)) (met' : ℕ) (old new : W)
-      → Paces {X = Y} l s st types (Ok y) asked 0 asked' met' old new → LooksFew {X = X} l s st types (Ok x) old new
-  looks_few_all x y asked asked' met' old new p = record {
-    number = (0 % rows_a_look + p.more) / rows_a_look;
-    few = omega (arith, p.few);
-    looked = p.looked;
-  }
+  pub looks_few : {X Y : Type 0} {r' : Result Y AskRefusal} {r : Result X AskRefusal} {met' : ℕ} {old new : W}
+      (p : Paces l s st types r' asked 0 asked' met' old new)
+      → HasLooked l s st r ((0 % rows_a_look + p.more) / rows_a_look) old new → LooksFew l s st types r old new
+  looks_few p q = record { number = (0 % rows_a_look + p.more) / rows_a_look; few = omega (arith, p.few); looked = q }

@@ -1,83 +1,134 @@
--- Replies, by what is found.
-use Rattle.std.proofs.Common.{ℕ, ◌≡◌, ◌+◌, ◌/◌, List, map, length, refl, ap, sym, subst, ◌∙◌, Option, Some, None, IsSomeAnd, Result, Ok, Err, IsErrAnd}
+-- Replies, by what is found, and the first look before them.
+use Rattle.std.proofs.Common.{ℕ, ◌≡◌, ◌≢◌, ◌≤◌, ◌+◌, ◌/◌, inl, inr, List, map, length, refl, ap, subst, ◌∙◌, arith, Option, Some, None, IsSomeAnd, Result, Ok, Err, IsErrAnd, IfOk, IfErr}
+use Rattle.std.specs.Prelude.{IsOk}
 use Rattle.std.proofs.lemmas.List.{length-map}
+use Rattle.action_lock.specs.Counts.{counted, HasRisen}
 use Rattle.write_history.specs.World.{World, lowest_unready}
 use Rattle.queries.specs.declared.query.Query.{Query}
 use Rattle.query_engine.specs.declared.answer.Finding.{Finding}
 use Rattle.query_engine.specs.declared.answer.AskRefusal.{AskRefusal}
-use Rattle.query_engine.specs.declared.answer.AskRefusal.TheVariants.{NoSuchFile, NotReady, Cancelled, OutOfMemory}
-use Rattle.query_engine.specs.Reply.{NoAnswer, not_ready, reply, unless_unready, IsRefusalOf}
-use Rattle.query_engine.specs.Looks.{rows_a_look, later_looks, MayLook, HasLooked, LooksThrough, EndsEarly}
+use Rattle.query_engine.specs.declared.answer.AskRefusal.TheVariants.{NotReady, Cancelled, OutOfMemory}
+use Rattle.query_engine.specs.Reply.{NoAnswer, reply, unless_unready, IsRefusalOf}
+use Rattle.query_engine.specs.Looks.{LaterLooks, just, at_most, looks_after, AreLooks, MayLook, rows_a_look, row_count, later_looks, HasLooked, HasLookedFor, LooksThrough, EndsEarly}
 use Rattle.query_engine.specs.Given.{GivesReply, RepliesTo}
-use Rattle.query_engine.proofs.LookLemmas.{looked_not, looks_as, looked_as}
+use Rattle.query_engine.proofs.LookLemmas.{looked_not, looked_on, looked_early, looked_up}
 
--- the refusal in place of an answer, where a file is unready
-pub unready_reply : (o : Option ℕ) (answer : Finding) (e : AskRefusal) → IsSomeAnd o (λ file. e ≡ NotReady file)
-    → (file : ℕ) × (unless_unready o answer ≡ Err (not_ready file)) × (e ≡ NotReady file)
-unready_reply None answer e h = absurd h
-unready_reply (Some file) answer e h = (file, refl, h)
+-- a call looks so often, and gives the reply that is expected, or says why not
+pub record Gives {W : Type 0} (l s : W → ℕ) (st : W → W → Type 0) (expected : Result Finding NoAnswer) (n : ℕ)
+    (r : Result Finding AskRefusal) (old new : W) : Type 0 where
+  pub looked : HasLooked l s st r n old new
+  pub answer : IfOk r (λ answer. expected ≡ Ok answer)
+  pub refused : IfErr r (IsRefusalOf expected)
 
--- a call that ends early refuses nothing that is answered
-pub early_refused : (answer : Finding) (e : AskRefusal) → EndsEarly e → IsRefusalOf (Ok answer) e
-early_refused answer NoSuchFile early = absurd early
-early_refused answer (NotReady file) early = absurd early
-early_refused answer Cancelled early = tt
-early_refused answer OutOfMemory early = refl
-
-module _ {W : Type 0} (l s : W → ℕ) (st : W → W → Type 0) where
+module _ {W : Type 0} {l s : W → ℕ} {st : W → W → Type 0} where
   -- a file is unready: it is told, and no look belongs to it but the first
-  pub dumb_given : (o : Option ℕ) (answer : Finding) (watch : W) (e : AskRefusal) → IsSomeAnd o (λ file. e ≡ NotReady file)
-      → (r : Result Finding AskRefusal) → IsErrAnd r (λ f. f ≡ e) → GivesReply l s st (unless_unready o answer) r watch watch
-  dumb_given o answer watch e h (Ok x) is = absurd is
-  dumb_given o answer watch e h (Err f) is =
-      let (file, dumb, named) = unready_reply o answer e h in
-      record {
-        looked = subst (λ (x : Result Finding NoAnswer). HasLooked {X = Finding} l s st (Err f) (later_looks x) watch watch) (sym dumb)
-            (subst (λ (f : AskRefusal). HasLooked {X = Finding} l s st (Err f) 0 watch watch) (sym (is ∙ named)) (looked_not l s watch));
-        answer = tt;
-        refused = subst (λ (f : AskRefusal). IsRefusalOf (unless_unready o answer) f) (sym (is ∙ named)) dumb;
-      }
+  pub dumb : (o : Option ℕ) (answer : Finding) (watch : W) (e : AskRefusal) (r : Result Finding AskRefusal)
+      → IsSomeAnd o (λ file. e ≡ NotReady file) → IsErrAnd r (λ f. f ≡ e) → Gives l s st (unless_unready o answer) 0 r watch watch
+  dumb None answer watch e r h told = absurd h
+  dumb (Some file) answer watch e (Ok x) h told = absurd told
+  dumb (Some file) answer watch e (Err f) h told = rw (told ∙ h) record { looked = looked_not refl; answer = tt; refused = refl }
 
   -- no file is unready, and the call ended early
-  pub early_given : (X : Type 0) (o : Option ℕ) (answer : Finding) (n : ℕ) (e : AskRefusal) (old new : W) → o ≡ None → n ≡ later_looks (Ok answer) → EndsEarly e
-      → HasLooked {X = X} l s st (Err e) n old new → (r : Result Finding AskRefusal) → IsErrAnd r (λ f. f ≡ e)
-      → GivesReply l s st (unless_unready o answer) r old new
-  early_given X o answer n e old new smart same early q (Ok x) is = absurd is
-  early_given X o answer n e old new smart same early q (Err f) is =
-      subst (λ (o : Option ℕ). GivesReply l s st (unless_unready o answer) (Err f) old new) (sym smart) record {
-        looked = looked_as l s st X Finding (later_looks (Ok answer)) (Err f) e old new is (subst (λ k. HasLooked {X = X} l s st (Err e) k old new) same q);
-        answer = tt;
-        refused = subst (IsRefusalOf (Ok answer)) (sym is) (early_refused answer e early);
-      }
+  pub early : (X : Type 0) {expected : Result Finding NoAnswer} {n : ℕ} {old new : W} (e : AskRefusal) (r : Result Finding AskRefusal)
+      → IsOk expected → EndsEarly e → HasLooked {X = X} l s st (Err e) n old new → IsErrAnd r (λ f. f ≡ e) → Gives l s st expected n r old new
+  early X e (Ok x) smart ends q told = absurd told
+  early X {expected} {n} {old} {new} e (Err f) smart ends q told = record {
+    looked = looked_early l s st X Finding (Err f) e old new told ends (omega arith) q;
+    answer = tt;
+    refused = rw told (of e ends);
+  }
+    where
+      of : (e : AskRefusal) → EndsEarly e → IsRefusalOf expected e
+      of Cancelled ends = tt
+      of OutOfMemory ends = smart
+      of e ends = absurd ends
 
   -- no file is unready, and this is all that was found
-  pub whole_given : (o : Option ℕ) (answer given : Finding) (n : ℕ) (old new : W) → o ≡ None → n ≡ later_looks (Ok answer) → given ≡ answer
-      → LooksThrough l s n old new → GivesReply l s st (unless_unready o answer) (Ok given) old new
-  whole_given o answer given n old new smart same is q =
-      subst (λ (o : Option ℕ). GivesReply l s st (unless_unready o answer) (Ok given) old new) (sym smart) record {
-        looked = looks_as l s n (later_looks (Ok answer)) old new same q;
-        answer = ap Ok (sym is);
-        refused = tt;
-      }
+  pub whole : {expected : Result Finding NoAnswer} {given : Finding} {n : ℕ} {old new : W} → expected ≡ Ok given → LooksThrough l s n old new
+      → Gives l s st expected n (Ok given) old new
+  whole is q = record { looked = q; answer = is; refused = tt }
 
-  -- what gives the reply to a question replies to it
-  pub replied : (world : World) (query this : Query) (expected : Result Finding NoAnswer) (r : Result Finding AskRefusal) (old new : W) → query ≡ this → expected ≡ reply world this
-      → MayLook world this (1 + later_looks (reply world this)) → GivesReply l s st expected r old new → RepliesTo l s st world query r old new
-  replied world query this expected r old new is same may given =
-      let all = subst (λ (x : Result Finding NoAnswer). GivesReply l s st x r old new) same given in
-      subst (λ (q : Query). RepliesTo l s st world q r old new) (sym is)
-      record { later = later_looks (reply world this); may = may; looked = all.looked; answer = all.answer; refused = all.refused }
+  -- it looks as often as the question may
+  pub replied_by : {world : World} {query : Query} {n : ℕ} {r : Result Finding AskRefusal} {old new : W} → MayLook world query (1 + n)
+      → Gives l s st (reply world query) n r old new → RepliesTo l s st world query r old new
+  replied_by {n = n} may h = record { later = n; may = may; looked = h.looked; answer = h.answer; refused = h.refused }
 
--- the looks for rows are those of the answer
-pub looks_counted : {F R : Type 0} (row : F → R) (found : List F) → length found / rows_a_look ≡ length (map row found) / rows_a_look
-looks_counted row found = ap (λ n. n / rows_a_look) (sym (length-map found row))
+  given : {expected : Result Finding NoAnswer} {n : ℕ} {r : Result Finding AskRefusal} {old new : W} → n ≡ later_looks expected
+      → Gives l s st expected n r old new → GivesReply l s st expected r old new
+  given {r = r} {old} {new} same h =
+      record { looked = subst (λ n. HasLooked {X = Finding} l s st r n old new) same h.looked; answer = h.answer; refused = h.refused }
 
--- a reply by rows of what a walk finds is one by the rows of the files, where the walk finds these if no file is unready
-pub told : {F R : Type 0} (world : World) (answer : List R → Finding) (row : F → R) (walk found : List F) (rows : List R)
+  -- the same of a call that gives a row for each that was found
+  module _ {F R : Type 0} (world : World) (make : List R → Finding) (count : (rows : List R) → row_count (make rows) ≡ length rows) (row : F → R)
+      (found : List F) where
+    pub dumb_given : (watch : W) (e : AskRefusal) (r : Result Finding AskRefusal) → IsSomeAnd (lowest_unready world) (λ file. e ≡ NotReady file)
+        → IsErrAnd r (λ f. f ≡ e) → GivesReply l s st (unless_unready (lowest_unready world) (make (map row found))) r watch watch
+    dumb_given watch e r h told = given (none (lowest_unready world) h) (dumb (lowest_unready world) (make (map row found)) watch e r h told)
+      where
+        none : (o : Option ℕ) → IsSomeAnd o (λ file. e ≡ NotReady file) → 0 ≡ later_looks (unless_unready o (make (map row found)))
+        none None h = absurd h
+        none (Some file) h = refl
+
+    pub early_given : (X : Type 0) {old new : W} (e : AskRefusal) (r : Result Finding AskRefusal) → lowest_unready world ≡ None → EndsEarly e
+        → HasLooked {X = X} l s st (Err e) (length found / rows_a_look) old new → IsErrAnd r (λ f. f ≡ e)
+        → GivesReply l s st (unless_unready (lowest_unready world) (make (map row found))) r old new
+    early_given X e r smart ends q told = given (rw (smart, count, length-map)) (early X e r (rw smart refl) ends q told)
+
+    pub whole_given : {rows : List R} {old new : W} → lowest_unready world ≡ None → rows ≡ map row found → LooksThrough l s (length found / rows_a_look) old new
+        → GivesReply l s st (unless_unready (lowest_unready world) (make (map row found))) (Ok (make rows)) old new
+    whole_given smart is q = given (rw (smart, count, length-map)) (whole (rw (smart, is)) q)
+
+  module _ {world : World} {query : Query} where
+    -- a question is this one, and what gives its reply replies to it
+    pub replied_as : {this : Query} (r : Result Finding AskRefusal) {old new : W} → query ≡ this → RepliesTo l s st world this r old new
+        → RepliesTo l s st world query r old new
+    replied_as r is h = rw is h
+
+    pub replied : {this : Query} {expected : Result Finding NoAnswer} {r : Result Finding AskRefusal} {old new : W} → query ≡ this → expected ≡ reply world this
+        → MayLook world this (1 + later_looks (reply world this)) → GivesReply l s st expected r old new → RepliesTo l s st world query r old new
+    replied {this} {r = r} is same may given =
+        let h = rw same at given in
+        replied_as r is record { later = later_looks (reply world this); may = may; looked = h.looked; answer = h.answer; refused = h.refused }
+
+    -- the first look saw that the work is to end
+    pub stopped_first : (X : Type 0) (e : AskRefusal) (r : Result Finding AskRefusal) (old new : W) → e ≡ Cancelled → IsErrAnd r (λ f. f ≡ e)
+        → HasLooked {X = X} l s st (Err e) 1 old new → HasLookedFor l s st world query r old new
+    stopped_first X e r old new is told q =
+        let (later, may) = some (looks_after world query) in
+        record { number = 1 + later; may = may; looked = looked_early l s st X Finding r e old new told (rw is tt) (omega arith) q }
+      where
+        some : (looks : LaterLooks) → (later : ℕ) × AreLooks looks (1 + later)
+        some (just later) = (later, refl)
+        some (at_most later) = (0, (omega arith, omega arith))
+
+    -- the first look saw nothing, and the question was replied to
+    pub looked_first : {r : Result Finding AskRefusal} {old mid new : W} → ((x y z : W) → st x y → st y z → st x z) → st old mid
+        → LooksThrough l s 1 old mid → RepliesTo l s st world query r mid new → HasLookedFor l s st world query r old new
+    looked_first {r} {new = new} on kept p h = record { number = 1 + h.later; may = h.may; looked = looked_on h.later r new on refl kept p h.looked }
+
+    -- so there was a look
+    pub counted_first : {r : Result Finding AskRefusal} (old : W) {mid new : W} → l mid ≡ counted (l old) → RepliesTo l s st world query r mid new
+        → counted (l old) ≤ l new
+    counted_first {r} old {mid} {new} once h = omega (arith, once, looked_up l s st h.later r mid new h.looked)
+
+-- what is answered by rows of what a walk finds is answered by the rows of the files, where the walk finds these if no file is unready
+pub told : {F R : Type 0} (world : World) (answer : List R → Finding) (row : F → R) {walk found : List F} {rows : List R}
     → (lowest_unready world ≡ None → walk ≡ found) → map row found ≡ rows
     → unless_unready (lowest_unready world) (answer (map row walk)) ≡ unless_unready (lowest_unready world) (answer rows)
-told {R = R} world answer row walk found rows ready whole = of (lowest_unready world) refl
+told {R = R} world answer row {walk} {rows = rows} ready whole = of (lowest_unready world) refl
   where
     of : (o : Option ℕ) → lowest_unready world ≡ o → unless_unready o (answer (map row walk)) ≡ unless_unready o (answer rows)
     of None smart = ap (λ (rows : List R). Ok (answer rows)) (ap (map row) (ready smart) ∙ whole)
     of (Some file) dumb = refl
+
+-- a watch that never sees anything stops no call
+pub never_stopped : {W : Type 0} {l s : W → ℕ} {st : W → W → Type 0} {world : World} {query : Query} {r : Result Finding AskRefusal} {old new : W}
+    → ((watch : W) → s watch ≡ 0) → HasLookedFor l s st world query r old new → r ≢ Err Cancelled
+never_stopped {l = l} {s} {st} {old = old} {new} unseen h is =
+    let q : HasLooked {X = Finding} l s st (Err Cancelled) h.number old new =
+    subst (λ (x : Result Finding AskRefusal). HasLooked l s st x h.number old new) is h.looked in
+    of q.seen (unseen q.before) (unseen new)
+  where
+    of : {a b : ℕ} → HasRisen a b → a ≡ 0 → b ≡ 0 → ⊥
+    of (inl less) from to = omega arith
+    of (inr full) from to = omega arith

@@ -12,13 +12,6 @@ use Rattle.query_engine.specs.Inheritors.{ListedType, names_any, names_of, Stand
 use Rattle.query_engine.specs.Search.{Seen, Reached, meet_all, is_asked, HasAsked, AskedEach, leveled}
 use Rattle.query_engine.proofs.MeetLemmas.{stepped, new_names, met_all}
 
--- the name is the other
-pub bytes_same : (xs ys : List ℕ) → bytes_eq xs ys ≡ true → xs ≡ ys
-bytes_same xs ys h = (bytes_eq-Decides xs ys).0 h
-
-pub bytes_itself : (xs : List ℕ) → bytes_eq xs xs ≡ true
-bytes_itself xs = (bytes_eq-Decides xs xs).1 refl
-
 -- a level, or the one at hand where a test is passed
 abbrev pub or_level : Option ℕ → ℕ → Bool → Option ℕ
 or_level o level b = option_or o (if b then Some level else None)
@@ -77,7 +70,8 @@ module _ (types : List ListedType) (sorted : AllPairs StandsBefore types) (befor
       -- a name that was asked for is this one, or was asked for before
       by_asks : (P : Type 0) (other : List ℕ) → is_asked other asked' ≡ true → (other ≡ name → P) → (is_asked other asked ≡ true → P) → P
       by_asks P other is here before =
-          ⊎_elim (λ same. here (bytes_same other name same)) before (or_cases (bytes_eq other name) (is_asked other asked) (sym (has.asks other) ∙ is))
+          ⊎_elim (λ same. here ((bytes_eq-Decides other name).0 same)) before
+          (or_cases (bytes_eq other name) (is_asked other asked) (sym (has.asks other) ∙ is))
 
       -- and then a type that names it names this one
       names_this : (t : ListedType) (other : List ℕ) → has_super other t.1 ≡ true → other ≡ name → has_super name t.1 ≡ true
@@ -120,32 +114,19 @@ module _ (types : List ListedType) (sorted : AllPairs StandsBefore types) (befor
   pub at_all : (done names : List (List ℕ)) (asked : List (List ℕ)) (reached : Reached) (asked' : List (List ℕ)) (reached' : Reached)
       → AskedEach types level names asked reached asked' reached' → IsAt types before level done asked reached
       → IsAt types before level (done ++ names) asked' reached'
-  at_all done [] asked reached asked' reached' (same, still) at =
-      subst (λ (ns : List (List ℕ)). IsAt types before level ns asked' reached') (sym (append-nil done))
-      (subst (λ (r : Reached). IsAt types before level done asked' r) (sym still)
-      (subst (λ (a : List (List ℕ)). IsAt types before level done a reached) (sym same) at))
+  at_all done [] asked reached asked' reached' (same, still) at = rw (append-nil, still, same) at
   at_all done (name ∷ names) asked reached asked' reached' (a, r, has, rest) at =
-      subst (λ (ns : List (List ℕ)). IsAt types before level ns asked' reached') (append_assoc done (name ∷ []) names)
-      (at_all (done ++ name ∷ []) names a r asked' reached' rest (at_more done name asked reached a r has at))
+      rw append_assoc at (at_all (done ++ name ∷ []) names a r asked' reached' rest (at_more done name asked reached a r has at))
 
--- a name that is new is asked for
-pub asked_new : {X E : Type 0} (r : Result X E) (types : List ListedType) (level : ℕ) (name : List ℕ) (asked : List (List ℕ)) (reached : Reached)
-    (asked' : List (List ℕ)) (reached' : Reached) (walk : List ListedType)
-    → is_asked name asked ≡ false → ((other : List ℕ) → is_asked other asked' ≡ (bytes_eq other name || is_asked other asked))
-    → walk ≡ filter (λ t. has_super name t.1) types
-    → OnOk r (reached' ≡ meet_all level reached walk) → OnOk r (HasAsked types level name asked reached asked' reached')
-asked_new (Err e) types level name asked reached asked' reached' walk new asks found met = tt
-asked_new (Ok x) types level name asked reached asked' reached' walk new asks found met = record {
-  asks = asks;
-  met = met ∙ ap (meet_all level reached) found
-      ∙ sym (ap (λ b. if b then reached else meet_all level reached (filter (λ (t : ListedType). has_super name t.1) types)) new);
-}
+module _ (types : List ListedType) (level : ℕ) (name : List ℕ) (asked : List (List ℕ)) (reached : Reached) (asked' : List (List ℕ))
+    (asks : (other : List ℕ) → is_asked other asked' ≡ (bytes_eq other name || is_asked other asked)) where
+  -- a name that is new is asked for
+  pub asked_new : {X E : Type 0} (r : Result X E) (reached' : Reached) {walk : List ListedType} → is_asked name asked ≡ false
+      → walk ≡ filter (λ t. has_super name t.1) types → OnOk r (reached' ≡ meet_all level reached walk)
+      → OnOk r (HasAsked types level name asked reached asked' reached')
+  asked_new (Err e) reached' new found met = tt
+  asked_new (Ok x) reached' new found met = record { asks = asks; met = rw (new, sym found) met }
 
--- and one that isn't, not once more
-pub asked_again : (types : List ListedType) (level : ℕ) (name : List ℕ) (asked : List (List ℕ)) (reached : Reached) (asked' : List (List ℕ))
-    → is_asked name asked ≡ true → ((other : List ℕ) → is_asked other asked' ≡ (bytes_eq other name || is_asked other asked))
-    → HasAsked types level name asked reached asked' reached
-asked_again types level name asked reached asked' again asks = record {
-  asks = asks;
-  met = sym (ap (λ b. if b then reached else meet_all level reached (filter (λ (t : ListedType). has_super name t.1) types)) again);
-}
+  -- and one that isn't, not once more
+  pub asked_again : is_asked name asked ≡ true → HasAsked types level name asked reached asked' reached
+  asked_again again = record { asks = asks; met = rw again refl }

@@ -5,15 +5,15 @@ use Rattle.stub_tree.specs.declared.stub.Stub.{Stub}
 use Rattle.write_history.specs.World.{World}
 use Rattle.query_engine.specs.declared.answer.LevelRow.{LevelRow}
 use Rattle.query_engine.specs.Inheritors.{ListedType}
-use Rattle.query_engine.specs.Search.{Place}
+use Rattle.query_engine.specs.Search.{Location}
 use Rattle.query_engine.specs.Listed.{row_found}
 
 -- a type that was found, as it is listed
-abbrev pub seen_listing : Place × (ℕ × Stub) → ListedType
+abbrev pub seen_listing : Location × (ℕ × Stub) → ListedType
 seen_listing found = (found.0.0, found.1.1)
 
 -- its row
-abbrev pub seen_row : World → Place × (ℕ × Stub) → LevelRow
+abbrev pub seen_row : World → Location × (ℕ × Stub) → LevelRow
 seen_row world found = record { level = found.1.0; row = row_found world (seen_listing found) }
 
 -- the levels of rows don't fall

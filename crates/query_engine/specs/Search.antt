@@ -12,24 +12,24 @@ use Rattle.query_engine.specs.Fits.{has_super}
 use Rattle.query_engine.specs.Inheritors.{ListedType, inheritors_of}
 
 -- where a declaration stands: a file's id and an offset
-abbrev pub Place : Type 0
-Place = ℕ × ℕ
+abbrev pub Location : Type 0
+Location = ℕ × ℕ
 
--- the order of places: by file, then by offset
-abbrev pub place_cmp : Place → Place → Ordering
-place_cmp a b = ordering_then (nat_cmp a.0 b.0) (nat_cmp a.1 b.1)
+-- the order of locations: by file, then by offset
+abbrev pub location_cmp : Location → Location → Ordering
+location_cmp a b = ordering_then (nat_cmp a.0 b.0) (nat_cmp a.1 b.1)
 
 -- where a listed type stands
-abbrev pub place_of : ListedType → Place
-place_of t = (t.0, t.1.at)
+abbrev pub location_of : ListedType → Location
+location_of t = (t.0, t.1.at)
 
--- types that were found, by the order of their places, each with its level and its entry
+-- types that were found, in the order of their locations, each with its level and its entry
 abbrev pub Seen : Type 0
-Seen = List (Place × (ℕ × Stub))
+Seen = List (Location × (ℕ × Stub))
 
--- a type was found at the place
-abbrev pub is_seen : Place → Seen → Bool
-is_seen place seen = is_some (lookup (is_at (place_cmp place)) seen)
+-- a type was found at the location
+abbrev pub is_seen : Location → Seen → Bool
+is_seen location seen = is_some (lookup (is_at (location_cmp location)) seen)
 
 -- how far a search has come: the types that were found, and the names of those of the level at hand
 pub record Reached : Type 0 where
@@ -39,8 +39,8 @@ pub record Reached : Type 0 where
 -- one more type is met at a level: it counts where it wasn't found before
 abbrev pub meet : ℕ → Reached → ListedType → Reached
 meet level reached t =
-    if is_seen (place_of t) reached.seen then reached
-    else record { seen = insert_entry place_cmp reached.seen (place_of t) (level, t.1); next = reached.next ++ t.1.name ∷ [] }
+    if is_seen (location_of t) reached.seen then reached
+    else record { seen = insert_entry location_cmp reached.seen (location_of t) (level, t.1); next = reached.next ++ t.1.name ∷ [] }
 
 -- all types that name a name are met at a level
 abbrev pub meet_all : ℕ → Reached → List ListedType → Reached
@@ -74,7 +74,7 @@ all_supers (t ∷ types) = length t.1.supers + all_supers types
 -- a type at the front of what was found, where it has a level
 abbrev pub with_level : ListedType → Option ℕ → Seen → Seen
 with_level t None rest = rest
-with_level t (Some level) rest = (place_of t, (level, t.1)) ∷ rest
+with_level t (Some level) rest = (location_of t, (level, t.1)) ∷ rest
 
 -- those of the types that have a level
 abbrev pub leveled : (ListedType → Option ℕ) → List ListedType → Seen

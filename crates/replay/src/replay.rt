@@ -117,8 +117,7 @@ impl Replay {
         }
     }
 
-    /// Answers a question by the world; want of memory alone may come in place of the answer. It costs what the query
-    /// engine does.
+    /// Answers a question by the world. `OutOfMemory` may come in place of the answer. It costs what the query engine does.
     pub fn ask(&self, alloc: Global, query: &Query) -> Result<Finding, AskRefusal>
         ensures answer { IfOk result (λ answer. reply self.now query.now ≡ Ok answer) }
         ensures refused { IfErr result (IsRefusalOf (reply self.now query.now)) }

@@ -1,11 +1,10 @@
 -- Each entry of a run of a script makes a change, so that its history has room for no more than it may have.
-use Rattle.std.proofs.Common.{ℕ, zero, suc, ◌≡◌, ◌+◌, ◌≤◌, ◌<◌, Bool, false, cond, List, [], ◌∷◌, ◌++◌, length, refl, sym, ap, subst, arith, Option, Some, None, inl, inr, eqb}
+use Rattle.std.proofs.Common.{ℕ, zero, suc, ◌≡◌, ◌+◌, ◌≤◌, ◌<◌, Bool, false, List, [], ◌∷◌, ◌++◌, length, refl, arith, Option, Some, None, inl, inr, eqb}
 use Rattle.std.specs.List.{All, AllByRecursion}
-use Rattle.std.proofs.lemmas.Bool.{cases_lt}
-use Rattle.list_laws.proofs.BoolLemmas.{bool_cases}
+use Rattle.std.proofs.lemmas.Bool.{cases_Bool, cases_lt}
+use Rattle.std.proofs.lemmas.List.Elements.{All-weaker, recursion_from_All}
 use Rattle.write_history.specs.declared.change.Change.TheVariants.{Create}
 use Rattle.write_history.specs.declared.entry.Entry.{Entry}
-use Rattle.write_history.specs.declared.refusal.Refusal.TheVariants as why
 use Rattle.write_history.specs.Effect.{max_entries}
 use Rattle.write_history.specs.Path.{is_path}
 use Rattle.write_history.specs.World.{unready_ids}
@@ -22,9 +21,8 @@ use Rattle.transcripts.specs.Worked.{Worked}
 use Rattle.transcripts.specs.Work.{IsIntakeBy}
 use Rattle.transcripts.specs.declared.loaded.Loaded.{Loaded}
 use Rattle.transcripts.specs.declared.loaded.Loaded.TheVariants as loaded
-use Rattle.transcripts.specs.declared.record.Answer.TheVariants.{Refused}
 use Rattle.transcripts.specs.declared.record.Record.{Record}
-use Rattle.transcripts.specs.Serial.{CommandStep, RunEnd, told as just_told, step_unless, create_of, step_of, first_load, later_loads}
+use Rattle.transcripts.specs.Serial.{RunEnd, step_unless, create_of, step_of, first_load, later_loads}
 use Rattle.transcripts.specs.Fits.{Mark, mark_at, run_beside, SectionFits, made_by, LanesFit, WorkersFit, RunFits}
 use Rattle.transcript_check.specs.Phase.{Sides}
 use Rattle.transcript_check.proofs.ChoiceLemmas.{all-append}
@@ -49,37 +47,33 @@ created_change : (history : List Entry) (seat line : ℕ) (path : List ℕ) (loa
 created_change history seat line path (loaded.Text content) =
     unless_change (list_refusal (fold history) (Create path content ∷ [])) (λ place. None) history (entry_of seat line (Create path content ∷ []))
     (omega arith)
-created_change history seat line path (loaded.NotText at) = tt
-created_change history seat line path (loaded.TooLong count) = tt
-created_change history seat line path loaded.Nothing = tt
+created_change history seat line path load = tt
 
 step_change : (load : Loaded) (history : List Entry) (seat line : ℕ) (c : Command) → IsOfLine c → AllChange (step_of load history seat line c).added
 step_change load history seat line (command.Change change) is =
     unless_change (list_refusal (fold history) (change ∷ [])) (λ place. None) history (entry_of seat line (change ∷ [])) (omega arith)
 step_change load history seat line (command.Group changes) is =
     unless_change (list_refusal (fold history) changes) Some history (entry_of seat line changes) is.0.some
-step_change load history seat line (command.Load path) is = bool_cases (is_path path)
-    (λ (b : Bool). AllChange (cond b (create_of history seat line path load) (just_told (Refused (length history) None why.BadPath))).added)
-    (λ lawful. created_change history seat line path load) (λ unlawful. tt)
+step_change load history seat line (command.Load path) is = elim (cases_Bool (is_path path)) [
+  | inl lawful ↦ rw lawful (created_change history seat line path load)
+  | inr unlawful ↦ rw unlawful tt
+]
 step_change load history seat line command.Settle is =
     settled_takes (λ entry. 1 ≤ length entry.changes) seat line (λ id stamp. omega arith) history (unready_ids (fold history))
-step_change load history seat line (command.Ask query) is = tt
-step_change load history seat line (command.Soft attempts query) is = tt
+step_change load history seat line question is = tt
 
 -- what a section made
 section_change : (beside : Bool) (history : List Entry) (seat : ℕ) (low high : Mark) (lines : List Line) (loads : List Loaded) (records : List Record)
     (own : List Entry)
     → All (λ (l : Line). IsOfLine l.command) lines → SectionFits beside history seat low lines loads records own high → AllChange own
-section_change beside history seat low high [] loads records own are fits = subst AllChange (sym fits.1) tt
+section_change beside history seat low high [] loads records own are fits = rw fits.1 tt
 section_change beside history seat low high (line ∷ lines) loads records own are fits =
-    let is : IsOfLine line.command = are 0 line (omega arith) in
     let first : AllChange fits.made = elim fits.first [
-      | inl done ↦ subst (λ (s : CommandStep). AllChange s.added) done.step (step_change (first_load loads) done.start seat line.number line.command is)
-      | inr given ↦ subst AllChange (sym given.1.nothing) tt
+      | inl done ↦ rw done.step at (step_change (first_load loads) done.start seat line.number line.command (are 0 line (omega arith)))
+      | inr given ↦ rw given.1.nothing tt
     ] in
-    let rest = section_change beside history seat fits.between high lines (later_loads loads) fits.later fits.made_later
-    (λ k d less. are (suc k) d (omega arith)) fits.rest in
-    subst AllChange (sym fits.own_is) (all-append MakesChange fits.made fits.made_later first rest)
+    rw fits.own_is (all-append MakesChange fits.made fits.made_later first (section_change beside history seat fits.between high lines (later_loads loads)
+    fits.later fits.made_later (λ k d less. are (suc k) d (omega arith)) fits.rest))
 
 commands_of : (lines : List Line) → AreOfSection lines → All (λ (l : Line). IsOfLine l.command) lines
 commands_of lines are = λ k d less. (are k d less).0
@@ -91,31 +85,23 @@ lanes_change : (beside : Bool) (history : List Entry) (low : Mark) (seat : ℕ) 
 lanes_change beside history low seat [] entries records are fits s above below = absurd (omega arith)
 lanes_change beside history low seat (lane ∷ lanes) entries records are fits s above below = elim (cases_lt seat s) [
   | inl later ↦ lanes_change beside history low (suc seat) lanes entries fits.others (λ k d less. are (suc k) d (omega arith)) fits.rest s later (omega arith)
-  | inr here ↦ (let same : seat ≡ s = omega arith in
-      subst (λ (n : ℕ). AllChange (made_by n entries)) same
-      (section_change beside history seat low fits.high lane [] fits.own_records (made_by seat entries)
+  | inr here ↦ (let same : s ≡ seat = omega arith in
+      rw same (section_change beside history seat low fits.high lane [] fits.own_records (made_by seat entries)
       (commands_of lane (are 0 lane (omega arith))) fits.fits))
 ]
 
 -- what a worker made
 intakes_change : (seat : ℕ) (entries : List Entry) → All (IsIntakeBy seat) entries → AllChange entries
-intakes_change seat [] all = tt
-intakes_change seat (e ∷ entries) all =
-    let is : IsIntakeBy seat e = all 0 e (omega arith) in
-    let one : length e.changes ≡ 1 = ap (λ (x : Entry). length x.changes) is.is in
-    (omega arith, intakes_change seat entries (λ k d less. all (suc k) d (omega arith)))
+intakes_change seat entries all =
+    recursion_from_All MakesChange entries (All-weaker (IsIntakeBy seat) MakesChange (λ e is. rw is.is (omega arith)) entries all)
 
 -- where what each made are changes, so is all
 each_change : (entries : List Entry) → ((seat : ℕ) → AllChange (made_by seat entries)) → AllChange entries
 each_change [] each = tt
-each_change (e ∷ entries) each =
-    let first = subst AllChange (made_by-own e.seat e entries refl) (each e.seat) in
-    (first.0, each_change entries (λ seat. later seat (each seat)))
+each_change (e ∷ entries) each = ((rw (made_by-own e.seat e entries refl) at (each e.seat)).0, each_change entries (λ seat. later seat (each seat)))
   where
     later : (seat : ℕ) → AllChange (made_by seat (e ∷ entries)) → AllChange (made_by seat entries)
-    later seat = bool_cases (eqb e.seat seat) (λ (b : Bool). AllChange (cond b (e ∷ made_by seat entries) (made_by seat entries))
-        → AllChange (made_by seat entries))
-        (λ own all. all.1) (λ other all. all)
+    later seat all = elim (cases_Bool (eqb e.seat seat)) [ inl own ↦ (rw own at all).1 | inr other ↦ rw other at all ]
 
 -- what lanes and workers made
 module _ (sides : Sides) (history : List Entry) (low : ℕ) (mark : Mark) (lanes : List (List Line)) (middle : List Entry) (told : List Worked)
@@ -124,7 +110,7 @@ module _ (sides : Sides) (history : List Entry) (low : ℕ) (mark : Mark) (lanes
     (fit : LanesFit sides.beside history mark 1 lanes middle records) (seats : AllSeats sides middle)
     (worked : WorkersFit history low (1 + sides.lanes) middle told) where
   seat_change : (seat : ℕ) → AllChange (made_by seat middle)
-  seat_change zero = subst AllChange (sym (none_outside sides 0 middle seats refl)) tt
+  seat_change zero = rw (none_outside sides 0 middle seats refl) tt
   seat_change (suc n) = elim (cases_lt sides.lanes (suc n)) [
     | inl worker ↦ intakes_change (suc n) (made_by (suc n) middle) (workers_are history low sides middle told workers seats worked (suc n) worker).intakes
     | inr lane ↦ lanes_change sides.beside history mark 1 lanes middle records are fit (suc n) (omega arith) (omega arith)
@@ -147,5 +133,4 @@ run_few loads script told ended are fits =
     let closing = section_change false ended.history 0 fits.last_begins fits.last_end script.last [] ended.last fits.closing
     (commands_of script.last are.last) fits.last in
     legal_few ended.history fits.legal
-    (subst AllChange (sym fits.history)
-    (all-append MakesChange (fits.opening ++ fits.middle) fits.closing (all-append MakesChange fits.opening fits.middle opening middle) closing))
+    (rw fits.history (all-append MakesChange (fits.opening ++ fits.middle) _ (all-append MakesChange fits.opening _ opening middle) closing))

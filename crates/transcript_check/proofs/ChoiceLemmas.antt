@@ -1,7 +1,8 @@
 -- Lists and choices: what follows where it is known what is there, or what was chosen.
-use Rattle.std.proofs.Common.{ℕ, zero, suc, ◌≡◌, Bool, true, false, cond, List, [], ◌∷◌, ◌++◌, map, take, drop, refl, ap, Option, Some, None, Result, Err, ◌⊎◌, inl, inr}
-use Rattle.std.specs.Prelude.{filter, is_none, slice_get}
+use Rattle.std.proofs.Common.{ℕ, zero, suc, ◌≡◌, ◌+◌, ◌<◌, ◌∙◌, Bool, true, false, cond, List, [], ◌∷◌, ◌++◌, map, take, drop, length, get_or, sym, refl, ap, Option, Some, None, Result, Err, ◌⊎◌, inl, inr}
+use Rattle.std.specs.Prelude.{filter, is_none, option_map, slice_get}
 use Rattle.std.specs.List.{AllByRecursion}
+use Rattle.std.proofs.lemmas.List.{drop_more}
 use Rattle.std.specs.Option.{option_map_or}
 use Rattle.transcript_check.specs.Section.{is_nil}
 
@@ -30,6 +31,10 @@ pub all-map : {X Y : Type 0} (P : X → Type 0) (Q : Y → Type 0) (f : X → Y)
 all-map P Q f [] each all = tt
 all-map P Q f (x ∷ xs) each all = (each x all.0, all-map P Q f xs each all.1)
 
+-- from a place on, a list begins with the element there
+pub from_place : {A : Type 0} (xs : List A) {i : ℕ} {x : A} → i < length xs → x ≡ get_or xs i x → drop i xs ≡ x ∷ drop (i + 1) xs
+from_place xs {i} {x} within is = drop_more xs i x within ∙ rw (sym is)
+
 -- from the place of an element on, a list begins with it
 pub list_from : {A : Type 0} (xs : List A) (i : ℕ) (x : A) → slice_get xs i ≡ Some x → drop i xs ≡ x ∷ drop (suc i) xs
 list_from [] i x found = absurd (cc)
@@ -54,9 +59,11 @@ pub if_some : {A : Type 0} {x : A} (b : Bool) (o : Option A) → cond b o None �
 if_some true o h = (refl, h)
 if_some false o h = absurd (cc)
 
-pub unless_some : {A : Type 0} {x : A} (b : Bool) (o : Option A) → cond b None o ≡ Some x → (b ≡ false) × (o ≡ Some x)
-unless_some true o h = absurd (cc)
-unless_some false o h = (refl, h)
+-- something was made of what there is, where it may be
+pub made_of : {A B : Type 0} (f : A → B) (b : Bool) (o : Option A) (y : B) → cond b None (option_map f o) ≡ Some y
+    → (b ≡ false) × (x : A) × (o ≡ Some x) × (f x ≡ y)
+made_of f false (Some x) y h = (refl, x, refl, cc)
+made_of f b o y h = absurd (cc)
 
 -- nothing led on, or what did led to this
 pub stopped : {A B E : Type 0} (f : A → Result B E) (o : Option A) (e stop : E) → option_map_or f o (Err e) ≡ Err stop

@@ -1,12 +1,7 @@
 pub mod ChoiceLemmas
 pub mod BlockLemmas
-pub mod OffsetLemmas
-pub mod PlainLemmas
-pub mod EntryBlocks
-pub mod FoundBlocks
-pub mod RecordBlocks
-pub mod CutLemmas
-pub mod NumberLemmas
+pub mod ScanLemmas
+pub mod TextBlocks
 pub mod ReadLemmas
 pub mod TextLemmas
 pub mod StepLemmas
@@ -27,9 +22,7 @@ pub mod ToldLemmas
 pub mod RoundLemmas
 pub mod GoneLemmas
 pub mod JudgeLemmas
-pub mod TakenLemmas
+pub mod IntakeLemmas
 pub mod ReachLemmas
 pub mod AloneLemmas
-pub mod MisfitLemmas
 pub mod MeaningLemmas
-pub mod FirstLemmas

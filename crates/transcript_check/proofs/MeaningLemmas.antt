@@ -1,9 +1,9 @@
 -- What comes before the place where going through a transcript stops fits, and what stands there doesn't.
-use Rattle.std.proofs.Common.{ℕ, ◌≡◌, ◌+◌, true, false, List, [], ◌∷◌, ◌++◌, length, refl, sym, ap, ◌∙◌, subst, append_assoc, Option, Some, None, Result, Ok, Err, inl, inr}
+use Rattle.std.proofs.Common.{ℕ, ◌≡◌, true, false, List, [], ◌∷◌, ◌++◌, length, refl, sym, ap, append_assoc, Option, Some, None, Ok, Err, inl, inr}
 use Rattle.std.specs.List.{find}
-use Rattle.std.specs.Option.{option_and_then, option_map_or}
+use Rattle.std.specs.Option.{option_map_or}
 use Rattle.std.proofs.lemmas.List.{append-nil}
-use Rattle.std.proofs.lemmas.Bool.{cond-true}
+use Rattle.std.proofs.lemmas.Option.{none-some}
 use Rattle.write_history.specs.declared.entry.Entry.{Entry}
 use Rattle.script_lang.specs.declared.line.Line.{Line}
 use Rattle.transcripts.specs.declared.loaded.Loaded.{Loaded}
@@ -15,9 +15,9 @@ use Rattle.transcript_check.specs.declared.stop.SideStop.TheVariants as side
 use Rattle.transcript_check.specs.Reading.{seat_in}
 use Rattle.transcript_check.specs.Section.{Cursor, told_text}
 use Rattle.transcript_check.specs.Phase.{Sides, Went, Reached, is_seat, next_went, all_told}
-use Rattle.transcript_check.specs.Checked.{entry_texts, Came, line_so}
+use Rattle.transcript_check.specs.Checked.{line_so}
 use Rattle.transcript_check.specs.Stops.{stops_at, waits, waits_at, serial_or, reached_or, phase_or}
-use Rattle.transcript_check.specs.Meaning.{loads_behind, DiffersFrom, StopsAtLine, Way, go_in, goes_on_here, StopsBeside}
+use Rattle.transcript_check.specs.Meaning.{DiffersFrom, StopsAtLine, goes_on_here, StopsBeside}
 use Rattle.transcript_check.proofs.ChoiceLemmas.{chosen, stopped}
 use Rattle.transcript_check.proofs.SerialLemmas.{went_so, goes_so, texts_on}
 
@@ -28,11 +28,7 @@ differs_so : (history : List Entry) (seat number : ℕ) (step : CommandStep) (te
     → line_so history seat number step text entries ≡ None → DiffersFrom history seat number step entries (text ∷ records)
 differs_so history seat number step text entries records none left rest told made =
     let same : text ≡ told_text seat number step.answer = cc in
-    let goes : line_so history seat number step text entries ≡ Some left =
-    ap (λ (t : List ℕ). line_so history seat number step t entries) same
-    ∙ ap (line_so history seat number step (told_text seat number step.answer)) made
-    ∙ goes_so history seat number step left in
-    let never : None ≡ Some left = sym none ∙ goes in cc
+    none-some left (rw (same, made, goes_so history seat number step left) at (sym none))
 
 -- the first line doesn't go
 first_stops : (seat : ℕ) (history : List Entry) (line : Line) (lines : List Line) (loads : List Loaded) (entries records : List (List ℕ)) (stop : LineStop)
@@ -46,14 +42,13 @@ first_stops seat history line lines loads entries records stop is differs = reco
   lines_are = refl;
   own = [];
   told = [];
-  made = λ earlier i. record { history = sym (append-nil history) i; records = sym (append-nil earlier) i };
+  made = λ earlier. simp append-nil;
   entries_left = entries;
   records_left = records;
   entries_are = refl;
   records_are = refl;
   stop_is = is;
-  differs = subst (λ (h : List Entry). DiffersFrom h seat line.number (step_of (first_load loads) h seat line.number line.command) entries records)
-      (sym (append-nil history)) differs;
+  differs = rw append-nil differs;
 }
 
 -- the first line goes, and the others stop
@@ -66,7 +61,6 @@ later_stops seat history line lines loads entries left text records stop went re
     let step : CommandStep = step_of (first_load loads) history seat line.number line.command in
     let reply : Record = record { seat = seat; line = line.number; answer = step.answer } in
     let parts = went_so history seat line.number step text entries left went in
-    let whole : (history ++ step.added) ++ rest.own ≡ history ++ (step.added ++ rest.own) = append_assoc history step.added rest.own in
     record {
       before = line ∷ rest.before;
       line = rest.line;
@@ -74,18 +68,13 @@ later_stops seat history line lines loads entries left text records stop went re
       lines_are = ap (λ (ls : List Line). line ∷ ls) rest.lines_are;
       own = step.added ++ rest.own;
       told = reply ∷ rest.told;
-      made = λ earlier. (
-          rest.made (earlier ++ reply ∷ [])
-          ∙ λ i. record { history = whole i; records = append_assoc earlier (reply ∷ []) rest.told i });
+      made = λ earlier. simp append_assoc at (rest.made (earlier ++ reply ∷ []));
       entries_left = rest.entries_left;
       records_left = rest.records_left;
-      entries_are = parts.1 ∙ ap (λ (es : List (List ℕ)). entry_texts (length history + 1) step.added ++ es) rest.entries_are
-          ∙ sym (texts_on history step.added rest.own rest.entries_left);
+      entries_are = rw texts_on (rw rest.entries_are at parts.1);
       records_are = λ i. parts.0 i ∷ rest.records_are i;
       stop_is = rest.stop_is;
-      differs = subst (λ (h : List Entry). DiffersFrom h seat rest.line.number
-          (step_of (first_load (loads_behind rest.before (later_loads loads))) h seat rest.line.number rest.line.command) rest.entries_left rest.records_left)
-          whole rest.differs;
+      differs = rw (append_assoc history step.added rest.own) at rest.differs;
     }
 
 -- where a section stops, that is its first line that differs
@@ -96,8 +85,7 @@ stops_at_line seat history (line ∷ lines) loads entries [] stop is =
     first_stops seat history line lines loads entries [] stop (cc) (λ left rest told made. cc)
 stops_at_line seat history (line ∷ lines) loads entries (text ∷ records) stop is =
     let step : CommandStep = step_of (first_load loads) history seat line.number line.command in
-    let on : List (List ℕ) → Result Came LineStop = λ left. serial_or seat (history ++ step.added) lines (later_loads loads) left records in
-    elim (stopped on (line_so history seat line.number step text entries) (stops_at seat line entries (text ∷ records)) stop is) [
+    elim (stopped _ (line_so history seat line.number step text entries) (stops_at seat line entries (text ∷ records)) stop is) [
       | inl none ↦ first_stops seat history line lines loads entries (text ∷ records) stop (sym none.1)
           (differs_so history seat line.number step text entries records none.0)
       | inr went ↦ later_stops seat history line lines loads entries went.0 text records stop went.1
@@ -106,16 +94,7 @@ stops_at_line seat history (line ∷ lines) loads entries (text ∷ records) sto
 
 -- ---- lanes and workers
 
--- entries go in where the first does, and the others behind it
-goes_first : (sides : Sides) (added : List Entry) (cursors : List Cursor) (text : List ℕ) (texts : List (List ℕ)) (w : Went)
-    → is_seat sides (seat_in text) ≡ true → next_went sides added (all_told sides added cursors) text ≡ Some w
-    → go_in sides added cursors (text ∷ texts) ≡ go_in sides (added ++ w.entry ∷ []) w.cursors texts
-goes_first sides added cursors text texts w here next =
-    let on : Went → Option Way = λ w. go_in sides (added ++ w.entry ∷ []) w.cursors texts in
-    cond-true (is_seat sides (seat_in text)) (option_and_then on (next_went sides added (all_told sides added cursors) text)) None here
-    ∙ ap (option_and_then on) next
-
--- so they stop where they stop from there
+-- where the first entry goes in they stop where they stop from there
 one_before : (sides : Sides) (added : List Entry) (cursors : List Cursor) (text : List ℕ) (texts : List (List ℕ)) (w : Went) (stop : SideStop)
     → is_seat sides (seat_in text) ≡ true → next_went sides added (all_told sides added cursors) text ≡ Some w
     → StopsBeside sides (added ++ w.entry ∷ []) w.cursors texts stop → StopsBeside sides added cursors (text ∷ texts) stop
@@ -125,7 +104,7 @@ one_before sides added cursors text texts w (side.Entry seat left) here next res
   later = rest.later;
   entries_are = ap (λ (ts : List (List ℕ)). text ∷ ts) rest.entries_are;
   way = rest.way;
-  go = goes_first sides added cursors text rest.before w here next ∙ rest.go;
+  go = rw (here, next) rest.go;
   names = rest.names;
   here = rest.here;
   left_is = rest.left_is;
@@ -136,7 +115,7 @@ one_before sides added cursors text texts w (side.Line stop) here next rest = re
   left = rest.left;
   entries_are = ap (λ (ts : List (List ℕ)). text ∷ ts) rest.entries_are;
   way = rest.way;
-  go = goes_first sides added cursors text rest.before w here next ∙ rest.go;
+  go = rw (here, next) rest.go;
   none_here = rest.none_here;
   cursor = rest.cursor;
   first = rest.first;
@@ -155,7 +134,7 @@ waits_here : (sides : Sides) (added : List Entry) (cursors : List Cursor) (left 
     → reached_or added (all_told sides added cursors) left ≡ Err stop → StopsBeside sides added cursors left stop
 waits_here sides added cursors left stop none is =
     let lane = waiting left (record { added = added; left = left }) stop (find waits (all_told sides added cursors)) is in
-    subst (StopsBeside sides added cursors left) lane.2 (record {
+    rw (sym lane.2) (record {
       before = [];
       left = left;
       entries_are = refl;
@@ -172,7 +151,7 @@ entry_stops : (sides : Sides) (added : List Entry) (cursors : List Cursor) (text
     → is_seat sides (seat_in text) ≡ true → next_went sides added (all_told sides added cursors) text ≡ None
     → side.Entry (seat_in text) (length (text ∷ texts)) ≡ stop → StopsBeside sides added cursors (text ∷ texts) stop
 entry_stops sides added cursors text texts stop here none is =
-    subst (StopsBeside sides added cursors (text ∷ texts)) is (record {
+    rw (sym is) (record {
       before = [];
       text = text;
       later = texts;
@@ -190,12 +169,9 @@ pub stops_beside : (sides : Sides) (added : List Entry) (cursors : List Cursor) 
     → phase_or sides added cursors entries ≡ Err stop → StopsBeside sides added cursors entries stop
 stops_beside sides added cursors [] stop is = waits_here sides added cursors [] stop refl is
 stops_beside sides added cursors (text ∷ texts) stop is =
-    let on : Went → Result Reached SideStop = λ w. phase_or sides (added ++ w.entry ∷ []) w.cursors texts in
     let next : Option Went = next_went sides added (all_told sides added cursors) text in
-    let at : SideStop = side.Entry (seat_in text) (length (text ∷ texts)) in
-    let ends : Result Reached SideStop = reached_or added (all_told sides added cursors) (text ∷ texts) in
-    elim (chosen (is_seat sides (seat_in text)) (option_map_or on next (Err at)) ends is) [
-      | inl here ↦ elim (stopped on next at stop here.1) [
+    elim (chosen (is_seat sides (seat_in text)) _ _ is) [
+      | inl here ↦ elim (stopped _ next (side.Entry (seat_in text) (length (text ∷ texts))) stop here.1) [
         | inl none ↦ entry_stops sides added cursors text texts stop here.0 none.0 none.1
         | inr went ↦ one_before sides added cursors text texts went.0 stop here.0 went.1
             (stops_beside sides (added ++ went.0.entry ∷ []) went.0.cursors texts stop went.2)

@@ -1,40 +1,31 @@
 -- Lanes and workers as a run's relation says them, and as sections side by side.
-use Rattle.std.proofs.Common.{ℕ, zero, suc, ◌≡◌, ◌+◌, ◌≤◌, ◌<◌, Bool, false, List, [], ◌∷◌, ◌++◌, length, take, drop, take-append-drop, refl, sym, ap, ◌∙◌, subst, append_assoc, arith, inl, inr, leb}
+use Rattle.std.proofs.Common.{ℕ, zero, suc, ◌≡◌, ◌+◌, ◌≤◌, ◌<◌, Bool, false, List, [], ◌∷◌, ◌++◌, length, take, drop, take-append-drop, refl, sym, ap, ◌∙◌, subst, append_assoc, arith, inl, inr}
 use Rattle.std.specs.List.{All}
-use Rattle.std.proofs.Math.Seq.{take-append_seam, drop-append_seam}
-use Rattle.std.proofs.lemmas.List.{map-append}
-use Rattle.std.proofs.lemmas.Bool.{both_ways, and_parts, and_from, and_right, leb-true, le-leb, lt-leb, cases_lt}
+use Rattle.std.proofs.lemmas.List.{map-append, take_at, drop_at}
+use Rattle.std.proofs.lemmas.List.Elements.{All-nil}
+use Rattle.std.proofs.lemmas.Bool.{cases_lt}
+use Rattle.std.proofs.lemmas.Bool.Decides.{nat_tests}
 use Rattle.list_laws.proofs.FrontLemmas.{All-cons}
 use Rattle.write_history.specs.declared.entry.Entry.{Entry}
 use Rattle.script_lang.specs.declared.line.Line.{Line}
 use Rattle.transcripts.specs.End.TheVariants.{Turns}
 use Rattle.transcripts.specs.Worked.{Worked}
-use Rattle.transcripts.specs.Work.{max_turns, IsIntakeBy, AreApart}
+use Rattle.transcripts.specs.Work.{max_turns, IsIntakeBy}
 use Rattle.transcripts.specs.declared.record.Record.{Record}
 use Rattle.transcripts.specs.Fits.{Mark, mark_at, made_by, LanesFit, WorkersFit, IsSeatOf}
-use Rattle.transcripts.specs.Transcript.{record_text}
 use Rattle.transcript_check.specs.Phase.{Sides, is_seat, cursors_of, after_lanes}
 use Rattle.transcript_check.specs.Checked.{record_texts}
-use Rattle.transcript_check.proofs.Texts.{TextsFit, texts_of_section, RecordsFit, section_of_texts}
-use Rattle.transcript_check.proofs.StepLemmas.{made_by-other}
+use Rattle.transcript_check.proofs.Texts.{TextsFit, texts_of_section, section_of_texts}
 use Rattle.transcript_check.proofs.WorkerLemmas.{AreWorkers}
 use Rattle.transcript_check.proofs.SideLemmas.{CursorsFit, AreSeated}
 use Rattle.transcript_check.proofs.PhaseLemmas.{AllSeats}
-
--- the front of a list, and what is behind it
-pub take_front : {X : Type 0} (xs ys : List X) (n : ℕ) → length xs ≡ n → take n (xs ++ ys) ≡ xs
-take_front xs ys n is = ap (λ (k : ℕ). take k (xs ++ ys)) (sym is) ∙ take-append_seam xs ys
-
-pub drop_front : {X : Type 0} (xs ys : List X) (n : ℕ) → length xs ≡ n → drop n (xs ++ ys) ≡ ys
-drop_front xs ys n is = ap (λ (k : ℕ). drop k (xs ++ ys)) (sym is) ∙ drop-append_seam xs ys
 
 -- there is a text for each line
 texts_count : (beside : Bool) (history : List Entry) (seat len : ℕ) (lines : List Line) (texts : List (List ℕ)) (own : List Entry)
     → TextsFit beside history seat len lines texts own → length texts ≡ length lines
 texts_count beside history seat len [] texts own fits = ap length fits.0
 texts_count beside history seat len (line ∷ lines) [] own fits = absurd fits
-texts_count beside history seat len (line ∷ lines) (text ∷ texts) own fits =
-    ap suc (texts_count beside history seat fits.between lines texts fits.made_later fits.rest)
+texts_count beside history seat len (line ∷ lines) (text ∷ texts) own fits = ap suc (texts_count _ _ _ _ lines texts _ fits.rest)
 
 -- from lanes to sections side by side
 pub record LanesAre (beside : Bool) (history here : List Entry) (seat : ℕ) (lanes : List (List Line)) (middle : List Entry)
@@ -50,20 +41,13 @@ sides_of_lanes beside history here seat (lane ∷ lanes) middle records rest fit
     let own : List (List ℕ) = record_texts fits.own_records in
     let others : List (List ℕ) = record_texts fits.others ++ rest in
     let texts = texts_of_section beside history seat (mark_at (length here)) fits.high lane fits.own_records (made_by seat middle) fits.fits in
-    let count = texts_count beside history seat (length here) lane own (made_by seat middle) texts in
-    let parts : record_texts records ++ rest ≡ own ++ others =
-    ap (λ (rs : List Record). record_texts rs ++ rest) fits.records_are
-    ∙ (ap (λ (ts : List (List ℕ)). ts ++ rest) (map-append record_text fits.own_records fits.others) ∙ append_assoc own (record_texts fits.others) rest) in
+    let count = texts_count _ _ _ _ lane own _ texts in
     let later = sides_of_lanes beside history here (suc seat) lanes middle fits.others rest fits.rest in
-    let behind : drop (length lane) (record_texts records ++ rest) ≡ others = ap (drop (length lane)) parts ∙ drop_front own others (length lane) count in
-    record {
-      fits = (
-        subst (λ (ts : List (List ℕ)). TextsFit beside history seat (length here) lane ts (made_by seat middle))
-            (sym (ap (take (length lane)) parts ∙ take_front own others (length lane) count)) texts,
-        subst (λ (ts : List (List ℕ)). CursorsFit beside history here (cursors_of (suc seat) lanes ts) middle) (sym behind) later.fits,
-      );
-      left = ap (after_lanes lanes) behind ∙ later.left;
-    }
+    let parts : record_texts records ++ rest ≡ own ++ others = rw fits.records_are (simp (map-append, append_assoc)) in
+    rw parts (record {
+      fits = (rw (take_at own others (length lane) count) texts, rw (drop_at own others (length lane) count) later.fits);
+      left = rw (drop_at own others (length lane) count) later.left;
+    })
 
 -- and back
 pub record LanesFitTexts (beside : Bool) (history : List Entry) (low : Mark) (seat : ℕ) (lanes : List (List Line)) (middle : List Entry)
@@ -76,16 +60,12 @@ pub lanes_of_sides : (beside : Bool) (history here : List Entry) (seat : ℕ) (l
     → CursorsFit beside history here (cursors_of seat lanes texts) middle → LanesFitTexts beside history (mark_at (length here)) seat lanes middle texts
 lanes_of_sides beside history here seat [] middle texts fits = record { records = []; fits = refl; texts_are = refl }
 lanes_of_sides beside history here seat (lane ∷ lanes) middle texts fits =
-    let own : RecordsFit beside history seat (length here) 0 lane (take (length lane) texts) (made_by seat middle) =
-    section_of_texts beside history seat (length here) 0 lane (take (length lane) texts) (made_by seat middle) fits.0 in
+    let own = section_of_texts beside history seat (length here) 0 lane (take (length lane) texts) (made_by seat middle) fits.0 in
     let later = lanes_of_sides beside history here (suc seat) lanes middle (drop (length lane) texts) fits.1 in
     record {
       records = own.records ++ later.records;
       fits = record { own_records = own.records; others = later.records; high = own.high; records_are = refl; fits = own.fits; rest = later.fits };
-      texts_are = sym (take-append-drop (length lane) texts)
-          ∙ ((λ i. sym own.texts_are i ++ later.texts_are i)
-          ∙ (sym (append_assoc (record_texts own.records) (record_texts later.records) (after_lanes lanes (drop (length lane) texts)))
-          ∙ ap (λ (ts : List (List ℕ)). ts ++ after_lanes lanes (drop (length lane) texts)) (sym (map-append record_text own.records later.records))));
+      texts_are = sym (take-append-drop (length lane) texts) ∙ (λ i. sym own.texts_are i ++ later.texts_are i) ∙ simp (map-append, append_assoc);
     }
 
 pub cursors_seated : (seat past : ℕ) (lanes : List (List Line)) (texts : List (List ℕ)) → past ≡ seat + length lanes
@@ -98,21 +78,15 @@ pub seats_all : (sides : Sides) (count : ℕ) (es : List Entry) → sides.lanes 
     → All (λ (e : Entry). IsSeatOf count e.seat) es
 seats_all sides count [] is seats = λ k d less. absurd (omega arith)
 seats_all sides count (e ∷ es) is seats =
-    let parts = and_parts (leb 1 e.seat) (leb e.seat (sides.lanes + sides.workers)) seats.0 in
-    let above = leb-true 1 e.seat parts.0 in
-    let below = leb-true e.seat (sides.lanes + sides.workers) parts.1 in
-    All-cons (λ (x : Entry). IsSeatOf count x.seat) e es (record { from = above; to = omega arith }) (seats_all sides count es is seats.1)
+    All-cons (λ (x : Entry). IsSeatOf count x.seat) e es
+    (record { from = grind (arith, nat_tests, seats.0); to = grind (arith, nat_tests, seats.0) }) (seats_all sides count es is seats.1)
 
 pub all_seats : (sides : Sides) (count : ℕ) (es : List Entry) → sides.lanes + sides.workers ≡ count → All (λ (e : Entry). IsSeatOf count e.seat) es
     → AllSeats sides es
 all_seats sides count [] is all = tt
 all_seats sides count (e ∷ es) is all =
     let first : IsSeatOf count e.seat = all 0 e (omega arith) in
-    let from : 1 ≤ e.seat = first.from in
-    let to : e.seat ≤ count = first.to in (
-      and_from (leb 1 e.seat) (leb e.seat (sides.lanes + sides.workers)) (le-leb 1 e.seat from) (le-leb e.seat (sides.lanes + sides.workers) (omega arith)),
-      all_seats sides count es is (λ k d less. all (suc k) d (omega arith)),
-    )
+    (grind (arith, nat_tests, first.from, first.to), all_seats sides count es is (λ k d less. all (suc k) d (omega arith)))
 
 -- WORKERS
 
@@ -141,25 +115,20 @@ workers_told : (history : List Entry) (low seat : ℕ) (entries : List Entry) (t
 workers_told history low seat entries [] fit s above below = absurd (omega arith)
 workers_told history low seat entries (worked ∷ told) fit s above below = elim (cases_lt seat s) [
   | inl later ↦ workers_told history low (suc seat) entries told fit.1 s later (omega arith)
-  | inr here ↦ (let same : seat ≡ s = omega arith in
-      subst (λ (n : ℕ). AreWorkers n entries) same (record { intakes = fit.0.intakes; apart = fit.0.apart }))
+  | inr here ↦ subst (λ (n : ℕ). AreWorkers n entries) (omega arith) (record { intakes = fit.0.intakes; apart = fit.0.apart })
 ]
 
 -- who has no seat here has made nothing
 pub none_outside : (sides : Sides) (seat : ℕ) (es : List Entry) → AllSeats sides es → is_seat sides seat ≡ false → made_by seat es ≡ []
 none_outside sides seat [] seats outside = refl
-none_outside sides seat (e ∷ es) seats outside =
-    made_by-other seat e es (λ same. both_ways (is_seat sides seat) outside (ap (is_seat sides) (sym same) ∙ seats.0))
-    ∙ none_outside sides seat es seats.1 outside
+none_outside sides seat (e ∷ es) seats outside = grind (arith, nat_tests, none_outside sides seat es seats.1 outside, seats.0)
 
 pub workers_are : (history : List Entry) (low : ℕ) (sides : Sides) (entries : List Entry) (told : List Worked) → length told ≡ sides.workers
     → AllSeats sides entries → WorkersFit history low (1 + sides.lanes) entries told → (s : ℕ) → sides.lanes < s → AreWorkers s entries
 workers_are history low sides entries told count seats fit s past = elim (cases_lt (sides.lanes + sides.workers) s) [
-  | inl beyond ↦ (let none =
-      none_outside sides s entries seats (and_right (leb 1 s) (leb s (sides.lanes + sides.workers)) (lt-leb s (sides.lanes + sides.workers) beyond)) in
-      record {
-        intakes = subst (All (IsIntakeBy s)) (sym none) (λ k d less. absurd (omega arith));
-        apart = subst AreApart (sym none) (λ i j d less within. absurd (omega arith));
-      })
+  | inl beyond ↦ (let none = none_outside sides s entries seats (grind (arith, nat_tests)) in record {
+    intakes = rw none (All-nil (IsIntakeBy s));
+    apart = rw none (λ i j d less within. absurd (omega arith));
+  })
   | inr within ↦ workers_told history low (1 + sides.lanes) entries told fit s (omega arith) (omega arith)
 ]

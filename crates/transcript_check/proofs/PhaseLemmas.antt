@@ -1,12 +1,9 @@
 -- Sections and workers side by side lead from one history to another exactly where each fits.
-use Rattle.std.proofs.Common.{ℕ, suc, ◌≡◌, ◌≢◌, ◌+◌, ◌^◌, ◌≤◌, ◌<◌, Bool, true, false, not, ◌&&◌, List, [], ◌∷◌, ◌++◌, length, refl, sym, ap, ◌∙◌, subst, append_assoc, length-append, arith, Option, Some, None, inl, inr, leb}
-use Rattle.std.specs.Prelude.{bytes_eq, is_none}
-use Rattle.std.specs.List.{All, list_all}
-use Rattle.std.specs.Option.{option_and_then}
+use Rattle.std.proofs.Common.{ℕ, suc, ◌≡◌, ◌+◌, ◌^◌, ◌≤◌, ◌<◌, Bool, true, false, List, [], ◌∷◌, ◌++◌, length, refl, sym, ap, ◌∙◌, append_assoc, length-append, arith, Some, None, inl, inr, leb}
 use Rattle.std.proofs.lemmas.Option.{option_and_then_some, cond_some}
 use Rattle.std.proofs.lemmas.Slice.Eq.{bytes_eq-Decides}
 use Rattle.std.proofs.lemmas.List.{append-nil}
-use Rattle.std.proofs.lemmas.Bool.{cond-true, cond-false, and_parts, and_from, leb-true, leb-false, le-leb, lt-leb, not-true, not_from_false, cases_lt}
+use Rattle.std.proofs.lemmas.Bool.{and_parts, leb-true, leb-false, le-leb, lt-leb, not-true, cases_lt}
 use Rattle.list_laws.specs.Fronts.{IsFront}
 use Rattle.transcript_check.proofs.ChoiceLemmas.{is_none-true, chosen}
 use Rattle.write_history.specs.declared.change.Change.TheVariants.{Intake}
@@ -18,16 +15,16 @@ use Rattle.write_history.specs.Print.{entry_line}
 use Rattle.write_history.specs.Settle.{entry_of, intake_entry}
 use Rattle.transcripts.specs.Fits.{made_by}
 use Rattle.transcript_check.specs.Reading.{seat_in, file_in}
-use Rattle.transcript_check.specs.Section.{Cursor, is_over}
+use Rattle.transcript_check.specs.Section.{Cursor}
 use Rattle.history_laws.proofs.FoldLemmas.{IsLegal-append, IsLegal-split}
 use Rattle.history_laws.proofs.LimitLemmas.{intake_finds, live_small}
-use Rattle.transcript_check.specs.Phase.{Sides, Went, Reached, is_seat, is_busy, section_went, has_taken, may_take, worker_went, seat_went, printed_so, next_went, all_told, reached, phase_from}
+use Rattle.transcript_check.specs.Phase.{Sides, Went, Reached, is_seat, worker_went, seat_went, printed_so, next_went, all_told, reached, phase_from}
 use Rattle.transcript_check.specs.Checked.{entry_texts}
 use Rattle.transcript_check.proofs.ReadLemmas.{seat-read, file-read}
 use Rattle.transcript_check.proofs.Texts.{text_is}
-use Rattle.transcript_check.proofs.CursorLemmas.{AreFew, one_more}
+use Rattle.transcript_check.proofs.CursorLemmas.{AreFew}
 use Rattle.transcript_check.proofs.WorkerLemmas.{MayMake, WorkersFrom, taken_anew, not_taken}
-use Rattle.transcript_check.proofs.SideLemmas.{CursorsFit, AreSeated, AllStop, all_told_fits, others_forth, others_back, section_forth, went_back, all_over_back, all_over_forth}
+use Rattle.transcript_check.proofs.SideLemmas.{CursorsFit, AreSeated, AllStop, past_all, all_told_fits, others_forth, others_back, section_forth, went_so, went_seat, went_seated, went_lawful, went_back, all_over_back, all_over_forth}
 
 -- all entries have seats of the lanes and workers
 abbrev pub AllSeats : Sides → List Entry → Type 0
@@ -60,63 +57,48 @@ module _ (sides : Sides) where
       → PhaseGoes sides added cursors left r
   ends added cursors left r h =
       let here : List Entry = sides.before ++ added in
-      let same : here ++ [] ≡ here = append-nil here in
-      let told = all_told_fits sides.beside here here cursors ([], sym same) in
-      let over = cond_some (list_all is_over (all_told sides added cursors)) (record { added = added; left = left }) r h in
-      let fits : CursorsFit sides.beside here here cursors [] = told.back [] (all_over_back sides.beside here (all_told sides added cursors) over.0) in
-      subst (PhaseGoes sides added cursors left) over.1 (record {
+      let over = cond_some _ (record { added = added; left = left }) r h in
+      rw (sym over.1) (record {
         behind = [];
-        added_is = sym (append-nil added);
+        added_is = rw append-nil;
         texts_are = refl;
-        fits = subst (λ (es : List Entry). CursorsFit sides.beside es here cursors []) (sym same) fits;
+        fits = rw append-nil ((all_told_fits sides.beside here here cursors ([], rw append-nil)).back [] (all_over_back sides.beside here _ over.0));
         seats = tt;
         workers = tt;
-        lawful = λ legal. subst IsLegal (sym same) legal;
+        lawful = λ legal. rw append-nil legal;
       })
 
   worker_is : (added : List Entry) (told : List Cursor) (seat file : ℕ) (w : Went) → AreSeated 1 (suc sides.lanes) told → sides.lanes < seat
       → worker_went (sides.before ++ added) added seat file told ≡ Some w → EntryWent sides added told seat w
   worker_is added told seat file w seated past h =
       let here : List Entry = sides.before ++ added in
-      let e : Entry = intake_entry here seat 0 file in
-      let stamp : ℕ = stamp_of (file_of (fold here) file) in
-      let goes = cond_some (not (is_busy told) && may_take here added seat file) (record { entry = e; cursors = told }) w h in
-      let parts = and_parts (not (is_busy told)) (may_take here added seat file) goes.0 in
-      let may = and_parts (is_none (list_refusal (fold here) e.changes)) (not (has_taken file stamp (made_by seat added))) parts.1 in
-      let quiet = not-true (is_busy told) parts.0 in
-      subst (EntryWent sides added told seat) goes.1 (record {
+      let goes = cond_some _ (record { entry = intake_entry here seat 0 file; cursors = told }) w h in
+      let parts = and_parts _ _ goes.0 in
+      let may = and_parts _ _ parts.1 in
+      let quiet = not-true _ parts.0 in
+      rw (sym goes.1) (record {
         seat_is = refl;
         seated = seated;
-        accepted = is_none-true (list_refusal (fold here) e.changes) may.0;
-        may = λ _. record {
-          intake = record { file = file; stamp = stamp; is = refl };
-          anew = taken_anew file stamp (made_by seat added) (not-true (has_taken file stamp (made_by seat added)) may.1);
-        };
-        back = λ beside history es front fits. others_back beside history here 1 (suc sides.lanes) told e es seated (inr past) quiet fits;
+        accepted = is_none-true _ may.0;
+        may = λ _. record { intake = record { file = file; stamp = _; is = refl }; anew = taken_anew file _ _ (not-true _ may.1) };
+        back = λ beside history es front fits.
+            others_back beside history here told _ es (past_all seat 1 (suc sides.lanes) told seated past) quiet fits;
       })
 
   seat_is : (added : List Entry) (told : List Cursor) (seat : ℕ) (text : List ℕ) (w : Went) → AreSeated 1 (suc sides.lanes) told
       → seat_went sides added told seat text ≡ Some w → EntryWent sides added told seat w
   seat_is added told seat text w seated h =
       let here : List Entry = sides.before ++ added in
-      elim (chosen (leb seat sides.lanes) (section_went seat here told) (worker_went here added seat (file_in text) told) h) [
-        | inl lane ↦ (let goes = went_back here 1 (suc sides.lanes) seat told w seated lane.1 in
-            let within = leb-true seat sides.lanes lane.0 in
-            record {
-              seat_is = goes.seat_is;
-              seated = goes.seated;
-              accepted = goes.lawful;
-              may = λ past. (let is = goes.seat_is in absurd (omega arith));
-              back = goes.back;
-            })
+      elim (chosen (leb seat sides.lanes) _ _ h) [
+        | inl lane ↦ (let went = went_so here seat told w lane.1 in record {
+          seat_is = went_seat here seat went;
+          seated = went_seated here seat 1 (suc sides.lanes) went seated;
+          accepted = went_lawful here seat went;
+          may = λ past. absurd (omega (arith, leb-true seat sides.lanes lane.0, went_seat here seat went));
+          back = λ beside history es front fits. went_back here seat beside history es 1 (suc sides.lanes) went seated front fits;
+        })
         | inr other ↦ worker_is added told seat (file_in text) w seated (leb-false seat sides.lanes other.0) other.1
       ]
-
-  -- the entry that goes in is printed so
-  printed_is : (here : List Entry) (text : List ℕ) (v w : Went) → printed_so here text v ≡ Some w → (v ≡ w) × (entry_line (length here + 1) v.entry ≡ text)
-  printed_is here text v w h =
-      let is = cond_some (bytes_eq (entry_line (length here + 1) v.entry) text) v w h in
-      (is.1, text_is (entry_line (length here + 1) v.entry) text is.0)
 
   -- one entry before those that follow it
   joins : (added : List Entry) (cursors told : List Cursor) (text : List ℕ) (texts : List (List ℕ)) (w : Went) (r : Reached)
@@ -127,23 +109,17 @@ module _ (sides : Sides) where
   joins added cursors told text texts w r untold seat went printed rest =
       let e : Entry = w.entry in
       let here : List Entry = sides.before ++ added in
-      let moved : sides.before ++ (added ++ e ∷ []) ≡ here ++ e ∷ [] = sym (append_assoc sides.before added (e ∷ [])) in
-      let whole : (sides.before ++ (added ++ e ∷ [])) ++ rest.behind ≡ here ++ e ∷ rest.behind =
-      ap (λ (es : List Entry). es ++ rest.behind) moved ∙ append_assoc here (e ∷ []) rest.behind in
-      let next : length (sides.before ++ (added ++ e ∷ [])) + 1 ≡ length here + 1 + 1 = ap (λ (es : List Entry). length es + 1) moved
-      ∙ ap (λ (n : ℕ). n + 1) (one_more here e) in
-      let behind_fits : CursorsFit sides.beside (here ++ e ∷ rest.behind) (here ++ e ∷ []) w.cursors rest.behind =
-      subst (λ (es : List Entry). CursorsFit sides.beside (here ++ e ∷ rest.behind) es w.cursors rest.behind) moved
-      (subst (λ (es : List Entry). CursorsFit sides.beside es (sides.before ++ (added ++ e ∷ [])) w.cursors rest.behind) whole rest.fits) in
+      let next : length (sides.before ++ (added ++ e ∷ [])) + 1 ≡ length here + 1 + 1 = omega (arith, length-append {A = Entry}) in
+      let texts_are = rw next at rest.texts_are in
       record {
         behind = e ∷ rest.behind;
         added_is = rest.added_is ∙ append_assoc added (e ∷ []) rest.behind;
-        texts_are = λ i. sym printed i ∷ (rest.texts_are ∙ ap (λ (n : ℕ). entry_texts n rest.behind ++ r.left) next) i;
-        fits = untold (here ++ e ∷ rest.behind) (e ∷ rest.behind) (e ∷ rest.behind, refl)
-            (went.back sides.beside (here ++ e ∷ rest.behind) rest.behind (rest.behind, sym (append_assoc here (e ∷ []) rest.behind)) behind_fits);
-        seats = (ap (is_seat sides) went.seat_is ∙ seat, rest.seats);
+        texts_are = λ i. sym printed i ∷ texts_are i;
+        fits = untold (here ++ e ∷ rest.behind) (e ∷ rest.behind) (e ∷ rest.behind, refl) (went.back sides.beside (here ++ e ∷ rest.behind) rest.behind
+            (rest.behind, sym (append_assoc here (e ∷ []) rest.behind)) (simp append_assoc (simp append_assoc at rest.fits)));
+        seats = (rw went.seat_is seat, rest.seats);
         workers = (went.may, rest.workers);
-        lawful = λ legal. subst IsLegal whole (rest.lawful (subst IsLegal (sym moved) (IsLegal-append here e legal went.accepted)));
+        lawful = λ legal. simp append_assoc (simp append_assoc at (rest.lawful (rw append_assoc at (IsLegal-append here e legal went.accepted))));
       }
 
   pub sound : (texts : List (List ℕ)) (added : List Entry) (cursors : List Cursor) (r : Reached) → AreSeated 1 (suc sides.lanes) cursors
@@ -152,18 +128,15 @@ module _ (sides : Sides) where
   sound (text ∷ texts) added cursors r seated h =
       let here : List Entry = sides.before ++ added in
       let told : List Cursor = all_told sides added cursors in
-      let on : Went → Option Reached = λ w. phase_from sides (added ++ w.entry ∷ []) w.cursors texts in
-      elim (chosen (is_seat sides (seat_in text)) (option_and_then on (next_went sides added told text)) (reached added told (text ∷ texts)) h) [
-        | inl seat ↦ option_and_then_some on (next_went sides added told text) r seat.1
-            (λ w goes later. option_and_then_some (printed_so here text) (seat_went sides added told (seat_in text) text) w goes
-            (λ v is prints. (
-            let printed = printed_is here text v w prints in
-            let told_seated = (all_told_fits sides.beside here here cursors ([], sym (append-nil here))).seated 1 (suc sides.lanes) seated in
-            let went : EntryWent sides added told (seat_in text) w = seat_is added told (seat_in text) text w told_seated
-            (subst (λ (x : Went). seat_went sides added told (seat_in text) text ≡ Some x) printed.0 is) in
+      elim (chosen (is_seat sides (seat_in text)) _ _ h) [
+        | inl seat ↦ option_and_then_some _ (next_went sides added told text) r seat.1
+            (λ w goes later. option_and_then_some (printed_so here text) _ w goes (λ v is prints. (
+            let printed = cond_some _ v w prints in
+            let prints : entry_line (length here + 1) w.entry ≡ text = rw printed.1 at (text_is (entry_line (length here + 1) v.entry) text printed.0) in
+            let went = seat_is added told (seat_in text) text w
+            ((all_told_fits sides.beside here here cursors ([], rw append-nil)).seated 1 (suc sides.lanes) seated) (rw printed.1 at is) in
             joins added cursors told text texts w r (λ history es front fits. (all_told_fits sides.beside history here cursors front).back es fits) seat.0 went
-            (ap (λ (x : Went). entry_line (length here + 1) x.entry) (sym printed.0) ∙ printed.1)
-            (sound texts (added ++ w.entry ∷ []) w.cursors r went.seated later))))
+            prints (sound texts (added ++ w.entry ∷ []) w.cursors r went.seated later))))
         | inr other ↦ ends added cursors (text ∷ texts) r other.1
       ]
 
@@ -187,142 +160,83 @@ module _ (sides : Sides) (small : sides.lanes + sides.workers < 2 ^ 64) (history
       → reached added (all_told sides added cursors) left ≡ Some (record { added = added; left = left })
   over_is added cursors left whole fits =
       let here : List Entry = sides.before ++ added in
-      let told = all_told_fits sides.beside here here cursors ([], sym (append-nil here)) in
-      let over = all_over_forth sides.beside here (all_told sides added cursors) told.stops
-      (told.forth (subst AreFew whole few) [] (subst (λ (es : List Entry). CursorsFit sides.beside es here cursors []) whole fits)) in
-      cond-true (list_all is_over (all_told sides added cursors)) (Some (record { added = added; left = left })) None over
+      let told = all_told_fits sides.beside here here cursors ([], rw append-nil) in
+      rw (all_over_forth sides.beside here (all_told sides added cursors) told.stops (told.forth (rw whole at few) [] (rw whole at fits)))
 
   -- the entry of a seat, as it is printed, goes in
   printed_goes : (added : List Entry) (told behind : List Cursor) (e : Entry) → length (sides.before ++ added) + 1 < 2 ^ 64 → e.seat < 2 ^ 64
       → seat_went sides added told e.seat (entry_line (length (sides.before ++ added) + 1) e) ≡ Some (record { entry = e; cursors = behind })
       → next_went sides added told (entry_line (length (sides.before ++ added) + 1) e) ≡ Some (record { entry = e; cursors = behind })
   printed_goes added told behind e short seat_small goes =
-      let here : List Entry = sides.before ++ added in
-      let text : List ℕ = entry_line (length here + 1) e in
-      ap (λ (n : ℕ). option_and_then (printed_so here text) (seat_went sides added told n text)) (seat-read (length here + 1) e seat_small)
-      ∙ (ap (option_and_then (printed_so here text)) goes
-      ∙ cond-true (bytes_eq text text) (Some (record { entry = e; cursors = behind })) None ((bytes_eq-Decides text text).1 refl))
+      let text : List ℕ = entry_line (length (sides.before ++ added) + 1) e in
+      rw (seat-read (length (sides.before ++ added) + 1) e seat_small, goes, (bytes_eq-Decides text text).1 refl)
 
-  -- the entry of a worker
-  worker_goes : (added : List Entry) (told : List Cursor) (e : Entry) (es : List Entry) → history ≡ sides.before ++ added ++ e ∷ es
-      → AreSeated 1 (suc sides.lanes) told → AllStop sides.beside (sides.before ++ added) told → sides.lanes < e.seat → e.seat < 2 ^ 64 → MayMake added e
-      → CursorsFit sides.beside history (sides.before ++ added) told (e ∷ es) → NextGoes sides added told history e es
-  worker_goes added told e es whole seated stops past seat_small may fits =
-      let here : List Entry = sides.before ++ added in
-      let file : ℕ = may.intake.file in
-      let stamp : ℕ = may.intake.stamp in
-      let text : List ℕ = entry_line (length here + 1) e in
-      let parts = IsLegal-split here (e ∷ es) (subst IsLegal whole legal) in
-      let here_legal = parts.0 in
-      let accepted : list_refusal (fold here) e.changes ≡ None = parts.1.0 in
-      let e_is : e ≡ entry_of e.seat 0 (Intake file stamp ∷ []) = may.intake.is in
-      let lawful : list_refusal (fold here) (Intake file stamp ∷ []) ≡ None =
-      subst (λ (x : Entry). list_refusal (fold here) x.changes ≡ None) e_is accepted in
-      let there = intake_finds (fold here) file stamp lawful in
-      let known = live_small here file here_legal there.0 in
-      let long = ap length whole in
-      let long' = length-append here (e ∷ es) in
-      let short : length here + 1 < 2 ^ 64 = omega arith in
-      let reads : file_in text ≡ file = ap (λ (x : Entry). file_in (entry_line (length here + 1) x)) e_is
-      ∙ file-read (length here + 1) e.seat 0 file stamp known in
-      let made : intake_entry here e.seat 0 file ≡ e = ap (λ (n : ℕ). entry_of e.seat 0 (Intake file n ∷ [])) (sym there.1) ∙ sym e_is in
-      let others = others_forth sides.beside history here 1 (suc sides.lanes) told e es seated (inr past) stops whole fits in
-      let anew : has_taken file (stamp_of (file_of (fold here) file)) (made_by e.seat added) ≡ false =
-      not_taken file (stamp_of (file_of (fold here) file)) (made_by e.seat added)
-      (subst (λ (n : ℕ). All (λ (d : Entry). d.changes ≢ Intake file n ∷ []) (made_by e.seat added)) there.1
-      (subst (λ (x : Entry). All (λ (d : Entry). d.changes ≢ x.changes) (made_by e.seat added)) e_is may.anew)) in
-      let takes : may_take here added e.seat file ≡ true =
-      and_from (is_none (list_refusal (fold here) (intake_entry here e.seat 0 file).changes))
-      (not (has_taken file (stamp_of (file_of (fold here) file)) (made_by e.seat added)))
-      (ap is_none (ap (λ (x : Entry). list_refusal (fold here) x.changes) made
-      ∙ accepted)) (not_from_false (has_taken file (stamp_of (file_of (fold here) file)) (made_by e.seat added)) anew) in
-      let goes : worker_went here added e.seat file told ≡ Some (record { entry = e; cursors = told }) =
-      cond-true (not (is_busy told) && may_take here added e.seat file) (Some (record { entry = intake_entry here e.seat 0 file; cursors = told })) None
-      (and_from (not (is_busy told)) (may_take here added e.seat file) (not_from_false (is_busy told) others.0) takes)
-      ∙ ap (λ (x : Entry). Some (record { entry = x; cursors = told })) made in
-      record {
-        behind = told;
-        goes = printed_goes added told told e short seat_small
-            (cond-false (leb e.seat sides.lanes) (section_went e.seat here told) (worker_went here added e.seat (file_in text) told)
-            (lt-leb e.seat sides.lanes past)
-            ∙ (ap (λ (n : ℕ). worker_went here added e.seat n told) reads ∙ goes));
-        seated = seated;
-        fits = others.1;
-      }
+  module _ (added : List Entry) (told : List Cursor) (e : Entry) (es : List Entry) (whole : history ≡ sides.before ++ added ++ e ∷ es)
+      (seated : AreSeated 1 (suc sides.lanes) told) (stops : AllStop sides.beside (sides.before ++ added) told)
+      (fits : CursorsFit sides.beside history (sides.before ++ added) told (e ∷ es)) where
+    short : length (sides.before ++ added) + 1 < 2 ^ 64
+    short = omega (arith, ap length whole, length-append (sides.before ++ added) (e ∷ es))
 
-  -- the entry of a section
-  section_goes : (added : List Entry) (told : List Cursor) (e : Entry) (es : List Entry) → history ≡ sides.before ++ added ++ e ∷ es
-      → AreSeated 1 (suc sides.lanes) told → AllStop sides.beside (sides.before ++ added) told → 1 ≤ e.seat → e.seat ≤ sides.lanes → e.seat < 2 ^ 64
-      → CursorsFit sides.beside history (sides.before ++ added) told (e ∷ es) → NextGoes sides added told history e es
-  section_goes added told e es whole seated stops above below seat_small fits =
-      let here : List Entry = sides.before ++ added in
-      let text : List ℕ = entry_line (length here + 1) e in
-      let long = ap length whole in
-      let long' = length-append here (e ∷ es) in
-      let goes = section_forth sides.beside history here 1 (suc sides.lanes) told e es seated above (omega arith) stops whole fits in
-      record {
-        behind = goes.behind;
-        goes = printed_goes added told goes.behind e (omega arith) seat_small
-            (cond-true (leb e.seat sides.lanes) (section_went e.seat here told) (worker_went here added e.seat (file_in text) told)
-            (le-leb e.seat sides.lanes below) ∙ goes.goes);
-        seated = goes.seated;
-        fits = goes.fits;
-      }
+    -- the entry of a worker
+    worker_goes : sides.lanes < e.seat → e.seat < 2 ^ 64 → MayMake added e → NextGoes sides added told history e es
+    worker_goes past seat_small may =
+        let here : List Entry = sides.before ++ added in
+        let file : ℕ = may.intake.file in
+        let parts = IsLegal-split here (e ∷ es) (rw whole at legal) in
+        let there = intake_finds (fold here) file may.intake.stamp (rw may.intake.is at parts.1.0) in
+        let reads = ap (λ (x : Entry). file_in (entry_line (length here + 1) x)) may.intake.is
+        ∙ file-read (length here + 1) e.seat 0 file may.intake.stamp (live_small here file parts.0 there.0) in
+        let made : e ≡ intake_entry here e.seat 0 file = may.intake.is ∙ ap (λ (n : ℕ). entry_of e.seat 0 (Intake file n ∷ [])) there.1 in
+        let others = others_forth sides.beside history here told e es (past_all e.seat 1 (suc sides.lanes) told seated past) stops whole fits in
+        let anew = not_taken file (stamp_of (file_of (fold here) file)) (made_by e.seat added) (rw made at may.anew) in
+        record {
+          behind = told;
+          goes = printed_goes added told told e short seat_small (rw (lt-leb e.seat sides.lanes past, reads, others.0, rw made at parts.1.0, anew)
+              (ap (λ (x : Entry). Some (record { entry = x; cursors = told })) (sym made)));
+          seated = seated;
+          fits = others.1;
+        }
 
-  next_goes : (added : List Entry) (told : List Cursor) (e : Entry) (es : List Entry) → history ≡ sides.before ++ added ++ e ∷ es
-      → AreSeated 1 (suc sides.lanes) told → AllStop sides.beside (sides.before ++ added) told → is_seat sides e.seat ≡ true
-      → (sides.lanes < e.seat → MayMake added e)
-      → CursorsFit sides.beside history (sides.before ++ added) told (e ∷ es) → NextGoes sides added told history e es
-  next_goes added told e es whole seated stops seat may fits =
-      let range = and_parts (leb 1 e.seat) (leb e.seat (sides.lanes + sides.workers)) seat in
-      let above = leb-true 1 e.seat range.0 in
-      let within = leb-true e.seat (sides.lanes + sides.workers) range.1 in
-      elim (cases_lt sides.lanes e.seat) [
-        | inl past ↦ worker_goes added told e es whole seated stops past (omega arith) (may past) fits
-        | inr lane ↦ section_goes added told e es whole seated stops above lane (omega arith) fits
-      ]
+    -- the entry of a section
+    section_goes : 1 ≤ e.seat → e.seat ≤ sides.lanes → e.seat < 2 ^ 64 → NextGoes sides added told history e es
+    section_goes above below seat_small =
+        let goes = section_forth sides.beside history (sides.before ++ added) 1 (suc sides.lanes) told e es seated above (omega arith) stops whole fits in
+        record {
+          behind = goes.behind;
+          goes = printed_goes added told goes.behind e short seat_small (rw (le-leb e.seat sides.lanes below) goes.goes);
+          seated = goes.seated;
+          fits = goes.fits;
+        }
+
+    next_goes : is_seat sides e.seat ≡ true → (sides.lanes < e.seat → MayMake added e) → NextGoes sides added told history e es
+    next_goes seat may =
+        let range = and_parts _ _ seat in
+        let above = leb-true 1 e.seat range.0 in
+        let within = leb-true e.seat (sides.lanes + sides.workers) range.1 in
+        elim (cases_lt sides.lanes e.seat) [
+          | inl past ↦ worker_goes past (omega arith) (may past)
+          | inr lane ↦ section_goes above lane (omega arith)
+        ]
 
   pub complete : (behind added : List Entry) (cursors : List Cursor) (left : List (List ℕ)) → history ≡ sides.before ++ added ++ behind
       → AreSeated 1 (suc sides.lanes) cursors → StopsBefore sides left → AllSeats sides behind → WorkersFrom sides.lanes added behind
       → CursorsFit sides.beside history (sides.before ++ added) cursors behind
-      → phase_from sides added cursors (entry_texts (length (sides.before ++ added) + 1) behind ++ left) ≡ Some (record {
-        added = added ++ behind;
-        left = left;
-      })
-  complete [] added cursors left whole seated stop seats workers fits =
-      let over = over_is added cursors left (whole ∙ append-nil (sides.before ++ added)) fits in
-      by left stop over ∙ ap (λ (es : List Entry). Some (record { added = es; left = left })) (sym (append-nil added))
+      → phase_from sides added cursors (entry_texts (length (sides.before ++ added) + 1) behind ++ left)
+      ≡ Some (record { added = added ++ behind; left = left })
+  complete [] added cursors left whole seated stop seats workers fits = rw append-nil (by left stop (over_is added cursors left (rw append-nil at whole) fits))
     where
       by : (left : List (List ℕ)) → StopsBefore sides left → reached added (all_told sides added cursors) left ≡ Some (record { added = added; left = left })
           → phase_from sides added cursors left ≡ Some (record { added = added; left = left })
       by [] stop over = over
-      by (text ∷ texts) stop over = cond-false (is_seat sides (seat_in text))
-          (option_and_then (λ (w : Went). phase_from sides (added ++ w.entry ∷ []) w.cursors texts)
-          (next_went sides added (all_told sides added cursors) text))
-          (reached added (all_told sides added cursors) (text ∷ texts)) stop ∙ over
+      by (text ∷ texts) stop over = rw stop over
   complete (e ∷ behind) added cursors left whole seated stop seats workers fits =
       let here : List Entry = sides.before ++ added in
-      let text : List ℕ = entry_line (length here + 1) e in
-      let texts : List (List ℕ) = entry_texts (length here + 1 + 1) behind ++ left in
-      let told : List Cursor = all_told sides added cursors in
-      let told_fit = all_told_fits sides.beside history here cursors (e ∷ behind, whole) in
-      let range = and_parts (leb 1 e.seat) (leb e.seat (sides.lanes + sides.workers)) seats.0 in
-      let within = leb-true e.seat (sides.lanes + sides.workers) range.1 in
-      let long = ap length whole in
-      let long' = length-append here (e ∷ behind) in
-      let next = next_goes added told e behind whole (told_fit.seated 1 (suc sides.lanes) seated) told_fit.stops seats.0 workers.0
-      (told_fit.forth few (e ∷ behind) fits) in
-      let seat : is_seat sides (seat_in text) ≡ true = ap (is_seat sides) (seat-read (length here + 1) e (omega arith)) ∙ seats.0 in
-      let moved : here ++ e ∷ [] ≡ sides.before ++ (added ++ e ∷ []) = append_assoc sides.before added (e ∷ []) in
-      let later : history ≡ sides.before ++ (added ++ e ∷ []) ++ behind =
-      whole ∙ (sym (append_assoc here (e ∷ []) behind) ∙ ap (λ (es : List Entry). es ++ behind) moved) in
-      let rest = complete behind (added ++ e ∷ []) next.behind left later next.seated stop seats.1 workers.1
-      (subst (λ (es : List Entry). CursorsFit sides.beside history es next.behind behind) moved next.fits) in
-      let position : length (sides.before ++ (added ++ e ∷ [])) + 1 ≡ length here + 1 + 1 =
-      ap (λ (es : List Entry). length es + 1) (sym moved) ∙ ap (λ (n : ℕ). n + 1) (one_more here e) in
-      cond-true (is_seat sides (seat_in text)) (option_and_then (λ (w : Went). phase_from sides (added ++ w.entry ∷ []) w.cursors texts)
-      (next_went sides added told text))
-      (reached added told (text ∷ texts)) seat
-      ∙ (ap (option_and_then (λ (w : Went). phase_from sides (added ++ w.entry ∷ []) w.cursors texts)) next.goes
-      ∙ (ap (λ (n : ℕ). phase_from sides (added ++ e ∷ []) next.behind (entry_texts n behind ++ left)) (sym position)
-      ∙ (rest ∙ ap (λ (es : List Entry). Some (record { added = es; left = left })) (append_assoc added (e ∷ []) behind))))
+      let told = all_told_fits sides.beside history here cursors (e ∷ behind, whole) in
+      let next = next_goes added (all_told sides added cursors) e behind whole (told.seated 1 (suc sides.lanes) seated) told.stops
+      (told.forth few (e ∷ behind) fits) seats.0 workers.0 in
+      let within = leb-true e.seat (sides.lanes + sides.workers) (and_parts (leb 1 e.seat) _ seats.0).1 in
+      let seat : is_seat sides (seat_in (entry_line (length here + 1) e)) ≡ true = rw (seat-read (length here + 1) e (omega arith)) seats.0 in
+      let rest = complete behind (added ++ e ∷ []) next.behind left (simp append_assoc (simp append_assoc at whole)) next.seated stop seats.1 workers.1
+      (rw append_assoc at next.fits) in
+      let position : length (sides.before ++ (added ++ e ∷ [])) + 1 ≡ length here + 1 + 1 = omega (arith, length-append {A = Entry}) in
+      rw (seat, next.goes) (rw (position, append_assoc added (e ∷ []) behind) at rest)

@@ -1,10 +1,7 @@
 -- A section that goes alone: it fits, a history stays legal, and its texts are those of its entries and records.
-use Rattle.std.proofs.Common.{ℕ, ◌≡◌, ◌+◌, false, List, [], ◌∷◌, ◌++◌, length, refl, sym, ap, ◌∙◌, append_assoc, length-append, subst, arith, inl, Option, Some, None}
-use Rattle.std.specs.Prelude.{bytes_eq}
-use Rattle.std.specs.Option.{option_and_then}
-use Rattle.std.proofs.lemmas.Option.{option_and_then_some}
+use Rattle.std.proofs.Common.{ℕ, ◌≡◌, ◌+◌, false, List, [], ◌∷◌, ◌++◌, length, refl, sym, ap, ◌∙◌, append_assoc, length-append, arith, inl, Some}
+use Rattle.std.proofs.lemmas.Option.{option_and_then_some, same_Some}
 use Rattle.std.proofs.lemmas.Slice.Eq.{bytes_eq-Decides}
-use Rattle.std.proofs.lemmas.Bool.{cond-true}
 use Rattle.write_history.specs.Print.{entry_line}
 use Rattle.transcript_check.specs.Section.{told_text}
 use Rattle.transcript_check.specs.Checked.{entry_texts, record_texts, texts_behind, Came, line_so, serial_from}
@@ -25,30 +22,26 @@ behind_is : (wanted texts left : List (List ℕ)) → texts_behind wanted texts 
 behind_is [] texts left h = cc
 behind_is (first ∷ wanted) [] left h = absurd (cc)
 behind_is (first ∷ wanted) (text ∷ texts) left h =
-    let parts = if_some (bytes_eq first text) (texts_behind wanted texts) h in
+    let parts = if_some _ _ h in
     λ i. sym (text_is first text parts.0) i ∷ behind_is wanted texts left parts.1 i
 
 is_behind : (wanted left : List (List ℕ)) → texts_behind wanted (wanted ++ left) ≡ Some left
 is_behind [] left = refl
-is_behind (first ∷ wanted) left =
-    cond-true (bytes_eq first first) (texts_behind wanted (wanted ++ left)) None ((bytes_eq-Decides first first).1 refl) ∙ is_behind wanted left
+is_behind (first ∷ wanted) left = rw ((bytes_eq-Decides first first).1 refl) (is_behind wanted left)
 
 -- what was found of a line, and what is left: its record has the text, and the texts of entries begin with its own
 pub went_so : (history : List Entry) (seat number : ℕ) (step : CommandStep) (text : List ℕ) (entries left : List (List ℕ))
     → line_so history seat number step text entries ≡ Some left
     → (text ≡ told_text seat number step.answer) × (entries ≡ entry_texts (length history + 1) step.added ++ left)
 went_so history seat number step text entries left h =
-    let first : List (List ℕ) = entry_texts (length history + 1) step.added in
-    let parts = if_some (bytes_eq (told_text seat number step.answer) text) (texts_behind first entries) h in
-    (sym (text_is (told_text seat number step.answer) text parts.0), behind_is first entries left parts.1)
+    let parts = if_some _ _ h in (sym (text_is _ _ parts.0), behind_is (entry_texts (length history + 1) step.added) entries left parts.1)
 
 -- where they do, that is found
 pub goes_so : (history : List Entry) (seat number : ℕ) (step : CommandStep) (left : List (List ℕ))
     → line_so history seat number step (told_text seat number step.answer) (entry_texts (length history + 1) step.added ++ left) ≡ Some left
 goes_so history seat number step left =
     let text : List ℕ = told_text seat number step.answer in
-    let first : List (List ℕ) = entry_texts (length history + 1) step.added in
-    cond-true (bytes_eq text text) (texts_behind first (first ++ left)) None ((bytes_eq-Decides text text).1 refl) ∙ is_behind first left
+    rw ((bytes_eq-Decides text text).1 refl) (is_behind (entry_texts (length history + 1) step.added) left)
 
 -- the texts of entries one after another
 pub entry_texts-append : (n m : ℕ) (xs ys : List Entry) → m ≡ n + length xs → entry_texts n (xs ++ ys) ≡ entry_texts n xs ++ entry_texts m ys
@@ -59,9 +52,8 @@ entry_texts-append n m (x ∷ xs) ys is = ap (λ (ts : List (List ℕ)). entry_l
 pub texts_on : (start made own : List Entry) (left : List (List ℕ)) → entry_texts (length start + 1) (made ++ own) ++ left
     ≡ entry_texts (length start + 1) made ++ (entry_texts (length (start ++ made) + 1) own ++ left)
 texts_on start made own left =
-    let long = length-append start made in
-    ap (λ (ts : List (List ℕ)). ts ++ left) (entry_texts-append (length start + 1) (length (start ++ made) + 1) made own (omega arith))
-    ∙ append_assoc (entry_texts (length start + 1) made) (entry_texts (length (start ++ made) + 1) own) left
+    rw (entry_texts-append (length start + 1) (length (start ++ made) + 1) made own (omega (arith, length-append start made)))
+    (append_assoc (entry_texts (length start + 1) made) (entry_texts (length (start ++ made) + 1) own) left)
 
 -- What going through the lines of a section makes is a section that fits the history that it leads to. It is checked line by line exactly where
 -- the texts begin with those of its own entries and records
@@ -79,32 +71,27 @@ pub record SerialFits (seat : ℕ) (lines : List Line) (loads : List Loaded) (st
       → (came.history ≡ start ++ own) × (entries ≡ entry_texts (length start + 1) own ++ came.entries) × (texts ≡ record_texts records ++ came.records)
 
 pub serial_fits : (seat : ℕ) (lines : List Line) (loads : List Loaded) (start : List Entry) → SerialFits seat lines loads start
-serial_fits seat [] loads start =
-    let whole : start ≡ start ++ [] = sym (append-nil start) in
-    record {
-      own = [];
-      records = [];
-      high = record { seen = length start; sights = 0 };
-      made = λ earlier i. record { history = whole i; records = sym (append-nil earlier) i };
-      fits = (refl, refl, refl);
-      legal = subst IsLegal whole;
-      goes = λ left rest i. Some (record { history = whole i; entries = left; records = rest });
-      comes = λ entries texts came h. (let is : record { history = start; entries = entries; records = texts } ≡ came = cc in
-          (sym (ap (λ (c : Came). c.history) is) ∙ whole, ap (λ (c : Came). c.entries) is, ap (λ (c : Came). c.records) is));
-    }
+serial_fits seat [] loads start = record {
+  own = [];
+  records = [];
+  high = record { seen = length start; sights = 0 };
+  made = λ earlier. simp append-nil;
+  fits = (refl, refl, refl);
+  legal = λ legal. rw append-nil legal;
+  goes = λ left rest. rw append-nil;
+  comes = λ entries texts came h. rw (sym (same_Some _ came h)) (rw append-nil, refl, refl);
+}
 serial_fits seat (line ∷ lines) loads start =
     let step : CommandStep = step_of (first_load loads) start seat line.number line.command in
     let reply : Record = record { seat = seat; line = line.number; answer = step.answer } in
     let here : List Entry = start ++ step.added in
     let rest = serial_fits seat lines (later_loads loads) here in
-    let on : List (List ℕ) → List (List ℕ) → Option Came = λ left records. serial_from seat here lines (later_loads loads) left records in
     let whole : here ++ rest.own ≡ start ++ (step.added ++ rest.own) = append_assoc start step.added rest.own in
     record {
       own = step.added ++ rest.own;
       records = reply ∷ rest.records;
       high = rest.high;
-      made = λ earlier. (
-          rest.made (earlier ++ reply ∷ []) ∙ λ i. record { history = whole i; records = append_assoc earlier (reply ∷ []) rest.records i });
+      made = λ earlier. simp append_assoc at (rest.made (earlier ++ reply ∷ []));
       fits = record {
         answer = step.answer;
         made = step.added;
@@ -114,27 +101,17 @@ serial_fits seat (line ∷ lines) loads start =
         records_are = refl;
         own_is = refl;
         first = inl (record { start = start; late = omega arith; stands = (rest.own, sym whole); step = refl; seen = refl; sights = omega arith });
-        rest = subst (λ (es : List Entry). SectionFits false es seat (record { seen = length here; sights = 0 }) lines (later_loads loads) rest.records
-            rest.own rest.high) whole rest.fits;
+        rest = rw whole at rest.fits;
       };
-      legal = λ legal. subst IsLegal whole (rest.legal ((step_is seat (first_load loads) start line.number line.command).legal legal));
-      goes = λ left others. (
-          let then : Option (List (List ℕ)) → Option Came = option_and_then (λ (l : List (List ℕ)). on l (record_texts rest.records ++ others)) in
-          ap (λ (es : List (List ℕ)). then (line_so start seat line.number step (told_text seat line.number step.answer) es))
-          (texts_on start step.added rest.own left)
-          ∙ ap then (goes_so start seat line.number step (entry_texts (length here + 1) rest.own ++ left))
-          ∙ rest.goes left others
-          ∙ λ i. Some (record { history = whole i; entries = left; records = others }));
+      legal = λ legal. rw (sym whole) (rest.legal ((step_is seat (first_load loads) start line.number line.command).legal legal));
+      goes = λ left others.
+          rw (texts_on start step.added rest.own left, goes_so start seat line.number step (entry_texts (length here + 1) rest.own ++ left), sym whole)
+          (rest.goes left others);
       comes = λ entries. elim [
         | [] ↦ λ came h. absurd (cc)
-        | text ∷ texts ↦ λ came h. option_and_then_some (λ (l : List (List ℕ)). on l texts) (line_so start seat line.number step text entries) came h
-            (λ left is goes. (
+        | text ∷ texts ↦ λ came h. option_and_then_some _ (line_so start seat line.number step text entries) came h (λ left is goes. (
             let parts = went_so start seat line.number step text entries left is in
-            let later = rest.comes left texts came goes in (
-              later.0 ∙ whole,
-              parts.1 ∙ ap (λ (es : List (List ℕ)). entry_texts (length start + 1) step.added ++ es) later.1
-                  ∙ sym (texts_on start step.added rest.own came.entries),
-              λ i. parts.0 i ∷ later.2 i,
-            )))
+            let later = rest.comes left texts came goes in
+            (later.0 ∙ whole, rw texts_on (rw later.1 at parts.1), λ i. parts.0 i ∷ later.2 i)))
       ];
     }

@@ -1,9 +1,9 @@
 -- What a step adds and tells, by its command.
-use Rattle.std.proofs.Common.{ℕ, ◌≡◌, Bool, true, false, List, [], ◌∷◌, ◌++◌, length, refl, sym, ap, ◌∙◌, subst, append_assoc, length-append, Some, None, ◌⊎◌, inl, inr, eqb}
-use Rattle.std.specs.Prelude.{Option, Result, Ok, Err, option_map, nat_le, if◌then◌else◌}
+use Rattle.std.proofs.Common.{ℕ, ◌≡◌, Bool, true, false, List, [], ◌∷◌, ◌++◌, length, refl, sym, ap, ◌∙◌, append_assoc, length-append, Some, None, ◌⊎◌, inl, inr}
+use Rattle.std.specs.Prelude.{Option, Result, Err, option_map, nat_le}
 use Rattle.std.specs.List.{AllByRecursion}
 use Rattle.std.proofs.lemmas.List.{append-nil}
-use Rattle.std.proofs.lemmas.Bool.{cond-true, cond-false, cond_both, eq-eqb, ne_eqb}
+use Rattle.std.proofs.lemmas.Bool.{cond_both, eq-eqb, ne_eqb}
 use Rattle.write_history.specs.declared.change.Change.TheVariants.{Create}
 use Rattle.write_history.specs.declared.entry.Entry.{Entry}
 use Rattle.write_history.specs.declared.refusal.Refusal.{Refusal}
@@ -11,8 +11,8 @@ use Rattle.write_history.specs.declared.refusal.Refusal.TheVariants as why
 use Rattle.write_history.specs.Path.{is_path}
 use Rattle.write_history.specs.World.{lowest_unready, unready_ids}
 use Rattle.write_history.specs.Effect.{max_entries}
-use Rattle.write_history.specs.Fold.{ListRefusal, fold, list_refusal, refusal_or, IsLegal}
-use Rattle.write_history.specs.Settle.{Settled, all_settled, refused_for, with_entry, entry_of, intake_of, intake_entry, settled}
+use Rattle.write_history.specs.Fold.{ListRefusal, fold, list_refusal, IsLegal}
+use Rattle.write_history.specs.Settle.{all_settled, refused_for, with_entry, entry_of, intake_of, intake_entry, settled}
 use Rattle.history_laws.proofs.FoldLemmas.{IsLegal-append}
 use Rattle.history_laws.proofs.SettleLemmas.{settled-over, settled-ends, settled-goes_on, intake_refusal}
 use Rattle.history_laws.proofs.SettledLemmas.{settled_takes, settled_legal}
@@ -25,20 +25,20 @@ use Rattle.transcripts.specs.declared.record.Answer.TheVariants.{Refused, NotTex
 use Rattle.transcripts.specs.Serial.{CommandStep, told, step_unless, create_of, settle_answer, settle_step, answer_of, step_of}
 use Rattle.transcripts.specs.Fits.{made_by}
 use Rattle.query_engine.specs.declared.answer.Finding.{Finding}
-use Rattle.query_engine.specs.Reply.{NoAnswer, no_such_file, not_ready, reply}
+use Rattle.query_engine.specs.Reply.{NoAnswer, not_ready, reply}
 use Rattle.transcript_check.specs.Section.{is_settle}
 use Rattle.transcript_check.proofs.TextLemmas.{at_of}
 
 -- the entries with a seat: one that has it, and one that has another
 pub made_by-own : (seat : ℕ) (e : Entry) (es : List Entry) → e.seat ≡ seat → made_by seat (e ∷ es) ≡ e ∷ made_by seat es
-made_by-own seat e es is = cond-true (eqb e.seat seat) (e ∷ made_by seat es) (made_by seat es) (eq-eqb e.seat seat is)
+made_by-own seat e es is = rw (eq-eqb e.seat seat is)
 
 pub made_by-other : (seat : ℕ) (e : Entry) (es : List Entry) → (e.seat ≡ seat → ⊥) → made_by seat (e ∷ es) ≡ made_by seat es
-made_by-other seat e es other = cond-false (eqb e.seat seat) (e ∷ made_by seat es) (made_by seat es) (ne_eqb e.seat seat other)
+made_by-other seat e es other = rw (ne_eqb e.seat seat other)
 
 pub made_by-all : (seat : ℕ) (es : List Entry) → AllByRecursion (λ (e : Entry). e.seat ≡ seat) es → made_by seat es ≡ es
 made_by-all seat [] own = refl
-made_by-all seat (e ∷ es) own = made_by-own seat e es own.0 ∙ ap (λ (es : List Entry). e ∷ es) (made_by-all seat es own.1)
+made_by-all seat (e ∷ es) own = rw (eq-eqb e.seat seat own.0, made_by-all seat es own.1)
 
 -- the prefix that an answer tells is this one, or it tells none
 abbrev pub TellsAt : List Entry → Answer → Type 0
@@ -62,9 +62,9 @@ pub record IsStep (history : List Entry) (seat : ℕ) (settles : Bool) (step : C
 -- behind that
 pub data SettleGoes (history : List Entry) (seat line : ℕ) : Type 0 where
   over : lowest_unready (fold history) ≡ None → settled history seat line ≡ all_settled → SettleGoes history seat line
-  full : (id : ℕ) (refusal : ListRefusal) → lowest_unready (fold history) ≡ Some id → nat_le max_entries (fold history).entries ≡ true
-      → list_refusal (fold history) (intake_of (fold history) id) ≡ Some refusal → settled history seat line ≡ refused_for why.HistoryFull
-      → SettleGoes history seat line
+  full : (id : ℕ) → lowest_unready (fold history) ≡ Some id → nat_le max_entries (fold history).entries ≡ true
+      → list_refusal (fold history) (intake_of (fold history) id) ≡ Some (record { place = 1; why = why.HistoryFull })
+      → settled history seat line ≡ refused_for why.HistoryFull → SettleGoes history seat line
   goes : (id : ℕ) → lowest_unready (fold history) ≡ Some id → nat_le max_entries (fold history).entries ≡ false
       → list_refusal (fold history) (intake_of (fold history) id) ≡ None
       → settled history seat line
@@ -74,18 +74,16 @@ pub data SettleGoes (history : List Entry) (seat line : ℕ) : Type 0 where
 pub settle_goes : (history : List Entry) (seat line : ℕ) → SettleGoes history seat line
 settle_goes history seat line = by (lowest_unready (fold history)) (nat_le max_entries (fold history).entries) refl refl
   where
-    refusal : (id : ℕ) (is_full : Bool) → lowest_unready (fold history) ≡ Some id → nat_le max_entries (fold history).entries ≡ is_full
-        → list_refusal (fold history) (intake_of (fold history) id) ≡ refusal_or (if is_full then Some why.HistoryFull else None) None
-    refusal id is_full lowest is =
-        intake_refusal (fold history) id lowest ∙ ap (λ (t : Bool). refusal_or (if t then Some why.HistoryFull else None) None) is
-
     by : (o : Option ℕ) (is_full : Bool) → lowest_unready (fold history) ≡ o → nat_le max_entries (fold history).entries ≡ is_full
         → SettleGoes history seat line
     by None is_full lowest is = over lowest (settled-over history seat line lowest)
-    by (Some id) true lowest is = full id _ lowest is (refusal id true lowest is)
-        (settled-ends history seat line id why.HistoryFull lowest (ap (option_map (λ (r : ListRefusal). r.why)) (refusal id true lowest is)))
-    by (Some id) false lowest is = goes id lowest is (refusal id false lowest is)
-        (settled-goes_on history seat line id lowest (refusal id false lowest is))
+    by (Some id) true lowest is =
+        let refused : list_refusal (fold history) (intake_of (fold history) id) ≡ Some (record { place = 1; why = why.HistoryFull }) =
+        intake_refusal (fold history) id lowest ∙ rw is in
+        full id lowest is refused (settled-ends history seat line id why.HistoryFull lowest (ap (option_map (λ (r : ListRefusal). r.why)) refused))
+    by (Some id) false lowest is =
+        let accepted : list_refusal (fold history) (intake_of (fold history) id) ≡ None = intake_refusal (fold history) id lowest ∙ rw is in
+        goes id lowest is accepted (settled-goes_on history seat line id lowest accepted)
 
 module _ (seat : ℕ) where
   -- an answer alone
@@ -94,7 +92,7 @@ module _ (seat : ℕ) where
     own = tt;
     lawful = λ e more h. absurd (cc);
     one = λ other e more h. absurd (cc);
-    legal = λ legal. subst IsLegal (sym (append-nil history)) legal;
+    legal = λ legal. rw append-nil legal;
     nothing = λ h. tells;
     something = λ e more h. absurd (cc);
   }
@@ -104,11 +102,11 @@ module _ (seat : ℕ) where
       → list_refusal (fold history) entry.changes ≡ refusal → IsStep history seat settles (step_unless refusal told_place history entry)
   unless_is history settles None told_place entry own accepted = record {
     own = (own, tt);
-    lawful = λ e more h. (let same : entry ≡ e = cc in subst (λ (x : Entry). list_refusal (fold history) x.changes ≡ None) same accepted);
+    lawful = λ e more h. (let same : entry ≡ e = cc in rw same at accepted);
     one = λ other e more h. cc;
     legal = λ legal. IsLegal-append history entry legal accepted;
     nothing = λ h. absurd (cc);
-    something = λ e more h. ap (λ (n : ℕ). Some n) (sym (length-append history (entry ∷ [])));
+    something = λ e more h. rw length-append;
   }
   unless_is history settles (Some refusal) told_place entry own refused =
       told_is history settles (Refused (length history) (told_place refusal.place) refusal.why) (inr refl)
@@ -122,17 +120,13 @@ module _ (seat : ℕ) where
       → Begins line history entry
   settle_begins line history entry more adds = by (settle_goes history seat line)
     where
-      never : {es : List Entry} → (settled history seat line).added ≡ es → es ≡ [] → Begins line history entry
-      never is none = let both : [] ≡ entry ∷ more = sym none ∙ sym is ∙ adds in absurd (cc)
-
       by : SettleGoes history seat line → Begins line history entry
-      by (over lowest is) = never (ap (λ (s : Settled). s.added) is) refl
-      by (full id refusal lowest is_full refused is) = never (ap (λ (s : Settled). s.added) is) refl
+      by (over lowest is) = let never = rw is at adds in absurd (cc)
+      by (full id lowest is_full refused is) = let never = rw is at adds in absurd (cc)
       by (goes id lowest few accepted is) =
-          let first : Entry = intake_entry history seat line id in
-          let parts : first ∷ (settled (history ++ first ∷ []) seat line).added ≡ entry ∷ more = sym (ap (λ (s : Settled). s.added) is) ∙ adds in
-          let same : first ≡ entry = cc in
-          subst (Begins line history) same (record { lawful = accepted; goes_on = is })
+          let parts = rw is at adds in
+          let same : intake_entry history seat line id ≡ entry = cc in
+          rw (sym same) (record { lawful = accepted; goes_on = is })
 
   -- a settle that takes a file in goes on as it does behind that
   pub settle_on : (line : ℕ) (history : List Entry) (entry : Entry)
@@ -142,10 +136,7 @@ module _ (seat : ℕ) where
         answer = (settle_step (history ++ entry ∷ []) seat line).answer;
       }
   settle_on line history entry goes_on =
-      let later : Settled = settled (history ++ entry ∷ []) seat line in
-      ap (λ (s : Settled). record { added = s.added; answer = settle_answer (length (history ++ s.added)) s.refused }) goes_on
-      ∙ ap (λ (es : List Entry). record { added = entry ∷ later.added; answer = settle_answer (length es) later.refused })
-      (sym (append_assoc history (entry ∷ []) later.added))
+      rw (goes_on, append_assoc history (entry ∷ []) (settled (history ++ entry ∷ []) seat line).added)
 
   settle_told : (at : ℕ) (refusal : Option Refusal) → at_of (settle_answer at refusal) ≡ Some at
   settle_told at None = refl
@@ -160,15 +151,14 @@ module _ (seat : ℕ) where
         lawful = λ e more adds. (settle_begins line history e more adds).lawful;
         one = λ other. absurd (cc);
         legal = settled_legal seat line history (unready_ids (fold history));
-        nothing = λ none. inr (at ∙ ap (λ (es : List Entry). Some (length es)) (ap (λ (es : List Entry). history ++ es) none ∙ append-nil history));
+        nothing = λ none. inr (at ∙ rw (none, append-nil));
         something = λ e more adds. at;
       }
 
   -- what a question is answered tells the prefix
   asked_at : (history : List Entry) (answer : Result Finding NoAnswer) → at_of (answer_of (fold history) (length history) answer) ≡ Some (length history)
-  asked_at history (Ok finding) = refl
-  asked_at history (Err no_such_file) = refl
   asked_at history (Err (not_ready file)) = refl
+  asked_at history answer = refl
 
   created_is : (line : ℕ) (path : List ℕ) (history : List Entry) (load : Loaded) → IsStep history seat false (create_of history seat line path load)
   created_is line path history (loaded.Text content) = unless_is history false _ (λ place. None) (entry_of seat line (Create path content ∷ [])) refl refl
@@ -194,10 +184,10 @@ module _ (seat : ℕ) where
       → settle_step history seat line ≡ record { added = entry ∷ more; answer = answer }
       → settle_step (history ++ entry ∷ []) seat line ≡ record { added = more; answer = answer }
   settle_later line history entry more answer is =
-      let on : CommandStep = settle_step (history ++ entry ∷ []) seat line in
-      let both = sym (settle_on line history entry (settle_begins line history entry more (ap (λ (s : CommandStep). s.added) is)).goes_on) ∙ is in
-      let adds : entry ∷ on.added ≡ entry ∷ more = ap (λ (s : CommandStep). s.added) both in
-      let same : on.added ≡ more = cc in
+      let begins = settle_begins line history entry more (ap (λ (s : CommandStep). s.added) is) in
+      let both = sym (settle_on line history entry begins.goes_on) ∙ is in
+      let adds : entry ∷ (settle_step (history ++ entry ∷ []) seat line).added ≡ entry ∷ more = ap (λ (s : CommandStep). s.added) both in
+      let same : (settle_step (history ++ entry ∷ []) seat line).added ≡ more = cc in
       λ i. record { added = same i; answer = (both i).answer }
 
   -- a settle that adds this entry first is the one behind it with the entry before
@@ -212,8 +202,4 @@ module _ (seat : ℕ) where
   pub settle_steps : (load : Loaded) (history : List Entry) (line : ℕ) (c : Command) → is_settle c ≡ true
       → step_of load history seat line c ≡ settle_step history seat line
   settle_steps load history line command.Settle is = refl
-  settle_steps load history line (command.Change change) is = absurd cc
-  settle_steps load history line (command.Group changes) is = absurd cc
-  settle_steps load history line (command.Load path) is = absurd cc
-  settle_steps load history line (command.Ask query) is = absurd cc
-  settle_steps load history line (command.Soft attempts query) is = absurd cc
+  settle_steps load history line c is = absurd (cc)

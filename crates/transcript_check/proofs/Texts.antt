@@ -1,11 +1,10 @@
 -- A section by the texts of its records: what `SectionFits` says, without what isn't printed.
-use Rattle.std.proofs.Common.{ℕ, ◌≡◌, ◌+◌, ◌≤◌, Bool, true, List, [], ◌∷◌, ◌++◌, length, map, refl, sym, ap, ◌∙◌, subst, arith, ◌⊎◌, inl, inr}
+use Rattle.std.proofs.Common.{ℕ, ◌≡◌, ◌+◌, ◌≤◌, Bool, true, List, [], ◌∷◌, ◌++◌, length, map, refl, sym, ap, rules, ◌⊎◌, inl, inr}
 use Rattle.std.specs.Prelude.{bytes_eq}
 use Rattle.std.proofs.lemmas.Slice.Eq.{bytes_eq-Decides}
 use Rattle.list_laws.specs.Fronts.{IsFront}
 use Rattle.write_history.specs.declared.entry.Entry.{Entry}
 use Rattle.queries.specs.declared.query.Query.{Query}
-use Rattle.transcripts.specs.Sighting.{Sighting}
 use Rattle.script_lang.specs.declared.command.Command.{Command}
 use Rattle.script_lang.specs.declared.command.Command.TheVariants as command
 use Rattle.script_lang.specs.declared.line.Line.{Line}
@@ -74,44 +73,30 @@ pub text_is : (xs ys : List ℕ) → bytes_eq xs ys ≡ true → xs ≡ ys
 text_is xs ys = (bytes_eq-Decides xs ys).0
 
 -- from the records to their texts
-soft_told : (seat number attempts : ℕ) (query : Query) (c : Command) → c ≡ command.Soft attempts query
-    → tells_given_up seat number c (told_text seat number (given_up seat attempts)) ≡ true
-soft_told seat number attempts query c is =
-    subst (λ (d : Command). tells_given_up seat number d (told_text seat number (given_up seat attempts)) ≡ true) (sym is)
-    ((bytes_eq-Decides (told_text seat number (given_up seat attempts)) (told_text seat number (given_up seat attempts))).1 refl)
-
 given_text : {seat : ℕ} {line : Line} {low high : Mark} {made : List Entry} {answer : Answer} → IsGivenUp seat line low made answer high
     → WasGivenUp seat line low.seen made (record_text (record { seat = seat; line = line.number; answer = answer })) high.seen
-given_text {seat} {line} given =
-    let same = ap (told_text seat line.number) given.told ∙ ap (λ (n : ℕ). told_text seat line.number (given_up seat n)) given.allowed in
-    record {
-      told = subst (λ (t : List ℕ). tells_given_up seat line.number line.command t ≡ true) (sym same)
-          (soft_told seat line.number given.attempts given.query line.command given.soft);
-      nothing = given.nothing;
-      between_is = given.seen;
-    }
+given_text {seat} {line} given = record {
+  told = rw (given.soft, given.told)
+      ((bytes_eq-Decides _ _).1 (ap (λ (n : ℕ). told_text seat line.number (given_up seat n)) (sym given.allowed)));
+  nothing = given.nothing;
+  between_is = given.seen;
+}
 
 pub texts_of_section : (beside : Bool) (history : List Entry) (seat : ℕ) (low high : Mark) (lines : List Line) (records : List Record) (own : List Entry)
     → SectionFits beside history seat low lines [] records own high
     → TextsFit beside history seat low.seen lines (map record_text records) own
 texts_of_section beside history seat low high [] records own fits = (ap (map record_text) fits.0, fits.1)
-texts_of_section beside history seat low high (line ∷ lines) records own fits =
-    subst (λ (rs : List Record). TextsFit beside history seat low.seen (line ∷ lines) (map record_text rs) own) (sym fits.records_are) (record {
-      made = fits.made;
-      between = fits.between.seen;
-      made_later = fits.made_later;
-      own_is = fits.own_is;
-      first = elim fits.first [
-        | inl done ↦ inl (record {
-          start = done.start;
-          late = done.late;
-          done = record { answer = fits.answer; stands = done.stands; step = done.step; told = refl };
-          between_is = done.seen;
-        })
-        | inr given ↦ inr (given.0, given_text given.1)
-      ];
-      rest = texts_of_section beside history seat fits.between high lines fits.later fits.made_later fits.rest;
-    })
+texts_of_section beside history seat low high (line ∷ lines) records own fits = rw fits.records_are (record {
+  made = fits.made;
+  between = fits.between.seen;
+  made_later = fits.made_later;
+  own_is = fits.own_is;
+  first = elim fits.first [
+    | inl done ↦ inl (search (rules, done.stands, done.step))
+    | inr given ↦ inr (given.0, given_text given.1)
+  ];
+  rest = texts_of_section beside history seat fits.between high lines fits.later fits.made_later fits.rest;
+})
 
 -- and back: the records can be told so, whatever the sights at the beginning
 pub record RecordsFit (beside : Bool) (history : List Entry) (seat len sights : ℕ) (lines : List Line) (texts : List (List ℕ))
@@ -139,51 +124,19 @@ pub record GaveUp (seat : ℕ) (line : Line) (text : List ℕ) : Type 0 where
 pub gave_up : (seat number : ℕ) (c : Command) (text : List ℕ) → tells_given_up seat number c text ≡ true
     → GaveUp seat (record { number = number; command = c }) text
 gave_up seat number (command.Soft attempts query) text told =
-    record { attempts = attempts; query = query; soft = refl; told = text_is (told_text seat number (given_up seat attempts)) text told }
-gave_up seat number (command.Change change) text told = absurd cc
-gave_up seat number (command.Group changes) text told = absurd cc
-gave_up seat number (command.Load path) text told = absurd cc
-gave_up seat number command.Settle text told = absurd cc
-gave_up seat number (command.Ask query) text told = absurd cc
+    record { attempts = attempts; query = query; soft = refl; told = text_is _ text told }
+gave_up seat number c text told = absurd cc
 
 record_fits : (beside : Bool) (history : List Entry) (seat : ℕ) (line : Line) (len sights : ℕ) (made : List Entry) (text : List ℕ) (between : ℕ)
     → TextFits beside history seat line len made text between → RecordFits beside history seat line len sights made text between
-record_fits beside history seat line len sights made text between (inl late) = record {
-  answer = late.done.answer;
-  later_sights = sights;
-  fits = inl (record {
-    start = late.start;
-    late = late.late;
-    stands = late.done.stands;
-    step = late.done.step;
-    seen = late.between_is;
-    sights = omega arith;
-  });
-  text_is = late.done.told;
-}
+record_fits beside history seat line len sights made text between (inl late) =
+    record { answer = late.done.answer; later_sights = sights; fits = inl (search (rules, late.done.stands, late.done.step)); text_is = late.done.told }
 record_fits beside history seat line len sights made text between (inr (is, given)) =
     let gave : GaveUp seat line text = gave_up seat line.number line.command text given.told in
-    let sighted : Sighting = record { seat = seat; attempts = gave.attempts; before = sights; after = sights + gave.attempts } in
     record {
-      answer = Cancelled sighted;
+      answer = Cancelled (record { seat = seat; attempts = gave.attempts; before = sights; after = sights + gave.attempts });
       later_sights = sights + gave.attempts;
-      fits = inr (
-        is,
-        record {
-          attempts = gave.attempts;
-          query = gave.query;
-          soft = gave.soft;
-          sighted = sighted;
-          told = refl;
-          nothing = given.nothing;
-          seat_is = refl;
-          allowed = refl;
-          before = omega arith;
-          risen = inl (omega arith);
-          seen = given.between_is;
-          sights = refl;
-        },
-      );
+      fits = inr (is, search (rules, gave.soft));
       text_is = gave.told;
     }
 
@@ -198,16 +151,6 @@ section_of_texts beside history seat len sights (line ∷ lines) (text ∷ texts
     record {
       records = record { seat = seat; line = line.number; answer = first.answer } ∷ rest.records;
       high = rest.high;
-      fits = record {
-        answer = first.answer;
-        made = fits.made;
-        between = record { seen = fits.between; sights = first.later_sights };
-        later = rest.records;
-        made_later = fits.made_later;
-        records_are = refl;
-        own_is = fits.own_is;
-        first = first.fits;
-        rest = rest.fits;
-      };
+      fits = search (rules, first.fits, rest.fits, fits.own_is);
       texts_are = λ i. first.text_is i ∷ rest.texts_are i;
     }

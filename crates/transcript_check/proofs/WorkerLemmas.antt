@@ -1,12 +1,11 @@
 -- What workers may make, entry by entry.
-use Rattle.std.proofs.Common.{ℕ, suc, ◌≡◌, ◌≢◌, ◌<◌, true, false, List, [], ◌∷◌, ◌++◌, length, get_or, refl, sym, ap, ◌∙◌, subst, append_assoc, length-append, arith, eqb}
+use Rattle.std.proofs.Common.{ℕ, suc, ◌≡◌, ◌≢◌, ◌<◌, true, false, List, [], ◌∷◌, ◌++◌, length, refl, sym, subst, append_assoc, length-append, arith, eqb, inl, inr}
 use Rattle.std.specs.List.{All, AllPairs}
 use Rattle.std.proofs.Math.Seq.{get_or-append_seam}
 use Rattle.std.proofs.lemmas.List.{append-nil, get_or_append_left}
-use Rattle.std.proofs.lemmas.List.Elements.{All-append, filter-append}
+use Rattle.std.proofs.lemmas.List.Elements.{All-push, filter-append}
 use Rattle.std.proofs.lemmas.List.Quantifiers.{all_pairs_push}
-use Rattle.std.proofs.lemmas.Bool.{false≢true, eqb-true, eq-eqb, both_ways, or_parts, or_from, and_parts, and_from, false_from_ne_true}
-use Rattle.list_laws.proofs.BoolLemmas.{bool_cases}
+use Rattle.std.proofs.lemmas.Bool.{false≢true, cases_Bool, eqb-true, eq-eqb, both_ways, or_parts, and_parts, false_from_ne_true}
 use Rattle.list_laws.proofs.FrontLemmas.{All-cons, filter_more, filter_same}
 use Rattle.write_history.specs.declared.change.Change.{Change}
 use Rattle.write_history.specs.declared.change.Change.TheVariants.{Intake}
@@ -32,54 +31,46 @@ WorkersFrom lanes added [] = Unit {0}
 WorkersFrom lanes added (e ∷ es) = (lanes < e.seat → MayMake added e) × WorkersFrom lanes (added ++ e ∷ []) es
 
 all_seam : {X : Type 0} (P : X → Type 0) (xs : List X) (y : X) (ys : List X) → All P (xs ++ y ∷ ys) → P y
-all_seam P xs y ys all = let long = length-append xs (y ∷ ys) in subst P (get_or-append_seam xs y ys y) (all (length xs) y (omega arith))
+all_seam P xs y ys all = rw (get_or-append_seam xs y ys y) at (all (length xs) y (omega (arith, length-append xs (y ∷ ys))))
 
 pairs_seam : {X : Type 0} (R : X → X → Type 0) (xs : List X) (y : X) (ys : List X) → AllPairs R (xs ++ y ∷ ys) → All (λ x. R x y) xs
 pairs_seam R xs y ys pairs = λ k d less.
-    let long = length-append xs (y ∷ ys) in
-    subst (λ z. R z y) (get_or_append_left xs (y ∷ ys) d k less)
-    (subst (R (get_or (xs ++ y ∷ ys) k d)) (get_or-append_seam xs y ys d) (pairs k (length xs) d less (omega arith)))
+    rw (get_or_append_left xs (y ∷ ys) d k less, get_or-append_seam xs y ys d) at (pairs k (length xs) d less (omega (arith, length-append xs (y ∷ ys))))
 
 -- an entry of a worker among others may be made where it stands
 pub may_make : (added : List Entry) (e : Entry) (es : List Entry) → AreWorkers e.seat (added ++ e ∷ es) → MayMake added e
 may_make added e es workers =
-    let parts : made_by e.seat (added ++ e ∷ es) ≡ made_by e.seat added ++ e ∷ made_by e.seat es =
-    filter-append (λ (x : Entry). eqb x.seat e.seat) added (e ∷ es) ∙ ap (λ (xs : List Entry). made_by e.seat added ++ xs) (made_by-own e.seat e es refl) in
+    let parts : made_by e.seat (added ++ e ∷ es) ≡ made_by e.seat added ++ e ∷ made_by e.seat es = rw (filter-append, made_by-own e.seat e es refl) in
     record {
-      intake = all_seam (IsIntakeBy e.seat) (made_by e.seat added) e (made_by e.seat es) (subst (All (IsIntakeBy e.seat)) parts workers.intakes);
-      anew = pairs_seam (λ (d f : Entry). d.changes ≢ f.changes) (made_by e.seat added) e (made_by e.seat es) (subst AreApart parts workers.apart);
+      intake = all_seam (IsIntakeBy e.seat) _ e _ (rw parts at workers.intakes);
+      anew = pairs_seam (λ (d f : Entry). d.changes ≢ f.changes) _ e _ (rw parts at workers.apart);
     }
 
 pub workers_from : (lanes : ℕ) (added es : List Entry) → ((seat : ℕ) → lanes < seat → AreWorkers seat (added ++ es)) → WorkersFrom lanes added es
 workers_from lanes added [] workers = tt
 workers_from lanes added (e ∷ es) workers = (
   (λ past. may_make added e es (workers e.seat past)),
-  workers_from lanes (added ++ e ∷ []) es (λ seat past. subst (AreWorkers seat) (sym (append_assoc added (e ∷ []) es)) (workers seat past)),
+  workers_from lanes (added ++ e ∷ []) es (λ seat past. rw append_assoc (workers seat past)),
 )
 
 -- one entry more that the worker may make
 workers_push : (seat : ℕ) (added : List Entry) (e : Entry) → AreWorkers seat added → (e.seat ≡ seat → MayMake added e) → AreWorkers seat (added ++ e ∷ [])
-workers_push seat added e workers may = bool_cases (eqb e.seat seat) (λ b. AreWorkers seat (added ++ e ∷ []))
-    (λ yes. (let own = eqb-true e.seat seat yes in let make = may own in
-    let grown : made_by seat (added ++ e ∷ []) ≡ made_by seat added ++ e ∷ [] = filter_more (λ (x : Entry). eqb x.seat seat) added e yes in
-    let is_one : IsIntakeBy seat e = subst (λ (n : ℕ). IsIntakeBy n e) own make.intake in
-    let anew : All (λ (d : Entry). d.changes ≢ e.changes) (made_by seat added) =
-    subst (λ (n : ℕ). All (λ (d : Entry). d.changes ≢ e.changes) (made_by n added)) own make.anew in
-    record {
-      intakes = subst (All (IsIntakeBy seat)) (sym grown) (All-append (IsIntakeBy seat) (made_by seat added) (e ∷ []) workers.intakes
-          (All-cons (IsIntakeBy seat) e [] is_one (λ k d less. absurd (omega arith))));
-      apart = subst AreApart (sym grown) (all_pairs_push (λ (d f : Entry). d.changes ≢ f.changes) (made_by seat added) e workers.apart anew);
-    }))
-    (λ other. (let same : made_by seat (added ++ e ∷ []) ≡ made_by seat added = filter_same (λ (x : Entry). eqb x.seat seat) added e other in
-    record { intakes = subst (All (IsIntakeBy seat)) (sym same) workers.intakes; apart = subst AreApart (sym same) workers.apart }))
+workers_push seat added e workers may = elim (cases_Bool (eqb e.seat seat)) [
+  | inl own ↦ (let is = eqb-true e.seat seat own in
+      let grown = filter_more (λ (x : Entry). eqb x.seat seat) added e own in
+      record {
+        intakes = rw grown (All-push (IsIntakeBy seat) _ e workers.intakes (subst (λ (n : ℕ). IsIntakeBy n e) is (may is).intake));
+        apart = rw grown (all_pairs_push (λ (d f : Entry). d.changes ≢ f.changes) _ e workers.apart (rw is at (may is).anew));
+      })
+  | inr other ↦ (let same = filter_same (λ (x : Entry). eqb x.seat seat) added e other in
+      record { intakes = rw same workers.intakes; apart = rw same workers.apart })
+]
 
 pub workers_all : (lanes : ℕ) (added es : List Entry) → ((seat : ℕ) → lanes < seat → AreWorkers seat added) → WorkersFrom lanes added es
     → (seat : ℕ) → lanes < seat → AreWorkers seat (added ++ es)
-workers_all lanes added [] workers from seat past = subst (AreWorkers seat) (sym (append-nil added)) (workers seat past)
-workers_all lanes added (e ∷ es) workers from seat past =
-    subst (AreWorkers seat) (append_assoc added (e ∷ []) es)
-    (workers_all lanes (added ++ e ∷ []) es
-    (λ other beyond. workers_push other added e (workers other beyond) (λ own. from.0 (subst (λ (n : ℕ). lanes < n) (sym own) beyond))) from.1 seat past)
+workers_all lanes added [] workers from seat past = rw append-nil (workers seat past)
+workers_all lanes added (e ∷ es) workers from seat past = rw (sym (append_assoc added (e ∷ []) es)) (workers_all lanes (added ++ e ∷ []) es
+    (λ other beyond. workers_push other added e (workers other beyond) (λ own. from.0 (omega arith))) from.1 seat past)
 
 -- who has made nothing has made no two things that are the same
 pub workers_none : (seat : ℕ) → AreWorkers seat []
@@ -88,26 +79,23 @@ workers_none seat = record { intakes = λ k d less. absurd (omega arith); apart 
 -- whether an intake was made
 intake_is : (file stamp : ℕ) (changes : List Change) → is_intake_at file stamp changes ≡ true → changes ≡ Intake file stamp ∷ []
 intake_is file stamp (Intake other at ∷ []) h =
-    let parts = and_parts (eqb other file) (eqb at stamp) h in
-    λ i. Intake (eqb-true other file parts.0 i) (eqb-true at stamp parts.1 i) ∷ []
+    let parts = and_parts _ _ h in rw (eqb-true other file parts.0, eqb-true at stamp parts.1)
 intake_is file stamp changes h = absurd (false≢true h)
-
-intake_same : (file stamp : ℕ) → is_intake_at file stamp (Intake file stamp ∷ []) ≡ true
-intake_same file stamp = and_from (eqb file file) (eqb stamp stamp) (eq-eqb file file refl) (eq-eqb stamp stamp refl)
 
 pub taken_anew : (file stamp : ℕ) (entries : List Entry) → has_taken file stamp entries ≡ false
     → All (λ (d : Entry). d.changes ≢ Intake file stamp ∷ []) entries
 taken_anew file stamp [] none = λ k d less. absurd (omega arith)
 taken_anew file stamp (e ∷ entries) none =
-    let parts = or_parts (is_intake_at file stamp e.changes) (has_taken file stamp entries) none in
+    let parts = or_parts _ _ none in
     All-cons (λ (d : Entry). d.changes ≢ Intake file stamp ∷ []) e entries
-    (λ same. both_ways (is_intake_at file stamp e.changes) parts.0
-    (subst (λ (cs : List Change). is_intake_at file stamp cs ≡ true) (sym same) (intake_same file stamp)))
+    (λ same. both_ways (is_intake_at file stamp e.changes) parts.0 (rw (same, eq-eqb file file refl, eq-eqb stamp stamp refl)))
     (taken_anew file stamp entries parts.1)
 
 pub not_taken : (file stamp : ℕ) (entries : List Entry) → All (λ (d : Entry). d.changes ≢ Intake file stamp ∷ []) entries
     → has_taken file stamp entries ≡ false
 not_taken file stamp [] anew = refl
-not_taken file stamp (e ∷ entries) anew = or_from (is_intake_at file stamp e.changes) (has_taken file stamp entries)
-    (false_from_ne_true (is_intake_at file stamp e.changes) (λ h. anew 0 e (omega arith) (intake_is file stamp e.changes h)))
-    (not_taken file stamp entries (λ k d less. anew (suc k) d (omega arith)))
+not_taken file stamp (e ∷ entries) anew =
+    rw (
+      false_from_ne_true _ (λ h. anew 0 e (omega arith) (intake_is file stamp e.changes h)),
+      not_taken file stamp entries (λ k d less. anew (suc k) d (omega arith)),
+    )

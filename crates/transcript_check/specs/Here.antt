@@ -79,10 +79,7 @@ pub record HasEnteredSo (world after : World) (seat line : ℕ) (changes : List 
 abbrev pub HasChangedBy : World → World → ℕ → ℕ → Command → List ℕ → List ℕ → Bool → Type 0
 HasChangedBy world after seat line (command.Change change) told text went = HasEnteredSo world after seat line (change ∷ []) told text went
 HasChangedBy world after seat line (command.Group changes) told text went = HasEnteredSo world after seat line changes told text went
-HasChangedBy world after seat line (command.Load path) told text went = went ≡ false
-HasChangedBy world after seat line command.Settle told text went = went ≡ false
-HasChangedBy world after seat line (command.Ask query) told text went = went ≡ false
-HasChangedBy world after seat line (command.Soft attempts query) told text went = went ≡ false
+HasChangedBy world after seat line command told text went = went ≡ false
 
 -- the same of a line
 pub record HasChanged (world after : World) (seat : ℕ) (line : Line) (told text : List ℕ) (went : Bool) : Type 0 where

@@ -11,7 +11,7 @@ pub mod Meaning
 pub mod Here
 pub mod Numbers
 pub mod Going
-pub mod Taken
+pub mod Intakes
 pub mod Sides
 pub mod Alone
 -- What this cites from below: what is read for loads, and which bytes are a transcript

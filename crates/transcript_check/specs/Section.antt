@@ -41,11 +41,7 @@ given_up seat attempts = Cancelled (record { seat = seat; attempts = attempts; b
 -- whether a command is a soft question, and this is the text of its record where it was given up
 abbrev pub tells_given_up : ℕ → ℕ → Command → List ℕ → Bool
 tells_given_up seat number (command.Soft attempts query) text = bytes_eq (told_text seat number (given_up seat attempts)) text
-tells_given_up seat number (command.Change change) text = false
-tells_given_up seat number (command.Group changes) text = false
-tells_given_up seat number (command.Load path) text = false
-tells_given_up seat number command.Settle text = false
-tells_given_up seat number (command.Ask query) text = false
+tells_given_up seat number command text = false
 
 -- Whether the record of a line with this text can stand here: the line adds nothing here and is answered so, or another section runs beside
 -- and this tells that the line was given up
@@ -77,11 +73,7 @@ pub record Made : Type 0 where
 -- whether a command is a settle
 abbrev pub is_settle : Command → Bool
 is_settle command.Settle = true
-is_settle (command.Change change) = false
-is_settle (command.Group changes) = false
-is_settle (command.Load path) = false
-is_settle (command.Ask query) = false
-is_settle (command.Soft attempts query) = false
+is_settle command = false
 
 -- Of what a line adds here the first entry: behind it a settle is on its way, and any other line is done where its record has this text
 abbrev pub made_by_line : Bool → Bool → (on_the_way done : Cursor) → List Entry → Option Made

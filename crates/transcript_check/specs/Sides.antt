@@ -10,7 +10,7 @@ use Rattle.transcript_check.specs.Reading.{seat_in}
 use Rattle.transcript_check.specs.Section.{Cursor}
 use Rattle.transcript_check.specs.Phase.{Sides, Went, is_busy, section_went, next_went}
 use Rattle.transcript_check.specs.Here.{goes_in}
-use Rattle.transcript_check.specs.Taken.{Taking, is_taking, is_among, AreKept}
+use Rattle.transcript_check.specs.Intakes.{Taking, is_taking, is_among, AreKept}
 
 -- an entry went in where its text is this, and all sections stand behind it
 abbrev pub IsGoneAs : Option Went → List Entry → World → List Cursor → List ℕ → Bool → Type 0

@@ -7,6 +7,7 @@ mod block;
 pub mod blocks;
 mod cursor;
 mod entering;
+mod intakes;
 mod judging;
 mod lanes;
 pub mod laws;
@@ -17,7 +18,6 @@ mod result;
 mod round;
 mod sides;
 mod stop;
-mod taken;
 mod told;
 mod workers;
 

@@ -9,10 +9,10 @@ ghost use Rattle.transcript_check.specs.Stops.{first_number, left_or, waits_at};
 
 use crate::block::Block;
 use crate::cursor::Cursor;
+use crate::intakes::Intakes;
 use crate::numbers::seat_here;
 use crate::round::{is_busy, tell_all, waiting};
 use crate::stop::{LineStop, SideStop};
-use crate::taken::Taken;
 use crate::workers::worker_goes;
 use replay::Replay;
 use script_lang::Line;
@@ -35,7 +35,7 @@ pub(crate) fn reach<'a>(
         (λ left. HasReached beside lanes workers cursors.old entries.now replay.old replay.new
         (result_map_both (λ l. l.now) (λ stop. stop) left)) }
 {
-    let mut taken = Taken::new(alloc);
+    let mut taken = Intakes::new(alloc);
     tell_all(alloc, replay, beside, cursors)?;
     for (place, text) in entries.iter().enumerate() {
         let Some(seat) = seat_here(text, lanes + workers) else {
@@ -91,7 +91,7 @@ fn first_number(lines: &[Line]) -> u32
 fn seat_goes(
     alloc: Global,
     replay: &mut Replay,
-    taken: &mut Taken,
+    taken: &mut Intakes,
     lanes: u32,
     seat: u32,
     cursors: &mut [Cursor<'_>],

@@ -6,9 +6,9 @@ ghost use Rattle.transcript_check.specs.Sides.{HasWorkerGone, IsNamed};
 use crate::block::Block;
 use crate::cursor::Cursor;
 use crate::entering::take_so;
+use crate::intakes::Intakes;
 use crate::numbers::file_in;
 use crate::round::is_busy;
-use crate::taken::Taken;
 use history_laws::laws::ids_are_places;
 use replay::Replay;
 use std::alloc::{AllocError, Global};
@@ -18,7 +18,7 @@ use std::alloc::{AllocError, Global};
 pub(crate) fn worker_goes(
     alloc: Global,
     replay: &mut Replay,
-    taken: &mut Taken,
+    taken: &mut Intakes,
     seat: u32,
     cursors: &[Cursor<'_>],
     text: &Block<'_>,

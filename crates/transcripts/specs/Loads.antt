@@ -33,11 +33,7 @@ pub record IsRead (files : Option TreeFiles) (path : List ℕ) (load : Loaded) :
 -- the paths for which a command asks the tree: that of a load, where it is lawful
 abbrev pub paths_asked : Command → List (List ℕ)
 paths_asked (command.Load path) = if is_path path then path ∷ [] else []
-paths_asked (command.Change change) = []
-paths_asked (command.Group changes) = []
-paths_asked command.Settle = []
-paths_asked (command.Ask query) = []
-paths_asked (command.Soft attempts query) = []
+paths_asked command = []
 
 -- the paths for which lines ask the tree, in their order
 abbrev pub paths_of : List Line → List (List ℕ)

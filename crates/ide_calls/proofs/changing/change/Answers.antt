@@ -1,4 +1,4 @@
-use Rattle.ide_calls.proofs.PlanLemmas.{refused_one}
+use Rattle.ide_calls.proofs.ChangeLemmas.{refused_one}
 use Rattle.ide_calls.proofs.changing.change.Goals as goal
 
 pub returns-in-Err-Refused-clause-refused : goal.returns-in-Err-Refused-clause-refused

@@ -1,5 +1,5 @@
 use Rattle.lock_laws.proofs.AdvanceLemmas.{advances_on}
-use Rattle.ide_calls.proofs.PlanLemmas.{accepted_within, refused_within}
+use Rattle.ide_calls.proofs.ChangeLemmas.{accepted_within, refused_within}
 use Rattle.ide_calls.proofs.changing.change_group.Goals as goal
 
 pub returns-clause-accepted : goal.returns-clause-accepted

@@ -1,14 +1,13 @@
 use Rattle.std.proofs.Common.{rules}
 use Rattle.action_lock.specs.Passes.{view_of}
-use Rattle.ide_calls.proofs.AcceptedLemmas.{has_accepted, has_left, one_made}
-use Rattle.ide_calls.proofs.PlanLemmas.{is_refused}
+use Rattle.ide_calls.proofs.ChangeLemmas.{has_accepted, has_left, one_made, is_refused}
 use Rattle.ide_calls.proofs.changing.change_with_intent.Goals as goal
 
 pub returns-in-Ok-clause-accepted : goal.returns-in-Ok-clause-accepted
 returns-in-Ok-clause-accepted g c =
     let planned = c.in_ok-planned.ensures.ok in
     has_accepted _ (view_of c.plan.new.pass) _ c.args.entry.seat _ _ _ c.requires.own
-    planned.found planned.is.makes.accepted planned.is.is_at c.in-Ok.ensures.ok c.in-Ok.ensures.legal c.in-Ok.ensures.advances
+    planned.read planned.is.makes.accepted planned.is.is_at c.in-Ok.ensures.ok c.in-Ok.ensures.legal c.in-Ok.ensures.advances
 
 pub returns-in-Ok-clause-unready : goal.returns-in-Ok-clause-unready
 returns-in-Ok-clause-unready g c =
@@ -20,4 +19,4 @@ returns-in_err-planned-clause-refused g c =
     search (rules, refused)
 
 pub returns-in-Ok-clause-one : goal.returns-in-Ok-clause-one
-returns-in-Ok-clause-one g c = one_made _ (view_of c.plan.new.pass) _ c.args.entry c.in_ok-planned.ensures.ok.found c.in-Ok.ensures.ok
+returns-in-Ok-clause-one g c = one_made _ (view_of c.plan.new.pass) _ c.args.entry c.in_ok-planned.ensures.ok.read c.in-Ok.ensures.ok

@@ -1,7 +1,8 @@
-use Rattle.std.proofs.Common.{rules, ◌≡◌, ◌∙◌, Some}
+use Rattle.std.proofs.Common.{rules, ◌≡◌, ◌∙◌, Some, sym}
 use Rattle.ide_world.specs.Task.{IsOfWorld}
 use Rattle.ide_calls.specs.Choice.{task_of_job}
-use Rattle.ide_calls.proofs.AheadLemmas.{goes_not, made_of_job, unready_task}
+use Rattle.ide_calls.proofs.AheadLemmas.{goes_not, made_of_job}
+use Rattle.ide_calls.proofs.ChoiceLemmas.{has_task}
 use Rattle.ide_calls.proofs.lowest.make_lowest.Goals as goal
 
 pub returns-in-Some-2-clause-made : goal.returns-in-Some-2-clause-made
@@ -9,11 +10,11 @@ returns-in-Some-2-clause-made g c =
     let world = c.args.state.now.world in
     let id = c.args.id in
     let work : Some (task_of_job c.in-Some.job) ≡ _ = rw c.in-Some.is at c.in_ok-job.ensures.task in
-    let of_file = unready_task world id (task_of_job c.in-Some.job) (c.unready_files_have_an_order.ensures.lowest world id c.requires.unready) work in
+    let of_file = has_task world id (task_of_job c.in-Some.job) work in
     let of_world : IsOfWorld world (task_of_job c.in-Some.job) = search rules in
     record {
-      same_id = c.make_from.ensures.file ∙ of_file.0;
-      same_stamp = c.make_from.ensures.stamp ∙ of_file.1;
+      same_id = c.make_from.ensures.file ∙ of_file.named;
+      same_stamp = c.make_from.ensures.stamp ∙ sym of_file.stamped;
       of_world = made_of_job world c.in-Some.job c.make_from.result c.make_from.ensures.file c.make_from.ensures.kind c.make_from.ensures.stamp
           c.make_from.ensures.text of_world;
     }

@@ -1,9 +1,7 @@
-use Rattle.std.proofs.Common.{◌≡◌, ◌<◌, ◌^◌, List, ℕ, true, length, refl, subst, rules}
-use Rattle.java_tokens.specs.Words.{AreInOrder, words_of}
+use Rattle.std.proofs.Common.{◌<◌, ◌^◌, List, ℕ, length, refl, subst, rules}
 use Rattle.decl_parser.specs.Listing.{listing_of}
 use Rattle.stub_codec.specs.Spelling.{IsStubBytes}
 use Rattle.index_store.specs.Data.{data_of}
-use Rattle.index_store.specs.Lawful.{are_spelled}
 use Rattle.index_store.proofs.DataLemmas.{listing_inside, words_lawful}
 use Rattle.index_store.proofs.spelled.java_data.Goals as goal
 
@@ -13,16 +11,14 @@ returns-clause-lawful c =
     let text = c.args.text.now in
     let coded : IsStubBytes (listing_of text) c.in_ok-listed.listed.items = search rules in
     let short : length c.in_ok-listed.listed.items < 2 ^ 32 = search rules in
-    let ordered : AreInOrder (words_of text) = search rules in
-    let few : length (words_of text) < 2 ^ 32 = search rules in
-    let named : are_spelled (words_of text) ≡ true = search rules in (
+    let identifiers = c.identifiers_are_words.ensures.token in (
       record {
         lawful = coded.lawful;
         scalars = coded.scalars;
-        inside = listing_inside c.identifiers_are_words.ensures.token text (c.names_are_identifiers.ensures text);
+        inside = listing_inside identifiers text (c.names_are_identifiers.ensures text);
         short = subst (λ (l : List ℕ). length l < 2 ^ 32) coded.spelled short;
       },
-      words_lawful c.identifiers_are_words.ensures.token text ordered named,
-      few,
+      words_lawful identifiers text (search rules) (search rules),
+      search rules,
       refl,
     )

@@ -9,7 +9,10 @@ use Rattle.index_store.proofs.store_reading.read_store.Goals as goal
 
 pub returns-clause-only : goal.returns-clause-only
 returns-clause-only c = λ entries is.
-    let bytes = c.args.bytes.now in (
-      IfOk-weaker c.checked_store.result (λ store. IsStoreBytes (rows_of store) bytes) (λ store. store ≡ entries) (λ store this. one_list c.reading_is_exact.ensures.again bytes store entries this is) c.checked_store.ensures.read,
-      IfErr-weaker c.checked_store.result (IsRefusalOf bytes) (λ refusal. refusal ≡ OutOfMemory) (λ refusal refused. no_refusal c.reading_is_exact.ensures.again bytes entries refusal is refused) c.checked_store.ensures.refused,
+    let bytes = c.args.bytes.now in
+    let again = c.reading_is_exact.ensures.again in (
+      IfOk-weaker c.checked_store.result (λ store. IsStoreBytes (rows_of store) bytes) (λ store. store ≡ entries)
+          (λ store this. one_list again bytes store entries this is) c.checked_store.ensures.read,
+      IfErr-weaker c.checked_store.result (IsRefusalOf bytes) (λ refusal. refusal ≡ OutOfMemory)
+          (λ refusal refused. no_refusal again bytes entries refusal is refused) c.checked_store.ensures.refused,
     )

@@ -8,5 +8,7 @@ one_text read this that e f = cc
 
 pub returns-in-Ok : goal.returns-in-Ok
 returns-in-Ok c =
-    let same : c.as_bytes.result.now ≡ encode_utf8_all c.args.name.now = search rules in
-    one_text (text_of (encode_utf8_all c.args.name.now)) c.in-Ok.text c.args.name.now (subst (λ bytes. text_of bytes ≡ Ok c.in-Ok.text) same c.in-Ok.ensures.ok) (c.texts_are_read_back.ensures c.args.name.now c.requires)
+    let name = c.args.name.now in
+    let same : c.as_bytes.result.now ≡ encode_utf8_all name = search rules in
+    one_text (text_of (encode_utf8_all name)) c.in-Ok.text name (subst (λ bytes. text_of bytes ≡ Ok c.in-Ok.text) same c.in-Ok.ensures.ok)
+    (c.texts_are_read_back.ensures name c.requires)

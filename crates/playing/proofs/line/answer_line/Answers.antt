@@ -1,42 +1,30 @@
-use Rattle.std.proofs.Common.{◌≡◌, true, refl, ap, sym, subst, ◌∙◌}
-use Rattle.std.specs.List.{list_all}
-use Rattle.write_history.specs.Changes.{is_edit}
+use Rattle.std.proofs.Common.{refl, ap, sym, ◌∙◌}
 use Rattle.script_lang.specs.declared.command.Command.TheVariants as command
 use Rattle.playing.proofs.AnsweredLemmas.{line_done, line_softly}
 use Rattle.playing.proofs.line.answer_line.Goals as goal
 
 pub do_group-requires-clause-edits : goal.do_group-requires-clause-edits
-do_group-requires-clause-edits g c =
-    subst (λ changes. list_all is_edit changes ≡ true) (sym c.in_ok-copy-in-Group.ensures) (rw c.in-Group.is at c.requires.command).1
+do_group-requires-clause-edits g c = rw c.in_ok-copy-in-Group.ensures (rw c.in-Group.is at c.requires.command).1
 
 pub returns-in_ok-copy-in-Change-clause-answer : goal.returns-in_ok-copy-in-Change-clause-answer
 returns-in_ok-copy-in-Change-clause-answer g c =
-    line_done c.args.beside c.args.line.now c.args.load.now _ _ (command.Change c.in_ok-copy-in-Change.field-0) _
-    (c.in-Change.is ∙ ap command.Change (sym c.in_ok-copy-in-Change.ensures)) refl c.do_change.ensures.answer
+    line_done _ _ _ _ _ _ _ (c.in-Change.is ∙ ap command.Change (sym c.in_ok-copy-in-Change.ensures)) refl c.do_change.ensures.answer
 
 pub returns-in_ok-copy-in-Group-clause-answer : goal.returns-in_ok-copy-in-Group-clause-answer
 returns-in_ok-copy-in-Group-clause-answer g c =
-    line_done c.args.beside c.args.line.now c.args.load.now _ _ (command.Group c.in_ok-copy-in-Group.field-0) _
-    (c.in-Group.is ∙ ap command.Group (sym c.in_ok-copy-in-Group.ensures)) refl c.do_group.ensures.answer
+    line_done _ _ _ _ _ _ _ (c.in-Group.is ∙ ap command.Group (sym c.in_ok-copy-in-Group.ensures)) refl c.do_group.ensures.answer
 
 pub returns-in-Load-clause-answer : goal.returns-in-Load-clause-answer
-returns-in-Load-clause-answer g c =
-    line_done c.args.beside c.args.line.now c.args.load.now _ _ (command.Load c.in-Load.path) _ c.in-Load.is refl c.do_load.ensures.answer
+returns-in-Load-clause-answer g c = line_done _ _ _ _ _ _ _ c.in-Load.is refl c.do_load.ensures.answer
 
 pub returns-in-Settle-clause-answer : goal.returns-in-Settle-clause-answer
-returns-in-Settle-clause-answer g c =
-    line_done c.args.beside c.args.line.now c.args.load.now _ _ command.Settle _ c.in-Settle.is refl c.do_settle.ensures.answer
+returns-in-Settle-clause-answer g c = line_done _ _ _ _ _ _ _ c.in-Settle.is refl c.do_settle.ensures.answer
 
 pub returns-in-Ask-clause-answer : goal.returns-in-Ask-clause-answer
-returns-in-Ask-clause-answer g c =
-    line_done c.args.beside c.args.line.now c.args.load.now _ _ (command.Ask c.in-Ask.query) _ c.in-Ask.is refl c.do_ask.ensures.answer
+returns-in-Ask-clause-answer g c = line_done _ _ _ _ _ _ _ c.in-Ask.is refl c.do_ask.ensures.answer
 
 pub returns-in-Soft-clause-answer : goal.returns-in-Soft-clause-answer
-returns-in-Soft-clause-answer g c =
-    line_softly c.args.beside c.args.line.now c.args.load.now _ _ c.in-Soft.attempts c.in-Soft.query _ c.if-beside.true
-    c.in-Soft.is c.do_soft_ask.ensures.answer
+returns-in-Soft-clause-answer g c = line_softly _ _ _ _ _ _ _ _ c.if-beside.true c.in-Soft.is c.do_soft_ask.ensures.answer
 
 pub returns-in-Soft-2-clause-answer : goal.returns-in-Soft-2-clause-answer
-returns-in-Soft-2-clause-answer g c =
-    line_done c.args.beside c.args.line.now c.args.load.now _ _ (command.Soft _ c.in-Soft-2.query) _
-    c.in-Soft-2.is c.if-beside.false c.do_ask-in-Soft-2.ensures.answer
+returns-in-Soft-2-clause-answer g c = line_done _ _ _ _ _ _ _ c.in-Soft-2.is c.if-beside.false c.do_ask-in-Soft-2.ensures.answer

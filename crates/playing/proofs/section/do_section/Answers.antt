@@ -1,17 +1,14 @@
-use Rattle.std.proofs.Common.{rules, arith, refl, sym, subst}
+use Rattle.std.proofs.Common.{rules, arith, refl}
 use Rattle.lock_laws.proofs.AdvanceLemmas.{advances_not, advances_on}
 use Rattle.index_workers.specs.Passes.{ide_view}
-use Rattle.playing.proofs.SectionLemmas.{IsUnderWay, section_begins, section_turn, section_over}
+use Rattle.playing.proofs.SectionLemmas.{section_begins, section_turn, section_over}
 use Rattle.playing.proofs.section.do_section.Goals as goal
 
 pub loop-line-init : goal.loop-line-init
 loop-line-init g c = record {
   pass = record { rests = c.requires.pass; same = search rules; advances = advances_not (ide_view c.args.pass.now) };
   nothing = refl;
-  under_way = subst (λ records. IsUnderWay c.args.beside c.args.seat c.args.lines.now c.args.loads.now
-      (ide_view c.args.pass.now) (ide_view c.args.pass.now) c.args.records.now records c.args.lines.now c.args.loads.now)
-      (sym c.reserve.ensures)
-      (section_begins c.args.beside c.args.seat c.args.lines.now c.args.loads.now (ide_view c.args.pass.now) c.args.records.now);
+  under_way = rw c.reserve.ensures (section_begins c.args.beside c.args.seat c.args.lines.now c.args.loads.now (ide_view c.args.pass.now) c.args.records.now);
 }
 
 pub loop-line-preserved : goal.loop-line-preserved
@@ -25,12 +22,9 @@ loop-line-preserved g c =
         advances = advances_on _ _ _ before.pass.advances done.pass.advances;
       };
       nothing = before.nothing;
-      under_way = section_turn c.args.beside c.args.seat c.args.lines.now c.args.loads.now _ _ _ _ _ _ c.loop-line.line-index _ _ _ _
-          c.requires.seat c.loop-line-test.true c.line-item.is
+      under_way = section_turn _ _ _ _ _ _ _ _ _ _ c.loop-line.line-index _ _ _ _ c.requires.seat c.loop-line-test.true c.line-item.is
           c.first_load-load.ensures c.later_loads-left.ensures before.pass.advances done.pass.advances before.under_way done.answered;
     }
 
 pub returns-clause-done : goal.returns-clause-done
-returns-clause-done g c =
-    section_over c.args.beside c.args.seat c.args.lines.now c.args.loads.now _ _ _ _ c.loop-line.line-index _ (omega (arith, c.loop-line-test.false))
-    c.loop-line.invariant.under_way
+returns-clause-done g c = section_over _ _ _ _ _ _ _ _ c.loop-line.line-index _ (omega (arith, c.loop-line-test.false)) c.loop-line.invariant.under_way

@@ -10,5 +10,5 @@ abbrev pub invariant-loop-line : goal.invariant-loop-line
 invariant-loop-line g l = record {
   pass : Continues l.ide l.fn.pass l.pass;
   nothing : l.nothing ≡ Nothing;
-  under_way : IsUnderWay l.beside l.seat l.lines l.loads (ide_view l.fn.pass) (ide_view l.pass) l.fn.records l.records (drop l.line-index l.lines) l.left;
+  under_way : IsUnderWay l.beside l.seat l.lines l.loads (ide_view l.fn.pass) l.fn.records (ide_view l.pass) l.records (drop l.line-index l.lines) l.left;
 }

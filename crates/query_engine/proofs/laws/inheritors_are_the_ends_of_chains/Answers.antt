@@ -1,5 +1,4 @@
-use Rattle.query_engine.proofs.LevelLemmas.{inheritors_sound, inheritors_whole}
-use Rattle.query_engine.proofs.OrderLemmas.{inheritors_ordered}
+use Rattle.query_engine.proofs.LevelLemmas.{inheritors_sound, inheritors_whole, inheritors_ordered}
 use Rattle.query_engine.proofs.TypesLemmas.{types_sorted}
 use Rattle.query_engine.specs.Reply.{types_of}
 use Rattle.query_engine.proofs.laws.inheritors_are_the_ends_of_chains.Goals as goal

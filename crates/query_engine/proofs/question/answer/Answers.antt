@@ -1,94 +1,88 @@
-use Rattle.std.proofs.Common.{None, refl, sym, subst}
+use Rattle.std.proofs.Common.{◌≡◌, List, ℕ, Bool, None, refl, sym, subst}
 use Rattle.dumb_mode.specs.declared.kind.FileKind.TheVariants.{Java, Properties}
 use Rattle.property_index.specs.Keys.{places_of_key}
-use Rattle.ide_world.specs.Found.{stubs_in, masks_in}
+use Rattle.stub_tree.specs.declared.stub.Stub.{Stub}
+use Rattle.write_history.specs.World.{World, lowest_unready}
+use Rattle.ide_world.specs.Found.{found, stubs_in, masks_in}
 use Rattle.query_engine.specs.declared.answer.Finding.TheVariants.{Rows, Words, Keys}
 use Rattle.query_engine.specs.Fits.{is_class, has_super, is_method}
-use Rattle.query_engine.specs.Reply.{row_of, place_row}
+use Rattle.query_engine.specs.Given.{declared_reply}
+use Rattle.query_engine.specs.Reply.{of_world, place_row, row_of, rows_in, unless_unready}
 use Rattle.query_engine.specs.Listed.{AreAhead, AreLive, itself, stub_at, row_found, word_found, place_found}
-use Rattle.query_engine.proofs.FoundLemmas.{placed_found, word_rows_found, ahead_found, keys_ahead, live_found}
+use Rattle.query_engine.proofs.FoundLemmas.{placed_found, word_rows_found, stubs_ahead, keys_ahead, live_found}
 use Rattle.query_engine.proofs.LookLemmas.{looked_not}
-use Rattle.query_engine.proofs.RepliedLemmas.{replied_as}
-use Rattle.query_engine.proofs.ReplyLemmas.{replied, told}
+use Rattle.query_engine.proofs.ReplyLemmas.{replied, replied_as, told}
 use Rattle.query_engine.proofs.question.answer.Goals as goal
+
+-- the reply by the declarations that a walk finds is the one by the files
+stubs_told : (fits : Stub → Bool) (world : World) {walk : List (ℕ × Stub)} → (lowest_unready world ≡ None → walk ≡ found Java (stubs_in fits) world)
+    → declared_reply world walk ≡ unless_unready (lowest_unready world) (Rows (of_world Java (rows_in fits) world))
+stubs_told fits world ready = told world Rows (row_found world) ready (placed_found Java row_of (stubs_in fits) (rows_in fits) world (λ id file. refl))
 
 pub declared-requires-clause-ahead : goal.declared-requires-clause-ahead
 declared-requires-clause-ahead g c = λ smart.
     let world = c.args.state.now.world in
     subst (AreAhead stub_at world None) (sym (c.type_rows.ensures.ready smart))
-    (ahead_found c.listings_are_lawful.ensures c.names_are_identifiers.ensures (is_class c.in-Class.name) world)
+    (stubs_ahead c.listings_are_lawful.ensures c.names_are_identifiers.ensures (is_class c.in-Class.name) world)
 
 pub returns-in-Class-clause-replied : goal.returns-in-Class-clause-replied
 returns-in-Class-clause-replied g c =
-    let world = c.args.state.now.world in
-    replied _ _ g.W.Watch.stays world c.args.query.now _ _ _ _ _ c.in-Class.is
-    (told world Rows (row_found world) _ _ _ c.type_rows.ensures.ready
-    (placed_found Java row_of (stubs_in (is_class c.in-Class.name)) world)) refl c.declared.ensures.answered
+    replied c.in-Class.is (stubs_told (is_class c.in-Class.name) c.args.state.now.world c.type_rows.ensures.ready) refl c.declared.ensures.answered
 
 pub declared-requires-in-Supers-clause-ahead : goal.declared-requires-in-Supers-clause-ahead
 declared-requires-in-Supers-clause-ahead g c = λ smart.
     let world = c.args.state.now.world in
     subst (AreAhead stub_at world None) (sym (c.super_rows.ensures.ready smart))
-    (ahead_found c.listings_are_lawful.ensures c.names_are_identifiers.ensures (has_super c.in-Supers.name) world)
+    (stubs_ahead c.listings_are_lawful.ensures c.names_are_identifiers.ensures (has_super c.in-Supers.name) world)
 
 pub returns-in-Supers-clause-replied : goal.returns-in-Supers-clause-replied
 returns-in-Supers-clause-replied g c =
-    let world = c.args.state.now.world in
-    replied _ _ g.W.Watch.stays world c.args.query.now _ _ _ _ _ c.in-Supers.is
-    (told world Rows (row_found world) _ _ _ c.super_rows.ensures.ready
-    (placed_found Java row_of (stubs_in (has_super c.in-Supers.name)) world)) refl c.declared-in-Supers.ensures.answered
+    replied c.in-Supers.is (stubs_told (has_super c.in-Supers.name) c.args.state.now.world c.super_rows.ensures.ready) refl
+    c.declared-in-Supers.ensures.answered
 
 pub declared-requires-in-Method-clause-ahead : goal.declared-requires-in-Method-clause-ahead
 declared-requires-in-Method-clause-ahead g c = λ smart.
     let world = c.args.state.now.world in
     subst (AreAhead stub_at world None) (sym (c.method_rows.ensures.ready smart))
-    (ahead_found c.listings_are_lawful.ensures c.names_are_identifiers.ensures (is_method c.in-Method.name) world)
+    (stubs_ahead c.listings_are_lawful.ensures c.names_are_identifiers.ensures (is_method c.in-Method.name) world)
 
 pub returns-in-Method-clause-replied : goal.returns-in-Method-clause-replied
 returns-in-Method-clause-replied g c =
-    let world = c.args.state.now.world in
-    replied _ _ g.W.Watch.stays world c.args.query.now _ _ _ _ _ c.in-Method.is
-    (told world Rows (row_found world) _ _ _ c.method_rows.ensures.ready
-    (placed_found Java row_of (stubs_in (is_method c.in-Method.name)) world)) refl c.declared-in-Method.ensures.answered
+    replied c.in-Method.is (stubs_told (is_method c.in-Method.name) c.args.state.now.world c.method_rows.ensures.ready) refl
+    c.declared-in-Method.ensures.answered
 
 pub with_word-requires-clause-live : goal.with_word-requires-clause-live
 with_word-requires-clause-live g c = λ smart.
     let world = c.args.state.now.world in
-    subst (AreLive world) (sym (c.word_rows.ensures.ready smart))
-    (live_found (masks_in c.in-Word.name) world)
+    subst (AreLive world) (sym (c.word_rows.ensures.ready smart)) (live_found (masks_in c.in-Word.name) world)
 
 pub returns-in-Word-clause-replied : goal.returns-in-Word-clause-replied
 returns-in-Word-clause-replied g c =
     let world = c.args.state.now.world in
-    replied _ _ g.W.Watch.stays world c.args.query.now _ _ _ _ _ c.in-Word.is
-    (told world Words (word_found world) _ _ _ c.word_rows.ensures.ready
-    (word_rows_found c.in-Word.name world)) refl c.with_word.ensures.answered
+    replied c.in-Word.is (told world Words (word_found world) c.word_rows.ensures.ready (word_rows_found c.in-Word.name world)) refl
+    c.with_word.ensures.answered
 
 pub returns-in-Usages-clause-replied : goal.returns-in-Usages-clause-replied
-returns-in-Usages-clause-replied g c =
-    replied_as _ _ g.W.Watch.stays c.args.state.now.world c.args.query.now _ _ _ _ c.in-Usages.is c.usages.ensures.replied
+returns-in-Usages-clause-replied g c = replied_as _ c.in-Usages.is c.usages.ensures.replied
 
 pub returns-in-Inheritors-clause-replied : goal.returns-in-Inheritors-clause-replied
-returns-in-Inheritors-clause-replied g c =
-    replied_as _ _ g.W.Watch.stays c.args.state.now.world c.args.query.now _ _ _ _ c.in-Inheritors.is c.inheritors.ensures.replied
+returns-in-Inheritors-clause-replied g c = replied_as _ c.in-Inheritors.is c.inheritors.ensures.replied
 
 pub with_key-requires-clause-ahead : goal.with_key-requires-clause-ahead
 with_key-requires-clause-ahead g c = λ smart.
     let world = c.args.state.now.world in
-    subst (AreAhead itself world None) (sym (c.key_rows.ensures.ready smart))
-    (keys_ahead c.keys_stand_in_the_text.ensures c.in-Key.key world)
+    subst (AreAhead itself world None) (sym (c.key_rows.ensures.ready smart)) (keys_ahead c.keys_stand_in_the_text.ensures c.in-Key.key world)
 
 pub returns-in-Key-clause-replied : goal.returns-in-Key-clause-replied
 returns-in-Key-clause-replied g c =
     let world = c.args.state.now.world in
-    replied _ _ g.W.Watch.stays world c.args.query.now _ _ _ _ _ c.in-Key.is
-    (told world Keys (place_found world) _ _ _ c.key_rows.ensures.ready
-    (placed_found Properties place_row (places_of_key c.in-Key.key) world)) refl c.with_key.ensures.answered
+    replied c.in-Key.is
+    (told world Keys (place_found world) c.key_rows.ensures.ready
+    (placed_found Properties place_row (places_of_key c.in-Key.key) _ world (λ id file. refl))) refl c.with_key.ensures.answered
 
 pub returns-in-Outline-clause-replied : goal.returns-in-Outline-clause-replied
 returns-in-Outline-clause-replied g c =
-    let world = c.args.state.now.world in
-    replied _ _ g.W.Watch.stays world c.args.query.now _ _ _ _ _ c.in-Outline.is refl refl record {
+    replied c.in-Outline.is refl refl record {
       looked = c.outline.ensures.looked;
       answer = c.outline.ensures.answer;
       refused = c.outline.ensures.refused;
@@ -96,9 +90,4 @@ returns-in-Outline-clause-replied g c =
 
 pub returns-in-Status-clause-replied : goal.returns-in-Status-clause-replied
 returns-in-Status-clause-replied g c =
-    let world = c.args.state.now.world in
-    replied _ _ g.W.Watch.stays world c.args.query.now _ _ _ _ _ c.in-Status.is refl refl record {
-      looked = looked_not _ _ c.args.watch.now;
-      answer = sym c.counts.ensures;
-      refused = tt;
-    }
+    replied c.in-Status.is refl refl record { looked = looked_not refl; answer = sym c.counts.ensures; refused = tt }

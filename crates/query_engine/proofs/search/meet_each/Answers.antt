@@ -1,7 +1,6 @@
-use Rattle.std.proofs.Common.{refl, ap, sym, ◌∙◌, arith}
+use Rattle.std.proofs.Common.{ap, sym, ◌∙◌, arith}
 use Rattle.query_engine.specs.Search.{meet_all}
-use Rattle.query_engine.proofs.LookLemmas.{looked_as}
-use Rattle.query_engine.proofs.MadeLemmas.{met_next, met_stop}
+use Rattle.query_engine.proofs.LookLemmas.{met_next, met_stop}
 use Rattle.query_engine.proofs.search.meet_each.Goals as goal
 
 pub loop-file-preserved : goal.loop-file-preserved
@@ -10,15 +9,11 @@ loop-file-preserved g c = record {
   stays = g.met.W.Watch.stays_on _ _ _ c.loop-file.invariant.stays c.look_after_another.ensures.stays;
   reached = ap (λ r. meet_all c.args.level r c.next.new.self) c.in_ok-meet.ensures
       ∙ sym (ap (meet_all c.args.level c.loop-file.reached) c.in-Some.ensures.steps) ∙ c.loop-file.invariant.reached;
-  met = met_next _ _ c.args.found c.args.met.now (c.in-Some.file, c.in-Some.stub.now) c.loop-file.file-iterator c.next.new.self c.loop-file.met
-      c.args.watch.now c.loop-file.watch c.look_after_another.new.watch c.in-Some.ensures.steps c.loop-file.invariant.met
-      c.look_after_another.new.met (omega (arith, c.look_after_another.ensures.met)) c.in_ok-look_after_another.ensures.looked;
+  met = met_next c.in-Some.ensures.steps c.loop-file.invariant.met (omega (arith, c.look_after_another.ensures.met)) c.in_ok-look_after_another.ensures.looked;
 }
 
 pub returns-in_err-look_after_another-clause-looked : goal.returns-in_err-look_after_another-clause-looked
 returns-in_err-look_after_another-clause-looked g c =
-    looked_as _ _ _ (Unit {0}) _ _ c.from_residual-in_err-look_after_another.result _ _ _ c.from_residual-in_err-look_after_another.ensures.1
-    (met_stop _ _ c.args.found c.args.met.now (c.in-Some.file, c.in-Some.stub.now) c.loop-file.file-iterator c.next.new.self c.loop-file.met
-    c.args.watch.now c.loop-file.watch c.look_after_another.new.watch c.in-Some.ensures.steps c.loop-file.invariant.met
-    g.W.Watch.stays g.met.W.Watch.stays_on (Unit {0}) _ _ refl c.in_err-look_after_another.ensures.early c.loop-file.invariant.stays
-    c.in_err-look_after_another.ensures.looked)
+    met_stop c.in-Some.ensures.steps c.loop-file.invariant.met (Unit {0}) _ c.from_residual-in_err-look_after_another.result _
+    g.met.W.Watch.stays_on c.loop-file.invariant.stays c.in_err-look_after_another.ensures.early c.in_err-look_after_another.ensures.looked
+    c.from_residual-in_err-look_after_another.ensures.1

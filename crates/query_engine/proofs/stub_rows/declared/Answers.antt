@@ -1,10 +1,9 @@
-use Rattle.std.proofs.Common.{map, ap}
-use Rattle.write_history.specs.World.{lowest_unready}
+use Rattle.std.proofs.Common.{refl}
 use Rattle.query_engine.specs.declared.answer.Finding.TheVariants.{Rows}
 use Rattle.query_engine.specs.declared.answer.Row.{Row}
 use Rattle.query_engine.specs.declared.answer.RowList.{RowList}
 use Rattle.query_engine.specs.Listed.{row_found}
-use Rattle.query_engine.proofs.ReplyLemmas.{dumb_given, early_given, whole_given, looks_counted}
+use Rattle.query_engine.proofs.ReplyLemmas.{dumb_given, early_given, whole_given}
 use Rattle.query_engine.proofs.stub_rows.declared.Goals as goal
 
 pub stub_rows-requires-clause-ahead : goal.stub_rows-requires-clause-ahead
@@ -12,17 +11,15 @@ stub_rows-requires-clause-ahead g c = c.requires.ahead c.in_ok-ready.ensures.sma
 
 pub returns-in_err-ready-clause-answered : goal.returns-in_err-ready-clause-answered
 returns-in_err-ready-clause-answered g c =
-    dumb_given _ _ g.W.Watch.stays (lowest_unready c.args.state.now.world) (Rows (map (row_found c.args.state.now.world) c.args.found)) c.args.watch.now _
-    c.in_err-ready.ensures.dumb c.from_residual.result c.from_residual.ensures.1
+    dumb_given c.args.state.now.world Rows (λ rows. refl) (row_found c.args.state.now.world) c.args.found c.args.watch.now _ c.from_residual.result
+    c.in_err-ready.ensures.dumb c.from_residual.ensures.1
 
 pub returns-in_err-rows-clause-answered : goal.returns-in_err-rows-clause-answered
 returns-in_err-rows-clause-answered g c =
-    early_given _ _ g.W.Watch.stays (RowList Row) (lowest_unready c.args.state.now.world) (Rows (map (row_found c.args.state.now.world) c.args.found)) _ _ _ _
-    c.in_ok-ready.ensures.smart (looks_counted (row_found c.args.state.now.world) c.args.found) c.in_err-rows.ensures.early c.in_err-rows.ensures.looked
-    c.from_residual-in_err-rows.result c.from_residual-in_err-rows.ensures.1
+    early_given c.args.state.now.world Rows (λ rows. refl) (row_found c.args.state.now.world) c.args.found (RowList Row) _ c.from_residual-in_err-rows.result
+    c.in_ok-ready.ensures.smart c.in_err-rows.ensures.early c.in_err-rows.ensures.looked c.from_residual-in_err-rows.ensures.1
 
 pub returns-clause-answered : goal.returns-clause-answered
 returns-clause-answered g c =
-    whole_given _ _ g.W.Watch.stays (lowest_unready c.args.state.now.world) (Rows (map (row_found c.args.state.now.world) c.args.found)) _ _ _ _
-    c.in_ok-ready.ensures.smart (looks_counted (row_found c.args.state.now.world) c.args.found) (ap Rows c.in_ok-rows.ensures.rows)
-    c.in_ok-rows.ensures.looked
+    whole_given c.args.state.now.world Rows (λ rows. refl) (row_found c.args.state.now.world) c.args.found
+    c.in_ok-ready.ensures.smart c.in_ok-rows.ensures.rows c.in_ok-rows.ensures.looked

@@ -1,6 +1,6 @@
 use Rattle.std.proofs.Common.{length, filter, refl, sym, subst, le_refl}
 use Rattle.dumb_mode.specs.declared.kind.FileKind.TheVariants.{Java}
-use Rattle.queries.specs.declared.query.Query.TheVariants as query
+use Rattle.write_history.specs.World.{lowest_unready}
 use Rattle.ide_world.specs.Found.{masks_in}
 use Rattle.query_engine.specs.declared.answer.Finding.{Finding}
 use Rattle.query_engine.specs.declared.answer.Finding.TheVariants.{Usages}
@@ -11,8 +11,8 @@ use Rattle.query_engine.specs.Reply.{of_world, uses_in}
 use Rattle.query_engine.specs.Listed.{AreLive, has_code}
 use Rattle.query_engine.proofs.FoundLemmas.{live_found}
 use Rattle.query_engine.proofs.LookLemmas.{looked_unseen}
-use Rattle.query_engine.proofs.RepliedLemmas.{dumb_replied, early_replied, whole_replied}
-use Rattle.query_engine.proofs.UsageLemmas.{dumb_uses, uses_may, used_given}
+use Rattle.query_engine.proofs.ReplyLemmas.{dumb, early, whole, replied_by}
+use Rattle.query_engine.proofs.UsageLemmas.{dumb_uses, uses_may, used_reply}
 use Rattle.query_engine.proofs.usages.usages.Goals as goal
 
 -- the files in which the name is found are live
@@ -26,31 +26,27 @@ pub returns-in_err-ready-clause-replied : goal.returns-in_err-ready-clause-repli
 returns-in_err-ready-clause-replied g c =
     let world = c.args.state.now.world in
     let name = c.args.name.now in
-    dumb_replied _ _ g.W.Watch.stays world (query.Usages name) (Usages name (of_world Java (uses_in name) world)) refl
-    c.args.watch.now _ (dumb_uses world name) c.in_err-ready.ensures.dumb c.from_residual.result c.from_residual.ensures.1
+    replied_by (dumb_uses world name _ c.in_err-ready.ensures.dumb)
+    (dumb (lowest_unready world) (Usages name (of_world Java (uses_in name) world)) c.args.watch.now _ c.from_residual.result
+    c.in_err-ready.ensures.dumb c.from_residual.ensures.1)
 
 -- the rows end early
 pub returns-in_err-rows-clause-replied : goal.returns-in_err-rows-clause-replied
 returns-in_err-rows-clause-replied g c =
-    let world = c.args.state.now.world in
-    let name = c.args.name.now in
     let law = c.masks_tell_uses.ensures in
-    early_replied _ _ g.W.Watch.stays world (query.Usages name) (Usages name (of_world Java (uses_in name) world)) refl
-    (RowList PlaceRow) _ _ _ _ c.in_ok-ready.ensures.smart
-    (uses_may law.unused law.used world name c.word_rows.result c.word_rows.ensures.ready c.in_ok-ready.ensures.smart)
-    c.in_err-rows.ensures.early c.in_err-rows.ensures.looked c.from_residual-in_err-rows.result c.from_residual-in_err-rows.ensures.1
+    let smart = c.in_ok-ready.ensures.smart in
+    replied_by (uses_may law.unused law.used c.args.state.now.world c.args.name.now c.word_rows.ensures.ready smart)
+    (early (RowList PlaceRow) _ c.from_residual-in_err-rows.result (rw smart refl) c.in_err-rows.ensures.early c.in_err-rows.ensures.looked
+    c.from_residual-in_err-rows.ensures.1)
 
 -- memory runs out for the name
 pub returns-in_err-copy-clause-replied : goal.returns-in_err-copy-clause-replied
 returns-in_err-copy-clause-replied g c =
-    let world = c.args.state.now.world in
-    let name = c.args.name.now in
     let law = c.masks_tell_uses.ensures in
-    let looks = length (filter has_code c.word_rows.result) in
-    early_replied _ _ g.W.Watch.stays world (query.Usages name) (Usages name (of_world Java (uses_in name) world)) refl
-    Finding looks OutOfMemory _ _ c.in_ok-ready.ensures.smart
-    (uses_may law.unused law.used world name c.word_rows.result c.word_rows.ensures.ready c.in_ok-ready.ensures.smart)
-    tt (looked_unseen _ _ _ _ _ _ (le_refl looks) c.in_ok-rows.ensures.looked) c.from_residual-in_err-copy.result c.from_residual-in_err-copy.ensures.1
+    let smart = c.in_ok-ready.ensures.smart in
+    replied_by (uses_may law.unused law.used c.args.state.now.world c.args.name.now c.word_rows.ensures.ready smart)
+    (early Finding OutOfMemory c.from_residual-in_err-copy.result (rw smart refl) tt
+    (looked_unseen (le_refl (length (filter has_code c.word_rows.result))) c.in_ok-rows.ensures.looked) c.from_residual-in_err-copy.ensures.1)
 
 -- all rows are there
 pub returns-clause-replied : goal.returns-clause-replied
@@ -60,7 +56,5 @@ returns-clause-replied g c =
     let law = c.masks_tell_uses.ensures in
     let ready = c.word_rows.ensures.ready in
     let smart = c.in_ok-ready.ensures.smart in
-    whole_replied _ _ g.W.Watch.stays world (query.Usages name) (Usages name (of_world Java (uses_in name) world)) refl
-    _ _ _ _ smart (uses_may law.unused law.used world name c.word_rows.result ready smart)
-    (used_given law.unused law.used world name c.word_rows.result _ _ (ready smart) c.in_ok-copy.ensures c.in_ok-rows.ensures.rows)
-    c.in_ok-rows.ensures.looked
+    replied_by (uses_may law.unused law.used world name ready smart)
+    (whole (used_reply law.unused law.used world name ready smart c.in_ok-copy.ensures c.in_ok-rows.ensures.rows) c.in_ok-rows.ensures.looked)

@@ -1,34 +1,29 @@
 use Rattle.std.proofs.Common.{refl, sym, ◌∙◌}
-use Rattle.query_engine.specs.Listed.{uses_found}
 use Rattle.query_engine.proofs.FoundLemmas.{live_rest}
-use Rattle.query_engine.proofs.UsageLemmas.{used_passed, used_more}
+use Rattle.query_engine.proofs.UsageLemmas.{used_more}
 use Rattle.query_engine.proofs.usages.use_rows.Goals as goal
 
 -- a file in whose code the name stands gives its rows, and is looked after
 pub loop-file-preserved-in-Continue-branch-2 : goal.loop-file-preserved-in-Continue-branch-2
 loop-file-preserved-in-Continue-branch-2 g c =
-    let world = c.args.state.now.world in
     let next = c.in-Some.ensures.steps in
     record {
       can = c.look.ensures.again;
       stays = g.met.W.Watch.stays_on _ _ _ c.loop-file.invariant.stays c.look.ensures.stays;
       world = refl;
-      used = used_more _ _ (uses_found world c.args.name.now) c.args.found c.loop-file.rows c.add_uses.new.rows (c.in-Some.file, c.in-Some.mask) _ _ _
-          c.loop-file.watch c.look.new.watch next (sym c.is_in.ensures ∙ c.if-is_in.true) c.in_ok-add_uses.ensures
+      used = used_more {x = (c.in-Some.file, c.in-Some.mask)} (rw (next, sym c.is_in.ensures ∙ c.if-is_in.true) refl) c.in_ok-add_uses.ensures
           c.loop-file.invariant.used c.in_ok-look.ensures.looked;
-      live = live_rest world _ _ _ next c.loop-file.invariant.live;
+      live = live_rest c.args.state.now.world next c.loop-file.invariant.live;
     }
 
 -- another file is passed by
 pub loop-file-preserved : goal.loop-file-preserved
 loop-file-preserved g c =
-    let world = c.args.state.now.world in
     let next = c.in-Some.ensures.steps in
     record {
       can = c.loop-file.invariant.can;
       stays = c.loop-file.invariant.stays;
       world = refl;
-      used = used_passed _ _ (uses_found world c.args.name.now) c.args.found c.loop-file.rows (c.in-Some.file, c.in-Some.mask) _ _ _
-          c.loop-file.watch next (sym c.is_in.ensures ∙ c.if-is_in.false) c.loop-file.invariant.used;
-      live = live_rest world _ _ _ next c.loop-file.invariant.live;
+      used = rw (next, sym c.is_in.ensures ∙ c.if-is_in.false) at c.loop-file.invariant.used;
+      live = live_rest c.args.state.now.world next c.loop-file.invariant.live;
     }

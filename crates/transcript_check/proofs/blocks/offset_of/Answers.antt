@@ -1,13 +1,36 @@
-use Rattle.std.proofs.Common.{arith, rules}
-use Rattle.transcript_check.proofs.BlockLemmas.{first_len-within}
-use Rattle.transcript_check.proofs.OffsetLemmas.{offset_turn}
+use Rattle.std.proofs.Common.{ℕ, zero, suc, ◌≡◌, ◌+◌, List, [], ◌∷◌, ◌++◌, length, take, drop, refl, ap, ◌∙◌, length-append, take-append-drop, arith, rules}
+use Rattle.std.specs.List.{concat}
+use Rattle.std.proofs.lemmas.List.{append-nil, drop-drop}
+use Rattle.std.proofs.lemmas.List.Folds.{concat-append}
+use Rattle.transcript_check.specs.Blocks.{blocks_of, first_len}
+use Rattle.transcript_check.proofs.BlockLemmas.{blocks-first, first_len-within}
 use Rattle.transcript_check.proofs.blocks.offset_of.Goals as goal
 
+-- one block is passed, if there is one
+one_passed : (left later : List ℕ) → later ≡ drop (first_len left) left
+    → (blocks_of later ≡ drop 1 (blocks_of left)) × (length (concat (take 1 (blocks_of left))) + length later ≡ length left)
+unfolding blocks_of
+one_passed [] later is = (ap blocks_of is, omega (arith, ap length is))
+one_passed (byte ∷ bytes) later is =
+    let first = blocks-first byte bytes in
+    let size = take-append-drop (first_len (byte ∷ bytes)) (byte ∷ bytes) in
+    (grind (arith, first), grind (arith, first, size, length-append, append-nil))
+
+take_more : (i : ℕ) (xs : List (List ℕ)) → take (suc i) xs ≡ take i xs ++ take 1 (drop i xs)
+take_more zero xs = refl
+take_more (suc i) [] = refl
+take_more (suc i) (x ∷ xs) = ap (λ (ys : List (List ℕ)). x ∷ ys) (take_more i xs)
+
 pub split_at-requires : goal.split_at-requires
-split_at-requires c = let within = first_len-within c.loop-number.left.now in omega (arith, c.first_len.ensures)
+split_at-requires c = grind (arith, first_len-within)
 
 pub loop-number-preserved : goal.loop-number-preserved
 loop-number-preserved c =
-    let turn = offset_turn c.args.bytes.now c.loop-number._number c.loop-number.left.now c.split_at.result.1.now (search rules)
-    c.loop-number.invariant.later c.loop-number.invariant.passed in
-    record { later = turn.0; passed = turn.1 }
+    let so_far = c.loop-number.invariant in
+    let i : ℕ = c.loop-number._number in
+    let all : List (List ℕ) = blocks_of c.args.bytes.now in
+    let passed = one_passed c.loop-number.left.now c.split_at.result.1.now (search rules) in
+    record {
+      later = passed.0 ∙ ap (drop 1) so_far.later ∙ drop-drop 1 i all;
+      passed = grind (arith, take_more i all, concat-append, length-append, passed.1, so_far.later, so_far.passed);
+    }

@@ -1,11 +1,12 @@
-use Rattle.std.proofs.Common.{rules, ◌≡◌, ◌≤◌, ◌+◌, ◌-◌, ◌*◌, true, ◌∷◌}
-use Rattle.transcript_check.specs.Reading.{is_digit}
-use Rattle.transcript_check.proofs.NumberLemmas.{too_large}
+use Rattle.std.proofs.Common.{ℕ, ◌≤◌, ◌+◌, ◌-◌, ◌*◌, List, [], ◌∷◌, arith}
+use Rattle.transcript_check.specs.Reading.{number_from}
 use Rattle.transcript_check.proofs.numbers.number_at.Goals as goal
 
+-- a number that is read only grows
+grows : (number : ℕ) (bytes : List ℕ) → number ≤ number_from number bytes
+grows number [] = omega arith
+grows number (byte ∷ bytes) = grind (arith, grows (number * 10 + (byte - 48)) bytes)
+
+-- so one that doesn't fit doesn't fit with its later digits either
 pub returns-in_default-with_digit : goal.returns-in_default-with_digit
-returns-in_default-with_digit c =
-    let stands : c.loop-byte.left.now ≡ c.in-Some.byte.now ∷ c.in-Some.later.now = search rules in
-    let digit : is_digit c.in-Some.byte.now ≡ true = search rules in
-    let large : 4294967296 ≤ c.loop-byte.number * 10 + (c.in-Some.byte.now - 48) = search rules in
-    too_large c.loop-byte.number c.in-Some.byte.now c.in-Some.later.now c.loop-byte.left.now c.args.bytes.now stands digit c.loop-byte.invariant large
+returns-in_default-with_digit c = grind (arith, grows)

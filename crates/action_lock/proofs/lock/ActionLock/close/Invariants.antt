@@ -1,5 +1,5 @@
 use Rattle.std.proofs.Common.{◌≡◌, ◌+◌}
-use Rattle.action_lock.proofs.Taking.{HasTaken}
+use Rattle.action_lock.proofs.Ends.{HasTaken}
 use Rattle.action_lock.proofs.lock.ActionLock.close.Given as goal
 
 abbrev pub invariant-loop-place : goal.invariant-loop-place

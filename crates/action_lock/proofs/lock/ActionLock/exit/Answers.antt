@@ -1,8 +1,8 @@
 use Rattle.std.proofs.Common.{◌∙◌, ap, rules}
 use Rattle.action_lock.specs.Words.{word_at}
-use Rattle.action_lock.proofs.ExitStep.{exits}
+use Rattle.action_lock.proofs.ReaderSteps.{exits}
 use Rattle.action_lock.proofs.lock.ActionLock.exit.Goals as goal
 
 pub fetch_sub-requires : goal.fetch_sub-requires
 fetch_sub-requires g c = let own = c.word_at-word.ensures.is ∙ ap word_at c.place.ensures.own in
-    (search rules, search rules, exits g.H.Home.number_of g.H.Home.stands g.H.Home.share_stands _ _ _ _ _ _ own c.args.pass.now.numbered c.requires.reads.phase)
+    (search rules, search rules, exits _ _ _ _ c.args.pass.now.numbered own c.requires.reads.phase)

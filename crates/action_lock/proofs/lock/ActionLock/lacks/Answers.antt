@@ -5,6 +5,6 @@ use Rattle.action_lock.proofs.lock.ActionLock.lacks.Goals as goal
 
 pub slot_mut-requires : goal.slot_mut-requires
 slot_mut-requires g c = let own = sym c.place-place.ensures.own in ⊎_elim
-    (λ now. (now.table, (Share now.share, in_front _ [] _ (Share now.share) (now.hand ∙ ap (λ p. (p, Share now.share) ∷ []) own))))
-    (λ now. (now.table, (Empty, in_front _ [] _ Empty (now.hand ∙ ap (λ p. (p, Empty) ∷ []) own))))
+    (λ now. (now.table, (Share now.share, in_front (now.hand ∙ ap (λ p. (p, Share now.share) ∷ []) own))))
+    (λ now. (now.table, (Empty, in_front (now.hand ∙ ap (λ p. (p, Empty) ∷ []) own))))
     c.requires

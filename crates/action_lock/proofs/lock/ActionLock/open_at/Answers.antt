@@ -5,24 +5,15 @@ use Rattle.action_lock.proofs.Hands.{in_front, front_set, front_same, hand_next}
 use Rattle.action_lock.proofs.lock.ActionLock.open_at.Goals as goal
 
 pub exchange-requires : goal.exchange-requires
-exchange-requires g c = let now = c.requires.shuts in (now.table, (Empty, in_front _ (shut_hand c.args.pass.now.seat.me.0.places c.args.place) c.args.place Empty (now.hand_is ∙ hand_next _ c.args.place)))
+exchange-requires g c = let now = c.requires.shuts in (now.table, (Empty, in_front (now.hand_is ∙ hand_next _ c.args.place)))
 
 pub clear-requires : goal.clear-requires
-clear-requires g c = subst HasNoHome (sym (front_same _ (shut_hand c.args.pass.now.seat.me.0.places c.args.place) _ c.args.place Empty _ (c.requires.shuts.hand_is ∙ hand_next _ c.args.place) c.exchange.ensures.2)) tt
+clear-requires g c = subst HasNoHome (sym (front_same (c.requires.shuts.hand_is ∙ hand_next _ c.args.place) c.exchange.ensures.2)) tt
 
 pub open-requires-clause-opens : goal.open-requires-clause-opens
 open-requires-clause-opens g c =
-    let kept = c.kept_of-kept.result in (
-      kept,
-      subst (λ m. MayKeep g.H.Home.share_stands m.0.seen kept) (sym c.exchange.ensures.3) (c.kept_of-kept.ensures _ c.requires.stands),
-      record {
-        table = search rules;
-        phase = search rules;
-        hand_is = ap (λ m. m.1) c.exchange.ensures.3
-            ∙ (front_set _ (shut_hand c.args.pass.now.seat.me.0.places c.args.place) c.args.place Empty kept (c.requires.shuts.hand_is ∙ hand_next _ c.args.place)
-            ∙ ap (λ n. (c.args.place, kept) ∷ shut_hand n c.args.place) (sym (ap (λ m. m.0.places) c.exchange.ensures.3)));
-        intent = search rules;
-        told = search rules;
-        no_share = search rules;
-      },
-    )
+    let kept = c.kept_of-kept.result in let after = c.exchange.ensures.3 in
+    let hand = ap (λ m. m.1) after ∙ (front_set (c.requires.shuts.hand_is ∙ hand_next _ c.args.place)
+    ∙ ap (λ n. (c.args.place, kept) ∷ shut_hand n c.args.place) (sym (ap (λ m. m.0.places) after))) in
+    let stood = subst (λ m. MayKeep g.H.Home.share_stands m.0.seen kept) (sym after) (c.kept_of-kept.ensures _ c.requires.stands) in
+    (kept, stood, search (rules, hand))

@@ -5,4 +5,4 @@ use Rattle.action_lock.proofs.lock.ActionLock.share_in_hand.Goals as goal
 
 pub slot_mut-requires : goal.slot_mut-requires
 slot_mut-requires g c = let now = c.requires in
-    (now.table, (Share now.share, in_front _ [] _ (Share now.share) (now.hand ∙ ap (λ p. (p, Share now.share) ∷ []) (sym c.place-place.ensures.own))))
+    (now.table, (Share now.share, in_front (now.hand ∙ ap (λ p. (p, Share now.share) ∷ []) (sym c.place-place.ensures.own))))

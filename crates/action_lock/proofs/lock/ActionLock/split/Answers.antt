@@ -1,5 +1,5 @@
 use Rattle.std.proofs.Common.{rules, ◌≡◌, arith}
-use Rattle.action_lock.proofs.SplitStep.{splits}
+use Rattle.action_lock.proofs.Numbers.{splits}
 use Rattle.action_lock.proofs.lock.ActionLock.split.Goals as goal
 
 pub split_seat-seat-requires : goal.split_seat-seat-requires

@@ -1,7 +1,6 @@
 use Rattle.std.proofs.Common.{rules}
-use Rattle.action_lock.proofs.IntentStep.{takes_intent}
+use Rattle.action_lock.proofs.WriterSteps.{takes_intent}
 use Rattle.action_lock.proofs.lock.ActionLock.take.Goals as goal
 
 pub fetch_or-found-requires : goal.fetch_or-found-requires
-fetch_or-found-requires g c =
-    (search rules, search rules, takes_intent g.H.Home.number_of g.H.Home.stands g.H.Home.share_stands _ _ _ _ _ c.args.pass.now.numbered c.requires.no_intent)
+fetch_or-found-requires g c = (search rules, search rules, takes_intent _ _ _ c.args.pass.now.numbered c.requires.no_intent)

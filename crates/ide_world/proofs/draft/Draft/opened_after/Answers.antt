@@ -8,7 +8,7 @@ use Rattle.ide_world.proofs.draft.Draft.opened_after.Goals as goal
 pub exchanged-requires-clause-some : goal.exchanged-requires-clause-some
 exchanged-requires-clause-some c =
     some_open c.self.inside c.args.self.now c.args.step.now.id _ _
-    (kept_as c.self.inside c.args.self.now c.self.view_is c.self.invariant) c.look.ensures.value c.is_some-was_open.ensures
+    (kept_as c.self.inside c.args.self.now c.self.view_is c.self.invariant) c.summary.ensures.value c.is_some-was_open.ensures
 
 pub exchanged-requires-clause-few : goal.exchanged-requires-clause-few
 exchanged-requires-clause-few c =
@@ -17,4 +17,4 @@ exchanged-requires-clause-few c =
 pub returns : goal.returns
 returns c =
     open_count-after c.self.inside c.args.self.now c.args.step.now _ _ _ _ (kept_as c.self.inside c.args.self.now c.self.view_is c.self.invariant) c.requires
-    c.look.ensures.value c.is_some-was_open.ensures c.is_open_after.ensures c.exchanged.ensures
+    c.summary.ensures.value c.is_some-was_open.ensures c.is_open_after.ensures c.exchanged.ensures

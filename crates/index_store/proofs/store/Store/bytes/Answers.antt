@@ -1,4 +1,4 @@
-use Rattle.std.proofs.Common.{◌≡◌, ◌++◌, ℕ, List, length, ap, subst, ◌∙◌, append_assoc}
+use Rattle.std.proofs.Common.{◌≡◌, ◌++◌, List, length, subst, append_assoc}
 use Rattle.std.specs.List.{flat_map}
 use Rattle.byte_fields.specs.Spelling.{number}
 use Rattle.index_store.specs.Data.{Entry}
@@ -12,10 +12,8 @@ pub returns : goal.returns
 returns c =
     let held = c.self.inside.held.entries in
     let out = c.put_held.new.out.items in
-    let first : c.extend_from_slice.new.self.items ≡ versions = c.in_ok-extend_from_slice.ensures.items ∙ ap (λ (l : List ℕ). l ++ versions) c.new-out.ensures.items in
-    let second : c.put_number.new.out.items ≡ versions ++ number (length held) =
-    c.in_ok-put_number.ensures ∙ ap (λ (l : List ℕ). l ++ number c.len.result) first ∙ ap (λ (n : ℕ). versions ++ number n) c.len.ensures.len in
-    let spelled : out ≡ (versions ++ number (length held)) ++ flat_map held_bytes held =
-    c.in_ok-put_held.ensures ∙ ap (λ (l : List ℕ). l ++ flat_map held_bytes held) second in
+    let spelled : out ≡ versions ++ (number (length held) ++ flat_map held_bytes held) =
+    let first = c.in_ok-extend_from_slice.ensures.items in
+    simp (c.in_ok-put_held.ensures, c.in_ok-put_number.ensures, first, c.new-out.ensures.items, c.len.ensures.len, append_assoc) in
     subst (λ (es : List Entry). IsStoreBytes (rows_of es) out) c.self.view_is
-    (held_store held out c.self.invariant.0 c.self.invariant.1 c.self.invariant.2 (spelled ∙ append_assoc versions (number (length held)) (flat_map held_bytes held)))
+    (held_store held out c.self.invariant.0 c.self.invariant.1 c.self.invariant.2 spelled)

@@ -1,6 +1,5 @@
 use Rattle.std.proofs.Common.{◌+◌, ℕ, sym, ap}
-use Rattle.job_queue.proofs.PutStep.{puts}
-use Rattle.job_queue.proofs.Ends.{stands}
+use Rattle.job_queue.proofs.Steps.{puts, stands}
 use Rattle.job_queue.proofs.queue.JobQueue.offer.Goals as goal
 
 pub push_as-requires-clause-rule : goal.push_as-requires-clause-rule

@@ -1,5 +1,4 @@
-use Rattle.job_queue.proofs.TakeStep.{takes}
-use Rattle.job_queue.proofs.Ends.{stands}
+use Rattle.job_queue.proofs.Steps.{takes, stands}
 use Rattle.job_queue.proofs.queue.JobQueue.take.Goals as goal
 
 pub pop_as-requires-clause-rule : goal.pop_as-requires-clause-rule

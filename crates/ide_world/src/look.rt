@@ -1,8 +1,0 @@
-//! What a document looks like, without its text.
-
-/// The length of a document, and whether its file has its text.
-#[derive(Clone, Copy, Drop)]
-pub(crate) struct Look {
-    pub(crate) len: u32,
-    pub(crate) saved: bool,
-}

@@ -1,0 +1,183 @@
+-- Each step keeps the rule: the first pass of an empty queue, splitting off a pass, taking in the view of one that was met, putting a hint, and taking one.
+use Rattle.std.proofs.Common.{◌≡◌, ◌≢◌, ℕ, ◌+◌, ◌<◌, ◌≤◌, List, [], ◌∷◌, ◌++◌, length, get_or, set, refl, ap, ◌∙◌, sym, subst, Some, All, arith}
+use Rattle.std.proofs.Common.{append_assoc, length-append, eqb, eq-eqb, ne_eqb}
+use mathlib.Core.Option.{some, some-ne-none}
+use mathlib.Core.Logic.{dite}
+use native.Mathlib.Decide.{ℕ_discrete}
+use lib.ListN.{get_elem?}
+use Rattle.std.proofs.lemmas.Bool.Decides.{nat_tests}
+use Rattle.std.proofs.lemmas.List.Elements.{All-nil, All-head, All-tail, All-cons, All-push, All-append, filter-append}
+use Rattle.std.proofs.lemmas.List.Quantifiers.{all_pairs_push}
+use Rattle.crossbeam_queue.proofs.Lists.{set_else}
+use Rattle.crossbeam_queue.specs.Fifo.{Pushes, Pops, Forks, Merges, Learns}
+use Rattle.job_queue.specs.declared.hint.Hint.{Hint}
+use Rattle.job_queue.specs.declared.view.Hand.{Hand}
+use Rattle.job_queue.specs.declared.view.QueueView.{QueueView}
+use Rattle.job_queue.specs.Hints.{bit, is_hint, times, hints_of, IsNumbered}
+use Rattle.job_queue.specs.Views.{hand, own_hand, hands, weigh, number_is, leading, first_view, splitting, split_off, joined, spent_view, putting, taking}
+use Rattle.job_queue.specs.Rule.{IsHand, IsSound, IsKept, Stood, IsPut, IsTaken}
+use Rattle.job_queue.proofs.HintLemmas.{sent, numbered_more, numbered_seam, times_own}
+use Rattle.job_queue.proofs.ViewLemmas.{each_set, each_snoc, numbers, count, hands_are, own_weighs, given, sound_with, fresh_sound}
+use Rattle.list_laws.specs.Totals.{total}
+use Rattle.list_laws.proofs.TotalLemmas.{total-set, total-same, total-two, total-at, total-zero, total-append}
+use Rattle.list_laws.proofs.FrontLemmas.{filter_more, filter_same}
+
+-- what a look tells
+pub stands : (id : ℕ) (v : QueueView) → Learns IsKept id v (Stood v)
+stands id v items views r at = record { views = views; seat = id; here = at; kept = r }
+
+pub begins : IsKept [] (first_view ∷ [])
+begins = record {
+  drawn = 1;
+  gone = λ n. [];
+  counted = record { one_leads = refl; once = λ n. grind (arith, nat_tests); in_all = refl; limit = omega arith };
+  numbered = λ n. tt;
+  unused = λ n le. refl;
+  taken = λ x. refl;
+  each = each_snoc (IsSound (λ n. []) [] 1) [] first_view (λ j v e. absurd (some-ne-none v (sym e))) (fresh_sound 0 1 (λ _. refl) refl);
+}
+
+pub splits : (id : ℕ) (v : QueueView) → v.number ≡ Some 0 → v.drawn < 65536 → Forks IsKept id v (splitting v) (split_off v)
+splits id v leads room items views r at =
+    let left : QueueView = splitting v in let right : QueueView = split_off v in let Sound : QueueView → Type 0 = IsSound r.gone items (r.drawn + 1) in
+    let one_leads = r.counted.one_leads in let is_drawn : v.drawn ≡ r.drawn = (r.each id v at).counts leads in
+    let some_drawn : 0 < r.drawn = given v leads views id r.counted at in
+    let added : (f : QueueView → ℕ) → f left ≡ f v → total f (set views id left ++ right ∷ []) ≡ total f views + f right =
+    λ f same. omega (arith, total-append f (set views id left) (right ∷ []), total-same f views id v left at same) in
+    record {
+      drawn = r.drawn + 1;
+      gone = r.gone;
+      counted = record {
+        one_leads = added leading refl ∙ omega (arith, one_leads, ap bit (ne_eqb v.drawn 0 (λ e. omega arith)));
+        once = λ n. added (numbers n) refl ∙ grind (arith, nat_tests, r.counted.once n, is_drawn);
+        in_all = added count refl ∙ omega (arith, r.counted.in_all);
+        limit = omega arith;
+      };
+      numbered = r.numbered;
+      unused = λ n le. r.unused n (omega arith);
+      taken = λ x. added (weigh (λ h. times x h.took)) refl ∙ omega (arith, r.taken x);
+      each = each_snoc Sound (set views id left) right
+          (each_set Sound views id left (sound_with left leads (λ _. ap (λ (d : ℕ). d + 1) is_drawn) (r.each id v at).hands_are)
+          (λ j u apart there. let sound = r.each j u there in let two = total-two leading views id j v u apart at there in
+          let other : u.number ≢ Some 0 = λ e. omega (arith, two, one_leads, ap (number_is 0) leads, ap (number_is 0) e) in
+          record { spent = sound.spent; counts = λ e. absurd (other e); hands_are = sound.hands_are }))
+          (fresh_sound v.drawn 0 (λ e. absurd (omega arith)) (r.unused v.drawn (omega arith)));
+    }
+
+pub joins : (id : ℕ) (v : QueueView) (other : ℕ) (w : QueueView) {n m : ℕ} → v.number ≡ Some n → w.number ≡ Some m → w.number ≢ Some 0
+    → Merges IsKept id v other w (joined v w) spent_view
+joins id v other w {n} {m} has has' follows items views r at apart there =
+    let both : QueueView = joined v w in let Sound : QueueView → Type 0 = IsSound r.gone items r.drawn in let Hands : Hand → Type 0 = IsHand r.gone items in
+    let sound = r.each id v at in let sound' = r.each other w (sym (set_else views id other both apart) ∙ there) in
+    let hands_joined : hands both ≡ hands v ++ hands w = sym (append_assoc (own_hand v.number v.put v.took) v.ended (hands w)) in
+    let kept : (f : QueueView → ℕ) → f both + f spent_view ≡ f v + f w → total f (set (set views id both) other spent_view) ≡ total f views =
+    λ f same. omega (arith, total-set f views id v both at, total-set f (set views id both) other w spent_view there) in
+    let hand_kept : (f : Hand → ℕ) → total (weigh f) (set (set views id both) other spent_view) ≡ total (weigh f) views =
+    λ f. kept (weigh f) (omega (arith, ap (total f) hands_joined, total-append f (hands v) (hands w))) in
+    record {
+      drawn = r.drawn;
+      gone = r.gone;
+      counted = record {
+        one_leads = kept leading (omega (arith, ap (number_is 0) has', ap bit (ne_eqb m 0 (λ e. follows (has' ∙ ap Some e))))) ∙ r.counted.one_leads;
+        once = λ k. hand_kept (λ h. bit (eqb h.number k)) ∙ r.counted.once k;
+        in_all = hand_kept (λ h. 1) ∙ r.counted.in_all;
+        limit = r.counted.limit;
+      };
+      numbered = r.numbered;
+      unused = r.unused;
+      taken = λ x. hand_kept (λ h. times x h.took) ∙ r.taken x;
+      each = each_set Sound (set views id both) other spent_view record { spent = λ _. refl; counts = λ e. absurd (cc); hands_are = All-nil Hands }
+          (λ j u _. each_set Sound views id both (sound_with both has sound.counts (subst (All Hands) (sym hands_joined)
+          (All-append Hands (hands v) (hands w) sound.hands_are sound'.hands_are))) (λ i x _. r.each i x) j u);
+    }
+
+module _ {items : List Hint} {views : List QueueView} (r : IsKept items views) (id : ℕ) (v : QueueView) (at : get_elem? views id ≡ some v)
+    {n : ℕ} (has : v.number ≡ Some n) where
+  -- its own hand, and those of the passes that it met
+  held : IsHand r.gone items (hand n v.put v.took) × All (IsHand r.gone items) v.ended
+  held = let Hands : Hand → Type 0 = IsHand r.gone items in let own : Hand = hand n v.put v.took in
+      let all = subst (All Hands) (hands_are v has) (r.each id v at).hands_are in (All-head Hands own v.ended all, All-tail Hands own v.ended all)
+
+  -- what other passes put stays, what is gone stays gone, and the pass's own hand has its new place
+  module _ (later : List Hint) (gone : ℕ → List Hint) (put took : List Hint)
+      (same : (m : ℕ) → m ≢ n → sent gone later m ≡ sent r.gone items m)
+      (longer : (m : ℕ) → length (r.gone m) ≤ length (gone m)) where
+    -- hands of other numbers
+    hands_later : (hs : List Hand) → total (λ (h : Hand). bit (eqb h.number n)) hs ≡ 0 → All (IsHand r.gone items) hs → All (IsHand gone later) hs
+    hands_later hs none_there are = λ k d l. let h : Hand = get_or hs k d in let is : IsHand r.gone items h = are k d l in
+        let other : h.number ≢ n = λ e. omega (arith, total-zero (λ (g : Hand). bit (eqb g.number n)) hs none_there k d l, ap bit (eq-eqb h.number n e)) in
+        record { put = is.put ∙ sym (same h.number other); rises = is.rises; early = λ i x l. omega (arith, is.early i x l, longer (get_or h.took i x).pusher) }
+
+    hand_changed : IsNumbered n 1 (sent gone later n) → IsHand gone later (hand n put took)
+        → ((y : Hint) → times y took + times y (r.gone y.pusher) ≡ times y v.took + times y (gone y.pusher))
+        → IsKept later (set views id (record v { put = put; took = took }))
+    hand_changed numbered own taken = let w : QueueView = record v { put = put; took = took } in record {
+      drawn = r.drawn;
+      gone = gone;
+      counted = record {
+        one_leads = total-same leading views id v w at refl ∙ r.counted.one_leads;
+        once = λ m. total-same (numbers m) views id v w at (rw has refl) ∙ r.counted.once m;
+        in_all = total-same count views id v w at (rw has refl) ∙ r.counted.in_all;
+        limit = r.counted.limit;
+      };
+      numbered = λ m. dite (ℕ_discrete n m) (λ e. subst (λ i. IsNumbered i 1 (sent gone later i)) e numbered)
+          (λ ne. subst (IsNumbered m 1) (sym (same m (λ e. ne (sym e)))) (r.numbered m));
+      unused = λ m le. same m (λ e. omega (arith, given v has views id r.counted at)) ∙ r.unused m le;
+      taken = λ y. let f : Hand → ℕ = λ h. times y h.took in
+          omega (arith, total-set (weigh f) views id v w at, own_weighs v has f, own_weighs w has f, taken y, r.taken y);
+      each = let own_number = own_weighs v has (λ h. bit (eqb h.number n)) in each_set (IsSound gone later r.drawn) views id w
+          (sound_with w has (r.each id v at).counts (subst (All (IsHand gone later)) (sym (hands_are w has))
+          (All-cons (IsHand gone later) (hand n put took) v.ended own
+          (hands_later v.ended (grind (arith, nat_tests, total-at (numbers n) views id v at, r.counted.once n, own_number)) held.1))))
+          (λ j u apart there. let sound = r.each j u there in let two = total-two (numbers n) views id j v u apart at there in
+          let none_there : numbers n u ≡ 0 = grind (arith, nat_tests, two, r.counted.once n, own_number) in
+          record { spent = sound.spent; counts = sound.counts; hands_are = hands_later (hands u) none_there sound.hands_are });
+    }
+
+pub puts : (size id : ℕ) (v : QueueView) (x : Hint) → size ≡ 1024 → v.number ≡ Some x.pusher → x.turn ≡ length v.put + 1 → Pushes IsKept size id v x (IsPut v x)
+puts size id v x is has next items views room r at =
+    let n : ℕ = x.pusher in let own = (held r id v at has).0 in
+    let more : sent r.gone (items ++ x ∷ []) n ≡ sent r.gone items n ++ x ∷ [] =
+    ap (λ (l : List Hint). r.gone n ++ l) (filter_more (λ (y : Hint). eqb y.pusher n) items x (eq-eqb n n refl)) ∙ sym (append_assoc (r.gone n) _ _) in
+    let rule = hand_changed r id v at has (items ++ x ∷ []) r.gone (v.put ++ x ∷ []) v.took
+    (λ m ne. ap (λ (l : List Hint). r.gone m ++ l) (filter_same (λ (y : Hint). eqb y.pusher m) items x (ne_eqb n m (λ e. ne (sym e)))))
+    (λ m. omega arith)
+    (subst (IsNumbered n 1) (sym more) (numbered_more n 1 (sent r.gone items n) x (r.numbered n) refl (omega (arith, ap length own.put))))
+    record { put = ap (λ (l : List Hint). l ++ x ∷ []) own.put ∙ sym more; rises = own.rises; early = own.early } (λ y. refl) in
+    (putting x v, rule, (refl, (items, omega arith, stands id v _ views r at)))
+
+module _ (x : Hint) {items : List Hint} {views : List QueueView} (r : IsKept (x ∷ items) views) where
+  -- the hints that are gone, once this one is gone too
+  abbrev gone_later : ℕ → List Hint
+  gone_later m = r.gone m ++ hints_of m (x ∷ [])
+
+  -- what each number put stays
+  stays : (m : ℕ) → sent gone_later items m ≡ sent r.gone (x ∷ items) m
+  stays m = append_assoc (r.gone m) (hints_of m (x ∷ [])) (hints_of m items)
+      ∙ ap (λ (l : List Hint). r.gone m ++ l) (sym (filter-append (λ (y : Hint). eqb y.pusher m) (x ∷ []) items))
+
+  longer : (m : ℕ) → length (r.gone m) ≤ length (gone_later m)
+  longer m = omega (arith, length-append (r.gone m) (hints_of m (x ∷ [])))
+
+  -- the turn of the hint
+  turn_is : x.turn ≡ 1 + length (r.gone x.pusher)
+  turn_is = numbered_seam x.pusher 1 (r.gone x.pusher) (hints_of x.pusher items) x (rw (eq-eqb x.pusher x.pusher refl) at (r.numbered x.pusher))
+
+  -- it is before all of its pusher that this pass takes later, and behind those that it took
+  taking_hand : (h : Hand) → IsHand r.gone (x ∷ items) h → IsHand gone_later items (hand h.number h.put (h.took ++ x ∷ []))
+  taking_hand h is = record {
+    put = is.put ∙ sym (stays h.number);
+    rises = all_pairs_push (λ (y z : Hint). y.pusher ≡ z.pusher → y.turn < z.turn) h.took x is.rises
+        (λ k d l e. omega (arith, ap (λ (m : ℕ). length (r.gone m)) e, turn_is, is.early k d l));
+    early = All-push (λ (y : Hint). y.turn ≤ length (gone_later y.pusher)) h.took x
+        (λ k d l. omega (arith, is.early k d l, longer (get_or h.took k d).pusher))
+        (grind (arith, nat_tests, turn_is, length-append (r.gone x.pusher) (hints_of x.pusher (x ∷ []))));
+  }
+
+pub takes : (id : ℕ) (v : QueueView) (n : ℕ) → v.number ≡ Some n → Pops IsKept id v (IsTaken v)
+takes id v n has x items views r at =
+    let rule = hand_changed r id v at has items (gone_later x r) v.put (v.took ++ x ∷ []) (λ m _. stays x r m) (longer x r)
+    (subst (IsNumbered n 1) (sym (stays x r n)) (r.numbered n)) (taking_hand x r (hand n v.put v.took) (held r id v at has).0)
+    (λ y. let f : Hint → ℕ = λ z. bit (is_hint y z) in
+    omega (arith, total-append f v.took (x ∷ []), total-append f (r.gone y.pusher) (hints_of y.pusher (x ∷ [])), times_own y (x ∷ []))) in
+    (taking x v, rule, (refl, (items, stands id v _ views r at)))

@@ -1,9 +1,0 @@
-use Rattle.std.proofs.Common.{ap, ◌∙◌, ◌||◌}
-use Rattle.transcript_check.specs.Taken.{is_taking, is_among}
-use Rattle.transcript_check.proofs.TakenLemmas.{among_more}
-use Rattle.transcript_check.proofs.taken.Taken.add.Goals as goal
-
-pub returns-clause-among : goal.returns-clause-among
-returns-clause-among c s f t =
-    among_more c.args.seat c.args.file c.args.stamp c.self.inside.intakes c.insert.new.self c.in_ok-insert.ensures.updates s f t
-    ∙ ap (λ taken. is_taking s f t (c.args.seat, c.args.file, c.args.stamp) || is_among s f t taken) c.self.view_is
