@@ -14,20 +14,21 @@ use Rattle.action_lock.specs.Words.{word_at}
 use Rattle.action_lock.specs.declared.view.Ended.{Ended}
 use Rattle.action_lock.specs.declared.view.View.{View}
 use Rattle.action_lock.specs.declared.view.Phase.TheVariants.{Out}
-use Rattle.action_lock.specs.Views.{bit, number_count, number_is, weight, weight_in, here, numbers, times, first_view, spent_view}
+use Rattle.action_lock.specs.Views.{number_count, number_is, weight, weight_in, here, numbers, times, first_view, spent_view}
 use Rattle.action_lock.specs.Rule.{entries_of, KnowsPlaces, IsSound, IsRecorded, IsKept}
 use Rattle.action_lock.specs.Steps.{KnowsItsLists}
-use Rattle.action_lock.proofs.Placing.{Each, each_snoc}
 use Rattle.action_lock.proofs.Sound.{fresh_sound}
 use Rattle.action_lock.proofs.WriterSteps.{no_home}
 use Rattle.action_lock.proofs.Numbers.{has_all, knows}
 use Rattle.list_laws.specs.Totals.{total}
 use Rattle.list_laws.proofs.BoolLemmas.{bool_cases}
 use Rattle.list_laws.proofs.TotalLemmas.{total-only}
-use Rattle.list_laws.proofs.FrontLemmas.{front_same_filter}
+use Rattle.list_laws.proofs.PrefixLemmas.{front_same_filter}
 use Rattle.std.proofs.lemmas.Bool.{eqb-false}
 use Rattle.std.proofs.lemmas.List.{get_or-set_other}
 use Rattle.std.proofs.lemmas.Grind.{get_or-set_at}
+use Rattle.list_laws.proofs.EachLemmas.{Each, each_snoc}
+use Rattle.list_laws.specs.Rows.{one_if}
 
 module _ {A : Type 0} where
   -- something stands at each place
@@ -46,20 +47,20 @@ module _ {A : Type 0} where
   only : (P : A → Type 0) (x : A) → P x → Each P (x ∷ [])
   only P x = each_snoc P [] x (λ i y e. absurd (some-ne-none y (sym e)))
 
-first_once : (n : ℕ) → (bit (eqb 0 n) + 0) + 0 ≡ bit (nat_lt n 1)
+first_once : (n : ℕ) → (one_if (eqb 0 n) + 0) + 0 ≡ one_if (nat_lt n 1)
 first_once zero = refl
 first_once (suc n) = grind (arith, nat_tests)
 
 module _ {E : Type 0} (number_of : E → ℕ) (history : List E) where
   -- a number that a view has, its own or that of a pass that it met: the entries with it have been seen
-  ended_seen : (seen : List E) (k : ℕ) (ended : List (Ended E)) → 0 < total (λ (e : Ended E). bit (eqb e.number k)) ended
+  ended_seen : (seen : List E) (k : ℕ) (ended : List (Ended E)) → 0 < total (λ (e : Ended E). one_if (eqb e.number k)) ended
       → All (λ (e : Ended E). (e.entries ≡ entries_of number_of e.number history) × (e.entries ≡ entries_of number_of e.number seen)) ended
       → entries_of number_of k seen ≡ entries_of number_of k history
   ended_seen seen k [] some_there all = absurd (omega arith)
   ended_seen seen k (x ∷ xs) some_there all = bool_cases (eqb x.number k) (λ _. entries_of number_of k seen ≡ entries_of number_of k history)
       (λ e. let both = all 0 x (omega arith) in
       subst (λ (j : ℕ). entries_of number_of j seen ≡ entries_of number_of j history) (eqb-true x.number k e) (sym both.1 ∙ both.0))
-      (λ e. ended_seen seen k xs (omega (arith, ap bit e)) (λ j d l. all (suc j) d (omega arith)))
+      (λ e. ended_seen seen k xs (omega (arith, ap one_if e)) (λ j d l. all (suc j) d (omega arith)))
 
   module _ (drawn : ℕ) where
     number_seen : (v : View E) (k : ℕ) (number : Option ℕ) → v.number ≡ number → IsSound number_of history drawn v → times k v ≡ 1
@@ -67,7 +68,7 @@ module _ {E : Type 0} (number_of : E → ℕ) (history : List E) where
     number_seen v k None is sound once = ended_seen v.seen k v.ended (omega (arith, ap (number_is k) is)) sound.ended
     number_seen v k (Some n) is sound once = bool_cases (eqb n k) (λ _. entries_of number_of k v.seen ≡ entries_of number_of k history)
         (λ e. let both = sound.mine k (is ∙ ap Some (eqb-true n k e)) in sym both.1 ∙ both.0)
-        (λ e. ended_seen v.seen k v.ended (omega (arith, ap (number_is k) is, ap bit e)) sound.ended)
+        (λ e. ended_seen v.seen k v.ended (omega (arith, ap (number_is k) is, ap one_if e)) sound.ended)
 
     -- a view without a number weighs nothing
     no_weight : (f : View E → ℕ) → f (spent_view {E = E}) ≡ 0 → (v : View E) (number : Option ℕ) → v.number ≡ number → IsSound number_of history drawn v

@@ -14,17 +14,19 @@ use Rattle.action_lock.specs.declared.view.Phase.TheVariants.{Out}
 use Rattle.action_lock.specs.declared.view.Ended.{Ended}
 use Rattle.action_lock.specs.declared.view.View.{View}
 use Rattle.action_lock.specs.Words.{count}
-use Rattle.action_lock.specs.Views.{weight, weight_in, here, tally, bit, number_count, number_is, leading, numbers, times, spent_view}
+use Rattle.action_lock.specs.Views.{weight, weight_in, here, tally, number_count, number_is, leading, numbers, times, spent_view}
 use Rattle.action_lock.specs.Rule.{entries_of, IsSound, IsRecorded, IsKept, KnowsPlaces, SeesAll}
 use Rattle.action_lock.specs.Steps.{told, Tells, KnowsItsLists, splitting, split_off, joined, end_of}
 use Rattle.action_lock.proofs.Tallies.{tally_is}
-use Rattle.action_lock.proofs.Placing.{each_set, each_snoc, placed_same, spread_set, quiet}
+use Rattle.action_lock.proofs.Placing.{placed_same, spread_set, quiet}
 use Rattle.action_lock.proofs.Sound.{told_all, fresh_sound}
 use Rattle.list_laws.specs.Totals.{total}
-use Rattle.list_laws.specs.Fronts.{IsFront, longer}
+use Rattle.list_laws.specs.Prefixes.{IsPrefix, longer}
 use Rattle.list_laws.proofs.TotalLemmas.{total-set, total-same, total-at, total-two, total-only, total-append}
-use Rattle.list_laws.proofs.FrontLemmas.{front_all, front_trans, front_filter, front_between, front_whole, longer_is, longer_front, front_longer_left}
-use Rattle.list_laws.proofs.FrontLemmas.{front_longer_right, filter_none, All-weaken}
+use Rattle.list_laws.proofs.PrefixLemmas.{front_all, front_trans, front_filter, front_between, front_whole, longer_is, longer_front, front_longer_left}
+use Rattle.list_laws.proofs.PrefixLemmas.{front_longer_right, filter_none, All-weaken}
+use Rattle.list_laws.proofs.EachLemmas.{each_set, each_snoc}
+use Rattle.list_laws.specs.Rows.{one_if}
 
 module _ {E : Type 0} where
   -- a view with no number has no number at all
@@ -32,7 +34,7 @@ module _ {E : Type 0} where
   no_times k v e = by_parts v.number v.ended e
     where
       by_parts : (number : Option ℕ) (ended : List (Ended E)) → number_count number + length ended ≡ 0
-          → number_is k number + total (λ (x : Ended E). bit (eqb x.number k)) ended ≡ 0
+          → number_is k number + total (λ (x : Ended E). one_if (eqb x.number k)) ended ≡ 0
       by_parts None [] e = refl
       by_parts None (x ∷ xs) e = absurd (omega arith)
       by_parts (Some n) xs e = absurd (omega arith)
@@ -43,7 +45,7 @@ module _ {E : Type 0} where
     pub has_all : v.number ≡ Some 0 → v.drawn ≡ length v.ended + 1 → (k : ℕ) → k < drawn → times k v ≡ 1
     has_all leads full k below =
         let few : total numbers vs ≡ numbers v = omega (arith, ap number_count leads, (r.each id v at).counts leads, r.in_all) in
-        sym (total-only numbers (times k) vs id v at few (λ j w _ e. no_times k w e)) ∙ (r.once k ∙ ap bit (lt-ltb k drawn below))
+        sym (total-only numbers (times k) vs id v at few (λ j w _ e. no_times k w e)) ∙ (r.once k ∙ ap one_if (lt-ltb k drawn below))
 
     all_known : All (λ e. number_of e < drawn) v.seen
     all_known = front_all (λ e. number_of e < drawn) v.seen history (r.each id v at).seen r.known
@@ -67,7 +69,7 @@ module _ {H S E : Type 0} {number_of : E → ℕ} {stands : H → List E → Typ
       record { few = known.few; mine = known.mine; ended = known.ended; known = known.known; no_others = known.no_others } in
       (told me.0, keeps, tt, rule, (refl, sound.olds, lists))
 
-one_more : (n d : ℕ) → bit (nat_lt n d) + bit (eqb d n) ≡ bit (nat_lt n (d + 1))
+one_more : (n d : ℕ) → one_if (nat_lt n d) + one_if (eqb d n) ≡ one_if (nat_lt n (d + 1))
 one_more n d = grind (arith, nat_tests)
 
 module _ {E : Type 0} where
@@ -129,9 +131,9 @@ module _ {E : Type 0} where
           let none_made = no_entries drawn history r.known in
           let none_seen = no_entries drawn v.seen (front_all (λ e. number_of e < drawn) v.seen history sound.seen r.known) in
           record {
-            one_leads = unchanged leading vs id v (splitting v) (split_off v) at refl (ap bit (ne_eqb v.drawn 0 (λ e. omega arith))) ∙ r.one_leads;
+            one_leads = unchanged leading vs id v (splitting v) (split_off v) at refl (ap one_if (ne_eqb v.drawn 0 (λ e. omega arith))) ∙ r.one_leads;
             once = λ n. added (times n) vs id v (splitting v) (split_off v) at refl ∙ omega
-                (arith, r.once n, ap (λ (d : ℕ). bit (eqb d n)) is_drawn, one_more n drawn);
+                (arith, r.once n, ap (λ (d : ℕ). one_if (eqb d n)) is_drawn, one_more n drawn);
             in_all = added numbers vs id v (splitting v) (split_off v) at refl ∙ omega (arith, r.in_all);
             limit = omega arith;
             known = All-weaken (λ e. number_of e < drawn) (λ e. number_of e < drawn + 1) history (λ e less. omega arith) r.known;
@@ -153,7 +155,7 @@ module _ {H S E : Type 0} (number_of : E → ℕ) (stands : H → List E → Typ
     placed = placed_same r.placed (set s.views id (splitting v) ++ split_off v ∷ [])
         (each_snoc (KnowsPlaces places) (set s.views id (splitting v)) (split_off v) (spread_set s.views id at (splitting v) refl places r.placed.spread)
         (λ n has. r.placed.spread id v at 0 leads))
-        (λ p. split_tally p s.views id v at) (unchanged (λ (u : View E). bit u.intent) s.views id v (splitting v) (split_off v) at refl refl);
+        (λ p. split_tally p s.views id v at) (unchanged (λ (u : View E). one_if u.intent) s.views id v (splitting v) (split_off v) at refl refl);
   }
 
 module _ {E : Type 0} where
@@ -163,7 +165,7 @@ module _ {E : Type 0} where
       → f both + f spent ≡ f v + f w → total f (set (set views id both) other spent) ≡ total f views
   both_same f views id other v w both spent at there same = omega (arith, total-set f views id v both at, total-set f (set views id both) other w spent there)
 
-  end_count : (k : ℕ) (number : Option ℕ) (w : View E) → total (λ (x : Ended E). bit (eqb x.number k)) (end_of number w) ≡ number_is k number
+  end_count : (k : ℕ) (number : Option ℕ) (w : View E) → total (λ (x : Ended E). one_if (eqb x.number k)) (end_of number w) ≡ number_is k number
   end_count k None w = refl
   end_count k (Some n) w = omega arith
 
@@ -173,7 +175,7 @@ module _ {E : Type 0} where
 
   -- the numbers of both views stand in the one that takes the other in
   times_joined : (k : ℕ) (v w : View E) → times k (joined v w) ≡ times k v + times k w
-  times_joined k v w = let f : Ended E → ℕ = λ x. bit (eqb x.number k) in
+  times_joined k v w = let f : Ended E → ℕ = λ x. one_if (eqb x.number k) in
       omega (arith, total-append f v.ended (end_of w.number w ++ w.ended), total-append f (end_of w.number w) w.ended, end_count k w.number w)
 
   numbers_joined : (v w : View E) → numbers (joined v w) ≡ numbers v + numbers w
@@ -185,7 +187,7 @@ module _ {E : Type 0} (number_of : E → ℕ) where
   Keeps history seen e = (e.entries ≡ entries_of number_of e.number history) × (e.entries ≡ entries_of number_of e.number seen)
 
   -- what is kept of a number is the same in what lies between what was seen and the history
-  keeps_between : (history seen longer : List E) → IsFront seen longer → IsFront longer history → (e : Ended E) → Keeps history seen e → Keeps history longer e
+  keeps_between : (history seen longer : List E) → IsPrefix seen longer → IsPrefix longer history → (e : Ended E) → Keeps history seen e → Keeps history longer e
   keeps_between history seen longer lower upper e both = let test : E → Bool = λ x. eqb (number_of x) e.number in
       let between = front_between (filter test seen) (filter test longer) (filter test history) (front_filter test seen longer lower)
       (front_filter test longer history upper) in
@@ -195,10 +197,10 @@ module _ {E : Type 0} (number_of : E → ℕ) where
       (sound' : IsSound number_of history drawn w) where
     joined_sound : v.phase ≡ Out → IsSound number_of history drawn (joined v w)
     joined_sound is =
-        let seen : List E = longer v.seen w.seen in let Front : List E → Type 0 = λ old. IsFront old seen in
-        let left : IsFront v.seen seen = front_longer_left v.seen w.seen history sound.seen sound'.seen in
-        let right : IsFront w.seen seen = front_longer_right v.seen w.seen history sound.seen sound'.seen in
-        let whole : IsFront seen history = longer_front v.seen w.seen history sound.seen sound'.seen in
+        let seen : List E = longer v.seen w.seen in let Front : List E → Type 0 = λ old. IsPrefix old seen in
+        let left : IsPrefix v.seen seen = front_longer_left v.seen w.seen history sound.seen sound'.seen in
+        let right : IsPrefix w.seen seen = front_longer_right v.seen w.seen history sound.seen sound'.seen in
+        let whole : IsPrefix seen history = longer_front v.seen w.seen history sound.seen sound'.seen in
         let kept = keeps_between history v.seen seen left whole in let kept' = keeps_between history w.seen seen right whole in
         record {
           spent = λ none_there. absurd (cc);
@@ -236,7 +238,7 @@ module _ {H S E : Type 0} (number_of : E → ℕ) (stands : H → List E → Typ
         history = r.history;
         drawn = r.drawn;
         recorded = record {
-          one_leads = kept leading (omega (arith, ap (number_is 0) has', ap bit (ne_eqb m 0 (λ e. omega arith)))) ∙ r.recorded.one_leads;
+          one_leads = kept leading (omega (arith, ap (number_is 0) has', ap one_if (ne_eqb m 0 (λ e. omega arith)))) ∙ r.recorded.one_leads;
           once = λ k. kept (times k) (omega (arith, times_joined k v w)) ∙ r.recorded.once k;
           in_all = kept numbers (omega (arith, numbers_joined v w)) ∙ r.recorded.in_all;
           limit = r.recorded.limit;
@@ -252,5 +254,5 @@ module _ {H S E : Type 0} (number_of : E → ℕ) (stands : H → List E → Typ
             (λ p. let none_there = ap (weight_in (here p w) p) is' in
             tally_is p (set (set s.views id both) other spent_view) s.views
             (λ f. kept (λ (u : View E). f (weight p u)) (ap (λ t. f (weight p v) + f t) (sym none_there))))
-            (kept (λ (u : View E). bit u.intent) (λ k. bit v.intent + bit (sym free k)));
+            (kept (λ (u : View E). one_if u.intent) (λ k. one_if v.intent + one_if (sym free k)));
       }

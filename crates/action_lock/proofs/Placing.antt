@@ -14,12 +14,14 @@ use Rattle.action_lock.specs.declared.view.Phase.{Phase}
 use Rattle.action_lock.specs.declared.view.View.{View}
 use Rattle.action_lock.specs.Slots.{MayKeep}
 use Rattle.action_lock.specs.Words.{word_at, count, intents, own_place}
-use Rattle.action_lock.specs.Views.{Tally, here, weight, weight_in, tally, intending, bit, number_count, number_is, leading, numbers, times}
+use Rattle.action_lock.specs.Views.{Tally, here, weight, weight_in, tally, intending, number_count, number_is, leading, numbers, times}
 use Rattle.action_lock.specs.Rule.{turns, gate_word, KnowsPlaces, IsSound, IsRecorded, IsGuarded, IsHoused, IsPlaced, IsKept}
 use Rattle.action_lock.proofs.Tallies.{named, own_within, weighs_own, weighs_else, weighs_same, same_tally, same_intents, bounds}
 use Rattle.list_laws.specs.Totals.{total}
+use Rattle.list_laws.proofs.EachLemmas.{Each, each_set}
 use Rattle.list_laws.proofs.BoolLemmas.{bool_cases}
 use Rattle.list_laws.proofs.TotalLemmas.{total-set, total-same}
+use Rattle.list_laws.specs.Rows.{one_if}
 
 module _ {A : Type 0} where
   -- what was set stands there
@@ -34,17 +36,6 @@ module _ {A : Type 0} where
   read_there (x ∷ xs) zero a d e = some-injective x a e
   read_there (x ∷ xs) (suc i) a d e = read_there xs i a d e
 
-  -- it holds of each element
-  abbrev pub Each : (A → Type 0) → List A → Type 0
-  Each P xs = (i : ℕ) (x : A) → get_elem? xs i ≡ some x → P x
-
-  pub each_set : (P : A → Type 0) (xs : List A) (i : ℕ) (y : A) → P y → ((j : ℕ) (x : A) → j ≢ i → get_elem? xs j ≡ some x → P x) → Each P (set xs i y)
-  each_set P xs i y here others j x e =
-      ⊎_elim (λ (t : (j ≡ i) × (y ≡ x)). subst P t.1 here) (λ (t : (j ≢ i) × (get_elem? xs j ≡ some x)). others j x t.0 t.1) (at_set xs i j y x e)
-
-  pub each_snoc : (P : A → Type 0) (xs : List A) (y : A) → Each P xs → P y → Each P (xs ++ y ∷ [])
-  each_snoc P xs y all last j x e = ⊎_elim (λ (t : get_elem? xs j ≡ some x). all j x t) (λ (t : y ≡ x). subst P t last) (at_snoc xs y x j e)
-
 module _ {E : Type 0} (vs : List (View E)) (id : ℕ) {v : View E} (at : get_elem? vs id ≡ some v) (w : View E) (same : named w ≡ named v) where
   module _ {number_of : E → ℕ} {history : List E} {drawn : ℕ} (r : IsRecorded number_of history drawn vs) where
     -- a view that keeps its numbers takes the place of another, beside the same history or a later one
@@ -52,7 +43,7 @@ module _ {E : Type 0} (vs : List (View E)) (id : ℕ) {v : View E} (at : get_ele
         → IsRecorded number_of later drawn (set vs id w)
     recorded_as later known each = record {
       one_leads = total-same leading vs id v w at (λ k. number_is 0 (same k).1) ∙ r.one_leads;
-      once = λ n. total-same (times n) vs id v w at (λ k. number_is n (same k).1 + total (λ (e : Ended E). bit (eqb e.number n)) (same k).2) ∙ r.once n;
+      once = λ n. total-same (times n) vs id v w at (λ k. number_is n (same k).1 + total (λ (e : Ended E). one_if (eqb e.number n)) (same k).2) ∙ r.once n;
       in_all = total-same numbers vs id v w at (λ k. number_count (same k).1 + length (same k).2) ∙ r.in_all;
       limit = r.limit;
       known = known;
@@ -105,8 +96,8 @@ pub write_step : {E : Type 0} (places q : ℕ) (v w : View E) (P : Phase) → q 
 write_step places q v w P within before same else_same = record {
   within = within;
   from = before q within;
-  to = λ i. weight_in (bit (eqb (own_place (same i).0 (same i).1) q)) q w.phase;
-  elsewhere = λ p l apart. (λ i. weight_in (bit (eqb (own_place (same i).0 (same i).1) p)) p w.phase) ∙ (else_same (here p v) p l apart ∙ sym (before p l));
+  to = λ i. weight_in (one_if (eqb (own_place (same i).0 (same i).1) q)) q w.phase;
+  elsewhere = λ p l apart. (λ i. weight_in (one_if (eqb (own_place (same i).0 (same i).1) p)) p w.phase) ∙ (else_same (here p v) p l apart ∙ sym (before p l));
 }
 
 module _ {H S E : Type 0} {stands : H → List E → Type 0} {share_stands : S → List E → Type 0} {places : ℕ} {history : List E} {s : State (Slot H S) (View E)}

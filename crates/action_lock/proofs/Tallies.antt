@@ -11,22 +11,23 @@ use Rattle.action_lock.specs.declared.view.Phase.TheVariants.{Out, Reading, Mark
 use Rattle.action_lock.specs.declared.view.Ended.{Ended}
 use Rattle.action_lock.specs.declared.view.View.{View}
 use Rattle.action_lock.specs.Words.{own_place}
-use Rattle.action_lock.specs.Views.{Tally, Writing, weight_in, weight, tally, here, below, writes, intending, bit, number_count, numbers}
+use Rattle.action_lock.specs.Views.{Tally, Writing, weight_in, weight, tally, here, below, writes, intending, number_count, numbers}
 use Rattle.action_lock.specs.Rule.{turns, IsSound, IsRecorded}
 use Rattle.action_lock.specs.Steps.{marked, opened}
 use Rattle.list_laws.specs.Totals.{total}
 use Rattle.list_laws.proofs.BoolLemmas.{bool_cases}
 use Rattle.list_laws.proofs.TotalLemmas.{total-same, total-below, total-plus}
+use Rattle.list_laws.specs.Rows.{one_if}
 
-pub bit_below : (b : Bool) → bit b ≤ 1
+pub bit_below : (b : Bool) → one_if b ≤ 1
 bit_below true = omega arith
 bit_below false = omega arith
 
 pub below_yes : (p k : ℕ) → p < k → below p k ≡ 1
-below_yes p k l = ap bit (lt-ltb p k l)
+below_yes p k l = ap one_if (lt-ltb p k l)
 
 pub below_no : (p k : ℕ) → k ≤ p → below p k ≡ 0
-below_no p k l = ap bit (le-ltb p k l)
+below_no p k l = ap one_if (le-ltb p k l)
 
 -- one place more is that place alone
 pub below_other : (p k : ℕ) → p ≢ k → below p (k + 1) ≡ below p k
@@ -54,10 +55,10 @@ reads_once : (h p : ℕ) (phase : Phase) → h ≤ 1 → (weight_in h p phase).r
 reads_once h p Reading l = l
 reads_once h p phase l = omega arith
 
-pends_with_intent : (h p : ℕ) (phase : Phase) (b : Bool) → (0 < writes phase → b ≡ true) → (weight_in h p phase).pendings ≤ bit b
-pends_with_intent h p (Marking k) b has = omega (arith, ap bit (has (omega arith)), bit_below (nat_lt p k))
-pends_with_intent h p (Shutting k) b has = omega (arith, ap bit (has (omega arith)))
-pends_with_intent h p (Opening k) b has = omega (arith, ap bit (has (omega arith)), bit_below (nat_lt p k))
+pends_with_intent : (h p : ℕ) (phase : Phase) (b : Bool) → (0 < writes phase → b ≡ true) → (weight_in h p phase).pendings ≤ one_if b
+pends_with_intent h p (Marking k) b has = omega (arith, ap one_if (has (omega arith)), bit_below (nat_lt p k))
+pends_with_intent h p (Shutting k) b has = omega (arith, ap one_if (has (omega arith)))
+pends_with_intent h p (Opening k) b has = omega (arith, ap one_if (has (omega arith)), bit_below (nat_lt p k))
 pends_with_intent h p phase b has = omega arith
 
 -- each view has one of the places
@@ -72,15 +73,15 @@ module _ {E : Type 0} where
 
   -- what a view weighs by its phase, at its own place
   pub weighs_own : (v : View E) (p : ℕ) (P : Phase) → v.phase ≡ P → own_place v.places v.number ≡ p → weight p v ≡ weight_in 1 p P
-  weighs_own v p P is own = λ i. weight_in (bit (eq-eqb (own_place v.places v.number) p own i)) p (is i)
+  weighs_own v p P is own = λ i. weight_in (one_if (eq-eqb (own_place v.places v.number) p own i)) p (is i)
 
   -- and at another
   pub weighs_else : (v : View E) (p : ℕ) (P : Phase) → v.phase ≡ P → own_place v.places v.number ≢ p → weight p v ≡ weight_in 0 p P
-  weighs_else v p P is apart = λ i. weight_in (bit (ne_eqb (own_place v.places v.number) p apart i)) p (is i)
+  weighs_else v p P is apart = λ i. weight_in (one_if (ne_eqb (own_place v.places v.number) p apart i)) p (is i)
 
   -- a view of the same number and phase weighs the same
   pub weighs_same : (p : ℕ) (v w : View E) → named w ≡ named v → w.phase ≡ v.phase → weight p w ≡ weight p v
-  weighs_same p v w same phase = λ i. weight_in (bit (eqb (own_place (same i).0 (same i).1) p)) p (phase i)
+  weighs_same p v w same phase = λ i. weight_in (one_if (eqb (own_place (same i).0 (same i).1) p)) p (phase i)
 
   -- tallies whose fields are the same totals are the same
   pub tally_is : (p : ℕ) (us vs : List (View E)) → ((f : Tally → ℕ) → total (λ (u : View E). f (weight p u)) us ≡ total (λ (u : View E). f (weight p u)) vs)
@@ -100,7 +101,7 @@ module _ {E : Type 0} where
 
     -- the intents, where a view keeps its own
     pub same_intents : w.intent ≡ v.intent → intending (set vs id w) ≡ intending vs
-    same_intents same = total-same (λ (u : View E). bit u.intent) vs id v w at (ap bit same)
+    same_intents same = total-same (λ (u : View E). one_if u.intent) vs id v w at (ap one_if same)
 
   module _ {number_of : E → ℕ} {history : List E} {drawn : ℕ} where
     reads_by_number : (p : ℕ) (v : View E) (number : Option ℕ) → v.number ≡ number → IsSound number_of history drawn v → (weight p v).readers ≤ numbers v
@@ -113,7 +114,7 @@ module _ {E : Type 0} where
       (let less = total-below (λ (u : View E). (weight p u).holders) (λ (u : View E). (weight p u).visitors + (weight p u).writers) vs
           (λ i v _. holding_has_turn (here p v) p v.phase) in
           omega (arith, less, total-plus (λ (u : View E). (weight p u).visitors) (λ (u : View E). (weight p u).writers) vs)),
-      total-below (λ (u : View E). (weight p u).pendings) (λ (u : View E). bit u.intent) vs
+      total-below (λ (u : View E). (weight p u).pendings) (λ (u : View E). one_if u.intent) vs
           (λ i v at. pends_with_intent (here p v) p v.phase v.intent (r.each i v at).asks),
       (let few = total-below (λ (u : View E). (weight p u).readers) numbers vs (λ i v at. reads_by_number p v v.number refl (r.each i v at)) in
           omega (arith, few, r.in_all, r.limit)),

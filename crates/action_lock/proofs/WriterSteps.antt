@@ -14,7 +14,7 @@ use Rattle.action_lock.specs.declared.view.Phase.TheVariants.{Out, Marking, Shut
 use Rattle.action_lock.specs.declared.view.View.{View}
 use Rattle.action_lock.specs.Slots.{HasNoHome, MayKeep, writing_hand}
 use Rattle.action_lock.specs.Words.{word_at, place_of, count, intents, own_place}
-use Rattle.action_lock.specs.Views.{Tally, Writing, weight, weight_in, here, intending, writes, bit, times}
+use Rattle.action_lock.specs.Views.{Tally, Writing, weight, weight_in, here, intending, writes, times}
 use Rattle.action_lock.specs.Rule.{SeesAll, IsSound, IsGuarded, IsHoused, IsKept}
 use Rattle.action_lock.specs.Steps.{with_phase, marked, opened, shutting, with_intent, held_up, released, TakesAt, Takes, Releases, Marks, ClaimsAt, Claims}
 use Rattle.action_lock.specs.Steps.{ShutsAt, Shuts, Opens, Ends, placing, Places}
@@ -22,7 +22,7 @@ use Rattle.action_lock.proofs.WordLemmas.{or_odd, or_even}
 use Rattle.action_lock.proofs.Tallies.{named, below_yes, below_no, below_other, marked_weighs, opened_weighs, weighs_same, same_tally, own_within, bit_below}
 use Rattle.action_lock.proofs.Tallies.{same_intents}
 use Rattle.action_lock.proofs.Placing.{write_step, there_set, intents_are, recorded_set, spread_set, as_known, quiet, moving, moved_at, moved_still}
-use Rattle.action_lock.proofs.Placing.{moved_out, moved_home, read_there, each_set, recorded_as}
+use Rattle.action_lock.proofs.Placing.{moved_out, moved_home, read_there, recorded_as}
 use Rattle.action_lock.proofs.Sound.{renewed, entered, learned, is_current, counted_once, grown, made}
 use Rattle.list_laws.proofs.BoolLemmas.{bool_cases}
 use Rattle.list_laws.proofs.TotalLemmas.{total-set, total-at, total-two}
@@ -30,6 +30,8 @@ use Rattle.std.proofs.lemmas.Bool.Decides.{nat_tests}
 use Rattle.std.proofs.lemmas.List.Elements.{All-append, All-cons, All-nil}
 use Rattle.action_lock.proofs.Hands.{front_same, home_one}
 use mathlib.Core.Option as maybe
+use Rattle.list_laws.proofs.EachLemmas.{each_set}
+use Rattle.list_laws.specs.Rows.{one_if}
 
 -- what a place may keep is no home value
 pub no_home : {H S E : Type 0} (share_stands : S → List E → Type 0) (entries : List E) (kept : Slot H S) → MayKeep share_stands entries kept → HasNoHome kept
@@ -41,7 +43,7 @@ no_home share_stands entries Empty may = tt
 opened_sees : (places k : ℕ) (whole : Type 0) → SeesAll (opened places k) whole → whole
 opened_sees places k whole = bool_cases (eqb k places) (λ b. SeesAll (if b then Writing places else Opening k) whole → whole) (λ _ sees. sees) (λ _ sees. sees)
 
-given_below : (n drawn : ℕ) → 0 < bit (nat_lt n drawn) → n < drawn
+given_below : (n drawn : ℕ) → 0 < one_if (nat_lt n drawn) → n < drawn
 given_below n drawn some_there = grind (arith, nat_tests)
 
 -- one home value is in hand
@@ -103,7 +105,7 @@ module _ {H S E : Type 0} {number_of : E → ℕ} {stands : H → List E → Typ
       (stepped s intents (bit_or found 1) id me.1 w a)
       × TakesAt free me (w, carried_after me.1 a))
       (λ test. let w : View E = with_intent me.0 in let zero_found = eqb-true found 0 test in
-      let b = total-set (λ (u : View E). bit u.intent) s.views id me.0 w at in let none_had : bit me.0.intent ≡ 0 = ap bit none_yet in
+      let b = total-set (λ (u : View E). one_if u.intent) s.views id me.0 w at in let none_had : one_if me.0.intent ≡ 0 = ap one_if none_yet in
       let taken : bit_or found 1 ≡ found + 1 = or_even found (omega arith) in
       let rule = intent_set s r at w refl refl (renewed sound has (λ _. refl) (λ e. (refl, sound.current e)) sound.entered) (bit_or found 1)
       (omega arith) (omega arith) in
@@ -117,7 +119,7 @@ module _ {H S E : Type 0} {number_of : E → ℕ} {stands : H → List E → Typ
       → Allows (IsKept number_of stands share_stands places) slots id me intents (λ _. 0) (λ _. Releases (step slots intents 0 0 none) me 0)
   releases is has_it s r _ at _ =
       let w : View E = released me.0 in let sound = r.recorded.each id me.0 at in let one = r.placed.one_intent in
-      let b = total-set (λ (u : View E). bit u.intent) s.views id me.0 w at in let one_had : bit me.0.intent ≡ 1 = ap bit has_it in
+      let b = total-set (λ (u : View E). one_if u.intent) s.views id me.0 w at in let one_had : one_if me.0.intent ≡ 1 = ap one_if has_it in
       let rule = intent_set s r at w refl refl (renewed sound has (λ some_mark. absurd (omega (arith, ap writes is))) (λ e. absurd (cc)) sound.entered) 0
       (omega arith)
       (omega arith) in
@@ -271,7 +273,7 @@ module _ {H S E : Type 0} (number_of : E → ℕ) (stands : H → List E → Typ
               let reads = total-at (λ (x : View E). (weight p x).readers) s.views j u there in
               let shuts = writers p in let mine = writes_there p within in let turn = (placed.each p within).one_turn in
               let none_reads = (placed.each p within).write_alone (omega arith) in
-              let intent_two = total-two (λ (x : View E). bit x.intent) s.views id j v u apart at there in let holds = ap bit intends in
+              let intent_two = total-two (λ (x : View E). one_if x.intent) s.views id j v u apart at there in let holds = ap one_if intends in
               let one_intent = placed.one_intent in
               grown number_of r.history r.drawn entry u (r.recorded.each j u there) (omega arith) (omega arith) (omega arith) (omega arith)));
           placed = record {

@@ -2,7 +2,7 @@
 use Rattle.std.specs.Prelude.{◌≡◌, ◌≤◌}
 use Rattle.action_lock.specs.declared.view.View.{View}
 use Rattle.action_lock.specs.Views.{all_checks}
-use Rattle.list_laws.specs.Fronts.{IsFront}
+use Rattle.list_laws.specs.Prefixes.{IsPrefix}
 
 module _ {E : Type 0} where
   -- the same pass's view at a later time: the same numbers, what was seen and made is still seen and made, and no count is lower
@@ -10,9 +10,9 @@ module _ {E : Type 0} where
     pub number : w.number ≡ v.number
     pub drawn : w.drawn ≡ v.drawn
     pub ended : w.ended ≡ v.ended
-    pub seen : IsFront v.seen w.seen
-    pub mine : IsFront v.mine w.mine
-    pub reads : IsFront v.reads w.reads
+    pub seen : IsPrefix v.seen w.seen
+    pub mine : IsPrefix v.mine w.mine
+    pub reads : IsPrefix v.reads w.reads
     pub sights : v.sights ≤ w.sights
     pub looks : v.looks ≤ w.looks
     pub checks : all_checks v ≤ all_checks w

@@ -15,4 +15,4 @@ pub mod Steps
 pub mod Watching
 -- What these cite from below: totals and prefixes of lists
 pub use Rattle.list_laws.specs.Totals
-pub use Rattle.list_laws.specs.Fronts
+pub use Rattle.list_laws.specs.Prefixes

@@ -12,9 +12,10 @@ use Rattle.action_lock.specs.declared.view.Ended.{Ended}
 use Rattle.action_lock.specs.declared.view.View.{View}
 use Rattle.action_lock.specs.Slots.{MayKeep}
 use Rattle.action_lock.specs.Words.{count, intents, word_at}
-use Rattle.action_lock.specs.Views.{Tally, tally, writes, intending, leading, numbers, times, bit, spent_view}
+use Rattle.action_lock.specs.Views.{Tally, tally, writes, intending, leading, numbers, times, spent_view}
 use Rattle.list_laws.specs.Totals.{total}
-use Rattle.list_laws.specs.Fronts.{IsFront}
+use Rattle.list_laws.specs.Prefixes.{IsPrefix}
+use Rattle.list_laws.specs.Rows.{one_if}
 
 -- how many views have the turn of a place where they weigh so much
 abbrev pub turns : Tally → ℕ
@@ -52,9 +53,9 @@ module _ {E : Type 0} (number_of : E → ℕ) where
       -- only a holder of the intent stays current
       pub current_intends : v.current ≡ true → v.intent ≡ true
       -- the history begins with what was seen
-      pub seen : IsFront v.seen history
+      pub seen : IsPrefix v.seen history
       -- what was seen begins with all that a join has left
-      pub olds : All (λ old. IsFront old v.seen) v.olds
+      pub olds : All (λ old. IsPrefix old v.seen) v.olds
       -- a seat that enters, reads or writes has seen the whole history
       pub entered : SeesAll v.phase (v.seen ≡ history)
       -- and so has one that is current
@@ -69,7 +70,7 @@ module _ {E : Type 0} (number_of : E → ℕ) where
       -- one view has number 0
       pub one_leads : total leading views ≡ 1
       -- the numbers of the views and of the passes that they met are those below `drawn`, each once
-      pub once : (n : ℕ) → total (times n) views ≡ bit (nat_lt n drawn)
+      pub once : (n : ℕ) → total (times n) views ≡ one_if (nat_lt n drawn)
       -- so they are `drawn` in all
       pub in_all : total numbers views ≡ drawn
       -- there are 65,536 at most

@@ -12,7 +12,7 @@ use Rattle.action_lock.specs.Slots.{HasNoHome, writing_hand}
 use Rattle.action_lock.specs.Words.{own_place, place_of, has_turn, has_pending}
 use Rattle.action_lock.specs.Views.{Writing, numbers, times, fresh, all_checks}
 use Rattle.action_lock.specs.Rule.{entries_of}
-use Rattle.list_laws.specs.Fronts.{IsFront, longer}
+use Rattle.list_laws.specs.Prefixes.{IsPrefix, longer}
 
 -- the sights of a view that found this word
 abbrev pub sights_after : ℕ → ℕ → ℕ
@@ -130,7 +130,7 @@ module _ {E : Type 0} where
     -- What a view learns of the whole history, when it is let in and sees it
     pub record Learns (v : View E) (seen : List E) : Type 0 where
       -- it begins with what was seen
-      pub longer : IsFront v.seen seen
+      pub longer : IsPrefix v.seen seen
       -- it is what was seen, where the view was current
       pub current : v.current ≡ true → seen ≡ v.seen
       -- the entries with its number in it are those that it made
@@ -155,7 +155,7 @@ module _ {E : Type 0} where
 
     -- a load that tells what a join left, and which entries the view has
     abbrev pub Tells : (E → ℕ) → Step (Slot H S) → Me (Slot H S) (View E) → ℕ → Me (Slot H S) (View E) → Type 0
-    Tells number_of st m found m' = (m' ≡ (told m.0, m.1)) × All (λ old. IsFront old m.0.seen) m.0.olds × KnowsItsLists number_of (told m.0)
+    Tells number_of st m found m' = (m' ≡ (told m.0, m.1)) × All (λ old. IsPrefix old m.0.seen) m.0.olds × KnowsItsLists number_of (told m.0)
 
     -- the seat has taken the turn of its place and what that keeps: a share that stands for the history, or nothing
     abbrev pub Finds : (E → ℕ) → (S → List E → Type 0) → Me (Slot H S) (View E) → ℕ → Me (Slot H S) (View E) → Type 0

@@ -6,6 +6,7 @@ use Rattle.action_lock.specs.declared.view.Ended.{Ended}
 use Rattle.action_lock.specs.declared.view.View.{View}
 use Rattle.action_lock.specs.Words.{own_place}
 use Rattle.list_laws.specs.Totals.{total}
+use Rattle.list_laws.specs.Rows.{one_if}
 
 -- the phase of a seat that writes: it has shut all places, which are so many
 abbrev pub Writing : ℕ → Phase
@@ -24,14 +25,9 @@ pub record Tally : Type 0 where
   -- what the place keeps
   pub holders : ℕ
 
--- 1 for yes, 0 for no
-abbrev pub bit : Bool → ℕ
-bit true = 1
-bit false = 0
-
 -- 1 where the place is among the first so many
 abbrev pub below : ℕ → ℕ → ℕ
-below place count = bit (nat_lt place count)
+below place count = one_if (nat_lt place count)
 
 -- What a view in this phase weighs at a place, with `here` 1 where the place is its own. One that reads weighs at its own place alone.
 -- One that writes marks the places from the first to the last, shuts them in the same order, and opens them from the last to the first
@@ -63,13 +59,13 @@ number_count None = 0
 
 -- 1 where the number is `n`
 abbrev pub number_is : ℕ → Option ℕ → ℕ
-number_is n (Some m) = bit (m == n)
+number_is n (Some m) = one_if (m == n)
 number_is n None = 0
 
 module _ {E : Type 0} where
   -- 1 where the place is the view's own
   abbrev pub here : ℕ → View E → ℕ
-  here place v = bit (own_place v.places v.number == place)
+  here place v = one_if (own_place v.places v.number == place)
 
   -- what the view weighs at a place
   abbrev pub weight : ℕ → View E → Tally
@@ -87,7 +83,7 @@ module _ {E : Type 0} where
 
   -- how many views have the intent
   abbrev pub intending : List (View E) → ℕ
-  intending views = total (λ (v : View E). bit v.intent) views
+  intending views = total (λ (v : View E). one_if v.intent) views
 
   -- 1 for the view of number 0
   abbrev pub leading : View E → ℕ
@@ -99,7 +95,7 @@ module _ {E : Type 0} where
 
   -- how often `n` is among them
   abbrev pub times : ℕ → View E → ℕ
-  times n v = number_is n v.number + total (λ (e : Ended E). bit (e.number == n)) v.ended
+  times n v = number_is n v.number + total (λ (e : Ended E). one_if (e.number == n)) v.ended
 
   -- how often it looked at its place's word in all its reads
   abbrev pub all_checks : View E → ℕ

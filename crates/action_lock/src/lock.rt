@@ -5,7 +5,7 @@ ghost use Rattle.action_lock.specs.Slots.{HasNoHome, MayKeep};
 ghost use Rattle.action_lock.specs.Steps.{KnowsItsLists, joined, splitting, split_off, told};
 ghost use Rattle.action_lock.specs.Views.{first_view};
 ghost use Rattle.action_lock.specs.Words.{places_for};
-ghost use Rattle.list_laws.specs.Fronts.{IsFront};
+ghost use Rattle.list_laws.specs.Prefixes.{IsPrefix};
 
 use crate::home::Home;
 use crate::pass::Pass;
@@ -113,8 +113,8 @@ impl<H: Home> ActionLock<H> {
         requires follows { (view_of other).number ≢ Some 0 }
         ensures pass { IsPassOf self.now pass.new × IsSamePass pass.old pass.new }
         ensures view { view_of pass.new ≡ told (joined (view_of pass.old) (view_of other)) }
-        ensures keeps { IsFront (view_of pass.old).seen (view_of pass.new).seen }
-        ensures learns { IsFront (view_of other).seen (view_of pass.new).seen }
+        ensures keeps { IsPrefix (view_of pass.old).seen (view_of pass.new).seen }
+        ensures learns { IsPrefix (view_of other).seen (view_of pass.new).seen }
         ensures knows { KnowsItsLists H.number_of (view_of pass.new) }
     {
         let Pass {

@@ -1,5 +1,5 @@
 -- Fields read from the front of bytes, up to the first that is cut by their end, or unlawful where it stands.
-use Rattle.std.specs.Prelude.{ℕ, zero, suc, Bool, true, false, List, [], ◌∷◌, length, take, drop, Option, Some, Result, Ok, Err, nat_lt, nat_le, if◌then◌else◌}
+use Rattle.std.specs.Prelude.{ℕ, zero, suc, Bool, true, false, List, [], ◌∷◌, length, take, drop, Option, Some, None, Result, Ok, Err, nat_lt, nat_le, if◌then◌else◌}
 use Rattle.std.specs.Int.{w32, from_be_bytes}
 use Rattle.std.specs.Str.{chars, is_utf8}
 
@@ -45,3 +45,14 @@ many_at one_at (suc count) before bytes = do
   first ← one_at before bytes
   others ← many_at one_at count (Some first.0) first.1
   Ok (first.0 ∷ others.0, others.1)
+
+-- so many of a kind as the number in front of them says
+unfoldable pub counted_at : {A : Type 0} → (Option A → List ℕ → Result (A × List ℕ) ℕ) → List ℕ → Result (List A × List ℕ) ℕ
+counted_at one_at bytes = do
+  count ← number_at bytes
+  many_at one_at count.0 None count.1
+
+-- each of a list is good behind the one before it
+abbrev pub AllAfter : {A : Type 0} → (Option A → A → Type 0) → Option A → List A → Type 0
+AllAfter Good before [] = Unit {0}
+AllAfter Good before (x ∷ xs) = Good before x × AllAfter Good (Some x) xs

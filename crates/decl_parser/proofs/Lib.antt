@@ -1,14 +1,7 @@
 pub mod ForestLemmas
 pub mod RoleLemmas
 pub mod UnitLemmas
-pub mod HeaderLemmas
-pub mod ListingLemmas
+pub mod Parts
 pub mod Rising
 pub mod Sound
-pub mod Continuing
-pub mod StubLemmas
-pub mod ListingLawful
-pub mod ForestRising
-pub mod ListedNames
-pub mod CommentLemmas
-pub mod PlainLevels
+pub mod Levels

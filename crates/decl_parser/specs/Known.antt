@@ -2,15 +2,15 @@
 use Rattle.std.specs.Prelude.{◌≡◌, List, [], ◌∷◌, map}
 use Rattle.decl_parser.specs.declared.bracket.Bracket.TheVariants.{Paren, Square, Brace}
 use Rattle.decl_parser.specs.declared.open_brackets.Open.{Open}
-use Rattle.decl_parser.specs.declared.open_brackets.Entry.{Entry}
+use Rattle.decl_parser.specs.declared.open_brackets.Frame.{Frame}
 use Rattle.decl_parser.specs.Forest.{finds}
 
--- the brackets of the entries
-abbrev pub opens_of : List Entry → List Open
+-- the brackets of the frames
+abbrev pub opens_of : List Frame → List Open
 opens_of es = map (λ e. e.opener) es
 
 -- each entry keeps the right answers
-abbrev pub AreKnown : List Entry → Type 0
+abbrev pub AreKnown : List Frame → Type 0
 AreKnown [] = Unit {0}
 AreKnown (e ∷ es) =
     (e.paren ≡ finds Paren (opens_of (e ∷ es))) × (e.square ≡ finds Square (opens_of (e ∷ es)))

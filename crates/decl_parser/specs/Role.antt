@@ -3,8 +3,8 @@ use Rattle.std.specs.Prelude.{ℕ, Bool, ◌==◌, if◌then◌else◌, List, []
 use Rattle.std.specs.List.{list_any}
 use Rattle.std.specs.Str.{bytes_eq}
 use Rattle.java_tokens.specs.Token.{Token}
-use Rattle.java_tokens.specs.declared.kind.Kind.TheVariants.{Word, Punct}
-use Rattle.java_tokens.specs.Kind.{code_of as kind_code}
+use Rattle.java_tokens.specs.declared.kind.TokenKind.TheVariants.{Word, Punct}
+use Rattle.java_tokens.specs.TokenKind.{code_of as kind_code}
 use Rattle.java_tokens.specs.Tokens.{characters_of}
 use Rattle.java_tokens.specs.Identifier.{reserved_words, literal_words, is_reserved}
 use Rattle.java_tokens.specs.Words.{is_comment}

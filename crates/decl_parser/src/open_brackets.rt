@@ -18,7 +18,7 @@ pub(crate) struct Open {
 /// An opening bracket, and for each kind whether a closing bracket of that kind would find its partner there or
 /// further out.
 #[derive(Clone, Copy)]
-pub(crate) struct Entry {
+pub(crate) struct Frame {
     opener: Open,
     paren: bool,
     square: bool,
@@ -28,7 +28,7 @@ pub(crate) struct Entry {
 /// The opening brackets that are still open, seen as a list with the innermost first.
 #[derive(Drop)]
 pub(crate) struct OpenBrackets {
-    entries: Vec<Entry>,
+    frames: Vec<Frame>,
 }
 
 impl Model for OpenBrackets {
@@ -38,9 +38,9 @@ impl Model for OpenBrackets {
 
     ghost Value = { List Open };
 
-    ghost view = { λ o. opens_of (reverse o.entries.items) };
+    ghost view = { λ o. opens_of (reverse o.frames.items) };
 
-    ghost invariant = { λ o. AreKnown (reverse o.entries.items) };
+    ghost invariant = { λ o. AreKnown (reverse o.frames.items) };
 }
 
 impl OpenBrackets {
@@ -49,7 +49,7 @@ impl OpenBrackets {
         ensures { result ≡ [] }
     {
         OpenBrackets {
-            entries: Vec::new(alloc),
+            frames: Vec::new(alloc),
         }
     }
 
@@ -57,12 +57,12 @@ impl OpenBrackets {
     pub(crate) fn finds(&self, bracket: Bracket) -> bool
         ensures { result ≡ finds bracket self.now }
     {
-        match self.entries.last() {
+        match self.frames.last() {
             None => false,
-            Some(entry) => match bracket {
-                Bracket::Paren => entry.paren,
-                Bracket::Square => entry.square,
-                Bracket::Brace => entry.brace,
+            Some(frame) => match bracket {
+                Bracket::Paren => frame.paren,
+                Bracket::Square => frame.square,
+                Bracket::Brace => frame.brace,
             },
         }
     }
@@ -72,13 +72,13 @@ impl OpenBrackets {
         ensures { OnOk result (self.new ≡ opener ∷ self.old) }
     {
         let wall = opener.bracket.is(Bracket::Brace);
-        let entry = Entry {
+        let frame = Frame {
             opener,
             paren: opener.bracket.is(Bracket::Paren) || (!wall && self.finds(Bracket::Paren)),
             square: opener.bracket.is(Bracket::Square) || (!wall && self.finds(Bracket::Square)),
             brace: wall || self.finds(Bracket::Brace),
         };
-        self.entries.push(entry)?;
+        self.frames.push(frame)?;
         Ok(())
     }
 
@@ -87,9 +87,9 @@ impl OpenBrackets {
         ensures none { IfNone result ((self.old ≡ []) × (self.new ≡ [])) }
         ensures some { IfSome result (λ opener. self.old ≡ opener ∷ self.new) }
     {
-        match self.entries.pop() {
+        match self.frames.pop() {
             None => None,
-            Some(entry) => Some(entry.opener),
+            Some(frame) => Some(frame.opener),
         }
     }
 }

@@ -5,7 +5,7 @@ ghost use Rattle.decl_parser.specs.Role.{code_of, same_role, opened_by, closed_b
 use crate::bracket::Bracket;
 use crate::word::word_role;
 use ide_text::Text;
-use java_tokens::{Kind, Token};
+use java_tokens::{Token, TokenKind};
 
 /// What a token is to the rules.
 #[derive(Clone, Copy)]
@@ -107,11 +107,11 @@ pub(crate) fn role_of(text: &Text, token: &Token) -> Role
     requires { token.now.at + token.now.len ≤ length text.now }
     ensures { result ≡ role_of text.now token.now }
 {
-    if token.is(Kind::LineComment) || token.is(Kind::BlockComment) {
+    if token.is(TokenKind::LineComment) || token.is(TokenKind::BlockComment) {
         Role::Comment
-    } else if token.is(Kind::Word) {
+    } else if token.is(TokenKind::Word) {
         word_role(text, token)
-    } else if token.is(Kind::Punct) && token.at() < text.len() {
+    } else if token.is(TokenKind::Punct) && token.at() < text.len() {
         mark_role(text.char_at(token.at()))
     } else {
         Role::Other

@@ -1,10 +1,10 @@
 -- The script of a demo has two lanes that write different files, all of which its prelude makes at lawful paths.
-use Rattle.demo_runs.proofs.Words.{ℕ, zero, suc, ◌≡◌, ◌≢◌, ◌⊎◌, inl, inr, ⊎_elim, ◌+◌, ◌*◌, ◌%◌, ◌<◌, ◌≤◌, Bool, true, not, List, [], ◌∷◌, ◌++◌, length, map}
-use Rattle.demo_runs.proofs.Words.{filter, codes, decimal, refl, ap, sym, ◌∙◌, arith, length-append, ◌==◌, ◌&&◌, All, AllByRecursion, list_all, le-leb}
-use Rattle.demo_runs.proofs.Words.{cases_lt, and_parts, not-true, lt-ltb, append_cancel_left, append_cancel_right, recursion_from_All, All-filter}
-use Rattle.demo_runs.proofs.Words.{filter_passes, is_path, is_barred, Line, Command, Verb, path_of, class_of, creates, Edit, write_line, IsAmong, WritesApart}
-use Rattle.demo_runs.proofs.Words.{mod-lt, All-nil, All-push, is_part, max_path, parts_of, create_of, edit_after, edits, is_of_first_lane, is_of_second_lane}
-use Rattle.demo_runs.proofs.Words.{edits_of, demo_parts, change_by, lines_from, first_lane, second_lane, first_lane_begins, second_lane_begins, last_begins}
+use Rattle.demo_runs.proofs.Words.{ℕ, zero, suc, ◌≡◌, ◌≢◌, ◌⊎◌, inl, inr, ⊎_elim, ◌+◌, ◌*◌, ◌<◌, ◌≤◌, Bool, true, not, List, [], ◌∷◌, ◌++◌, length, map}
+use Rattle.demo_runs.proofs.Words.{filter, codes, decimal, refl, ap, arith, length-append, ◌==◌, ◌&&◌, All, AllByRecursion, list_all, le-leb, cases_lt}
+use Rattle.demo_runs.proofs.Words.{and_parts, not-true, lt-ltb, append_cancel_left, append_cancel_right, recursion_from_All, All-filter, filter_passes}
+use Rattle.demo_runs.proofs.Words.{is_path, is_barred, Line, Command, Verb, path_of, class_of, creates, Edit, write_line, IsAmong, WritesApart, mod-lt}
+use Rattle.demo_runs.proofs.Words.{All-nil, All-push, is_part, max_path, parts_of, create_of, edit_after, edits, is_of_first_lane, is_of_second_lane, edits_of}
+use Rattle.demo_runs.proofs.Words.{demo_parts, change_by, lines_from, first_lane, second_lane, first_lane_begins, second_lane_begins, last_begins}
 use Rattle.std.proofs.lemmas.List.Filters.{length-filter_both}
 use Rattle.std.specs.Cmp.Derive.{both_true}
 use Rattle.std.proofs.lemmas.Fmt.{decimal_injective}
@@ -12,8 +12,8 @@ use Rattle.demo.specs.Draws.{draw_of, state_after}
 use Rattle.demo.specs.declared.command.Verb.TheVariants as verb
 use Rattle.queries.specs.declared.query.Query.TheVariants as query
 use Rattle.script_lang.specs.declared.command.Command.TheVariants as script
-use Rattle.demo_runs.proofs.TextLemmas.{path_text}
-use Rattle.demo_runs.proofs.ListLemmas.{all_weaker}
+use Rattle.demo_runs.proofs.LineLemmas.{path_text}
+use Rattle.demo_runs.proofs.StepLemmas.{all_weaker}
 
 -- ---- files
 
@@ -116,9 +116,8 @@ module _ (created : (seed files : ℕ) → length (creates seed files) ≡ files
 
   in_lane : (lane : Command → Bool) → AllByRecursion (IsIn lane) (lane_of lane)
   in_lane lane =
-      let all : List Command = edits_of seed files edited in
       recursion_from_All (IsIn lane) (lane_of lane)
-      (λ k d l. (All-filter lane (IsOneOf verb.Write files) all (edits_are (state_after seed files) files edited some) k d l, filter_passes lane all k d l))
+      (λ k d l. (All-filter lane (IsOneOf verb.Write files) _ (edits_are (state_after seed files) files edited some) k d l, filter_passes lane _ k d l))
 
   lane_lines : (lane : Command → Bool) (number : ℕ) → lines_from number (lane_of lane) ≡ map write_line (edits_at number (lane_of lane))
   lane_lines lane number = lines_are verb.Write files number (lane_of lane)
@@ -133,9 +132,7 @@ module _ (created : (seed files : ℕ) → length (creates seed files) ≡ files
   apart : (command other : Command) → IsIn is_of_first_lane command → IsIn is_of_second_lane other → path_of command.file ≢ path_of other.file
   apart command other one second same =
       let equal : command.file ≡ other.file = path_tells command.file other.file (omega (arith, one.0.to, few)) (omega (arith, second.0.to, few)) same in
-      let both : is_of_first_lane other ≡ true = sym (ap (λ (n : ℕ). n % 2 == 1) equal) ∙ one.1 in
-      let clash : not true ≡ true = sym (ap not both) ∙ second.1 in
-      cc
+      absurd (grind (arith, one.1, second.1, equal))
 
   -- the script of a demo is lawful
   pub demo_writes_apart : WritesApart (demo_parts seed files edited)

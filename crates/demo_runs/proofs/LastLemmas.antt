@@ -1,11 +1,10 @@
 -- The last section: its settle goes through, and what it tells is read from what the files show.
-use Rattle.demo_runs.proofs.Words.{ℕ, suc, ◌≡◌, ◌+◌, ◌≤◌, Bool, false, List, [], ◌∷◌, ◌++◌, length, map, filter, refl, ap, sym, ◌∙◌, arith, append_assoc}
-use Rattle.demo_runs.proofs.Words.{append-nil, length-append, Some, None, Option, option_map, is_some, AllByRecursion, flat_map, length-map, All-from_get_or}
-use Rattle.demo_runs.proofs.Words.{option_map_id, filter_none, count_le, Entry, World, File, file_of, next_id, shown_text, is_open, is_unready, lowest_unready}
+use Rattle.demo_runs.proofs.Words.{ℕ, suc, false, All-from_get_or, filter_none, ◌≡◌, ◌+◌, ◌≤◌, Bool, List, [], ◌∷◌, ◌++◌, length, map, filter, refl, ap, sym}
+use Rattle.demo_runs.proofs.Words.{◌∙◌, arith, append_assoc, append-nil, length-append, Some, None, Option, option_map, is_some, AllByRecursion, flat_map}
+use Rattle.demo_runs.proofs.Words.{length-map, option_map_id, count_le, Entry, World, File, file_of, next_id, shown_text, is_open, is_unready, lowest_unready}
 use Rattle.demo_runs.proofs.Words.{unready_ids, max_entries, fold, IsLegal, Settled, settled, Record, answer_of, done_from, last_from, query_step}
 use Rattle.demo_runs.proofs.Words.{settle_answer, answer_text, summary_text, Question, ask_line, settle_line, IsOfAll, bare, bare_at, IsEdit, takes, acts}
 use Rattle.demo_runs.proofs.Words.{ids_from, Smart}
-use Rattle.std.specs.Option.{option_map_or}
 use Rattle.std.proofs.lemmas.Grind.{flat_map-append}
 use Rattle.std.proofs.Math.ListN.{get_or-map}
 use Rattle.dumb_mode.specs.declared.kind.FileKind.{FileKind}
@@ -15,13 +14,12 @@ use Rattle.history_laws.proofs.UnreadyLemmas.{lowest-None, count-unready, lowest
 use Rattle.history_laws.proofs.CountLemmas.{same_world}
 use Rattle.queries.specs.declared.query.Query.{Query}
 use Rattle.query_engine.specs.Inheritors.{ListedType, inheritors_of}
-use Rattle.query_engine.specs.declared.answer.Row.{Row}
-use Rattle.query_engine.specs.Reply.{word_in, word_row, types_in, types_of, row_of, listed_row, level_row, of_files, reply}
+use Rattle.query_engine.specs.Reply.{word_in, word_row, types_in, types_of, listed_row, level_row, of_files, reply}
 use Rattle.dumb_mode.specs.declared.kind.FileKind.TheVariants.{Java}
 use Rattle.history_laws.proofs.SettledLemmas.{settle_leaves, settled_takes, settled_few, settled_legal}
 use Rattle.queries.specs.declared.query.Query.TheVariants as query
 use Rattle.demo_runs.proofs.StepLemmas.{GoesOn, goes_on}
-use Rattle.demo_runs.proofs.MiddleLemmas.{Leaves, all_leave}
+use Rattle.demo_runs.proofs.LaneLemmas.{Leaves, all_leave}
 
 -- ---- what a world shows
 
@@ -57,10 +55,9 @@ settles line history legal room =
     none : (refused : Option Refusal) → (settled history 0 line).refused ≡ refused → refused ≡ None
     none None is = refl
     none (Some why) is =
-        let unready = count_le is_unready (fold history).files in
         let few = settled_few 0 line history (unready_ids (fold history)) in
         let full = (settle_leaves history 0 line).full why is in
-        absurd (omega (arith, room, full, length-append history added, few, count-unready (fold history), unready))
+        absurd (omega (arith, room, full, few, length-append history added, count-unready (fold history), count_le is_unready (fold history).files))
 
 -- ---- rows and counts
 
@@ -72,31 +69,21 @@ rows_shown kind rows same id (None ∷ files) = rows_shown kind rows same (id + 
 rows_shown kind rows same id (Some file ∷ files) = rw (same id file, rows_shown kind rows same (id + 1) files) refl
 
 word_shown : (id : ℕ) (file : File) (mask : Option ℕ) → word_row id (bare file) mask ≡ word_row id file mask
-word_shown id file None = refl
-word_shown id file (Some mask) = refl
+word_shown id file mask = grind (arith)
 
-counts_shown : (test : Option File → Bool) → ((file : File) → test (Some (bare file)) ≡ test (Some file)) → (files : List (Option File))
+counts_shown : (test : Option File → Bool) → ((file : Option File) → test (option_map bare file) ≡ test file) → (files : List (Option File))
     → length (filter test (map (option_map bare) files)) ≡ length (filter test files)
 counts_shown test same [] = refl
-counts_shown test same (None ∷ files) = grind (arith, counts_shown test same files)
-counts_shown test same (Some file ∷ files) = grind (arith, counts_shown test same files, same file)
+counts_shown test same (file ∷ files) = grind (arith, counts_shown test same files, same file)
 
 -- the row of a listed type, from what its file shows
 listed_shown : (world : World) (t : ListedType) → listed_row (shown world) t ≡ listed_row world t
-listed_shown world t = ap row_in (file_shown world t.0) ∙ same (file_of world t.0)
-  where
-    row_in : Option File → Row
-    row_in file = row_of t.0 (option_map_or (λ f. f.path) file []) (option_map_or shown_text file []) t.1
-
-    same : (file : Option File) → row_in (option_map bare file) ≡ row_in file
-    same None = refl
-    same (Some file) = refl
+listed_shown world t = grind (arith, file_shown world t.0)
 
 -- the types that come from a name, from what files show
 inheritors_shown : (name : List ℕ) (world : World)
     → map (level_row (shown world)) (inheritors_of name (types_of (shown world))) ≡ map (level_row world) (inheritors_of name (types_of world))
-inheritors_shown name world =
-    ap (λ types. map (level_row (shown world)) (inheritors_of name types)) (rows_shown Java types_in (λ id file. refl) 1 world.files)
+inheritors_shown name world = ap (λ types. map (level_row (shown world)) (inheritors_of name types)) (rows_shown Java types_in (λ id file. refl) 1 world.files)
     ∙ (λ i. map (λ one. record { level = one.0; row = listed_shown world one.1 i }) (inheritors_of name (types_of world)))
 
 -- no file that is bare is unready
@@ -105,8 +92,7 @@ shown_ready world = lowest-none (shown world) (none 1 world.files)
   where
     none : (id : ℕ) (files : List (Option File)) → ids_from is_unready id (map (option_map bare) files) ≡ []
     none id [] = refl
-    none id (None ∷ files) = none (id + 1) files
-    none id (Some file ∷ files) = grind (arith, none (id + 1) files)
+    none id (file ∷ files) = grind (arith, none (id + 1) files)
 
 -- ---- one question
 
@@ -127,7 +113,7 @@ asked world ready at (query.Inheritors name) about = rw (ready, shown_ready worl
 asked world ready at (query.Outline path) about = absurd about
 asked world ready at query.Status about =
     let none = unready_none (shown world) (shown_ready world) in
-    rw (counts_shown is_some (λ file. refl) world.files, counts_shown is_open (λ file. refl) world.files, unready_none world ready, none) refl
+    rw (counts_shown is_some (λ file. grind (arith)) world.files, counts_shown is_open (λ file. grind (arith)) world.files, unready_none world ready, none) refl
 asked world ready at query about = rw (ready, shown_ready world, rows_shown _ _ (λ id file. refl) 1 world.files) refl
 
 -- ---- the section

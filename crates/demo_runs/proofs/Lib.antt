@@ -1,12 +1,9 @@
 pub mod Words
-pub mod TextLemmas
 pub mod LineLemmas
-pub mod ListLemmas
 pub mod StepLemmas
 pub mod LaneLemmas
 pub mod PreludeLemmas
 pub mod OfferLemmas
-pub mod MiddleLemmas
 pub mod LastLemmas
 pub mod AgreeLemmas
 pub mod ApartLemmas

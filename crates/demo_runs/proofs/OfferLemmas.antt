@@ -1,11 +1,60 @@
--- The intakes of a history are among few: one for each file that stood before, and one for each write.
+-- Entries by their seats: there are few of each seat. The intakes are among one offer for each file that stood before, and one for each write.
 use Rattle.demo_runs.proofs.Words.{ℕ, ◌≡◌, ◌≢◌, ◌+◌, ◌<◌, ◌≤◌, List, [], ◌∷◌, ◌++◌, length, get_or, map, refl, ap, sym, ◌∙◌, subst, arith, append_assoc}
 use Rattle.demo_runs.proofs.Words.{length-append, None, All, AllByRecursion, Contains, eqb-true, not-false, length-map, All-map, Contains-append_right}
 use Rattle.demo_runs.proofs.Words.{live_inside, Change, Write, Intake, Entry, World, file_of, next_id, Put, put_of, refusal_of, stamp_of, fold, IsLegal}
 use Rattle.demo_runs.proofs.Words.{accepted_reasons, IsLegal-split, next_id-effect_of, entry_of, IsIntakeBy, AreApart, IsEdit, writes, takes, one_if, le-leb}
-use Rattle.demo_runs.proofs.Words.{range_with_len, get_or-map, get_or-map-range_with_len, length-map-range_with_len}
+use Rattle.demo_runs.proofs.Words.{range_with_len, get_or-map, get_or-map-range_with_len, length-map-range_with_len, zero, suc, ◌*◌, suc-mul, ◌==◌, AllPairs}
+use Rattle.demo_runs.proofs.Words.{eq-eqb, recursion_from_All, filter_none, length-filter-cons, made_by, IsSeatOf, bytes_decides, nat_list_eq_equiv, ne_eqb}
+use Rattle.demo_runs.proofs.Words.{nat_tests, nat_le, All-contains, ⊎_elim, cases_Bool, true, false}
 use Rattle.demo_runs.proofs.StepLemmas.{placed, took, accepted_last}
-use Rattle.demo_runs.proofs.ListLemmas.{no_more, count_to, count_more}
+use Rattle.std.proofs.lemmas.Map.Made.{length-le_from_is_member, IsDistinct-from_AllPairs}
+use Rattle.std.proofs.lemmas.Map.Views.{list_any-from_Contains, Contains-from_any}
+
+-- no list without repetition is longer than a list that has all its elements
+pub no_more : (xs ys : List (List ℕ)) → AllPairs (λ (x later : List ℕ). x ≢ later) xs → All (Contains ys) xs → length xs ≤ length ys
+no_more xs ys distinct are = length-le_from_is_member nat_list_eq_equiv xs ys (IsDistinct-from_AllPairs bytes_decides xs distinct) (λ x found.
+    list_any-from_Contains nat_list_eq_equiv x ys (All-contains (Contains ys) xs x are (Contains-from_any (λ a b. (bytes_decides a b).0) x xs found)))
+
+-- ---- entries by their seats
+
+-- what holds of the entries of each seat holds of all
+pub by_seats : (P : Entry → Type 0) (seats : ℕ) (entries : List Entry) → AllByRecursion (λ (e : Entry). IsSeatOf seats e.seat) entries
+    → ((seat : ℕ) → 1 ≤ seat → seat ≤ seats → AllByRecursion P (made_by seat entries)) → AllByRecursion P entries
+by_seats P seats [] are each = tt
+by_seats P seats (entry ∷ entries) are each =
+    let here = rw (eq-eqb entry.seat entry.seat refl) at (each entry.seat are.0.from are.0.to) in
+    let rest = by_seats P seats entries are.1 (λ seat from to. ⊎_elim (λ (t : (entry.seat == seat) ≡ true). (rw t at (each seat from to)).1)
+    (λ (f : (entry.seat == seat) ≡ false). rw f at (each seat from to)) (cases_Bool (entry.seat == seat))) in (here.0, rest)
+
+-- how many have a seat up to this one
+abbrev pub count_to : ℕ → List Entry → ℕ
+count_to zero entries = length (made_by 0 entries)
+count_to (suc seat) entries = count_to seat entries + length (made_by (suc seat) entries)
+
+-- one entry more counts where its seat is among these
+pub count_more : (seat : ℕ) (entry : Entry) (entries : List Entry) → count_to seat (entry ∷ entries) ≡ one_if (nat_le entry.seat seat) + count_to seat entries
+count_more zero entry entries = grind (arith, nat_tests, length-filter-cons (λ (e : Entry). e.seat == 0) entry entries)
+count_more (suc seat) entry entries =
+    grind (arith, nat_tests, length-filter-cons (λ (e : Entry). e.seat == suc seat) entry entries, count_more seat entry entries)
+
+pub count_none : (seats : ℕ) (entries : List Entry) → All (λ (e : Entry). IsSeatOf seats e.seat) entries → count_to 0 entries ≡ 0
+count_none seats entries are =
+    ap length (filter_none (λ (e : Entry). e.seat == 0) entries (λ k d l. ne_eqb (get_or entries k d).seat 0 (λ none. omega (arith, none, (are k d l).from))))
+
+-- entries of so many seats, each of which made few, are few
+pub seats_bound : (seats bound : ℕ) (entries : List Entry) → All (λ (e : Entry). IsSeatOf seats e.seat) entries
+    → ((seat : ℕ) → 1 ≤ seat → seat ≤ seats → length (made_by seat entries) ≤ bound) → length entries ≤ seats * bound
+seats_bound seats bound entries are each = omega (arith, up_to seats each, all entries (recursion_from_All (λ (e : Entry). IsSeatOf seats e.seat) entries are))
+  where
+    all : (es : List Entry) → AllByRecursion (λ (e : Entry). IsSeatOf seats e.seat) es → length es ≤ count_to seats es
+    all [] inside = omega arith
+    all (entry ∷ es) inside = omega (arith, count_more seats entry es, ap one_if (le-leb entry.seat seats inside.0.to), all es inside.1)
+
+    up_to : (n : ℕ) → ((seat : ℕ) → 1 ≤ seat → seat ≤ n → length (made_by seat entries) ≤ bound) → count_to n entries ≤ n * bound
+    up_to zero few = omega (arith, count_none seats entries are)
+    up_to (suc n) few = omega (arith, up_to n (λ seat from to. few seat from (omega (arith, to))), few (suc n) (omega arith) (omega arith), suc-mul n bound)
+
+-- ---- offers
 
 -- the file with an id at its stamp, of which an intake is an offer
 abbrev pub offer_of : World → ℕ → List ℕ
@@ -61,7 +110,7 @@ offered_on history offers are entry legal (takes file stamp one) =
     let is = accepted_last history entry (Intake file stamp) one legal in record {
       more = [];
       few = λ entries. omega (arith, count_more 2 entry entries);
-      are = rw is.1 (λ id less. rw (took stamp_of (fold history) file stamp is.0 (λ f. refl) id)
+      are = rw is.1 (λ id less. rw (took stamp_of (fold history) file stamp is.0 (λ f. grind (arith)) id)
           (are id (omega (arith, less, next_id-effect_of (fold history) (Intake file stamp) is.0))));
     }
 
@@ -90,12 +139,8 @@ all_offered (entry ∷ entries) history offers edits legal are =
     let keeps : (offer : List ℕ) → Contains offers offer → Contains rest.list offer
     = λ offer h. rest.keeps offer (Contains-append_right on.more offers offer h) in
     let offered : IsOffered rest.list entry = λ file stamp one. keeps (file ∷ stamp ∷ [])
-    (intake_offered (fold history) offers are file stamp (accepted_last history entry (Intake file stamp) one now).0) in record {
-      list = rest.list;
-      count = omega (arith, rest.count, on.few entries, length-append on.more offers);
-      keeps = keeps;
-      are = (offered, rest.are);
-    }
+    (intake_offered (fold history) offers are file stamp (accepted_last history entry (Intake file stamp) one now).0) in
+    record { list = rest.list; count = omega (arith, rest.count, on.few entries, length-append on.more offers); keeps = keeps; are = (offered, rest.are) }
 
 -- ---- a worker's intakes
 

@@ -1,9 +1,9 @@
 -- What the prelude leaves: its paths are live.
 use Rattle.demo_runs.proofs.Words.{ℕ, zero, suc, ◌≡◌, ◌⊎◌, inl, inr, ⊎_elim, ◌+◌, ◌<◌, ◌≤◌, true, not, List, [], ◌∷◌, ◌++◌, length, map, refl, ap, ◌∙◌, subst}
-use Rattle.demo_runs.proofs.Words.{arith, append-nil, length-append, Some, None, Option, option_map, is_some, AllByRecursion, lt-leb, bool_cases, live_is_made}
-use Rattle.demo_runs.proofs.Words.{Create, Entry, is_path, World, File, file_of, next_id, id_at, refusal_of, max_files, effect_of, list_refusal, counted, fold}
+use Rattle.demo_runs.proofs.Words.{arith, append-nil, length-append, Some, None, Option, option_map, is_some, AllByRecursion, lt-leb, live_is_made, Create}
+use Rattle.demo_runs.proofs.Words.{Entry, is_path, World, File, file_of, next_id, id_at, refusal_of, max_files, effect_of, list_refusal, counted, fold}
 use Rattle.demo_runs.proofs.Words.{IsLegal, found, IsLegal-append, next_id-effect_of, entry_of, Record, CommandStep, change_step, done_from, Edit, create_line}
-use Rattle.demo_runs.proofs.Words.{IsAmong, bare, IsAt, IsLive}
+use Rattle.demo_runs.proofs.Words.{IsAmong, bare, IsAt, IsLive, cases_Bool, false}
 use Rattle.demo_runs.proofs.StepLemmas.{of_bare, placed, accepted_last}
 use Rattle.demo_runs.proofs.LaneLemmas.{not_full}
 
@@ -70,24 +70,20 @@ module _ (edit : Edit) (history : List Entry) (begun : HasBegun history) (few : 
     where
       alive : refusal_of world (Create edit.path edit.text) ≡ None → (path : List ℕ) → IsLive world path ⊎ IsHere path
           → IsLive (counted (effect_of world (Create edit.path edit.text))) path
-      alive accepted path (inr same) = (
-        next_id world,
-        placed world (Create edit.path edit.text) accepted (next_id world)
-            (λ o. IsAt path (option_map bare o)) (λ here. (same, refl)) (λ other. absurd (other refl)),
-      )
+      alive accepted path (inr same) =
+          let is = placed world (Create edit.path edit.text) accepted (next_id world) (λ o. IsAt path (option_map bare o))
+          (λ here. (same, refl)) (λ other. absurd (other refl)) in (next_id world, is)
       alive accepted path (inl old) =
           let file = of_bare (file_of world old.0) path old.1 in
           let is = placed world (Create edit.path edit.text) accepted old.0 (λ o. IsAt path (option_map bare o))
           (λ here. absurd (omega (arith, here, (live_is_made world.files old.0 file.0 file.1).1))) (λ other. old.1) in (old.0, is)
 
   one : HasMade IsHere history (history ++ (change_step history 0 edit.number (Create edit.path edit.text)).added) 1
-  one = bool_cases (is_some (id_at world edit.path))
-      (λ b. HasMade IsHere history (history ++ (change_step history 0 edit.number (Create edit.path edit.text)).added) 1)
-      (λ taken. rw (lawful, taken) (taken_one taken))
-      (λ free.
+  one = ⊎_elim (λ (taken : is_some (id_at world edit.path) ≡ true). rw (lawful, taken) (taken_one taken))
+      (λ (free : is_some (id_at world edit.path) ≡ false).
       let accepted : list_refusal world (Create edit.path edit.text ∷ []) ≡ None
       = rw (lawful, free, lt-leb max_files (length world.files) (omega (arith, begun.ids)), not_full history (omega (arith, few))) refl in
-      rw accepted (made_one accepted))
+      rw accepted (made_one accepted)) (cases_Bool (is_some (id_at world edit.path)))
 
 -- what the lines of creations leave, one after another
 pub prelude_makes : (edits : List Edit) (history : List Entry) (records : List Record) → HasBegun history

@@ -1,11 +1,16 @@
 -- What accepted writes and intakes make of what each file shows.
-use Rattle.demo_runs.proofs.Words.{ℕ, ◌≡◌, ◌≢◌, List, [], ◌∷◌, ◌++◌, refl, ap, sym, ◌∙◌, subst, arith, append_assoc, append-nil, Some, None, Option, option_map}
-use Rattle.demo_runs.proofs.Words.{bytes_eq, AllByRecursion, bytes_decides, false_from_ne_true, option_map_id, cond_both, Change, Write, Intake, Entry, World}
-use Rattle.demo_runs.proofs.Words.{File, file_of, next_id, put_of, refusal_of, rewritten, taken_in, effect_of, list_refusal, counted, after_list, fold, IsLegal}
-use Rattle.demo_runs.proofs.Words.{Found, found, by_place, is_place, accepted_reasons, fold-append, IsLegal-split, list_accepted, next_id-effect_of}
-use Rattle.demo_runs.proofs.Words.{IsApart-fold, bare, bare_at, IsAt, IsLive, IsEdit, writes, takes, acted, acts}
+use Rattle.demo_runs.proofs.Words.{ℕ, ◌≡◌, ◌≢◌, List, [], ◌∷◌, ◌++◌, refl, ap, sym, ◌∙◌, subst, arith, append_assoc, append-nil, Some, None, Option}
+use Rattle.demo_runs.proofs.Words.{option_map, bytes_eq, AllByRecursion, bytes_decides, false_from_ne_true, option_map_id, cond_both, Change, Write, Intake}
+use Rattle.demo_runs.proofs.Words.{Entry, World, File, file_of, next_id, put_of, refusal_of, rewritten, taken_in, effect_of, list_refusal, counted, after_list}
+use Rattle.demo_runs.proofs.Words.{fold, IsLegal, Found, found, by_place, is_place, accepted_reasons, fold-append, IsLegal-split, list_accepted}
+use Rattle.demo_runs.proofs.Words.{next_id-effect_of, IsApart-fold, bare, bare_at, IsAt, IsLive, IsEdit, writes, takes, acted, acts, All-weaker}
+use Rattle.demo_runs.proofs.Words.{All-from_recursion, recursion_from_All}
 use Rattle.write_history.specs.Changes.{files_made}
 use Rattle.history_laws.proofs.ChangeLemmas.{is_accepted}
+
+-- what holds of each element implies what follows from it
+pub all_weaker : {X : Type 0} (P Q : X → Type 0) → ((x : X) → P x → Q x) → (xs : List X) → AllByRecursion P xs → AllByRecursion Q xs
+all_weaker P Q f xs all = recursion_from_All Q xs (All-weaker P Q f xs (All-from_recursion P xs all))
 
 -- ---- one change
 
@@ -28,14 +33,10 @@ placed world change accepted id P =
 
 -- whatever an intake leaves as it was of the file that it takes in, it leaves of each
 pub took : {X : Type 0} (f : Option File → X) (world : World) (taken stamp : ℕ) → refusal_of world (Intake taken stamp) ≡ None
-    → ((file : File) → f (Some (taken_in stamp file)) ≡ f (Some file)) → (id : ℕ)
+    → ((file : Option File) → f (option_map (taken_in stamp) file) ≡ f file) → (id : ℕ)
     → f (file_of (effect_of world (Intake taken stamp)) id) ≡ f (file_of world id)
 took f world taken stamp accepted same id = placed world (Intake taken stamp) accepted id (λ o. f o ≡ f (file_of world id))
-    (λ is. rw is (here (file_of world taken))) (λ other. refl)
-  where
-    here : (o : Option File) → f (option_map (taken_in stamp) o) ≡ f o
-    here None = refl
-    here (Some file) = same file
+    (λ is. rw is (same (file_of world taken))) (λ other. refl)
 
 wrote : (history : List Entry) → IsLegal history → (path text : List ℕ) → refusal_of (fold history) (Write path text) ≡ None → (id : ℕ)
     → bare_at (effect_of (fold history) (Write path text)) id ≡ option_map (acted (Write path text ∷ [])) (bare_at (fold history) id)
@@ -70,21 +71,17 @@ pub record GoesOn (before after entries : List Entry) : Type 0 where
   pub ids : next_id (fold after) ≡ next_id (fold before)
   pub files : (id : ℕ) → bare_at (fold after) id ≡ option_map (acts entries) (bare_at (fold before) id)
 
-goes_on_by : (history : List Entry) (entry : Entry) → IsLegal (history ++ entry ∷ []) → (change : Change) → entry.changes ≡ change ∷ [] → files_made change ≡ 0
-    → (refusal_of (fold history) change ≡ None → (id : ℕ)
-    → bare_at (effect_of (fold history) change) id ≡ option_map (acted (change ∷ [])) (bare_at (fold history) id))
-    → GoesOn history (history ++ entry ∷ []) (entry ∷ [])
-goes_on_by history entry legal change one none shown =
-    let is = accepted_last history entry change one legal in record {
-      ids = omega (arith, ap next_id is.1, next_id-effect_of (fold history) change is.0, none);
-      files = λ id. rw (is.1, one) (shown is.0 id);
-    }
-
 goes_on_one : (history : List Entry) (entry : Entry) → IsEdit entry → IsLegal (history ++ entry ∷ []) → GoesOn history (history ++ entry ∷ []) (entry ∷ [])
 goes_on_one history entry (writes lane path text one) legal =
-    goes_on_by history entry legal (Write path text) one refl (wrote history (IsLegal-split history (entry ∷ []) legal).0 path text)
-goes_on_one history entry (takes file stamp one) legal = goes_on_by history entry legal (Intake file stamp) one refl
-    (λ accepted id. took (option_map bare) (fold history) file stamp accepted (λ old. refl) id ∙ sym (option_map_id (bare_at (fold history) id)))
+    let is = accepted_last history entry (Write path text) one legal in record {
+      ids = omega (arith, ap next_id is.1, next_id-effect_of (fold history) (Write path text) is.0);
+      files = λ id. rw (is.1, one) (wrote history (IsLegal-split history (entry ∷ []) legal).0 path text is.0 id);
+    }
+goes_on_one history entry (takes file stamp one) legal =
+    let is = accepted_last history entry (Intake file stamp) one legal in record {
+      ids = omega (arith, ap next_id is.1, next_id-effect_of (fold history) (Intake file stamp) is.0);
+      files = λ id. rw (is.1, one, option_map_id) (took (option_map bare) (fold history) file stamp is.0 (λ old. grind (arith)) id);
+    }
 
 pub goes_on : (entries history : List Entry) → AllByRecursion IsEdit entries → IsLegal (history ++ entries) → GoesOn history (history ++ entries) entries
 goes_on [] history are legal = rw (append-nil history) (record { ids = refl; files = λ id. sym (option_map_id (bare_at (fold history) id)) })
@@ -93,14 +90,8 @@ goes_on (entry ∷ entries) history are legal =
     let later : IsLegal ((history ++ entry ∷ []) ++ entries) = subst IsLegal (sym regroup) legal in
     let first = goes_on_one history entry are.0 (IsLegal-split (history ++ entry ∷ []) entries later).0 in
     let rest = goes_on entries (history ++ entry ∷ []) are.1 later in
-    subst (λ (h : List Entry). GoesOn history h (entry ∷ entries)) regroup (record {
-      ids = rest.ids ∙ first.ids;
-      files = λ id. rest.files id ∙ ap (option_map (acts entries)) (first.files id) ∙ map_twice (bare_at (fold history) id);
-    })
-  where
-    map_twice : (o : Option File) → option_map (acts entries) (option_map (acted entry.changes) o) ≡ option_map (acts (entry ∷ entries)) o
-    map_twice None = refl
-    map_twice (Some x) = refl
+    subst (λ (h : List Entry). GoesOn history h (entry ∷ entries)) regroup
+    (record { ids = rest.ids ∙ first.ids; files = λ id. grind (arith, rest.files id, first.files id) })
 
 -- ---- what stays
 

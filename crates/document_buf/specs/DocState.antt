@@ -1,7 +1,7 @@
 -- What a document is made of.
 use Rattle.std.specs.Prelude.{◌≡◌, false}
 use Rattle.ide_text.specs.Text.{IsText}
-use Rattle.document_buf.specs.Held.{HeldDoc}
+use Rattle.document_buf.specs.DocsView.{HeldDoc}
 use Rattle.document_buf.specs.Gap.{joined_of}
 use Rattle.document_buf.specs.declared.doc.Doc.TheInside.{Inside}
 

@@ -1,10 +1,10 @@
 -- How the documents stand at their places.
 use Rattle.std.specs.Prelude.{◌≡◌, ◌≤◌, ◌^◌, None, length, slice_index_or}
-use Rattle.document_buf.specs.Held.{Held, open_of}
+use Rattle.document_buf.specs.DocsView.{DocsView, open_of}
 use Rattle.document_buf.specs.declared.docs.Docs.TheInside.{Inside}
 
 -- what contracts see of the documents
-abbrev pub held_of : Inside → Held
+abbrev pub held_of : Inside → DocsView
 held_of inside = record { places = inside.docs.items }
 
 -- the number of open documents is kept, each id fits its type, and no document has the id 0

@@ -27,7 +27,7 @@ struct DocState {
 }
 
 impl Model for Doc {
-    ghost use Rattle.document_buf.specs.Held.{HeldDoc};
+    ghost use Rattle.document_buf.specs.DocsView.{HeldDoc};
 
     ghost Value = { HeldDoc };
 

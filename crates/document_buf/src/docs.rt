@@ -2,7 +2,7 @@
 ghost use Rattle.std.specs.Prelude.{◌≡◌, ℕ, ◌≤◌, ◌<◌, ◌+◌, ◌-◌, Some, None, IsSome, IfSome, IfOk, OnOk, option_map, option_copied, length};
 ghost use Rattle.ide_text.specs.Text.{max_chars};
 ghost use Rattle.document_buf.specs.Document.{inserted, erased, committed, marked_saved, replaced};
-ghost use Rattle.document_buf.specs.Held.{doc_at, document_of, room_of, open_of, HasPlace, KeepsRoom, KeepsRoomBut, Becomes, SameDocuments};
+ghost use Rattle.document_buf.specs.DocsView.{doc_at, document_of, room_of, open_of, HasPlace, KeepsRoom, KeepsRoomBut, Becomes, SameDocuments};
 
 use crate::Doc;
 use ide_text::{SharedText, Text};
@@ -18,9 +18,9 @@ pub struct Docs {
 }
 
 impl Model for Docs {
-    ghost use Rattle.document_buf.specs.Held.{Held};
+    ghost use Rattle.document_buf.specs.DocsView.{DocsView};
 
-    ghost Value = { Held };
+    ghost Value = { DocsView };
 
     ghost use Rattle.document_buf.specs.Places.{held_of, IsHeld};
 

@@ -42,10 +42,16 @@ pub bind_ok : {A B : Type 0} (r : Result A ℕ) (f : A → Result B ℕ) (y : B)
 bind_ok (Ok x) f y e = (x, refl, e)
 bind_ok (Err d) f y e = absurd cc
 
+-- the value of a step that met no fault, with what is known of it
+pub step : {A B : Type 0} (r : Result A ℕ) (T : A → Type 0) (f : A → Result B ℕ) (y : B) → ((x : A) → r ≡ Ok x → T x) → (r >>= f) ≡ Ok y
+    → (x : A) × T x × (f x ≡ Ok y)
+step (Ok x) T f y law e = (x, law x refl, e)
+step (Err left) T f y law e = absurd cc
+
 -- a test that met no fault
-pub checked_ok : (b : Bool) (bytes : List ℕ) (x : Unit {0}) → checked b bytes ≡ Ok x → b ≡ true
-checked_ok true bytes x e = refl
-checked_ok false bytes x e = absurd cc
+pub passed : {B : Type 0} (b : Bool) (bytes : List ℕ) (f : Unit {0} → Result B ℕ) (y : B) → (checked b bytes >>= f) ≡ Ok y → (b ≡ true) × (f tt ≡ Ok y)
+passed true bytes f y e = (refl, e)
+passed false bytes f y e = absurd cc
 
 abbrev done : {A : Type 0} → A → Result A ℕ
 done x = Ok x
@@ -58,33 +64,41 @@ pub record Takes (bytes text rest : List ℕ) : Type 0 where
   pub parts : bytes ≡ text ++ rest
   pub rest_fits : IsBytes rest
 
-pub Takes-then : (a x b y c : List ℕ) → Takes a x b → Takes b y c → Takes a (x ++ y) c
-Takes-then a x b y c p q = record { parts = p.parts ∙ ap (λ (t : List ℕ). x ++ t) q.parts ∙ sym (append_assoc x y c); rest_fits = q.rest_fits }
+pub Takes-then : {a x b y c : List ℕ} → Takes a x b → Takes b y c → Takes a (x ++ y) c
+Takes-then {a} {x} {b} {y} {c} p q = record { parts = p.parts ∙ ap (λ (t : List ℕ). x ++ t) q.parts ∙ sym (append_assoc x y c); rest_fits = q.rest_fits }
+
+-- what is read is spelled so, and is good
+abbrev pub IsRead : {A : Type 0} → (A → List ℕ) → (A → Type 0) → List ℕ → A × List ℕ → Type 0
+IsRead spell Good bytes x = Takes bytes (spell x.0) x.1 × Good x.0
+
+abbrev pub Reads : {A : Type 0} → (List ℕ → Result (A × List ℕ) ℕ) → (A → List ℕ) → (A → Type 0) → Type 0
+Reads {A} read spell Good = (bytes : List ℕ) (x : A × List ℕ) → IsBytes bytes → read bytes ≡ Ok x → IsRead spell Good bytes x
+
+-- what is good and spelled so is read, whatever follows it
+abbrev pub ReadsBack : {A : Type 0} → (List ℕ → Result (A × List ℕ) ℕ) → (A → List ℕ) → (A → Type 0) → Type 0
+ReadsBack {A} read spell Good = (x : A) (rest : List ℕ) → Good x → read (spell x ++ rest) ≡ Ok (x, rest)
 
 -- ---- bytes
 
-pub byte_takes : (bytes : List ℕ) (x : ℕ × List ℕ) → IsBytes bytes → byte_at bytes ≡ Ok x → Takes bytes (x.0 ∷ []) x.1 × (x.0 < 256)
+pub byte_takes : Reads byte_at (λ b. b ∷ []) (λ b. b < 256)
 byte_takes [] x fits e = absurd cc
-byte_takes (b ∷ bytes) x fits e = subst (λ (y : ℕ × List ℕ). Takes (b ∷ bytes) (y.0 ∷ []) y.1 × (y.0 < 256)) (ok_is (b, bytes) x e) (record { parts = refl; rest_fits = λ i. fits (suc i) }, fits 0)
+byte_takes (b ∷ bytes) x fits e = rw (← ok_is (b, bytes) x e) (record { parts = refl; rest_fits = λ i. fits (suc i) }, fits 0)
 
 -- ---- numbers
 
-number_back : (bytes : List ℕ) → length bytes ≡ 4 → IsBytes bytes → number (from_be_bytes w32 bytes) ≡ bytes
-number_back bytes len fits = be_bytes_4 bytes _ len fits refl
-
-pub number_takes : (bytes : List ℕ) (x : ℕ × List ℕ) → IsBytes bytes → number_at bytes ≡ Ok x → Takes bytes (number x.0) x.1 × (x.0 < 2 ^ 32)
+pub number_takes : Reads number_at number (λ n. n < 2 ^ 32)
 unfolding number_at
 number_takes bytes x fits e = by (ltb (length bytes) 4) refl e
   where
-    by : (b : Bool) → ltb (length bytes) 4 ≡ b → cond b (Err (length bytes)) (Ok (from_be_bytes w32 (take 4 bytes), drop 4 bytes)) ≡ Ok x → Takes bytes (number x.0) x.1 × (x.0 < 2 ^ 32)
+    by : (b : Bool) → ltb (length bytes) 4 ≡ b → cond b (Err (length bytes)) (Ok (from_be_bytes w32 (take 4 bytes), drop 4 bytes)) ≡ Ok x → IsRead number (λ n. n < 2 ^ 32) bytes x
     by true short e = absurd cc
     by false long e =
-        let back : number (from_be_bytes w32 (take 4 bytes)) ≡ take 4 bytes = number_back (take 4 bytes) (let l = ltb-false (length bytes) 4 long in omega (arith, length-take 4 bytes, l)) (IsBytes-take 4 bytes fits) in
         let fits4 : IsBytes (take 4 bytes) = IsBytes-take 4 bytes fits in
-        subst (λ (y : ℕ × List ℕ). Takes bytes (number y.0) y.1 × (y.0 < 2 ^ 32)) (ok_is (from_be_bytes w32 (take 4 bytes), drop 4 bytes) x e)
+        let back = be_bytes_4 (take 4 bytes) _ (omega (arith, length-take 4 bytes, ltb-false (length bytes) 4 long)) fits4 refl in
+        rw (← ok_is (from_be_bytes w32 (take 4 bytes), drop 4 bytes) x e)
         (record { parts = sym (take-append-drop 4 bytes) ∙ ap (λ (l : List ℕ). l ++ drop 4 bytes) (sym back); rest_fits = IsBytes-drop 4 bytes fits }, omega (arith, fits4 0, fits4 1, fits4 2, fits4 3))
 
-pub number_again : (n : ℕ) (rest : List ℕ) → n < 2 ^ 32 → number_at (number n ++ rest) ≡ Ok (n, rest)
+pub number_again : ReadsBack number_at number (λ n. n < 2 ^ 32)
 unfolding number_at
 number_again n rest lt =
     let long : ltb (length (number n ++ rest)) 4 ≡ false = le-ltb _ _ (omega (arith, length-append (number n) rest)) in
@@ -93,46 +107,46 @@ number_again n rest lt =
 
 -- ---- names
 
--- what is wanted of a name that was read, whose bytes were so many
-pub record IsNameRead (len : ℕ) (bytes : List ℕ) (x : List ℕ × List ℕ) : Type 0 where
-  pub takes : Takes bytes (encode_utf8_all x.0) x.1
-  pub len_is : length (encode_utf8_all x.0) ≡ len
-  pub scalars : all_scalars x.0 ≡ true
-
-pub characters_takes : (len : ℕ) (bytes : List ℕ) (x : List ℕ × List ℕ) → IsBytes bytes → characters_at len bytes ≡ Ok x → IsNameRead len bytes x
+-- the characters of so many bytes
+pub characters_takes : (len : ℕ) → Reads (characters_at len) encode_utf8_all (λ n. (length (encode_utf8_all n) ≡ len) × (all_scalars n ≡ true))
 unfolding characters_at
 characters_takes len bytes x fits e =
-    let text = take len bytes in
-    let a = bind_ok (checked (leb len (length bytes)) bytes) (λ _. checked (is_utf8 (take len bytes)) bytes >>= λ _. Ok (chars (take len bytes), drop len bytes)) x e in
-    let b = bind_ok (checked (is_utf8 (take len bytes)) bytes) (λ _. Ok (chars (take len bytes), drop len bytes)) x a.2 in
-    let inside : len ≤ length bytes = leb-true len (length bytes) (checked_ok (leb len (length bytes)) bytes a.0 a.1) in
-    let utf8 : IsUtf8 (take len bytes) = IsUtf8-from_is_utf8 (take len bytes) (checked_ok (is_utf8 (take len bytes)) bytes b.0 b.1) in
+    let whole = passed (leb len (length bytes)) bytes _ x e in
+    let text = passed (is_utf8 (take len bytes)) bytes _ x whole.1 in
+    let inside : len ≤ length bytes = leb-true len (length bytes) whole.0 in
+    let utf8 : IsUtf8 (take len bytes) = IsUtf8-from_is_utf8 (take len bytes) text.0 in
     let same = encodes-chars (take len bytes) utf8 in
-    subst (λ (y : List ℕ × List ℕ). IsNameRead len bytes y) (ok_is (chars (take len bytes), drop len bytes) x b.2)
-    (record {
-      takes = record { parts = sym (take-append-drop len bytes) ∙ ap (λ (l : List ℕ). l ++ drop len bytes) (sym same); rest_fits = IsBytes-drop len bytes fits };
-      len_is = ap length same ∙ omega (arith, length-take len bytes, inside);
-      scalars = scalars-chars (take len bytes) utf8;
-    })
+    rw (← ok_is (chars (take len bytes), drop len bytes) x text.1) (
+      record { parts = sym (take-append-drop len bytes) ∙ ap (λ (l : List ℕ). l ++ drop len bytes) (sym same); rest_fits = IsBytes-drop len bytes fits },
+      (ap length same ∙ omega (arith, length-take len bytes, inside), scalars-chars (take len bytes) utf8),
+    )
 
-pub name_takes : (bytes : List ℕ) (x : List ℕ × List ℕ) → IsBytes bytes → name_at bytes ≡ Ok x → Takes bytes (name x.0) x.1 × IsLawfulName x.0 × (all_scalars x.0 ≡ true)
+-- characters behind the number of their bytes
+pub name_parts : (bytes : List ℕ) (l : ℕ × List ℕ) (x : List ℕ × List ℕ) → Takes bytes (number l.0) l.1 → characters_at l.0 l.1 ≡ Ok x
+    → IsRead name (λ n. (length (encode_utf8_all n) ≡ l.0) × (all_scalars n ≡ true)) bytes x
+name_parts bytes l x front e =
+    let read = characters_takes l.0 l.1 x front.rest_fits e in
+    (subst (λ k. Takes bytes (number k ++ encode_utf8_all x.0) x.1) (sym read.1.0) (Takes-then front read.0), read.1)
+
+-- a name that may be written
+abbrev pub IsGoodName : List ℕ → Type 0
+IsGoodName n = IsLawfulName n × (all_scalars n ≡ true)
+
+pub name_takes : Reads name_at name IsGoodName
 unfolding name_at
 name_takes bytes x fits e =
-    let a = bind_ok (number_at bytes) (λ len. checked (ltb 0 len.0) bytes >>= λ _. characters_at len.0 len.1) x e in
-    let t = number_takes bytes a.0 fits a.1 in
-    let b = bind_ok (checked (ltb 0 a.0.0) bytes) (λ _. characters_at a.0.0 a.0.1) x a.2 in
-    let some = ltb-true 0 a.0.0 (checked_ok (ltb 0 a.0.0) bytes b.0 b.1) in
-    let read = characters_takes a.0.0 a.0.1 x t.0.rest_fits b.2 in
-    let both = Takes-then bytes (number a.0.0) a.0.1 (encode_utf8_all x.0) x.1 t.0 read.takes in (
-      subst (λ k. Takes bytes (number k ++ encode_utf8_all x.0) x.1) (sym read.len_is) both,
-      record { some = λ none. let l = read.len_is in absurd (omega (arith, some, l, ap (λ t. length (encode_utf8_all t)) none)); short = omega (arith, t.1, read.len_is) },
-      read.scalars,
+    let l = step (number_at bytes) _ _ x (λ l. number_takes bytes l fits) e in
+    let some = passed (ltb 0 l.0.0) bytes _ x l.2 in
+    let n = name_parts bytes l.0 x l.1.0 some.1 in
+    let positive = ltb-true 0 l.0.0 some.0 in (
+      n.0,
+      (record { some = λ none. absurd (omega (arith, positive, n.1.0, ap (λ t. length (encode_utf8_all t)) none)); short = omega (arith, l.1.1, n.1.0) }, n.1.1),
     )
 
 -- a name that isn't empty has bytes
 pub some_bytes : (n : List ℕ) → n ≢ [] → 0 < length (encode_utf8_all n)
 some_bytes [] some = absurd (some refl)
-some_bytes (c ∷ cs) some = let l = length-le-encodes (c ∷ cs) in omega (arith, l)
+some_bytes (c ∷ cs) some = omega (arith, length-le-encodes (c ∷ cs))
 
 -- the characters that so many bytes spell are read again
 pub characters_again : (n rest : List ℕ) → all_scalars n ≡ true → characters_at (length (encode_utf8_all n)) (encode_utf8_all n ++ rest) ≡ Ok (n, rest)
@@ -143,9 +157,9 @@ characters_again n rest scalars =
     let long : leb (length text) (length (text ++ rest)) ≡ true = le-leb _ _ (omega (arith, length-append text rest)) in
     rw (long, take_at text rest (length text) refl, drop_at text rest (length text) refl, utf8, chars-encodes n scalars) refl
 
-pub name_again : (n rest : List ℕ) → IsLawfulName n → all_scalars n ≡ true → name_at (name n ++ rest) ≡ Ok (n, rest)
+pub name_again : ReadsBack name_at name IsGoodName
 unfolding name_at
-name_again n rest lawful scalars =
-    let some : ltb 0 (length (encode_utf8_all n)) ≡ true = lt-ltb 0 _ (some_bytes n lawful.some) in
+name_again n rest good =
+    let some : ltb 0 (length (encode_utf8_all n)) ≡ true = lt-ltb 0 _ (some_bytes n good.0.some) in
     ap name_at (append_assoc (number (length (encode_utf8_all n))) (encode_utf8_all n) rest)
-    ∙ rw (number_again (length (encode_utf8_all n)) (encode_utf8_all n ++ rest) lawful.short, some, characters_again n rest scalars) refl
+    ∙ rw (number_again (length (encode_utf8_all n)) (encode_utf8_all n ++ rest) good.0.short, some, characters_again n rest good.1) refl

@@ -1,12 +1,13 @@
 -- Reading so many of a kind, one after another: as a loop does, and back.
-use Rattle.std.proofs.Common.{◌≡◌, ℕ, zero, suc, ◌-◌, ◌+◌, ◌≤◌, ◌<◌, List, [], ◌∷◌, ◌++◌, length, Option, Some, Result, Ok, Err, refl, sym, ap, subst, ◌∙◌, append_assoc, arith}
+use Rattle.std.proofs.Common.{◌≡◌, ℕ, zero, suc, ◌-◌, ◌+◌, ◌≤◌, ◌<◌, ◌^◌, List, [], ◌∷◌, ◌++◌, length, Option, Some, None, Result, Ok, Err, refl, sym, ap, subst, ◌∙◌, append_assoc, arith}
 use Rattle.std.specs.List.{flat_map, slice_get}
 use Rattle.std.proofs.lemmas.List.{append-nil, length-append}
 use Rattle.byte_fields.specs.declared.fault.Fault.{Fault}
 use Rattle.byte_fields.specs.declared.fault.Fault.TheVariants as faults
 use Rattle.byte_fields.specs.Answers.{Fails}
-use Rattle.byte_fields.specs.Reading.{◌>>=◌, many_at}
-use Rattle.field_laws.proofs.FieldLemmas.{IsBytes, bind_ok, ok_is, Takes, Takes-then}
+use Rattle.byte_fields.specs.Spelling.{number, counted}
+use Rattle.byte_fields.specs.Reading.{◌>>=◌, number_at, many_at, counted_at, AllAfter}
+use Rattle.field_laws.proofs.FieldLemmas.{IsBytes, step, ok_is, Takes, Takes-then, Reads, ReadsBack, number_takes, number_again}
 
 module _ {A : Type 0} where
   -- what was read before, and what is still read
@@ -57,28 +58,38 @@ module _ {A : Type 0} where
         sym so_far ∙ all
 
     module _ (Good : Option A → A → Type 0) (spell : A → List ℕ) where
-      -- each is good behind the one before it
-      abbrev pub AllAfter : Option A → List A → Type 0
-      AllAfter before [] = Unit {0}
-      AllAfter before (x ∷ xs) = Good before x × AllAfter (Some x) xs
-
-      pub many_takes : ((before : Option A) (bytes : List ℕ) (x : A × List ℕ) → IsBytes bytes → one before bytes ≡ Ok x → Takes bytes (spell x.0) x.1 × Good before x.0)
-          → (count : ℕ) (before : Option A) (bytes : List ℕ) (x : List A × List ℕ) → IsBytes bytes → many_at one count before bytes ≡ Ok x
-          → Takes bytes (flat_map spell x.0) x.1 × (length x.0 ≡ count) × AllAfter before x.0
+      pub many_takes : ((before : Option A) → Reads (one before) spell (Good before)) → (count : ℕ) (before : Option A) (bytes : List ℕ) (x : List A × List ℕ)
+          → IsBytes bytes → many_at one count before bytes ≡ Ok x → Takes bytes (flat_map spell x.0) x.1 × (length x.0 ≡ count) × AllAfter Good before x.0
       unfolding many_at
-      many_takes takes zero before bytes x fits e = subst (λ (y : List A × List ℕ). Takes bytes (flat_map spell y.0) y.1 × (length y.0 ≡ 0) × AllAfter before y.0) (ok_is ([], bytes) x e) (record { parts = refl; rest_fits = fits }, refl, tt)
+      many_takes takes zero before bytes x fits e = rw (← ok_is ([], bytes) x e) (record { parts = refl; rest_fits = fits }, refl, tt)
       many_takes takes (suc count) before bytes x fits e =
-          let a = bind_ok (one before bytes) (λ first. many_at one count (Some first.0) first.1 >>= λ others. Ok (first.0 ∷ others.0, others.1)) x e in
-          let t = takes before bytes a.0 fits a.1 in
-          let b = bind_ok (many_at one count (Some a.0.0) a.0.1) (λ others. Ok (a.0.0 ∷ others.0, others.1)) x a.2 in
-          let r = many_takes takes count (Some a.0.0) a.0.1 b.0 t.0.rest_fits b.1 in
-          subst (λ (y : List A × List ℕ). Takes bytes (flat_map spell y.0) y.1 × (length y.0 ≡ suc count) × AllAfter before y.0) (ok_is (a.0.0 ∷ b.0.0, b.0.1) x b.2)
-          (Takes-then bytes (spell a.0.0) a.0.1 (flat_map spell b.0.0) b.0.1 t.0 r.0, ap suc r.1, (t.1, r.2))
+          let first = step (one before bytes) _ _ x (λ first. takes before bytes first fits) e in
+          let others = step (many_at one count (Some first.0.0) first.0.1) _ _ x (λ others. many_takes takes count (Some first.0.0) first.0.1 others first.1.0.rest_fits) first.2 in
+          rw (← ok_is (first.0.0 ∷ others.0.0, others.0.1) x others.2) (Takes-then {y = flat_map spell others.0.0} {c = others.0.1} first.1.0 others.1.0, ap suc others.1.1, (first.1.1, others.1.2))
 
-      pub many_again : ((before : Option A) (x : A) (rest : List ℕ) → Good before x → one before (spell x ++ rest) ≡ Ok (x, rest))
-          → (xs : List A) (before : Option A) (rest : List ℕ) → AllAfter before xs → many_at one (length xs) before (flat_map spell xs ++ rest) ≡ Ok (xs, rest)
+      pub many_again : ((before : Option A) → ReadsBack (one before) spell (Good before)) → (xs : List A) (before : Option A) (rest : List ℕ)
+          → AllAfter Good before xs → many_at one (length xs) before (flat_map spell xs ++ rest) ≡ Ok (xs, rest)
       unfolding many_at
       many_again again [] before rest good = refl
       many_again again (x ∷ xs) before rest good =
           ap (many_at one (suc (length xs)) before) (append_assoc (spell x) (flat_map spell xs) rest)
           ∙ rw (again before x (flat_map spell xs ++ rest) good.0, many_again again xs (Some x) rest good.1) refl
+
+      -- ---- so many of a kind behind their number
+
+      abbrev pub AreCounted : List A → Type 0
+      AreCounted xs = AllAfter Good None xs × (length xs < 2 ^ 32)
+
+      pub counted_takes : ((before : Option A) → Reads (one before) spell (Good before)) → Reads (counted_at one) (counted spell) AreCounted
+      unfolding counted_at
+      counted_takes each bytes x fits e =
+          let c = step (number_at bytes) _ _ x (λ n. number_takes bytes n fits) e in
+          let m = many_takes each c.0.0 None c.0.1 x c.1.0.rest_fits c.2 in
+          let takes = subst (λ k. Takes bytes (number k ++ flat_map spell x.0) x.1) (sym m.1) (Takes-then c.1.0 m.0) in
+          (takes, (m.2, omega (arith, c.1.1, m.1)))
+
+      pub counted_again : ((before : Option A) → ReadsBack (one before) spell (Good before)) → ReadsBack (counted_at one) (counted spell) AreCounted
+      unfolding counted_at
+      counted_again again xs rest is =
+          ap (counted_at one) (append_assoc (number (length xs)) (flat_map spell xs) rest)
+          ∙ rw (number_again (length xs) (flat_map spell xs ++ rest) is.1) (many_again again xs None rest is.0)

@@ -1,8 +1,6 @@
 pub mod IdLemmas
-pub mod KeyRowLemmas
-pub mod TableLemmas
+pub mod SlotLemmas
 pub mod WalkLemmas
+pub mod KeyRowLemmas
 pub mod SortLemmas
 pub mod PlaceLemmas
-pub mod SlotLemmas
-pub mod FileLemmas

@@ -1,161 +1,157 @@
--- What stands at places, as entries that rise: a place that is written is an entry put in or taken out.
-use Rattle.std.proofs.Common.{◌≡◌, ℕ, zero, suc, ◌<◌, ◌≤◌, ◌+◌, true, false, cond, eqb, List, [], ◌∷◌, ◌++◌, length, Option, Some, None, refl, sym, ap, ◌∙◌, arith, set, ◌≢◌, ⊎_elim}
-use Rattle.std.specs.Prelude.{slice_index_or, is_some}
-use Rattle.std.specs.Ordering.{nat_cmp, is_eq, match_ordering}
-use Rattle.std.specs.Map.{lookup, keys_of, remove_entry}
-use Rattle.std.specs.BTreeMap.{is_at, insert_entry}
-use Rattle.std.specs.List.{AllByRecursion}
-use Rattle.std.proofs.lemmas.Bool.{cases_order, eq-eqb, ne_eqb, false≢true}
-use Rattle.std.proofs.lemmas.List.{get_or-set_same, get_or-set_other}
-use Rattle.std.specs.List.Sorted.{IsStrictlySortedBy}
-use Rattle.std.specs.declared.cmp.Ordering.TheVariants.{Less}
+-- The files that stand at places: what is found of each, and what their rows are, after one was written or emptied.
+use Rattle.std.proofs.Common.{Bor, ◌≡◌, ℕ, zero, suc, ◌<◌, ◌≤◌, ◌+◌, Bool, true, false, cond, eqb, ltb, List, [], ◌∷◌, ◌++◌, length, Option, Some, None, refl, sym, ap, ◌∙◌, arith, set, append_assoc}
+use Rattle.std.specs.Prelude.{slice_index_or, is_some, not}
+use Rattle.std.specs.Option.{unwrap_or, option_copied}
+use Rattle.std.specs.Ordering.{nat_cmp}
+use Rattle.std.specs.Map.{lookup}
+use Rattle.std.specs.BTreeMap.{is_at}
+use Rattle.std.specs.List.{filter}
+use Rattle.std.proofs.lemmas.Bool.Decides.{nat_tests}
+use Rattle.std.proofs.lemmas.List.{get_or_past, get_or-set_same, get_or-set_other, set_past, set-get_or}
+use Rattle.std.proofs.lemmas.List.Elements.{filter-append}
+use Rattle.file_index.specs.Rows.{rows_in, rows_of, rows_in_file, is_known, with_rows, without_file}
 use Rattle.file_index.specs.Slots.{standing_from, standing}
-use Rattle.file_index.proofs.TableLemmas.{cmp_less, cmp_more, cmp_same}
 
 module _ {X : Type 0} where
-  -- each entry stands at its place or behind it
-  above : (low place : ℕ) (slots : List (Option X)) → low < place → AllByRecursion (λ k. nat_cmp low k ≡ Less) (keys_of (standing_from place slots))
-  above low place [] less = tt
-  above low place (None ∷ slots) less = above low (suc place) slots (omega (arith, less))
-  above low place (Some x ∷ slots) less = (cmp_less low place less, above low (suc place) slots (omega (arith, less)))
-
-  -- so the entries rise
-  rises_from : (place : ℕ) (slots : List (Option X)) → IsStrictlySortedBy nat_cmp (keys_of (standing_from place slots))
-  unfolding IsStrictlySortedBy
-  rises_from place [] = tt
-  rises_from place (None ∷ slots) = rises_from (suc place) slots
-  rises_from place (Some x ∷ slots) = (above place (suc place) slots (omega arith), rises_from (suc place) slots)
-
-  pub rises : (slots : List (Option X)) → IsStrictlySortedBy nat_cmp (keys_of (standing slots))
-  rises slots = rises_from 0 slots
-
   -- before all places nothing stands
   none_below : (low place : ℕ) (slots : List (Option X)) → low < place → lookup (is_at (nat_cmp low)) (standing_from place slots) ≡ None
   none_below low place [] less = refl
-  none_below low place (None ∷ slots) less = none_below low (suc place) slots (omega (arith, less))
-  none_below low place (Some x ∷ slots) less =
-      ap (λ o. cond (is_eq o) (Some x) (lookup (is_at (nat_cmp low)) (standing_from (suc place) slots))) (cmp_less low place less)
-      ∙ none_below low (suc place) slots (omega (arith, less))
+  none_below low place (None ∷ slots) less = none_below low (suc place) slots (omega arith)
+  none_below low place (Some x ∷ slots) less = grind (arith, nat_tests, none_below low (suc place) slots (omega arith))
 
-  -- an entry put in before all places comes first
-  put_below : (low place : ℕ) (slots : List (Option X)) (new : X) → low < place → insert_entry nat_cmp (standing_from place slots) low new ≡ (low, new) ∷ standing_from place slots
-  put_below low place [] new less = refl
-  put_below low place (None ∷ slots) new less = put_below low (suc place) slots new (omega (arith, less))
-  put_below low place (Some x ∷ slots) new less =
-      ap (λ o. match_ordering o ((low, new) ∷ (place, x) ∷ standing_from (suc place) slots) ((place, new) ∷ standing_from (suc place) slots)
-      ((place, x) ∷ insert_entry nat_cmp (standing_from (suc place) slots) low new)) (cmp_less low place less)
+  found_from : (place i j : ℕ) (slots : List (Option X)) → j ≡ place + i
+      → lookup (is_at (nat_cmp j)) (standing_from place slots) ≡ slice_index_or slots i None
+  found_from place i j [] at = refl
+  found_from place zero j (None ∷ slots) at = none_below j (suc place) slots (omega arith)
+  found_from place zero j (Some x ∷ slots) at = grind (arith, nat_tests)
+  found_from place (suc i) j (None ∷ slots) at = found_from (suc place) i j slots (omega arith)
+  found_from place (suc i) j (Some x ∷ slots) at = grind (arith, nat_tests, found_from (suc place) i j slots (omega arith))
 
-  -- and one taken out there was none
-  gone_below : (low place : ℕ) (slots : List (Option X)) → low < place → remove_entry (is_at (nat_cmp low)) (standing_from place slots) ≡ standing_from place slots
-  gone_below low place [] less = refl
-  gone_below low place (None ∷ slots) less = gone_below low (suc place) slots (omega (arith, less))
-  gone_below low place (Some x ∷ slots) less =
-      ap (λ o. cond (is_eq o) (standing_from (suc place) slots) ((place, x) ∷ remove_entry (is_at (nat_cmp low)) (standing_from (suc place) slots))) (cmp_less low place less)
-      ∙ ap (λ l. (place, x) ∷ l) (gone_below low (suc place) slots (omega (arith, less)))
+  -- what is found of a file is what stands at its place
+  found : (slots : List (Option X)) (file : ℕ) → lookup (is_at (nat_cmp file)) (standing slots) ≡ slice_index_or slots file None
+  found slots file = found_from 0 file file slots (omega arith)
 
-  -- what is found at a place is what stands there
-  found_from : (place i : ℕ) (slots : List (Option X)) → lookup (is_at (nat_cmp (place + i))) (standing_from place slots) ≡ slice_index_or slots i None
-  found_from place i [] = refl
-  found_from place zero (None ∷ slots) = none_below (place + 0) (suc place) slots (omega arith)
-  found_from place zero (Some x ∷ slots) =
-      ap (λ o. cond (is_eq o) (Some x) (lookup (is_at (nat_cmp (place + 0))) (standing_from (suc place) slots))) (cmp_same (place + 0) place (omega arith))
-  found_from place (suc i) (None ∷ slots) =
-      let e : place + suc i ≡ suc place + i = omega arith in
-      ap (λ n. lookup (is_at (nat_cmp n)) (standing_from (suc place) slots)) e ∙ found_from (suc place) i slots
-  found_from place (suc i) (Some x ∷ slots) =
-      let e : place + suc i ≡ suc place + i = omega arith in
-      ap (λ o. cond (is_eq o) (Some x) (lookup (is_at (nat_cmp (place + suc i))) (standing_from (suc place) slots))) (cmp_more (place + suc i) place (omega arith))
-      ∙ ap (λ n. lookup (is_at (nat_cmp n)) (standing_from (suc place) slots)) e ∙ found_from (suc place) i slots
+  -- what stands at each place after one was written; one past the end may only be emptied
+  set_at : (slots : List (Option X)) (i j : ℕ) (x : Option X) → (length slots ≤ i → x ≡ None)
+      → slice_index_or (set slots i x) j None ≡ cond (eqb j i) x (slice_index_or slots j None)
+  set_at slots i j x past =
+      let none = get_or_past slots i None in
+      let same = set_past slots i x in
+      grind (arith, nat_tests, past, get_or-set_same slots i x None, get_or-set_other slots i j x None)
 
-  pub found : (slots : List (Option X)) (i : ℕ) → lookup (is_at (nat_cmp i)) (standing slots) ≡ slice_index_or slots i None
-  found slots i = let e : i ≡ 0 + i = omega arith in ap (λ n. lookup (is_at (nat_cmp n)) (standing slots)) e ∙ found_from 0 i slots
-
-  -- a place that is written is an entry put in
-  put_from : (place i : ℕ) (slots : List (Option X)) (new : X) → i < length slots → standing_from place (set slots i (Some new)) ≡ insert_entry nat_cmp (standing_from place slots) (place + i) new
-  put_from place i [] new inside = absurd (omega (arith, inside))
-  put_from place zero (None ∷ slots) new inside =
-      let e : place ≡ place + 0 = omega arith in
-      ap (λ n. (n, new) ∷ standing_from (suc place) slots) e ∙ sym (put_below (place + 0) (suc place) slots new (omega arith))
-  put_from place zero (Some x ∷ slots) new inside =
-      sym (ap (λ o. match_ordering o ((place + 0, new) ∷ (place, x) ∷ standing_from (suc place) slots) ((place, new) ∷ standing_from (suc place) slots)
-      ((place, x) ∷ insert_entry nat_cmp (standing_from (suc place) slots) (place + 0) new)) (cmp_same (place + 0) place (omega arith)))
-  put_from place (suc i) (None ∷ slots) new inside =
-      let e : suc place + i ≡ place + suc i = omega arith in
-      put_from (suc place) i slots new (omega (arith, inside)) ∙ ap (λ n. insert_entry nat_cmp (standing_from (suc place) slots) n new) e
-  put_from place (suc i) (Some x ∷ slots) new inside =
-      let e : suc place + i ≡ place + suc i = omega arith in
-      ap (λ l. (place, x) ∷ l) (put_from (suc place) i slots new (omega (arith, inside)) ∙ ap (λ n. insert_entry nat_cmp (standing_from (suc place) slots) n new) e)
-      ∙ sym (ap (λ o. match_ordering o ((place + suc i, new) ∷ (place, x) ∷ standing_from (suc place) slots) ((place, new) ∷ standing_from (suc place) slots)
-      ((place, x) ∷ insert_entry nat_cmp (standing_from (suc place) slots) (place + suc i) new)) (cmp_more (place + suc i) place (omega arith)))
-
-  pub put : (slots : List (Option X)) (i : ℕ) (new : X) → i < length slots → standing (set slots i (Some new)) ≡ insert_entry nat_cmp (standing slots) i new
-  put slots i new inside = let e : 0 + i ≡ i = omega arith in put_from 0 i slots new inside ∙ ap (λ n. insert_entry nat_cmp (standing slots) n new) e
-
-  -- a place that is emptied is an entry taken out
-  taken_from : (place i : ℕ) (slots : List (Option X)) → standing_from place (set slots i None) ≡ remove_entry (is_at (nat_cmp (place + i))) (standing_from place slots)
-  taken_from place i [] = refl
-  taken_from place zero (None ∷ slots) = sym (gone_below (place + 0) (suc place) slots (omega arith))
-  taken_from place zero (Some x ∷ slots) =
-      sym (ap (λ o. cond (is_eq o) (standing_from (suc place) slots) ((place, x) ∷ remove_entry (is_at (nat_cmp (place + 0))) (standing_from (suc place) slots))) (cmp_same (place + 0) place (omega arith)))
-  taken_from place (suc i) (None ∷ slots) =
-      let e : suc place + i ≡ place + suc i = omega arith in
-      taken_from (suc place) i slots ∙ ap (λ n. remove_entry (is_at (nat_cmp n)) (standing_from (suc place) slots)) e
-  taken_from place (suc i) (Some x ∷ slots) =
-      let e : suc place + i ≡ place + suc i = omega arith in
-      ap (λ l. (place, x) ∷ l) (taken_from (suc place) i slots ∙ ap (λ n. remove_entry (is_at (nat_cmp n)) (standing_from (suc place) slots)) e)
-      ∙ sym (ap (λ o. cond (is_eq o) (standing_from (suc place) slots) ((place, x) ∷ remove_entry (is_at (nat_cmp (place + suc i))) (standing_from (suc place) slots))) (cmp_more (place + suc i) place (omega arith)))
-
-  pub taken : (slots : List (Option X)) (i : ℕ) → standing (set slots i None) ≡ remove_entry (is_at (nat_cmp i)) (standing slots)
-  taken slots i = let e : 0 + i ≡ i = omega arith in taken_from 0 i slots ∙ ap (λ n. remove_entry (is_at (nat_cmp n)) (standing slots)) e
-
-  -- a free place more at the end changes nothing
   widened_from : (place : ℕ) (slots : List (Option X)) → standing_from place (slots ++ None ∷ []) ≡ standing_from place slots
   widened_from place [] = refl
   widened_from place (None ∷ slots) = widened_from (suc place) slots
-  widened_from place (Some x ∷ slots) = ap (λ l. (place, x) ∷ l) (widened_from (suc place) slots)
+  widened_from place (Some x ∷ slots) = rw (widened_from (suc place) slots) refl
 
+  -- a free place more at the end changes nothing
   pub widened : (slots : List (Option X)) → standing (slots ++ None ∷ []) ≡ standing slots
   widened slots = widened_from 0 slots
 
-  -- what stands at a place after one is written
-  pub written : (slots : List (Option X)) (i j : ℕ) (x : Option X) → i < length slots → lookup (is_at (nat_cmp j)) (standing (set slots i x)) ≡ cond (eqb j i) x (lookup (is_at (nat_cmp j)) (standing slots))
-  written slots i j x inside = found (set slots i x) j ∙ ⊎_elim here (λ apart. there (λ same. ⊎_elim (λ l. absurd (omega (arith, l, same))) (λ m. absurd (omega (arith, m, same))) apart)) (cases_order j i) ∙ ap (λ o. cond (eqb j i) x o) (sym (found slots j))
-    where
-      goal : Type 0
-      goal = slice_index_or (set slots i x) j None ≡ cond (eqb j i) x (slice_index_or slots j None)
+-- after a file was given other rows, or taken out: the rows, those of each file, and which files are known
+pub record HasWritten {K V : Type 0} (file : ℕ) (now : Option (List (K × V))) (old new : List (ℕ × List (K × V))) : Type 0 where
+  pub rows : rows_of new ≡ with_rows file (unwrap_or now []) (rows_of old)
+  pub each : (j : ℕ) → rows_in_file j new ≡ cond (eqb j file) (unwrap_or now []) (rows_in_file j old)
+  pub known : (j : ℕ) → is_known j new ≡ cond (eqb j file) (is_some now) (is_known j old)
 
-      here : j ≡ i → goal
-      here same = ap (λ n. slice_index_or (set slots i x) n None) same ∙ get_or-set_same slots i x None inside ∙ sym (ap (λ b. cond b x (slice_index_or slots j None)) (eq-eqb j i same))
+-- what a test keeps is kept by each test that it implies
+kept_twice : {X : Type 0} (p q : X → Bool) → ((x : X) → p x ≡ true → q x ≡ true) → (xs : List X) → filter q (filter p xs) ≡ filter p xs
+kept_twice p q implied [] = refl
+kept_twice p q implied (x ∷ xs) = grind (arith, implied x, kept_twice p q implied xs)
 
-      there : j ≢ i → goal
-      there other = get_or-set_other slots i j x None other ∙ sym (ap (λ b. cond b x (slice_index_or slots j None)) (ne_eqb j i other))
+module _ {K V : Type 0} where
+  -- the rows from a place on are those that stand there, and those from the next place on
+  pub from_place : (place : ℕ) (s : Option (List (K × V))) (slots : List (Option (List (K × V))))
+      → rows_of (standing_from place (s ∷ slots)) ≡ rows_in place (unwrap_or s []) ++ rows_of (standing_from (suc place) slots)
+  from_place place None slots = refl
+  from_place place (Some rows) slots = refl
 
-  -- a place that isn't there holds nothing, and writing it changes nothing
-  beyond : (slots : List (Option X)) (i : ℕ) → length slots ≤ i → slice_index_or slots i None ≡ None
-  beyond [] i past = refl
-  beyond (s ∷ slots) zero past = absurd (omega (arith, past))
-  beyond (s ∷ slots) (suc i) past = beyond slots i (omega (arith, past))
+  module _ (p : ℕ → Bool) where
+    -- of the rows of one file a test of files keeps all or none
+    filter-in : (file : ℕ) (rows : List (K × V)) → filter (λ row. p row.0) (rows_in file rows) ≡ cond (p file) (rows_in file rows) []
+    filter-in file [] = grind arith
+    filter-in file (r ∷ rs) = grind (arith, filter-in file rs)
 
-  pub set_beyond : (slots : List (Option X)) (i : ℕ) (x : Option X) → length slots ≤ i → set slots i x ≡ slots
-  set_beyond [] i x past = refl
-  set_beyond (s ∷ slots) zero x past = absurd (omega (arith, past))
-  set_beyond (s ∷ slots) (suc i) x past = ap (λ l. s ∷ l) (set_beyond slots i x (omega (arith, past)))
+    filter-first : (place : ℕ) (s : Option (List (K × V))) (slots : List (Option (List (K × V))))
+        → filter (λ row. p row.0) (rows_of (standing_from place (s ∷ slots)))
+        ≡ cond (p place) (rows_in place (unwrap_or s [])) [] ++ filter (λ row. p row.0) (rows_of (standing_from (suc place) slots))
+    filter-first place s slots =
+        let parts = filter-append (λ row. p row.0) (rows_in place (unwrap_or s [])) (rows_of (standing_from (suc place) slots)) in
+        rw (from_place place s slots) (rw (parts, filter-in place (unwrap_or s [])) refl)
 
-  -- where something stands there is a place
-  pub inside : (slots : List (Option X)) (i : ℕ) → is_some (lookup (is_at (nat_cmp i)) (standing slots)) ≡ true → i < length slots
-  inside slots i known = ⊎_elim (λ same. absurd (false≢true (sym (none (omega (arith, same))) ∙ known))) (λ apart. ⊎_elim (λ l. l) (λ m. absurd (false≢true (sym (none (omega (arith, m))) ∙ known))) apart) (cases_order i (length slots))
-    where
-      none : length slots ≤ i → is_some (lookup (is_at (nat_cmp i)) (standing slots)) ≡ false
-      none past = ap is_some (found slots i ∙ beyond slots i past)
+    -- and of those from a place on, where it answers the same of all these files
+    filter-from : (b : Bool) (place : ℕ) (slots : List (Option (List (K × V)))) → ((k : ℕ) → place ≤ k → p k ≡ b)
+        → filter (λ row. p row.0) (rows_of (standing_from place slots)) ≡ cond b (rows_of (standing_from place slots)) []
+    filter-from b place [] is = grind arith
+    filter-from b place (s ∷ slots) is =
+        let rest = filter-from b (suc place) slots (λ k l. is k (omega arith)) in
+        rw (filter-first place s slots, from_place place s slots, is place (omega arith), rest) (grind arith)
 
-  -- what stands at a place after one is emptied
-  pub emptied : (slots : List (Option X)) (i j : ℕ) → lookup (is_at (nat_cmp j)) (standing (set slots i None)) ≡ cond (eqb j i) None (lookup (is_at (nat_cmp j)) (standing slots))
-  emptied slots i j = ⊎_elim (λ same. past (omega (arith, same))) (λ apart. ⊎_elim (λ l. written slots i j None l) (λ m. past (omega (arith, m))) apart) (cases_order i (length slots))
-    where
-      at : List (Option X) → ℕ → Option X
-      at list n = lookup (is_at (nat_cmp n)) (standing list)
+  -- the rows after one place was written
+  rows_from : (place i file : ℕ) (slots : List (Option (List (K × V)))) (x : Option (List (K × V))) → file ≡ place + i → (length slots ≤ i → x ≡ None)
+      → rows_of (standing_from place (set slots i x)) ≡ with_rows file (unwrap_or x []) (rows_of (standing_from place slots))
+  rows_from place i file [] x at past = rw (past (omega arith)) refl
+  rows_from place zero file (s ∷ slots) x at past =
+      let lower = filter-first (λ k. ltb k file) place s slots in
+      let upper = filter-first (λ k. ltb file k) place s slots in
+      let none = filter-from (λ k. ltb k file) false (suc place) slots (λ k l. grind (arith, nat_tests)) in
+      let all = filter-from (λ k. ltb file k) true (suc place) slots (λ k l. grind (arith, nat_tests)) in
+      grind (arith, nat_tests, from_place place x slots)
+  rows_from place (suc i) file (s ∷ slots) x at past =
+      let lower = filter-first (λ k. ltb k file) place s slots in
+      let upper = filter-first (λ k. ltb file k) place s slots in
+      let rest = rows_from (suc place) i file slots x (omega arith) (λ l. past (omega arith)) in
+      grind (arith, nat_tests, append_assoc, from_place place s (set slots i x))
 
-      past : length slots ≤ i → at (set slots i None) j ≡ cond (eqb j i) None (at slots j)
-      past beyond_all = ap (λ l. at l j) (set_beyond slots i None beyond_all)
-          ∙ ⊎_elim (λ same. ap (at slots) same ∙ (found slots i ∙ beyond slots i beyond_all) ∙ sym (ap (λ b. cond b None (at slots j)) (eq-eqb j i same)))
-          (λ apart. sym (ap (λ b. cond b None (at slots j)) (ne_eqb j i (λ same. ⊎_elim (λ l. absurd (omega (arith, l, same))) (λ m. absurd (omega (arith, m, same))) apart)))) (cases_order j i)
+  module _ (slots : List (Option (List (K × V)))) (files : List (ℕ × List (K × V))) (seen : standing slots ≡ files) (file : ℕ) where
+    -- what is found of a file is what stands at its place
+    pub found_in : lookup (is_at (nat_cmp file)) files ≡ slice_index_or slots file None
+    found_in = rw (← seen) (found slots file)
+
+    -- a file that is known has a place
+    pub inside : is_known file files ≡ true → file < length slots
+    inside known = grind (arith, nat_tests, found_in, get_or_past slots file None)
+
+    -- what a file has after its place was written or emptied
+    pub written : (x : Option (List (K × V))) (new : List (Option (List (K × V)))) → new ≡ set slots file x → (length slots ≤ file → x ≡ None)
+        → HasWritten file x files (standing new)
+    written x new is past = rw (is, ← seen) (record {
+      rows = rows_from 0 file file slots x (omega arith) past;
+      each = λ j. grind (arith, found slots j, found (set slots file x) j, set_at slots file j x past);
+      known = λ j. grind (arith, found slots j, found (set slots file x) j, set_at slots file j x past);
+    })
+
+    -- and after rows were written
+    pub filled : (rows : List (K × V)) (new : List (Option (List (K × V)))) → new ≡ set slots file (Some rows) → file < length slots
+        → HasWritten file (Some rows) files (standing new)
+    filled rows new is within = written (Some rows) new is (λ l. absurd (omega arith))
+
+    -- the rows are those of the files below, its own and those of the files above
+    itself : with_rows file (rows_in_file file files) (rows_of files) ≡ rows_of files
+    itself =
+        let same = (written (slice_index_or slots file None) slots (sym (set-get_or slots file None)) (get_or_past slots file None)).rows in
+        rw found_in (sym (rw seen at same))
+
+    -- without a file's rows is with none in their place
+    pub without_is : without_file file (rows_of files) ≡ with_rows file [] (rows_of files)
+    without_is =
+        let other : ℕ × (K × V) → Bool = λ row. not (eqb row.0 file) in
+        let below = kept_twice (λ row. ltb row.0 file) other (λ row e. grind (arith, nat_tests)) (rows_of files) in
+        let above = kept_twice (λ row. ltb file row.0) other (λ row e. grind (arith, nat_tests)) (rows_of files) in
+        let own = filter-in (λ k. not (eqb k file)) file (rows_in_file file files) in
+        ap (filter other) (sym itself) ∙ simp filter-append (grind (arith, nat_tests))
+
+    -- where a file has no rows, none go with it
+    pub nothing_goes : rows_in_file file files ≡ [] → with_rows file [] (rows_of files) ≡ rows_of files
+    nothing_goes none = rw none at itself
+
+module _ {K V : Type 0} (file : ℕ) (files : List (ℕ × List (K × V))) where
+  -- where a file has no rows, no file has other rows without them
+  pub none_each : rows_in_file file files ≡ [] → (j : ℕ) → rows_in_file j files ≡ cond (eqb j file) [] (rows_in_file j files)
+  none_each none j = grind (arith, nat_tests, none)
+
+  -- where a look-up that lends finds nothing, a file has no rows
+  pub none_lent : (lent : Option (Bor (List (K × V)))) → option_copied lent ≡ lookup (is_at (nat_cmp file)) files → is_some lent ≡ false
+      → rows_in_file file files ≡ []
+  none_lent None found none = rw (← found) refl
+  none_lent (Some rows) found none = absurd (cc)

@@ -8,11 +8,11 @@ use Rattle.std.specs.List.Sorted.{IsStrictlySortedBy}
 module _ {K V : Type 0} where
   -- Rows go by their keys, and rows of one key by the places of their values.
   abbrev pub row_cmp : (K → K → Ordering) → (V → ℕ) → K × V → K × V → Ordering
-  row_cmp key_cmp place_of a b = ordering_then (key_cmp a.0 b.0) (nat_cmp (place_of a.1) (place_of b.1))
+  row_cmp key_cmp rank_of a b = ordering_then (key_cmp a.0 b.0) (nat_cmp (rank_of a.1) (rank_of b.1))
 
   -- Rows are in order where each is below those after it; so none is there twice.
   abbrev pub AreInOrder : (K → K → Ordering) → (V → ℕ) → List (K × V) → Type 0
-  AreInOrder key_cmp place_of rows = IsStrictlySortedBy (row_cmp key_cmp place_of) rows
+  AreInOrder key_cmp rank_of rows = IsStrictlySortedBy (row_cmp key_cmp rank_of) rows
 
   -- the rows with this key
   abbrev pub rows_with : (K → K → Bool) → K → List (K × V) → List (K × V)

@@ -11,18 +11,18 @@ ghost use Rattle.file_index.specs.Walk.{HasAllFiles, walked};
 ghost use Rattle.file_index.specs.Rows.{is_known, rows_of, rows_at, rows_in_file, with_rows, without_file, IsKnownByRows};
 
 use crate::key_rows::copy_rows;
-use crate::{Indexer, KeyRows, Place, RowWalk};
+use crate::{Indexer, KeyRows, Rank, RowWalk};
 use std::alloc::{AllocError, Global};
 use std::marker::Model;
 use std::mem;
 
 /// The files that are known, each with its rows at the place of its id. Seen as a list of them, by rising ids.
 #[derive(Drop)]
-pub(crate) struct Files<K: Ord, V: Place> {
+pub(crate) struct FileRows<K: Ord, V: Rank> {
     slots: Vec<Option<KeyRows<K, V>>>,
 }
 
-impl<K: Ord, V: Place> Model for Files<K, V> {
+impl<K: Ord, V: Rank> Model for FileRows<K, V> {
     ghost use Rattle.std.specs.Prelude.{List, ℕ};
 
     ghost Value = { List (ℕ × List (K × V)) };
@@ -32,12 +32,12 @@ impl<K: Ord, V: Place> Model for Files<K, V> {
     ghost view = { λ f. standing f.slots.items };
 }
 
-impl<K: Ord, V: Place> Files<K, V> {
+impl<K: Ord, V: Rank> FileRows<K, V> {
     /// No files.
-    pub(crate) fn new(alloc: Global) -> Files<K, V>
+    pub(crate) fn new(alloc: Global) -> FileRows<K, V>
         ensures { result ≡ [] }
     {
-        Files {
+        FileRows {
             slots: Vec::new(alloc),
         }
     }
@@ -177,7 +177,7 @@ impl<K: Ord, V: Place> Files<K, V> {
 }
 
 /// Makes a place for a file.
-fn make_place<K: Ord + Drop, V: Place + Drop>(
+fn make_place<K: Ord + Drop, V: Rank + Drop>(
     slots: &mut Vec<Option<KeyRows<K, V>>>,
     file: u32,
 ) -> Result<(), AllocError>
@@ -191,7 +191,7 @@ fn make_place<K: Ord + Drop, V: Place + Drop>(
 }
 
 /// What stands at the place of a file.
-fn standing_at<K: Ord, V: Place>(
+fn standing_at<K: Ord, V: Rank>(
     slots: &[Option<KeyRows<K, V>>],
     file: u32,
 ) -> Option<&KeyRows<K, V>>
@@ -204,7 +204,7 @@ fn standing_at<K: Ord, V: Place>(
 }
 
 /// Writes rows at the place of a file, and gives back what stood there.
-fn write<K: Ord, V: Place>(
+fn write<K: Ord, V: Rank>(
     slots: &mut Vec<Option<KeyRows<K, V>>>,
     file: u32,
     rows: KeyRows<K, V>,
@@ -217,7 +217,7 @@ fn write<K: Ord, V: Place>(
 }
 
 /// Writes rows at the place of a file.
-fn fill<K: Ord + Drop, V: Place + Drop>(
+fn fill<K: Ord + Drop, V: Rank + Drop>(
     slots: &mut Vec<Option<KeyRows<K, V>>>,
     file: u32,
     rows: KeyRows<K, V>,
@@ -229,7 +229,7 @@ fn fill<K: Ord + Drop, V: Place + Drop>(
 }
 
 /// Empties the place of a file, if it has one, and gives back what stood there.
-fn empty<K: Ord, V: Place>(
+fn empty<K: Ord, V: Rank>(
     slots: &mut Vec<Option<KeyRows<K, V>>>,
     file: u32,
 ) -> Option<KeyRows<K, V>>
@@ -246,11 +246,11 @@ fn empty<K: Ord, V: Place>(
 pub(crate) fn copy_files<I: Indexer>(
     alloc: Global,
     indexer: &I,
-    files: &Files<I::Key, I::Value>,
-) -> Result<Files<I::Key, I::Value>, AllocError>
+    files: &FileRows<I::Key, I::Value>,
+) -> Result<FileRows<I::Key, I::Value>, AllocError>
     ensures { IfOk result (λ copy. copy ≡ files.now) }
 {
-    Ok(Files {
+    Ok(FileRows {
         slots: copy_slots(alloc, indexer, &files.slots)?,
     })
 }

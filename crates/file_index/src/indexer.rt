@@ -6,26 +6,26 @@ use std::alloc::{AllocError, Global};
 use std::hash::Hash;
 
 /// A value of rows that has a place among those of one key in a file.
-pub trait Place {
-    ghost place_of: { Self → ℕ };
+pub trait Rank {
+    ghost rank_of: { Self → ℕ };
 
     /// Its place.
-    fn place(&self) -> u32
-        ensures { result ≡ place_of self.now };
+    fn rank(&self) -> u32
+        ensures { result ≡ rank_of self.now };
 }
 
-impl Place for u8 {
-    ghost place_of = { λ value. value };
+impl Rank for u8 {
+    ghost rank_of = { λ value. value };
 
-    fn place(&self) -> u32 {
+    fn rank(&self) -> u32 {
         *self as u32
     }
 }
 
-impl Place for u32 {
-    ghost place_of = { λ value. value };
+impl Rank for u32 {
+    ghost rank_of = { λ value. value };
 
-    fn place(&self) -> u32 {
+    fn rank(&self) -> u32 {
         *self
     }
 }
@@ -40,7 +40,7 @@ pub trait Indexer: Copy + Drop {
     /// What rows are found by.
     type Key: Hash + Eq + Ord + Drop;
     /// What a row tells.
-    type Value: Place + Drop;
+    type Value: Rank + Drop;
 
     ghost rows_of: { Self.Input → List (Self.Key × Self.Value) };
 

@@ -8,9 +8,9 @@ ghost use Rattle.file_index.specs.Rows.{HasRoom, KeepsRoom, KeepsRoomBut, GivesU
 ghost use Rattle.file_index.specs.KeyRows.{has_key};
 ghost use Rattle.file_index.specs.Places.{is_placed};
 
-use crate::files::{Files, copy_files};
+use crate::files::{FileRows, copy_files};
 use crate::postings::{Postings, copy_postings};
-use crate::{Indexer, KeyRows, Place, RowWalk};
+use crate::{Indexer, KeyRows, Rank, RowWalk};
 use std::alloc::{AllocError, Global};
 use std::hash::Hash;
 use std::marker::Model;
@@ -23,7 +23,7 @@ use std::marker::Model;
 pub struct Inverted<I: Indexer> {
     alloc: Global,
     indexer: I,
-    files: Files<I::Key, I::Value>,
+    files: FileRows<I::Key, I::Value>,
     postings: Postings<I::Key>,
 }
 
@@ -45,7 +45,7 @@ impl<I: Indexer> Inverted<I> {
         Inverted {
             alloc,
             indexer,
-            files: Files::new(alloc),
+            files: FileRows::new(alloc),
             postings: Postings::new(alloc),
         }
     }
@@ -185,9 +185,9 @@ impl<I: Indexer> Inverted<I> {
 }
 
 /// Takes a file out from under the keys of rows that it had and that none of its rows has now.
-fn take_out_all<K: Ord + Hash + Drop, V: Place>(
+fn take_out_all<K: Ord + Hash + Drop, V: Rank>(
     postings: &mut Postings<K>,
-    files: &Files<K, V>,
+    files: &FileRows<K, V>,
     file: u32,
     old: &KeyRows<K, V>,
 )

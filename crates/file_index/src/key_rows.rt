@@ -4,18 +4,18 @@ ghost use Rattle.std.specs.List.Sorted.{IsPartitionPoint};
 ghost use Rattle.std.specs.Ordering.{is_lt, is_le};
 ghost use Rattle.file_index.specs.KeyRows.{AreInOrder, by_keys, has_key, rows_with};
 
-use crate::{Indexer, Place};
+use crate::{Indexer, Rank};
 use std::alloc::{AllocError, Global};
 use std::collections::BTreeMap;
 use std::marker::Model;
 
 /// Rows of a key and a value, which rise, first by the keys and then by the places of the values.
 #[derive(Drop)]
-pub struct KeyRows<K: Ord, V: Place> {
+pub struct KeyRows<K: Ord, V: Rank> {
     rows: Vec<(K, V)>,
 }
 
-impl<K: Ord, V: Place> Model for KeyRows<K, V> {
+impl<K: Ord, V: Rank> Model for KeyRows<K, V> {
     ghost use Rattle.std.specs.Prelude.{List};
     ghost use Rattle.file_index.specs.KeyRows.{AreInOrder};
 
@@ -23,10 +23,10 @@ impl<K: Ord, V: Place> Model for KeyRows<K, V> {
 
     ghost view = { λ r. r.rows.items };
 
-    ghost invariant = { λ r. AreInOrder K.cmp V.place_of r.rows.items };
+    ghost invariant = { λ r. AreInOrder K.cmp V.rank_of r.rows.items };
 }
 
-impl<K: Ord, V: Place> KeyRows<K, V> {
+impl<K: Ord, V: Rank> KeyRows<K, V> {
     /// No rows.
     pub fn new(alloc: Global) -> KeyRows<K, V>
         ensures { result ≡ [] }
@@ -38,7 +38,7 @@ impl<K: Ord, V: Place> KeyRows<K, V> {
 
     /// Rows that are in order.
     pub fn from_ordered(rows: Vec<(K, V)>) -> KeyRows<K, V>
-        requires { AreInOrder K.cmp V.place_of rows.items }
+        requires { AreInOrder K.cmp V.rank_of rows.items }
         ensures { result ≡ rows.items }
     {
         KeyRows { rows }
@@ -50,7 +50,7 @@ impl<K: Ord, V: Place> KeyRows<K, V> {
     where
         K: Drop,
         V: Drop,
-        requires { (key : K) → AreInOrder K.cmp V.place_of (rows_with K.eq key rows.items) }
+        requires { (key : K) → AreInOrder K.cmp V.rank_of (rows_with K.eq key rows.items) }
         ensures { IfOk result (λ made. made ≡ by_keys K.cmp rows.items) }
     {
         let mut rows = rows;
@@ -89,7 +89,7 @@ impl<K: Ord, V: Place> KeyRows<K, V> {
     /// The rows.
     pub fn as_slice(&self) -> &[(K, V)]
         ensures rows { result.now ≡ self.now }
-        ensures in_order { AreInOrder K.cmp V.place_of self.now }
+        ensures in_order { AreInOrder K.cmp V.rank_of self.now }
     {
         &self.rows
     }
@@ -131,8 +131,8 @@ pub fn copy_rows<I: Indexer>(
 }
 
 /// How many of the rows, which are in order, have a key below this one.
-fn first_from<K: Ord, V: Place>(rows: &[(K, V)], key: &K) -> usize
-    requires { AreInOrder K.cmp V.place_of rows.now }
+fn first_from<K: Ord, V: Rank>(rows: &[(K, V)], key: &K) -> usize
+    requires { AreInOrder K.cmp V.rank_of rows.now }
     ensures bound { result ≤ length rows.now }
     ensures parts { IsPartitionPoint (λ row. is_lt (K.cmp row.0 key.now) ≡ true)
         (λ row. is_lt (K.cmp row.0 key.now) ≡ false) rows.now result }
@@ -141,8 +141,8 @@ fn first_from<K: Ord, V: Place>(rows: &[(K, V)], key: &K) -> usize
 }
 
 /// How many of the rows, which are in order, have no key above this one.
-fn first_after<K: Ord, V: Place>(rows: &[(K, V)], key: &K) -> usize
-    requires { AreInOrder K.cmp V.place_of rows.now }
+fn first_after<K: Ord, V: Rank>(rows: &[(K, V)], key: &K) -> usize
+    requires { AreInOrder K.cmp V.rank_of rows.now }
     ensures bound { result ≤ length rows.now }
     ensures parts { IsPartitionPoint (λ row. is_le (K.cmp row.0 key.now) ≡ true)
         (λ row. is_le (K.cmp row.0 key.now) ≡ false) rows.now result }

@@ -4,7 +4,7 @@ ghost use Rattle.std.specs.List.Sorted.{IsStrictlySortedBy};
 ghost use Rattle.std.specs.Map.{keys_of};
 ghost use Rattle.file_index.specs.KeyRows.{by_keys, rows_with, AreInOrder};
 
-use crate::indexer::Place;
+use crate::indexer::Rank;
 
 /// Rows that are sorted by their keys have the rows of each key as they came.
 pub fn sorting_keeps_the_rows_of_a_key<K: Ord, V>()
@@ -13,7 +13,7 @@ pub fn sorting_keeps_the_rows_of_a_key<K: Ord, V>()
 {}
 
 /// Rows whose keys rise are in order.
-pub fn rows_of_rising_keys_are_in_order<K: Ord, V: Place>()
+pub fn rows_of_rising_keys_are_in_order<K: Ord, V: Rank>()
     ensures { (rows : List (K × V)) → IsStrictlySortedBy K.cmp (keys_of rows)
-        → AreInOrder K.cmp V.place_of rows }
+        → AreInOrder K.cmp V.rank_of rows }
 {}

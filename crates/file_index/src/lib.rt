@@ -10,7 +10,7 @@ pub mod laws;
 mod postings;
 mod row_walk;
 
-pub use indexer::{Indexer, Place};
+pub use indexer::{Indexer, Rank};
 pub use inverted::Inverted;
 pub use key_rows::{KeyRows, copy_rows};
 pub use row_walk::RowWalk;

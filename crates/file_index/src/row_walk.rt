@@ -3,14 +3,14 @@ ghost use Rattle.std.specs.Prelude.{◌≡◌};
 ghost use Rattle.std.specs.Iterator.{YieldsFirstBy, item_count};
 ghost use Rattle.file_index.specs.Walk.{walked};
 
-use crate::Place;
-use crate::files::Files;
+use crate::Rank;
+use crate::files::FileRows;
 use std::marker::Model;
 
 /// The rows under a key, each as its file and its value, seen as those that are left.
 #[derive(Drop)]
-pub struct RowWalk<'a, K: Ord, V: Place> {
-    files: &'a Files<K, V>,
+pub struct RowWalk<'a, K: Ord, V: Rank> {
+    files: &'a FileRows<K, V>,
     ids: &'a [u32],
     key: &'a K,
     /// The file of `run`, the rows that come next.
@@ -18,7 +18,7 @@ pub struct RowWalk<'a, K: Ord, V: Place> {
     run: &'a [(K, V)],
 }
 
-impl<'a, K: Ord, V: Place> Model for RowWalk<'a, K, V> {
+impl<'a, K: Ord, V: Rank> Model for RowWalk<'a, K, V> {
     ghost use Rattle.std.specs.Prelude.{List, ℕ};
     ghost use Rattle.file_index.specs.Walk.{left_to_walk};
 
@@ -27,9 +27,9 @@ impl<'a, K: Ord, V: Place> Model for RowWalk<'a, K, V> {
     ghost view = { λ w. left_to_walk K.eq w.key.now w.files.now w.file w.run.now w.ids.now };
 }
 
-impl<'a, K: Ord, V: Place> RowWalk<'a, K, V> {
+impl<'a, K: Ord, V: Rank> RowWalk<'a, K, V> {
     /// A walk over the rows that these files have under a key.
-    pub(crate) fn new(files: &'a Files<K, V>, ids: &'a [u32], key: &'a K) -> RowWalk<'a, K, V>
+    pub(crate) fn new(files: &'a FileRows<K, V>, ids: &'a [u32], key: &'a K) -> RowWalk<'a, K, V>
         ensures { result ≡ walked K.eq key.now files.now ids.now }
     {
         RowWalk {
@@ -42,7 +42,7 @@ impl<'a, K: Ord, V: Place> RowWalk<'a, K, V> {
     }
 }
 
-impl<'a, K: Ord, V: Place> Iterator for RowWalk<'a, K, V> {
+impl<'a, K: Ord, V: Rank> Iterator for RowWalk<'a, K, V> {
     type Item = (u32, &'a V);
 
     ghost next_gives = { YieldsFirstBy (λ item. (item.0, item.1.now)) (λ rest. rest) };

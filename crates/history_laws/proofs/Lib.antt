@@ -1,3 +1,4 @@
+mod Words
 pub mod PutLemmas
 pub mod ChangeLemmas
 pub mod RuleLemmas

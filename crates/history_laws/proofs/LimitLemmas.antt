@@ -1,20 +1,12 @@
 -- What accepted changes find, and how much a legal history makes.
-use Rattle.std.proofs.Common.{ℕ, ◌≡◌, ◌+◌, ◌^◌, ◌<◌, ◌≤◌, true, false, List, [], ◌∷◌, ◌++◌, length, refl, arith, Some, None}
-use Rattle.std.specs.Prelude.{Option, is_none}
-use Rattle.std.specs.List.{AllByRecursion}
-use Rattle.std.proofs.lemmas.Bool.{leb-false, eqb-true, not-false, both_ways}
-use Rattle.list_laws.proofs.RowLemmas.{live_is_made}
-use Rattle.write_history.specs.declared.change.Change.{Change}
-use Rattle.write_history.specs.declared.change.Change.TheVariants.{Intake}
-use Rattle.write_history.specs.declared.entry.Entry.{Entry}
-use Rattle.write_history.specs.World.{World, File, file_of, empty_world}
-use Rattle.write_history.specs.Changes.{files_made}
-use Rattle.write_history.specs.Effect.{Put, Reason, reasons, history_full, refusal_of, stamp_of, put_of, max_files, max_entries}
-use Rattle.write_history.specs.Fold.{list_refusal, effect_of, after_list, fold, IsLegal, IsLegalFrom}
-use Rattle.history_laws.proofs.PutLemmas.{NoneStands, accepted_reasons, IsAccepted, makes, ends, edits, next_id-after_put}
+use Rattle.history_laws.proofs.Words.{ℕ, ◌≡◌, ◌+◌, ◌^◌, ◌<◌, ◌≤◌, true, false, List, [], ◌∷◌, ◌++◌, length, arith, None, is_none, is_some, AllByRecursion}
+use Rattle.history_laws.proofs.Words.{leb-false, eqb-true, not-false, live_inside, Change, Intake, Entry, World, file_of, empty_world, files_made, Reason}
+use Rattle.history_laws.proofs.Words.{reasons, history_full, refusal_of, stamp_of, put_of, max_files, max_entries, list_refusal, after_list, fold, IsLegal}
+use Rattle.history_laws.proofs.Words.{IsLegalFrom}
+use Rattle.history_laws.proofs.PutLemmas.{NoneStands, accepted_reasons, placed}
 use Rattle.history_laws.proofs.ChangeLemmas.{is_accepted}
 use Rattle.history_laws.proofs.FoldLemmas.{list_accepted, along}
-use Rattle.history_laws.proofs.StampLemmas.{entries-effects_of}
+use Rattle.history_laws.proofs.StampLemmas.{counters-effects_of}
 
 none_last : (earlier : List Reason) (last : Reason) → NoneStands (earlier ++ last ∷ []) → last.stands ≡ false
 none_last [] last h = h.0
@@ -31,34 +23,17 @@ intake_finds world file stamp h =
     let none = accepted_reasons world (Intake file stamp) (list_accepted world (Intake file stamp) [] h).0 in
     (none.0, eqb-true stamp (stamp_of (file_of world file)) (not-false _ none.1.0))
 
--- there are as many files as there may be
-abbrev AreFew : World → Type 0
-AreFew world = length world.files ≤ max_files
-
-put_few : (world : World) (put : Put) (made : ℕ) → IsAccepted world put made → AreFew world → length world.files + made ≤ max_files
-put_few world put made (makes new one id file stamp indexed free) few = omega (arith, one.0, one.1)
-put_few world put made (ends old none found file) few = omega arith
-put_few world put made (edits old new none found file stamp path indexed) few = omega arith
-
-files_few : (entries : List Entry) → IsLegal entries → AreFew (fold entries)
-files_few entries legal = along AreFew one (λ world few. few) entries empty_world legal (omega arith)
-  where
-    one : (world : World) (change : Change) → refusal_of world change ≡ None → AreFew world → AreFew (effect_of world change)
-    one world change accepted few =
-        let put = put_of world change in
-        let a = is_accepted world change accepted in
-        let grown = next_id-after_put world put (files_made change) a in
-        let all = put_few world put (files_made change) a few in omega arith
+-- there are no more files than there may be
+files_few : (entries : List Entry) → IsLegal entries → length (fold entries).files ≤ max_files
+files_few entries legal = along (λ world. length world.files ≤ max_files) (λ world change accepted few.
+    let p = placed world (put_of world change) (files_made change) (is_accepted world change accepted) in omega (arith, p.2, p.3 few))
+    (λ world few. few) entries empty_world legal (omega arith)
 
 -- so the id of a live file is small
 pub live_small : (entries : List Entry) (id : ℕ) → IsLegal entries → is_none (file_of (fold entries) id) ≡ false → id < 2 ^ 64
-live_small entries id legal live = by (file_of (fold entries) id) refl live
-  where
-    by : (found : Option File) → file_of (fold entries) id ≡ found → is_none found ≡ false → id < 2 ^ 64
-    by None is h = absurd (both_ways true h refl)
-    by (Some file) is h =
-        let few = files_few entries legal in
-        let made = live_is_made (fold entries).files id file is in omega arith
+live_small entries id legal live =
+    let some : is_some (file_of (fold entries) id) ≡ true = grind (arith, live) in
+    omega (arith, files_few entries legal, (live_inside (fold entries).files id some).1)
 
 -- where each entry makes a change, there is room for each
 entries_few : (entries : List Entry) (world : World) → IsLegalFrom world entries → AllByRecursion (λ entry. 1 ≤ length entry.changes) entries
@@ -66,7 +41,7 @@ entries_few : (entries : List Entry) (world : World) → IsLegalFrom world entri
 entries_few [] world legal all few = omega arith
 entries_few (entry ∷ entries) world legal all few =
     let room = by entry.changes legal.0 all.0 in
-    let count = entries-effects_of entry.changes world in
+    let count = (counters-effects_of entry.changes world).0 in
     let rest = entries_few entries (after_list world entry.changes) legal.1 all.1 (omega arith) in omega arith
   where
     by : (changes : List Change) → list_refusal world changes ≡ None → 1 ≤ length changes → world.entries < max_entries

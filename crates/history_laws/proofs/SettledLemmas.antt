@@ -1,121 +1,73 @@
 -- What a settle leaves: no unready file, or a history that is full; and what it adds.
-use Rattle.std.proofs.Common.{ℕ, zero, suc, ◌≡◌, ◌<◌, ◌≤◌, List, [], ◌∷◌, ◌++◌, length, Option, Some, None, refl, sym, ap, ◌∙◌, subst, append_assoc, arith}
-use Rattle.std.specs.Prelude.{IsSome, option_map}
-use Rattle.std.specs.List.{AllByRecursion}
-use Rattle.std.proofs.lemmas.List.{append-nil}
-use Rattle.write_history.specs.declared.change.Change.TheVariants.{Intake}
-use Rattle.write_history.specs.declared.entry.Entry.{Entry}
-use Rattle.write_history.specs.declared.refusal.Refusal.{Refusal}
-use Rattle.write_history.specs.declared.refusal.Refusal.TheVariants.{HistoryFull}
-use Rattle.write_history.specs.World.{file_of, lowest_unready, unready_ids}
-use Rattle.write_history.specs.Effect.{max_entries, stamp_of}
-use Rattle.write_history.specs.Fold.{fold, list_refusal, ListRefusal, IsLegal}
-use Rattle.write_history.specs.Settle.{Settled, all_settled, refused_for, with_entry, entry_of, intake_of, intake_entry, settled_unless, settled_from, settled}
+use Rattle.history_laws.proofs.Words.{ℕ, ◌≡◌, ◌≤◌, List, [], ◌∷◌, ◌++◌, length, Option, Some, None, refl, ◌∙◌, append_assoc, arith, IsSome, AllByRecursion}
+use Rattle.history_laws.proofs.Words.{append-nil, Intake, Entry, Refusal, HistoryFull, file_of, lowest_unready, unready_ids, max_entries, stamp_of, fold}
+use Rattle.history_laws.proofs.Words.{list_refusal, ListRefusal, IsLegal, Settled, all_settled, refused_for, with_entry, entry_of, intake_of, intake_entry}
+use Rattle.history_laws.proofs.Words.{settled_unless, settled_from, settled}
 use Rattle.history_laws.proofs.FoldLemmas.{IsLegal-append}
 use Rattle.history_laws.proofs.StampLemmas.{entries-fold}
-use Rattle.history_laws.proofs.SettleLemmas.{settled-over, settled-ends, settled-goes_on, settled-fewer, intake-full, IsFullFor}
+use Rattle.history_laws.proofs.UnreadyLemmas.{lowest-first, lowest-none}
+use Rattle.history_laws.proofs.SettleLemmas.{ids_after, intake-full}
+
+-- what holds where a settle is over, where it is refused, and where it goes on, holds of every settle
+module _ (P : List Entry → List ℕ → Settled → Type 0) (seat line : ℕ)
+    (over : (history : List Entry) → P history [] all_settled)
+    (ends : (history : List Entry) (id : ℕ) (ids : List ℕ) (refusal : ListRefusal) → list_refusal (fold history) (intake_of (fold history) id) ≡ Some refusal
+    → P history (id ∷ ids) (refused_for refusal.why))
+    (goes_on : (history : List Entry) (id : ℕ) (ids : List ℕ) (rest : Settled) → list_refusal (fold history) (intake_of (fold history) id) ≡ None
+    → P (history ++ intake_entry history seat line id ∷ []) ids rest → P history (id ∷ ids) (with_entry (intake_entry history seat line id) rest)) where
+  each_settle : (history : List Entry) (ids : List ℕ) → P history ids (settled_from history seat line ids)
+  each_settle history [] = over history
+  each_settle history (id ∷ ids) = by (list_refusal (fold history) (intake_of (fold history) id)) _ refl (each_settle (history ++ intake_entry history seat line id ∷ []) ids)
+    where
+      by : (refusal : Option ListRefusal) (rest : Settled) → list_refusal (fold history) (intake_of (fold history) id) ≡ refusal
+          → P (history ++ intake_entry history seat line id ∷ []) ids rest → P history (id ∷ ids) (settled_unless refusal (intake_entry history seat line id) rest)
+      by None rest accepted later = goes_on history id ids rest accepted later
+      by (Some refusal) rest refused later = ends history id ids refusal refused
+
+-- ---- what it leaves
+
+-- a history that a settle left, and why the settle was refused
+pub record IsLeft (history : List Entry) (refused : Option Refusal) : Type 0 where
+  pub smart : refused ≡ None → lowest_unready (fold history) ≡ None
+  pub unready : (why : Refusal) → refused ≡ Some why → IsSome (lowest_unready (fold history))
+  pub full : (why : Refusal) → refused ≡ Some why → max_entries ≤ length history
+  pub reason : (why : Refusal) → refused ≡ Some why → why ≡ HistoryFull
 
 -- what a settle that began behind `history` and did so leaves
-pub record Leaves (history : List Entry) (done : Settled) : Type 0 where
-  pub smart : done.refused ≡ None → lowest_unready (fold (history ++ done.added)) ≡ None
-  pub unready : (why : Refusal) → done.refused ≡ Some why → IsSome (lowest_unready (fold (history ++ done.added)))
-  pub full : (why : Refusal) → done.refused ≡ Some why → max_entries ≤ length (history ++ done.added)
-  pub reason : (why : Refusal) → done.refused ≡ Some why → why ≡ HistoryFull
-
--- nothing was unready
-leaves_over : (history : List Entry) → lowest_unready (fold history) ≡ None → Leaves history all_settled
-leaves_over history lowest = record {
-  smart = λ _. ap (λ es. lowest_unready (fold es)) (append-nil history) ∙ lowest;
-  unready = λ why h. absurd cc;
-  full = λ why h. absurd cc;
-  reason = λ why h. absurd cc;
-}
-
--- the intake of the first unready file was refused, since the history is full
-leaves_refused : (history : List Entry) (id : ℕ) (why : Refusal) → lowest_unready (fold history) ≡ Some id → IsFullFor (fold history) why
-    → Leaves history (refused_for why)
-leaves_refused history id why lowest is = record {
-  smart = λ h. absurd cc;
-  unready = λ other h. subst IsSome (sym (ap (λ es. lowest_unready (fold es)) (append-nil history) ∙ lowest)) refl;
-  full = λ other h. subst (λ (n : ℕ). max_entries ≤ n) (entries-fold history ∙ sym (ap length (append-nil history))) is.full;
-  reason = λ other h. (let same : other ≡ why = cc in same) ∙ is.reason;
-}
-
--- an entry went in, and then others
-leaves_more : (history : List Entry) (entry : Entry) (rest : Settled) → Leaves (history ++ entry ∷ []) rest → Leaves history (with_entry entry rest)
-leaves_more history entry rest leaves =
-    let same : (history ++ entry ∷ []) ++ rest.added ≡ history ++ entry ∷ rest.added = append_assoc history (entry ∷ []) rest.added in
-    record {
-      smart = λ h. sym (ap (λ es. lowest_unready (fold es)) same) ∙ leaves.smart h;
-      unready = λ why h. subst (λ es. IsSome (lowest_unready (fold es))) same (leaves.unready why h);
-      full = λ why h. subst (λ (es : List Entry). max_entries ≤ length es) same (leaves.full why h);
-      reason = leaves.reason;
-    }
-
-module _ (seat line : ℕ) where
-  -- the first unready file is taken in, or refused
-  leaves_first : (history : List Entry) (id : ℕ) (refusal : Option ListRefusal) → lowest_unready (fold history) ≡ Some id
-      → list_refusal (fold history) (intake_of (fold history) id) ≡ refusal
-      → (let after : List Entry = history ++ intake_entry history seat line id ∷ [] in Leaves after (settled after seat line))
-      → Leaves history (settled history seat line)
-  leaves_first history id None lowest accepted later =
-      subst (Leaves history) (sym (settled-goes_on history seat line id lowest accepted))
-      (leaves_more history (intake_entry history seat line id) (settled (history ++ intake_entry history seat line id ∷ []) seat line) later)
-  leaves_first history id (Some refusal) lowest refused later =
-      subst (Leaves history) (sym (settled-ends history seat line id refusal.why lowest (ap (option_map (λ (r : ListRefusal). r.why)) refused)))
-      (leaves_refused history id refusal.why lowest (intake-full (fold history) id refusal lowest refused))
-
-  leaves_by : (fuel : ℕ) (history : List Entry) (lowest : Option ℕ) → lowest_unready (fold history) ≡ lowest
-      → length (unready_ids (fold history)) < fuel → Leaves history (settled history seat line)
-  leaves_by zero history lowest is few = absurd (omega arith)
-  leaves_by (suc fuel) history None is few = subst (Leaves history) (sym (settled-over history seat line is)) (leaves_over history is)
-  leaves_by (suc fuel) history (Some id) is few =
-      let after : List Entry = history ++ intake_entry history seat line id ∷ [] in
-      let fewer = settled-fewer history seat line id is in
-      leaves_first history id (list_refusal (fold history) (intake_of (fold history) id)) is refl
-      (leaves_by fuel after (lowest_unready (fold after)) refl (omega arith))
+abbrev pub Leaves : List Entry → Settled → Type 0
+Leaves history done = IsLeft (history ++ done.added) done.refused
 
 -- what any settle leaves
 pub settle_leaves : (history : List Entry) (seat line : ℕ) → Leaves history (settled history seat line)
-settle_leaves history seat line =
-    leaves_by seat line (suc (length (unready_ids (fold history)))) history (lowest_unready (fold history)) refl (omega arith)
+settle_leaves history seat line = each_settle (λ history ids done. unready_ids (fold history) ≡ ids → Leaves history done) seat line
+    (λ history is. rw append-nil (record { smart = λ _. lowest-none (fold history) is; unready = λ why h. absurd cc; full = λ why h. absurd cc; reason = λ why h. absurd cc }))
+    (λ history id ids refusal refused is.
+    let lowest = lowest-first (fold history) id ids is in
+    let full = intake-full (fold history) id refusal lowest refused in
+    rw append-nil (record {
+      smart = λ h. absurd cc;
+      unready = λ why h. rw lowest refl;
+      full = λ why h. omega (arith, full.1, entries-fold history);
+      reason = λ why h. (let same : why ≡ refusal.why = cc in same ∙ full.0);
+    }))
+    (λ history id ids rest accepted later is. rw append_assoc at (later (ids_after history seat line id ids is)))
+    history (unready_ids (fold history)) refl
 
 -- ---- the entries that it adds
 
 -- each takes one file in, for its line
 pub settled_takes : (P : Entry → Type 0) (seat line : ℕ) → ((id stamp : ℕ) → P (entry_of seat line (Intake id stamp ∷ [])))
     → (history : List Entry) (ids : List ℕ) → AllByRecursion P (settled_from history seat line ids).added
-settled_takes P seat line of_intake history [] = tt
-settled_takes P seat line of_intake history (id ∷ ids) =
-    by (list_refusal (fold history) (intake_of (fold history) id)) _ (settled_takes P seat line of_intake (history ++ intake_entry history seat line id ∷ []) ids)
-  where
-    by : (refusal : Option ListRefusal) (rest : Settled) → AllByRecursion P rest.added
-        → AllByRecursion P (settled_unless refusal (intake_entry history seat line id) rest).added
-    by None rest later = (of_intake id (stamp_of (file_of (fold history) id)), later)
-    by (Some refusal) rest later = tt
+settled_takes P seat line of_intake = each_settle (λ history ids done. AllByRecursion P done.added) seat line (λ history. tt) (λ history id ids refusal refused. tt)
+    (λ history id ids rest accepted later. (of_intake id (stamp_of (file_of (fold history) id)), later))
 
 -- there are no more than files
 pub settled_few : (seat line : ℕ) (history : List Entry) (ids : List ℕ) → length (settled_from history seat line ids).added ≤ length ids
-settled_few seat line history [] = omega arith
-settled_few seat line history (id ∷ ids) =
-    by (list_refusal (fold history) (intake_of (fold history) id)) _ (settled_few seat line (history ++ intake_entry history seat line id ∷ []) ids)
-  where
-    by : (refusal : Option ListRefusal) (rest : Settled) → length rest.added ≤ length ids
-        → length (settled_unless refusal (intake_entry history seat line id) rest).added ≤ length (id ∷ ids)
-    by None rest later = omega (arith, later)
-    by (Some refusal) rest later = omega arith
+settled_few seat line = each_settle (λ history ids done. length done.added ≤ length ids) seat line (λ history. omega arith) (λ history id ids refusal refused. omega arith)
+    (λ history id ids rest accepted later. omega (arith, later))
 
 -- and a legal history stays legal with them
 pub settled_legal : (seat line : ℕ) (history : List Entry) (ids : List ℕ) → IsLegal history → IsLegal (history ++ (settled_from history seat line ids).added)
-settled_legal seat line history [] legal = subst IsLegal (sym (append-nil history)) legal
-settled_legal seat line history (id ∷ ids) legal =
-    by (list_refusal (fold history) (intake_of (fold history) id)) _ refl (settled_legal seat line (history ++ entry ∷ []) ids)
-  where
-    entry : Entry
-    entry = intake_entry history seat line id
-
-    by : (refusal : Option ListRefusal) (rest : Settled) → list_refusal (fold history) entry.changes ≡ refusal
-        → (IsLegal (history ++ entry ∷ []) → IsLegal ((history ++ entry ∷ []) ++ rest.added))
-        → IsLegal (history ++ (settled_unless refusal entry rest).added)
-    by None rest accepted later = subst IsLegal (append_assoc history (entry ∷ []) rest.added) (later (IsLegal-append history entry legal accepted))
-    by (Some refusal) rest refused later = subst IsLegal (sym (append-nil history)) legal
+settled_legal seat line = each_settle (λ history ids done. IsLegal history → IsLegal (history ++ done.added)) seat line
+    (λ history legal. rw append-nil legal) (λ history id ids refusal refused legal. rw append-nil legal)
+    (λ history id ids rest accepted later legal. rw append_assoc at (later (IsLegal-append history (intake_entry history seat line id) legal accepted)))

@@ -15,7 +15,7 @@ ghost use Rattle.write_history.specs.declared.refusal.Refusal.TheVariants.{Histo
 ghost use Rattle.ide_text.specs.Text.{max_chars};
 ghost use Rattle.document_buf.specs.Document.{Document};
 ghost use Rattle.write_history.specs.Path.{is_path};
-ghost use Rattle.write_history.specs.Stamps.{IsAsStamped, KeepsOrRenews};
+ghost use Rattle.write_history.specs.Stamps.{IsAsStamped, KeepsOrDrawsStamp};
 
 /// A longer history goes on from the world of the shorter one. It is legal where the shorter one is and none of its
 /// further entries is refused where it stands.
@@ -121,11 +121,11 @@ pub fn stamps_are_below_the_next()
 /// given twice, those of deleted and overwritten states included.
 pub fn stamps_are_given_once()
     ensures drawn { (world : World) (change : Change) (id : ℕ) → refusal_of world change ≡ None
-        → KeepsOrRenews (λ stamp. stamp ≡ world.next_stamp) (file_of world id)
+        → KeepsOrDrawsStamp (λ stamp. stamp ≡ world.next_stamp) (file_of world id)
         (file_of (effect_of world change) id) }
     ensures later { (earlier : List Entry) (later : List Entry) (id : ℕ)
         → IsLegal (earlier ++ later)
-        → KeepsOrRenews (λ stamp. (fold earlier).next_stamp ≤ stamp) (file_of (fold earlier) id)
+        → KeepsOrDrawsStamp (λ stamp. (fold earlier).next_stamp ≤ stamp) (file_of (fold earlier) id)
         (file_of (fold (earlier ++ later)) id) }
 {}
 

@@ -7,7 +7,7 @@ use Rattle.std.specs.declared.alloc.AllocError.{AllocError}
 use Rattle.std.proofs.lemmas.List.{append-nil}
 use Rattle.std.proofs.lemmas.List.Elements.{All-nil, All-append, All-weaker, All-tail, All-same}
 use Rattle.std.proofs.lemmas.List.Concat.{flat_map-append}
-use Rattle.list_laws.specs.Fronts.{IsFront}
+use Rattle.list_laws.specs.Prefixes.{IsPrefix}
 use Rattle.write_history.specs.declared.entry.Entry.{Entry}
 use Rattle.write_history.specs.World.{World}
 use Rattle.write_history.specs.Fold.{fold, IsLegal}
@@ -60,7 +60,7 @@ rest_has P [] kept all = all
 rest_has P (t ∷ gone) kept all = rest_has P gone kept (All-tail P t (gone ++ kept) all)
 
 -- what stays of the world stays so as the history grows
-pub stays_later : (seen whole : List Entry) (tasks : List Task) → IsFront seen whole → All (StaysOfWorld seen) tasks → All (StaysOfWorld whole) tasks
+pub stays_later : (seen whole : List Entry) (tasks : List Task) → IsPrefix seen whole → All (StaysOfWorld seen) tasks → All (StaysOfWorld whole) tasks
 stays_later seen whole tasks front = All-weaker (StaysOfWorld seen) (StaysOfWorld whole) (λ task stays later legal.
     let same : whole ++ later ≡ seen ++ front.0 ++ later = ap (λ (l : List Entry). l ++ later) front.1 in
     subst (λ (l : List Entry). IsOfWorld (fold l) task) (sym (same ∙ append_assoc seen front.0 later))
@@ -81,7 +81,7 @@ ahead_stays law seen world old new is all goes =
 
 -- the same after a read that found the history `read` and has ended
 pub still_ahead : WorkStays → {V : Type 0} (seen read now : List Entry) (old new : List Task) (world : World) (result : Result V AllocError)
-    → IsFront seen read → now ≡ read → world ≡ fold read → All (StaysOfWorld seen) old → OnOk result (GoesOnAhead world old new)
+    → IsPrefix seen read → now ≡ read → world ≡ fold read → All (StaysOfWorld seen) old → OnOk result (GoesOnAhead world old new)
     → OnOk result (All (StaysOfWorld now) new)
 still_ahead law seen read now old new world (Err refused) front same is all goes = tt
 still_ahead law seen read now old new world (Ok value) front same is all goes =

@@ -1,6 +1,6 @@
 -- What was made in a part of a call is what the call made.
 use Rattle.std.proofs.Common.{◌≡◌, ℕ, List, [], ◌∷◌, Option, Some, ap, ◌∙◌, rules}
-use Rattle.list_laws.proofs.FrontLemmas.{front_self, front_trans}
+use Rattle.list_laws.proofs.PrefixLemmas.{front_self, front_trans}
 use Rattle.action_lock.specs.declared.view.View.{View}
 use Rattle.action_lock.specs.Advances.{Advances}
 use Rattle.action_lock.specs.Steps.{finished, released}

@@ -2,7 +2,7 @@
 use Rattle.std.proofs.Common.{rules, ◌≡◌, ℕ, List, [], ◌++◌, Some, sym, ap, ◌∙◌, subst, Option, Result, IfOk}
 use Rattle.std.specs.declared.alloc.AllocError.{AllocError}
 use Rattle.std.proofs.lemmas.Result.{IfOk-weaker}
-use Rattle.list_laws.specs.Fronts.{IsFront}
+use Rattle.list_laws.specs.Prefixes.{IsPrefix}
 use Rattle.action_lock.specs.declared.view.Phase.TheVariants as phase
 use Rattle.action_lock.specs.declared.view.View.{View}
 use Rattle.action_lock.specs.Advances.{Advances}
@@ -18,13 +18,13 @@ use Rattle.queries.specs.declared.query.Query.{Query}
 use Rattle.query_engine.specs.declared.answer.Finding.{Finding}
 use Rattle.query_engine.specs.Reply.{NoAnswer, reply, query_step}
 use Rattle.ide_world.specs.Task.{Task, task_with_id, IsOfWorld}
-use Rattle.ide_calls.specs.declared.first_look.FirstLook.{FirstLook}
+use Rattle.ide_calls.specs.declared.first_read.FirstRead.{FirstRead}
 use Rattle.ide_calls.specs.declared.replied.Replied.{Replied}
 use Rattle.ide_calls.specs.Choice.{IsChoice}
 use Rattle.ide_calls.specs.Made.{HasFound}
 use Rattle.ide_calls.specs.Reads.{HasReadOnce}
 use Rattle.ide_calls.specs.Replied.{IsRepliedIn, HasReplied}
-use Rattle.ide_calls.specs.Intake.{IsLook, HasLooked}
+use Rattle.ide_calls.specs.Intake.{IsFirstRead, HasReadFirst}
 use Rattle.ide_calls.proofs.MadeLemmas.{made_by_step, found_by_read}
 
 -- a read that has ended
@@ -61,9 +61,9 @@ replied_by seat v w query seen world result number read same is = IfOk-weaker re
 -- ---- a step's first read
 
 -- what a look found in the world of the history that was read
-pub looked_by : (seat : ℕ) (hint : Option ℕ) (v w : View Entry) (seen : List Entry) (world : World) (look : Result FirstLook AllocError) → HasReadOnce v w
-    → w.seen ≡ seen → world ≡ fold seen → IfOk look (IsLook world seat hint) → IfOk look (HasLooked seat hint v w)
-looked_by seat hint v w seen world look read same is = IfOk-weaker look (IsLook world seat hint) (HasLooked seat hint v w) (λ found so.
+pub looked_by : (seat : ℕ) (hint : Option ℕ) (v w : View Entry) (seen : List Entry) (world : World) (look : Result FirstRead AllocError) → HasReadOnce v w
+    → w.seen ≡ seen → world ≡ fold seen → IfOk look (IsFirstRead world seat hint) → IfOk look (HasReadFirst seat hint v w)
+looked_by seat hint v w seen world look read same is = IfOk-weaker look (IsFirstRead world seat hint) (HasReadFirst seat hint v w) (λ found so.
     let of_history : world ≡ fold w.seen = is ∙ ap fold (sym same) in
     record {
       read = read;
@@ -79,7 +79,7 @@ WorkStays = (earlier later : List Entry) (id : ℕ) (task : Task) → IsLegal (e
     → IsOfWorld (fold (earlier ++ later)) task
 
 -- work that was taken before a read is of the world that is read
-pub work_stays : WorkStays → (earlier seen : List Entry) (id : ℕ) (task : Task) (world : World) → IsFront earlier seen → IsLegal seen → world ≡ fold seen
+pub work_stays : WorkStays → (earlier seen : List Entry) (id : ℕ) (task : Task) (world : World) → IsPrefix earlier seen → IsLegal seen → world ≡ fold seen
     → task_with_id (fold earlier) id ≡ Some task → IsOfWorld world task
 work_stays law earlier seen id task world front legal is work =
     subst (λ (x : World). IsOfWorld x task) (sym (is ∙ ap fold front.1)) (law earlier front.0 id task (subst IsLegal front.1 legal) work)

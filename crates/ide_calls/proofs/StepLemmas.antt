@@ -19,16 +19,16 @@ use Rattle.write_history.specs.Settle.{entry_of}
 use Rattle.ide_calls.specs.declared.step.Stepped.{Stepped}
 use Rattle.ide_calls.specs.declared.step.Stepped.TheVariants.{Idle, Taken}
 use Rattle.ide_calls.specs.declared.judge.Judged.TheVariants.{Prepared}
-use Rattle.ide_calls.specs.declared.first_look.FirstLook.{FirstLook}
+use Rattle.ide_calls.specs.declared.first_read.FirstRead.{FirstRead}
 use Rattle.ide_calls.specs.Choice.{file_to_index, IsWork, IsChoice, task_of_job}
 use Rattle.ide_calls.specs.Step.{IsIdle, IsAnswer, HasTried, HasStepped}
 use Rattle.ide_calls.specs.Reads.{HasReadOnce}
-use Rattle.ide_calls.specs.Intake.{HasLooked, HasJudged, HasAnswered, IsAnsweredBy}
+use Rattle.ide_calls.specs.Intake.{HasReadFirst, HasJudged, HasAnswered, IsAnsweredBy}
 use Rattle.ide_calls.proofs.ChoiceLemmas.{has_task}
 use Rattle.ide_calls.proofs.MadeLemmas.{found_by_read, made_behind_read, made_later, made_within}
 
 -- where the first read found no unready file
-pub idle : (seat : ℕ) (hint : Option ℕ) (v w : View Entry) (look : FirstLook) → HasLooked seat hint v w look → look.job ≡ None → IsIdle v w look.at
+pub idle : (seat : ℕ) (hint : Option ℕ) (v w : View Entry) (look : FirstRead) → HasReadFirst seat hint v w look → look.job ≡ None → IsIdle v w look.at
 idle seat hint v w look looked none = record {
   found = found_by_read v w looked.read;
   whole = looked.whole;
@@ -108,8 +108,8 @@ chosen_work : (world : World) (seat : ℕ) (hint : Option ℕ) (choice : Option 
 chosen_work world seat hint choice job is chosen = subst (IsChoice world seat hint) is chosen
 
 -- a step that took a file up
-pub stepped : (seat : ℕ) (hint : Option ℕ) (look : FirstLook) (job : Job) (file stamp : ℕ) (v u w : View Entry) (answer : Result Stepped AllocError)
-    → v.number ≡ Some seat → HasLooked seat hint v u look → look.job ≡ Some job → Advances v w → file ≡ job.file → stamp ≡ job.stamp
+pub stepped : (seat : ℕ) (hint : Option ℕ) (look : FirstRead) (job : Job) (file stamp : ℕ) (v u w : View Entry) (answer : Result Stepped AllocError)
+    → v.number ≡ Some seat → HasReadFirst seat hint v u look → look.job ≡ Some job → Advances v w → file ≡ job.file → stamp ≡ job.stamp
     → IfOk answer (IsAnsweredBy file stamp u w) → IfOk answer (HasStepped hint v w)
 stepped seat hint look job file stamp v u w answer number looked is advances same_file same_stamp =
     IfOk-weaker answer (IsAnsweredBy file stamp u w) (HasStepped hint v w) (λ step by.

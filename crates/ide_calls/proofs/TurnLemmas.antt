@@ -2,8 +2,8 @@
 use Rattle.std.proofs.Common.{rules, ◌≡◌, ◌≤◌, ℕ, Bool, List, [], ◌∷◌, ◌++◌, length, refl, ap, ◌∙◌, subst, append_assoc, arith, Some, None, Option}
 use Rattle.std.specs.Prelude.{option_map, if◌then◌else◌}
 use Rattle.std.proofs.lemmas.Bool.{le-leb}
-use Rattle.list_laws.specs.Fronts.{IsFront}
-use Rattle.list_laws.proofs.FrontLemmas.{front_self, front_nil}
+use Rattle.list_laws.specs.Prefixes.{IsPrefix}
+use Rattle.list_laws.proofs.PrefixLemmas.{front_self, front_nil}
 use Rattle.action_lock.specs.declared.view.View.{View}
 use Rattle.lock_laws.proofs.AdvanceLemmas.{advances_on}
 use Rattle.history_laws.proofs.SettleLemmas.{settled-over, settled-ends, settled-goes_on, intake_refusal}
@@ -112,7 +112,7 @@ module _ (seat line : ℕ) (v w : View Entry) (turn : HasTaken seat line v w) wh
   pub part_on : (x : View Entry) → HasGonePartly seat line w x → HasGonePartly seat line v x
   part_on x rest =
       let here : rest.before ≡ turn.between.seen ++ taken ∷ [] = let still = rest.still turn.current in let after = turn.after in cc in
-      let part = subst (λ (b : List Entry). IsFront rest.own (settled b seat line).added) here rest.part in
+      let part = subst (λ (b : List Entry). IsPrefix rest.own (settled b seat line).added) here rest.part in
       record {
         before = turn.between.seen;
         own = taken ∷ rest.own;

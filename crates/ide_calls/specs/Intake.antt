@@ -14,18 +14,18 @@ use Rattle.ide_calls.specs.declared.step.Stepped.{Stepped}
 use Rattle.ide_world.specs.declared.step.Step.{Step}
 use Rattle.ide_calls.specs.declared.judge.Judged.{Judged}
 use Rattle.ide_calls.specs.declared.judge.Judged.TheVariants.{Gone, Stale, Full, Prepared}
-use Rattle.ide_calls.specs.declared.first_look.FirstLook.{FirstLook}
+use Rattle.ide_calls.specs.declared.first_read.FirstRead.{FirstRead}
 use Rattle.ide_calls.specs.Choice.{IsChoice}
 use Rattle.ide_calls.specs.Step.{IsLiveAt, IsAnswer}
 use Rattle.ide_calls.specs.Reads.{HasReadOnce}
 
 -- how many entries led to a world, and the job of the file that is to be indexed in it
-pub record IsLook (world : World) (seat : ℕ) (hint : Option ℕ) (look : FirstLook) : Type 0 where
+pub record IsFirstRead (world : World) (seat : ℕ) (hint : Option ℕ) (look : FirstRead) : Type 0 where
   pub whole : look.at ≡ world.entries
   pub choice : IsChoice world seat hint look.job
 
 -- the first read of a step of the pass with this number
-pub record HasLooked (seat : ℕ) (hint : Option ℕ) (v w : View Entry) (look : FirstLook) : Type 0 where
+pub record HasReadFirst (seat : ℕ) (hint : Option ℕ) (v w : View Entry) (look : FirstRead) : Type 0 where
   pub read : HasReadOnce v w
   pub whole : look.at ≡ length w.seen
   pub choice : IsChoice (fold w.seen) seat hint look.job

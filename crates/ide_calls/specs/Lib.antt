@@ -18,7 +18,7 @@ pub mod Intake
 pub mod Turn
 pub mod Ahead
 -- What these cite from below: prefixes, passes, replies, the world and its changes
-pub use Rattle.list_laws.specs.Fronts
+pub use Rattle.list_laws.specs.Prefixes
 pub use Rattle.action_lock.specs.Counts
 pub use Rattle.action_lock.specs.Advances
 pub use Rattle.action_lock.specs.Passes

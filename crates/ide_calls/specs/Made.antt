@@ -1,6 +1,6 @@
 -- What a call of the IDE leaves of a pass's view.
 use Rattle.std.specs.Prelude.{ℕ, ◌≡◌, List, [], ◌∷◌, ◌++◌, length, Some}
-use Rattle.list_laws.specs.Fronts.{IsFront}
+use Rattle.list_laws.specs.Prefixes.{IsPrefix}
 use Rattle.action_lock.specs.declared.home.Home.{Ghosts}
 use Rattle.action_lock.specs.declared.view.View.{View}
 use Rattle.action_lock.specs.declared.pass.Pass.{Pass}
@@ -23,13 +23,13 @@ pub record Continues {g : Ghosts IdeHome Entry IdeShare} (lock : ActionLock IdeH
 pub record HasReadOf (v w : View Entry) (before : List Entry) : Type 0 where
   pub earlier : List ℕ
   pub later : List ℕ
-  pub gained : IsFront v.reads earlier
+  pub gained : IsPrefix v.reads earlier
   pub reads : w.reads ≡ earlier ++ length before ∷ later
 
 -- a read of this call found the history `before`, which begins with all that was seen, and the call made the entries `own` right behind it
 pub record HasMade (v w : View Entry) (before own : List Entry) : Type 0 where
   pub advances : Advances v w
-  pub known : IsFront v.seen before
+  pub known : IsPrefix v.seen before
   pub seen : w.seen ≡ before ++ own
   pub mine : w.mine ≡ v.mine ++ own
   pub legal : IsLegal w.seen
@@ -40,7 +40,7 @@ pub record HasMade (v w : View Entry) (before own : List Entry) : Type 0 where
 pub record IsAnswered {A : Type 0} (step : List Entry → ℕ → SerialStep A) (v w : View Entry) (answer : A) : Type 0 where
   pub start : List Entry
   pub own : List Entry
-  pub known : IsFront v.seen start
+  pub known : IsPrefix v.seen start
   pub seen : w.seen ≡ start ++ own
   pub mine : w.mine ≡ v.mine ++ own
   pub is : (seat : ℕ) → v.number ≡ Some seat → step start seat ≡ record { added = own; answer = answer }

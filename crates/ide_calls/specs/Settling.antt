@@ -1,6 +1,6 @@
 -- What a settle does.
 use Rattle.std.specs.Prelude.{ℕ, ◌≡◌, List, ◌++◌, Some, None, IsSome}
-use Rattle.list_laws.specs.Fronts.{IsFront}
+use Rattle.list_laws.specs.Prefixes.{IsPrefix}
 use Rattle.action_lock.specs.declared.view.View.{View}
 use Rattle.write_history.specs.declared.entry.Entry.{Entry}
 use Rattle.write_history.specs.declared.refusal.Refusal.TheVariants as why
@@ -30,10 +30,10 @@ pub record HasKept (line : ℕ) (v w : View Entry) : Type 0 where
   pub number : v.number ≡ Some seat
   pub before : List Entry
   pub own : List Entry
-  pub known : IsFront v.seen before
+  pub known : IsPrefix v.seen before
   pub seen : w.seen ≡ before ++ own
   pub mine : w.mine ≡ v.mine ++ own
-  pub part : IsFront own (settled before seat line).added
+  pub part : IsPrefix own (settled before seat line).added
 
 -- what a settle that doesn't go through leaves of the view, by its answer
 abbrev pub HasStopped : ℕ → View Entry → View Entry → SettleRefusal → Type 0

@@ -1,6 +1,6 @@
 -- What a step of indexing answers.
 use Rattle.std.specs.Prelude.{ℕ, ◌≡◌, ◌≢◌, ◌+◌, List, [], ◌∷◌, ◌++◌, length, Option, Some, None, true}
-use Rattle.list_laws.specs.Fronts.{IsFront}
+use Rattle.list_laws.specs.Prefixes.{IsPrefix}
 use Rattle.action_lock.specs.declared.view.View.{View}
 use Rattle.write_history.specs.declared.change.Change.TheVariants.{Intake}
 use Rattle.write_history.specs.declared.entry.Entry.{Entry}
@@ -47,8 +47,8 @@ pub record HasTried (hint : Option ℕ) (v w : View Entry) (step : Stepped) : Ty
   pub first : List Entry
   pub last : List Entry
   pub own : List Entry
-  pub known : IsFront v.seen first
-  pub longer : IsFront first last
+  pub known : IsPrefix v.seen first
+  pub longer : IsPrefix first last
   pub reads : w.reads ≡ v.reads ++ length first ∷ length last ∷ []
   pub chosen : file_to_index (fold first) seat hint ≡ Some file
   pub unready : is_unready (file_of (fold first) file) ≡ true

@@ -1,6 +1,6 @@
 -- One turn of a settle, and what a settle that goes on from a turn leads to.
 use Rattle.std.specs.Prelude.{ℕ, ◌≡◌, List, [], ◌∷◌, ◌++◌, length, Option, Some, None, true}
-use Rattle.list_laws.specs.Fronts.{IsFront}
+use Rattle.list_laws.specs.Prefixes.{IsPrefix}
 use Rattle.action_lock.specs.declared.view.View.{View}
 use Rattle.action_lock.specs.Advances.{Advances}
 use Rattle.action_lock.specs.Steps.{finished}
@@ -99,10 +99,10 @@ pub record HasGonePartly (seat line : ℕ) (v w : View Entry) : Type 0 where
   pub before : List Entry
   pub own : List Entry
   pub still : v.current ≡ true → before ≡ v.seen
-  pub known : IsFront v.seen before
+  pub known : IsPrefix v.seen before
   pub seen : w.seen ≡ before ++ own
   pub mine : w.mine ≡ v.mine ++ own
-  pub part : IsFront own (settled before seat line).added
+  pub part : IsPrefix own (settled before seat line).added
 
 -- a settle under the intent went through
 pub record GoesThrough (seat line : ℕ) (v w : View Entry) (len : ℕ) : Type 0 where

@@ -10,7 +10,7 @@ mod change_refusal;
 mod changing;
 mod choice;
 mod entries;
-mod first_look;
+mod first_read;
 mod group_refusal;
 mod home;
 mod intake;

@@ -5,7 +5,7 @@ ghost use Rattle.ide_calls.specs.Made.{Continues};
 ghost use Rattle.ide_calls.specs.Step.{HasStepped};
 
 use crate::IdeHome;
-use crate::first_look::{FirstLook, first_look};
+use crate::first_read::{FirstRead, first_read};
 use crate::intake::take_in;
 use crate::step::Stepped;
 use crate::stored::make_stored;
@@ -33,7 +33,7 @@ pub fn index_step<R: Wait, G: Gate>(
     ensures err { OnErr result ((view_of pass.new).mine ≡ (view_of pass.old).mine) }
 {
     let seat = pass.number();
-    let FirstLook { at, job } = first_look(rt, alloc, lock, pass, seat, hint, gate)?;
+    let FirstRead { at, job } = first_read(rt, alloc, lock, pass, seat, hint, gate)?;
     let Some(job) = job else {
         return Ok(Stepped::Idle { at });
     };

@@ -19,7 +19,7 @@ use Rattle.transcripts.specs.Play.{IsTranscript}
 use Rattle.ide_script.specs.Outside.{SourceRun, TreeRun, SinkRun}
 use Rattle.ide_script.specs.declared.status.Status.{Status}
 use Rattle.ide_script.specs.declared.status.Status.TheVariants.{Done, Usage, SourceFault, TreeFault, SinkFault, OutOfMemory, Rejected}
-use Rattle.ide_script.specs.Status.{number_of, fault_line}
+use Rattle.ide_script.specs.Status.{exit_code, fault_line}
 use Rattle.ide_script.specs.Writing.{ScriptEnds, Writes, WritesPrefix}
 use Rattle.ide_script.specs.Index.{IndexEnds}
 use Rattle.ide_script.specs.Check.{CheckEnds}
@@ -90,7 +90,7 @@ TellsStatus {E} {e} error status =
 pub record EndsWith {S T K E : Type 0} {s : Source.Ghosts S} {t : Tree.Ghosts T} {k : Sink.Ghosts K} {e : Sink.Ghosts E}
     (source : SourceRun s) (tree : TreeRun t) (sink : SinkRun k) (error : SinkRun e) (words : List (List ℕ)) (number : ℕ) : Type 0 where
   pub status : Status
-  pub numbered : number ≡ number_of status
+  pub numbered : number ≡ exit_code status
   pub line : TellsStatus error status
   pub run : RunEnds source tree sink (request_of words) status
   pub unread : AsksNothing (request_of words) → (source.new ≡ source.old) × (tree.new ≡ tree.old)
@@ -102,7 +102,7 @@ pub record EndsWith {S T K E : Type 0} {s : Source.Ghosts S} {t : Tree.Ghosts T}
 -- how the process ends where the system gave no words: with the number of this status, whose line was written, and nothing was read, asked for or written
 pub record EndsUnread {S T K E : Type 0} {s : Source.Ghosts S} {t : Tree.Ghosts T} {k : Sink.Ghosts K} {e : Sink.Ghosts E}
     (source : SourceRun s) (tree : TreeRun t) (sink : SinkRun k) (error : SinkRun e) (status : Status) (number : ℕ) : Type 0 where
-  pub numbered : number ≡ number_of status
+  pub numbered : number ≡ exit_code status
   pub line : TellsStatus error status
   pub unread : (source.new ≡ source.old) × (tree.new ≡ tree.old)
   pub silent : sink.new ≡ sink.old

@@ -5,16 +5,16 @@ use Rattle.ide_script.specs.declared.status.Status.{Status}
 use Rattle.ide_script.specs.declared.status.Status.TheVariants.{Done, Usage, BadScript, SourceFault, TreeFault, SinkFault, OutOfMemory, ScriptTooLong, Rejected}
 
 -- the status of the process
-abbrev pub number_of : Status → ℕ
-number_of Done = 0
-number_of Usage = 1
-number_of (BadScript line) = 2
-number_of SourceFault = 3
-number_of TreeFault = 4
-number_of SinkFault = 5
-number_of OutOfMemory = 6
-number_of ScriptTooLong = 7
-number_of Rejected = 8
+abbrev pub exit_code : Status → ℕ
+exit_code Done = 0
+exit_code Usage = 1
+exit_code (BadScript line) = 2
+exit_code SourceFault = 3
+exit_code TreeFault = 4
+exit_code SinkFault = 5
+exit_code OutOfMemory = 6
+exit_code ScriptTooLong = 7
+exit_code Rejected = 8
 
 -- the line on standard error; a run that is done writes none
 abbrev pub fault_line : Status → List ℕ

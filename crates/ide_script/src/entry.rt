@@ -6,7 +6,7 @@ ghost use Rattle.command_line.specs.Request.{request_of};
 ghost use Rattle.ide_io.specs.Fault.{HasFault};
 ghost use Rattle.ide_io.specs.Known.{TakesAtMost};
 ghost use Rattle.script_lang.specs.Lines.{max_bytes};
-ghost use Rattle.ide_script.specs.Status.{number_of, fault_line};
+ghost use Rattle.ide_script.specs.Status.{exit_code, fault_line};
 ghost use Rattle.ide_script.specs.Outside.{read, asked, written};
 ghost use Rattle.ide_script.specs.Run.{AsksNothing, EndsUnread, EndsWith, RunEnds, TellsEndOnce, TellsStatus, given_words};
 
@@ -32,7 +32,7 @@ pub fn run_main<R: Threads + Wait + Sync, S: Source, T: Tree, K: Sink, E: Sink>(
     ensures ends { EndsWith (read S.Source script.old script.new) (asked T.Tree tree.old tree.new)
         (written K.Sink out.old out.new) (written E.Sink error.old error.new)
         (given_words (map string_bytes words.items)) result }
-    ensures within { result ≢ number_of Status.ScriptTooLong
+    ensures within { result ≢ exit_code Status.ScriptTooLong
         → TakesAtMost max_bytes (S.left script.old) (S.left script.new) }
     ensures end_once { TellsEndOnce (S.ends script.old) (S.ends script.new) }
     ensures files { T.files tree.new ≡ T.files tree.old }
@@ -113,7 +113,7 @@ fn with_name(alloc: Global, given: Vec<String>) -> Result<Vec<String>, AllocErro
 
 /// Writes the line of a status to `error`, and gives the number of the status.
 pub fn finish<E: Sink>(status: Status, error: &mut E) -> u8
-    ensures number { result ≡ number_of status }
+    ensures number { result ≡ exit_code status }
     ensures line { TellsStatus (written E.Sink error.old error.new) status }
 {
     let _ = write_line(status, error);

@@ -1,6 +1,6 @@
 //! How a run of the program ends.
 ghost use Rattle.std.specs.Prelude.{◌≡◌};
-ghost use Rattle.ide_script.specs.Status.{number_of};
+ghost use Rattle.ide_script.specs.Status.{exit_code};
 
 /// How a run of the program ends. `main` ends with its number.
 #[derive(Clone, Copy, Debug, PartialEq, Eq)]
@@ -28,7 +28,7 @@ pub enum Status {
 impl Status {
     /// The status with which the process ends.
     pub fn number(self) -> u8
-        ensures { result ≡ number_of self }
+        ensures { result ≡ exit_code self }
     {
         match self {
             Status::Done => 0,

@@ -1,13 +1,12 @@
 -- A step that edits the live file at a path: what it does, and when it is lawful.
-use Rattle.std.proofs.Common.{ℕ, ◌≡◌, ◌+◌, ◌<◌, true, List, ap, sym, ◌∙◌, subst, arith, Some, None}
-use Rattle.std.specs.Prelude.{Option, IfSome, unwrap_or}
-use Rattle.std.specs.Option.{option_and_then}
+use Rattle.std.proofs.Common.{ℕ, ◌≡◌, ◌+◌, true, List, ap, sym, arith, Some, None}
+use Rattle.std.specs.Prelude.{Option, IfSome}
 use Rattle.std.proofs.lemmas.Option.{IfSome_then, same_Some}
 use Rattle.vfs_core.specs.declared.row.FileRow.{FileRow}
 use Rattle.document_buf.specs.Document.{Document}
 use Rattle.write_history.specs.declared.change.Change.{Change}
 use Rattle.write_history.specs.World.{World, File, file_of, id_at}
-use Rattle.write_history.specs.Effect.{Put, put_of, edit_at}
+use Rattle.write_history.specs.Effect.{put_of, edit_at}
 use Rattle.write_history.specs.Fold.{after_put}
 use Rattle.list_laws.proofs.RowLemmas.{live_is_made}
 use Rattle.ide_world.specs.declared.step.Step.{Step}
@@ -48,20 +47,19 @@ pub makes : (w : World) (path : List ℕ) (row : FileRow) (doc : Option Document
     → Builds w change step
 makes w path row doc step h change is lawful =
     let made = live_is_made w.files step.id (file_with doc row) h.live in
-    let back = sym h.live in
-    let put : put_of w change ≡ put_by w step = is ∙ (λ i. record { id = step.id; file = stepped step (back i); drawn = drawn_by step }) in
+    let put : put_of w change ≡ put_by w step = rw h.live is in
     record {
       effect = ap (after_put w) (sym put);
-      same_id = ap (λ (p : Put). p.id) (sym put);
+      same_id = cc;
       lawful = record {
         some = made.0;
         within = omega (arith, made.1);
         made = λ e. absurd (omega (arith, made.1, e));
         path = lawful.free;
-        doc = subst (λ o. IsDocEditFit step.doc (document_part o)) back lawful.fit;
-        whole = subst (λ o. edited_row step.row (row_part o) ≡ None → edited_document step.doc (document_part o) ≡ None) back lawful.whole;
-        sound = subst (λ o. IsSoundFile (w.next_stamp + drawn_by step) (stepped step o)) back lawful.sound;
-        index = subst (λ o. (held : Indexed) → HoldsIndex o held → HoldsIndex (stepped step o) (edited_index step.index held)) back lawful.index;
+        doc = rw h.live lawful.fit;
+        whole = rw h.live lawful.whole;
+        sound = rw h.live lawful.sound;
+        index = rw h.live lawful.index;
       };
     }
 
@@ -70,12 +68,8 @@ pub builds : (w : World) (path : List ℕ) (row : FileRow) (doc : Option Documen
     → (change : Change) (edit : File → Option File)
     → put_of w change ≡ edit_at w path (drawn_by step) edit → edit (file_with doc row) ≡ stepped step (Some (file_with doc row)) → IsLawfulEdit w row doc step
     → Builds w change step
-builds w path row doc step h change edit put same lawful = makes w path row doc step h change
-    (put
-    ∙ (λ i. record { id = unwrap_or (h.at_path i) 0; file = option_and_then edit (option_and_then (file_of w) (h.at_path i)); drawn = drawn_by step })
-    ∙ (λ i. record { id = step.id; file = option_and_then edit (h.live i); drawn = drawn_by step })
-    ∙ (λ i. record { id = step.id; file = same i; drawn = drawn_by step }))
-    lawful
+builds w path row doc step h change edit put same lawful =
+    makes w path row doc step h change (rw (h.at_path, h.live, same) at put) lawful
 
 module _ (w : World) (path : List ℕ) (id : ℕ) (row : FileRow) (doc : Option Document) (sound : AreSoundFiles w) (h : IsFileAt w path id row doc) where
   -- a path that is kept stays free
@@ -84,7 +78,7 @@ module _ (w : World) (path : List ℕ) (id : ℕ) (row : FileRow) (doc : Option 
 
   -- the file is sound
   pub sound_at : IsSoundLive w.next_stamp (file_with doc row)
-  sound_at = subst (IsSoundFile w.next_stamp) h.live (sound.sound id)
+  sound_at = rw h.live at (sound.sound id)
 
   -- so it is with another document
   pub sound_shown : (other : Option Document) → IfSome other (λ d. d.saved ≡ true → d.text ≡ row.content) → IsSoundLive (w.next_stamp + 0) (file_with other row)
@@ -104,4 +98,4 @@ module _ (w : World) (path : List ℕ) (id : ℕ) (row : FileRow) (doc : Option 
   }
 
   pub not_yet : row.indexed ≡ Some w.next_stamp → ⊥
-  not_yet e = let below : w.next_stamp < w.next_stamp = subst (λ o. IfSome o (λ s. s < w.next_stamp)) e sound_at.indexed in omega arith
+  not_yet e = let below = rw e at sound_at.indexed in omega arith

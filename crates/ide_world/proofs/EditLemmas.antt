@@ -1,12 +1,11 @@
 -- What edits of a document make of what readers see of it.
-use Rattle.std.proofs.Common.{ℕ, ◌≡◌, ◌+◌, ◌-◌, ◌≤◌, true, false, List, ◌++◌, length, take, drop, refl, ap, sym, arith, Some, None, length-append, length-drop}
+use Rattle.std.proofs.Common.{ℕ, ◌≡◌, ◌+◌, ◌-◌, ◌≤◌, true, List, length, refl, ap, sym, arith, Some, None, length-append, length-drop}
 use Rattle.std.proofs.lemmas.List.{length-take-le}
 use Rattle.std.specs.Prelude.{Option, option_map, is_some}
 use Rattle.document_buf.specs.Document.{Document, with_piece, without_part}
 use Rattle.ide_world.specs.declared.step.DocEdit.{DocEdit}
 use Rattle.ide_world.specs.declared.step.DocEdit.TheVariants.{Keep, Insert, Erase, Commit, MarkSaved}
 use Rattle.ide_world.specs.DocEdits.{edited_document, IsDocEditFit}
-use Rattle.ide_world.specs.declared.summary.Summary.{Summary}
 use Rattle.ide_world.specs.Walk.{summary_of, edited_summary, edited_committed, edited_text, IsTextEditFit, keeps_texts, is_open_after}
 
 abbrev pub text_of_document : Option Document → Option (List ℕ)
@@ -16,31 +15,24 @@ abbrev pub committed_of : Option Document → Option (List ℕ)
 committed_of document = option_map (λ d. d.committed) document
 
 length-with_piece : (at : ℕ) (piece text : List ℕ) → at ≤ length text → length (with_piece at piece text) ≡ length text + length piece
-length-with_piece at piece text inside =
-    let a = length-append (take at text ++ piece) (drop at text) in
-    let b = length-append (take at text) piece in
-    let c = length-take-le at text inside in
-    let d = length-drop at text in
-    omega arith
+length-with_piece at piece text inside = simp (length-append, length-take-le at text inside, length-drop) (omega arith)
 
 length-without_part : (from to : ℕ) (text : List ℕ) → from ≤ to → to ≤ length text → length (without_part from to text) ≡ length text - (to - from)
 length-without_part from to text ordered inside =
-    let a = length-append (take from text) (drop to text) in
-    let c = length-take-le from text (omega arith) in
-    let d = length-drop to text in
-    omega arith
+    let first : from ≤ length text = omega arith in
+    simp (length-append, length-take-le from text first, length-drop) (omega arith)
 
-abbrev summary_with : ℕ → Option Summary
-summary_with n = Some (record { len = n; saved = false })
-
-pub summary-edited : (edit : DocEdit) (d : Option Document) → IsDocEditFit edit d → option_map summary_of (edited_document edit d) ≡ edited_summary edit (option_map summary_of d)
-summary-edited (Insert at text) (Some d) fit = ap (λ n. summary_with n) (length-with_piece at text d.text fit.inside)
-summary-edited (Erase from to) (Some d) fit = ap (λ n. summary_with n) (length-without_part from to d.text fit.ordered fit.inside)
+-- what readers see of the document after an edit is made of what they saw before it
+pub summary-edited : (edit : DocEdit) (d : Option Document) → IsDocEditFit edit d
+    → option_map summary_of (edited_document edit d) ≡ edited_summary edit (option_map summary_of d)
+summary-edited (Insert at text) (Some d) fit = rw (length-with_piece at text d.text fit.inside)
+summary-edited (Erase from to) (Some d) fit = rw (length-without_part from to d.text fit.ordered fit.inside)
 summary-edited Keep d fit = refl
 summary-edited edit None fit = refl
 summary-edited edit (Some d) fit = refl
 
-pub committed-edited : (edit : DocEdit) (d : Option Document) → IsDocEditFit edit d → committed_of (edited_document edit d) ≡ edited_committed edit (committed_of d)
+pub committed-edited : (edit : DocEdit) (d : Option Document) → IsDocEditFit edit d
+    → committed_of (edited_document edit d) ≡ edited_committed edit (committed_of d)
 committed-edited (Commit text) (Some d) fit = ap Some (sym fit)
 committed-edited Keep d fit = refl
 committed-edited edit None fit = refl

@@ -1,11 +1,13 @@
 -- The id at a path, and what a step makes of it.
-use Rattle.std.proofs.Common.{ℕ, ◌≡◌, Bool, false, List, refl, ap, sym, ◌∙◌, Some, None, arith}
-use Rattle.std.specs.Prelude.{Option, is_some, if◌then◌else◌, ◌==◌, bytes_eq}
+use Rattle.std.proofs.Common.{ℕ, ◌≡◌, Bool, true, false, List, refl, ap, sym, ◌∙◌, Some, None, arith}
+use Rattle.std.specs.Prelude.{Option, if◌then◌else◌, ◌==◌, bytes_eq}
 use Rattle.std.specs.Option.{option_map_or}
 use Rattle.std.specs.Cmp.Lexicographic.{bytes_decides}
-use Rattle.std.proofs.lemmas.Bool.{eqb-true, eq-eqb, ne_eqb, false≢true}
+use Rattle.std.proofs.lemmas.Bool.{eq-eqb}
+use Rattle.std.proofs.lemmas.Bool.Decides.{nat_tests}
 use Rattle.std.proofs.lemmas.Option.{none-some}
 use Rattle.list_laws.proofs.BoolLemmas.{bool_cases}
+use Rattle.vfs_core.specs.declared.row.FileRow.{FileRow}
 use Rattle.vfs_core.specs.Row as rows
 use Rattle.write_history.specs.World.{World, File, file_of, id_at, has_path}
 use Rattle.history_laws.proofs.PutLemmas.{live_with_path, none_at_free}
@@ -15,7 +17,7 @@ use Rattle.ide_world.specs.declared.step.RowEdit.{RowEdit}
 use Rattle.ide_world.specs.declared.step.RowEdit.TheVariants.{Keep, Put, Remove}
 use Rattle.ide_world.specs.RowEdits.{edited_row}
 use Rattle.ide_world.specs.DocEdits.{edited_document}
-use Rattle.ide_world.specs.Step.{file_with, joined, row_part, document_part, after_step}
+use Rattle.ide_world.specs.Step.{file_with, stepped, row_part, document_part, after_step}
 use Rattle.ide_world.specs.Sound.{AreSoundFiles}
 use Rattle.ide_world.specs.Lawful.{IsLawfulStep}
 use Rattle.ide_world.specs.Walk.{other_than, moved_id, id_after}
@@ -35,20 +37,20 @@ is_at w path sound = by (id_at w path) refl
   where
     by : (found : Option ℕ) → id_at w path ≡ found → IsIdAt w path found
     by None e id = bool_cases (has_path path (file_of w id)) (λ b. b ≡ false)
-        (λ t. let live = live_with_path path (file_of w id) t in absurd (none_at_free w path id live.0 (ap is_some e) live.1 live.2))
+        (λ t. let live = live_with_path path (file_of w id) t in absurd (none_at_free w path id live.0 (rw e) live.1 live.2))
         (λ f. refl)
     by (Some k) e id =
         let first = live-id_at w path k e in
+        let has : has_path path (file_of w k) ≡ true = rw first.1 ((bytes_decides first.0.path path).1 first.2) in
         bool_cases (has_path path (file_of w id)) (λ b. b ≡ (k == id))
         (λ t. let live = live_with_path path (file_of w id) t in sym (eq-eqb k id (sound.apart k id first.0 live.0 first.1 live.1 (first.2 ∙ sym live.2))))
-        (λ f. sym (ne_eqb k id (λ same. false≢true (sym f ∙ ap (λ i. has_path path (file_of w i)) (sym same)
-        ∙ ap (has_path path) first.1 ∙ (bytes_decides first.0.path path).1 first.2))))
+        (λ f. grind (arith, nat_tests))
 
 same_found : (a b : Option ℕ) → ((id : ℕ) → is_id id a ≡ is_id id b) → a ≡ b
 same_found None None h = refl
-same_found None (Some k) h = absurd (false≢true (h k ∙ eq-eqb k k refl))
-same_found (Some k) None h = absurd (false≢true (sym (h k) ∙ eq-eqb k k refl))
-same_found (Some k) (Some n) h = ap Some (sym (eqb-true n k (sym (h k) ∙ eq-eqb k k refl)))
+same_found None (Some k) h = grind (arith, nat_tests, h k)
+same_found (Some k) None h = grind (arith, nat_tests, h k)
+same_found (Some k) (Some n) h = grind (arith, nat_tests, h k)
 
 id_at-is : (w : World) (path : List ℕ) (found : Option ℕ) → AreSoundFiles w → IsIdAt w path found → id_at w path ≡ found
 id_at-is w path found sound h = same_found (id_at w path) found (λ id. sym (is_at w path sound id) ∙ h id)
@@ -63,25 +65,25 @@ has_path-row : (path : List ℕ) (file : Option File) → rows.has_path path (ro
 has_path-row path None = refl
 has_path-row path (Some file) = refl
 
-pub id_at-after_step : (path : List ℕ) (w : World) (s : Step) → AreSoundFiles w → IsLawfulStep w s → id_at (after_step w s) path ≡ id_after path (id_at w path) s
+pub id_at-after_step : (path : List ℕ) (w : World) (s : Step) → AreSoundFiles w → IsLawfulStep w s
+    → id_at (after_step w s) path ≡ id_after path (id_at w path) s
 id_at-after_step path w s sound l = by s.row refl
   where
     after : AreSoundFiles (after_step w s)
     after = sound_after_step w s sound l
 
-    -- whether the file of the step has the path after it
-    has : (edit : RowEdit) → s.row ≡ edit
-        → has_path path (joined (edited_row s.row (row_part (file_of w s.id))) (edited_document s.doc (document_part (file_of w s.id))))
-        ≡ rows.has_path path (edited_row edit (row_part (file_of w s.id)))
-    has edit e = has_path-joined path (edited_row s.row (row_part (file_of w s.id))) (edited_document s.doc (document_part (file_of w s.id)))
-        ∙ ap (λ r. rows.has_path path (edited_row r (row_part (file_of w s.id)))) e
+    -- the row of the step's file after it
+    left : RowEdit → Option FileRow
+    left edit = edited_row edit (row_part (file_of w s.id))
 
-    gone : (edit : RowEdit) → s.row ≡ edit → rows.has_path path (edited_row edit (row_part (file_of w s.id))) ≡ false
-        → id_at (after_step w s) path ≡ other_than s.id (id_at w path)
+    -- whether the file of the step has the path after it
+    has : (edit : RowEdit) → s.row ≡ edit → has_path path (stepped s (file_of w s.id)) ≡ rows.has_path path (left edit)
+    has edit e = has_path-joined path (left s.row) (edited_document s.doc (document_part (file_of w s.id))) ∙ rw e
+
+    gone : (edit : RowEdit) → s.row ≡ edit → rows.has_path path (left edit) ≡ false → id_at (after_step w s) path ≡ other_than s.id (id_at w path)
     gone edit e lacks = id_at-is (after_step w s) path (other_than s.id (id_at w path)) after (λ id.
         part-after_step (has_path path) (λ b. false) w s id l (has edit e ∙ lacks)
-        ∙ ap (λ b. if s.id == id then false else b) (is_at w path sound id)
-        ∙ sym (is_id-other_than s.id id (id_at w path)))
+        ∙ rw (is_at w path sound id) (sym (is_id-other_than s.id id (id_at w path))))
 
     by : (edit : RowEdit) → s.row ≡ edit → id_at (after_step w s) path ≡ moved_id path s.id edit (id_at w path)
     by Keep e = id_at-is (after_step w s) path (id_at w path) after (λ id.
@@ -90,10 +92,9 @@ id_at-after_step path w s sound l = by s.row refl
         (λ t. refl) (λ n. refl)
         ∙ is_at w path sound id)
     by (Put row) e = bool_cases (bytes_eq row.path path) (λ b. id_at (after_step w s) path ≡ (if b then Some s.id else other_than s.id (id_at w path)))
-        (λ t. ap (id_at (after_step w s)) (sym ((bytes_decides row.path path).0 t))
-        ∙ id_at-live (after_step w s) s.id (file_with (edited_document s.doc (document_part (file_of w s.id))) row) after.apart
-        (file_here w s l ∙ ap (λ r. joined (edited_row r (row_part (file_of w s.id))) (edited_document s.doc (document_part (file_of w s.id)))) e))
-        (λ n. gone (Put row) e n)
+        (λ t. rw (← (bytes_decides row.path path).0 t)
+        (id_at-live (after_step w s) s.id (file_with (edited_document s.doc (document_part (file_of w s.id))) row) after.apart (file_here w s l ∙ rw e)))
+        (gone (Put row) e)
     by Remove e = gone Remove e refl
 
 -- the file at a path has a row

@@ -1,11 +1,10 @@
 -- What a lawful step makes of each file, and that the files stay sound.
-use Rattle.std.proofs.Common.{ℕ, ◌≡◌, ◌+◌, List, [], ◌∷◌, refl, ap, sym, ◌∙◌, subst, arith, Some, None}
+use Rattle.std.proofs.Common.{ℕ, ◌≡◌, ◌+◌, List, [], ◌∷◌, refl, ap, sym, ◌∙◌, arith, Some, None}
 use Rattle.std.specs.Prelude.{Option, IfSome, is_some, if◌then◌else◌, ◌==◌}
 use Rattle.list_laws.specs.Rows.{one_if}
 use Rattle.std.specs.List.{fold}
-use Rattle.std.proofs.lemmas.Bool.{eqb-true}
-use Rattle.std.proofs.lemmas.Option.{IfSome_then, same_Some}
-use Rattle.list_laws.proofs.BoolLemmas.{bool_cases}
+use Rattle.std.proofs.lemmas.Bool.Decides.{nat_tests}
+use Rattle.std.proofs.lemmas.Option.{IfSome_then}
 use Rattle.list_laws.proofs.RowLemmas.{row_in-here, row_in-with_row, count-with_row}
 use Rattle.vfs_core.specs.declared.row.FileRow.{FileRow}
 use Rattle.document_buf.specs.Document.{Document}
@@ -14,10 +13,10 @@ use Rattle.write_history.specs.Effect.{Put}
 use Rattle.history_laws.proofs.PutLemmas.{by_place}
 use Rattle.ide_world.specs.declared.step.Step.{Step}
 use Rattle.ide_world.specs.declared.step.RowEdit.{RowEdit}
-use Rattle.ide_world.specs.declared.step.RowEdit.TheVariants.{Keep, Put as PutRow}
+use Rattle.ide_world.specs.declared.step.RowEdit.TheVariants.{Keep, Put as PutRow, Remove}
 use Rattle.ide_world.specs.RowEdits.{edited_row, put_row}
 use Rattle.ide_world.specs.DocEdits.{edited_document}
-use Rattle.ide_world.specs.Step.{file_with, joined, row_part, document_part, stepped, drawn_by, after_step, after_steps}
+use Rattle.ide_world.specs.Step.{joined, row_part, document_part, stepped, drawn_by, after_step, after_steps}
 use Rattle.ide_world.specs.Sound.{IsSoundFile, AreSoundFiles}
 use Rattle.ide_world.specs.Lawful.{IsPathFree, IsLawfulStep, AreLawfulFrom}
 
@@ -36,10 +35,7 @@ file_after w s id l = row_in-with_row s.id (stepped s (file_of w s.id)) w.files 
 pub part-after_step : {A : Type 0} (part : Option File → A) (edit : A → A) (w : World) (s : Step) (id : ℕ) → IsLawfulStep w s
     → part (stepped s (file_of w s.id)) ≡ edit (part (file_of w s.id))
     → part (file_of (after_step w s) id) ≡ (if s.id == id then edit (part (file_of w id)) else part (file_of w id))
-part-after_step part edit w s id l e = ap part (file_after w s id l) ∙ bool_cases (s.id == id)
-    (λ b. part (if b then stepped s (file_of w s.id) else file_of w id) ≡ (if b then edit (part (file_of w id)) else part (file_of w id)))
-    (λ t. e ∙ ap (λ i. edit (part (file_of w i))) (eqb-true s.id id t))
-    (λ f. refl)
+part-after_step part edit w s id l e = grind (arith, nat_tests, file_after w s id l)
 
 pub row_part-joined : (row : Option FileRow) (doc : Option Document) → row_part (joined row doc) ≡ row
 row_part-joined None doc = refl
@@ -52,48 +48,46 @@ document_part-joined (Some row) doc whole = refl
 pub row_part-stepped : (s : Step) (file : Option File) → row_part (stepped s file) ≡ edited_row s.row (row_part file)
 row_part-stepped s file = row_part-joined (edited_row s.row (row_part file)) (edited_document s.doc (document_part file))
 
-pub document_part-stepped : (w : World) (s : Step) → IsLawfulStep w s → document_part (stepped s (file_of w s.id)) ≡ edited_document s.doc (document_part (file_of w s.id))
-document_part-stepped w s l = document_part-joined (edited_row s.row (row_part (file_of w s.id))) (edited_document s.doc (document_part (file_of w s.id))) l.whole
+pub document_part-stepped : (w : World) (s : Step) → IsLawfulStep w s
+    → document_part (stepped s (file_of w s.id)) ≡ edited_document s.doc (document_part (file_of w s.id))
+document_part-stepped w s l = document_part-joined _ _ l.whole
 
 -- ---- the files stay sound
 
 sound_later : (next more : ℕ) (file : Option File) → IsSoundFile next file → IsSoundFile (next + more) file
-sound_later next more None h = tt
-sound_later next more (Some file) h = record {
-  stamp = let l = h.stamp in omega arith;
-  indexed = IfSome_then file.indexed h.indexed (λ stamp l. omega arith);
-  saved = h.saved;
-}
+sound_later next more file h = IfSome_then file h (λ f live. record {
+  stamp = omega (arith, live.stamp);
+  indexed = IfSome_then f.indexed live.indexed (λ stamp l. omega arith);
+  saved = live.saved;
+})
 
--- the path of the file that an edit leaves is free for its id
-free_after_edit : (w : World) (id : ℕ) (edit : RowEdit) (row : Option FileRow) (doc : Option Document) (f : File)
-    → IfSome (put_row edit) (λ r. IsPathFree w id r.path) → IfSome row (λ r. IsPathFree w id r.path)
-    → joined (edited_row edit row) doc ≡ Some f → IsPathFree w id f.path
-free_after_edit w id Keep (Some row) doc f new old e = subst (λ g. IsPathFree w id g.path) (same_Some (file_with doc row) f e) old
-free_after_edit w id (PutRow row) was doc f new old e = subst (λ g. IsPathFree w id g.path) (same_Some (file_with doc row) f e) new
-free_after_edit w id edit row doc f new old e = absurd (cc)
+-- what holds of the row that an edit puts in and of the one that was there holds of the row that it leaves
+left_row : (P : FileRow → Type 0) (edit : RowEdit) (row : Option FileRow) → IfSome (put_row edit) P → IfSome row P → IfSome (edited_row edit row) P
+left_row P Keep row new old = old
+left_row P (PutRow row) was new old = new
+left_row P Remove row new old = tt
 
 -- the path of a live file is free for its id
 old_is_free : (w : World) (id : ℕ) (o : Option File) → AreSoundFiles w → file_of w id ≡ o → IfSome (row_part o) (λ r. IsPathFree w id r.path)
 old_is_free w id None sound e = tt
 old_is_free w id (Some g) sound e = λ other file live same. sound.apart other id file g live e same
 
+-- so is the path of the file that a step leaves
 free_after : (w : World) (s : Step) (f : File) → AreSoundFiles w → IsLawfulStep w s → stepped s (file_of w s.id) ≡ Some f → IsPathFree w s.id f.path
-free_after w s f sound l e = free_after_edit w s.id s.row (row_part (file_of w s.id)) (edited_document s.doc (document_part (file_of w s.id))) f l.path (old_is_free w s.id (file_of w s.id) sound refl) e
+free_after w s f sound l e = rw (← row_part-stepped s (file_of w s.id), e) at
+    (left_row (λ r. IsPathFree w s.id r.path) s.row (row_part (file_of w s.id)) l.path (old_is_free w s.id (file_of w s.id) sound refl))
 
 apart_after : (w : World) (s : Step) → AreSoundFiles w → IsLawfulStep w s → (a b : ℕ) (f g : File)
     → file_of (after_step w s) a ≡ Some f → file_of (after_step w s) b ≡ Some g → f.path ≡ g.path → a ≡ b
-apart_after w s sound l a b f g live_a live_b same =
-    by_place w (put_by w s) a (λ o. o ≡ Some f → a ≡ b) l.some l.within
-    (λ here p. by_place w (put_by w s) b (λ o. o ≡ Some g → a ≡ b) l.some l.within
-    (λ too q. here ∙ sym too)
-    (λ n q. here ∙ sym (free_after w s f sound l p b g q (sym same)))
-    live_b)
-    (λ m p. by_place w (put_by w s) b (λ o. o ≡ Some g → a ≡ b) l.some l.within
-    (λ too q. free_after w s g sound l q a f p same ∙ sym too)
-    (λ n q. sound.apart a b f g p q same)
-    live_b)
-    live_a
+apart_after w s sound l a b f g live_a live_b same = grind (
+  arith,
+  nat_tests,
+  file_after w s a l,
+  file_after w s b l,
+  sound.apart a b f g,
+  free_after w s f sound l,
+  free_after w s g sound l,
+)
 
 pub sound_after_step : (w : World) (s : Step) → AreSoundFiles w → IsLawfulStep w s → AreSoundFiles (after_step w s)
 sound_after_step w s sound l = record {
@@ -111,11 +105,12 @@ is_open-part (Some file) = refl
 pub open_count-step : (w : World) (s : Step) → IsLawfulStep w s
     → count_of is_open (after_step w s) + one_if (is_some (document_part (file_of w s.id)))
     ≡ count_of is_open w + one_if (is_some (edited_document s.doc (document_part (file_of w s.id))))
-open_count-step w s l =
-    let e = count-with_row is_open refl s.id (stepped s (file_of w s.id)) w.files l.some l.within in
-    let was = ap one_if (is_open-part (file_of w s.id)) in
-    let is = ap one_if (is_open-part (stepped s (file_of w s.id)) ∙ ap is_some (document_part-stepped w s l)) in
-    omega (arith, e, was, is)
+open_count-step w s l = omega (
+  arith,
+  count-with_row is_open refl s.id (stepped s (file_of w s.id)) w.files l.some l.within,
+  ap one_if (is_open-part (file_of w s.id)),
+  ap one_if (is_open-part (stepped s (file_of w s.id)) ∙ ap is_some (document_part-stepped w s l)),
+)
 
 -- what is read of the world, and edited by each step, is folded over steps
 pub reads_steps : {A : Type 0} (of : World → A) (edit : A → Step → A)

@@ -2,7 +2,8 @@
 use Rattle.std.proofs.Common.{ℕ, ◌≡◌, ◌+◌, ◌<◌, ◌≤◌, Bool, true, false, List, [], ◌∷◌, ◌++◌, length, refl, ap, sym, ◌∙◌, subst, arith, Some, None, length-append}
 use Rattle.std.specs.Prelude.{Result, Ok, Err, IfOk, Option, option_map, is_some, if◌then◌else◌, ◌==◌, not, ◌&&◌, ◌||◌}
 use Rattle.std.specs.List.{fold, list_any}
-use Rattle.std.proofs.lemmas.Bool.{eqb-true, or_parts}
+use Rattle.std.proofs.lemmas.Bool.{eqb-true}
+use Rattle.std.proofs.lemmas.Bool.Decides.{nat_tests}
 use Rattle.list_laws.specs.Rows.{one_if}
 use Rattle.list_laws.proofs.RowLemmas.{length-within, length-next, counted_in, one_if_le}
 use Rattle.document_buf.specs.Document.{Document}
@@ -16,7 +17,7 @@ use Rattle.ide_world.specs.Step.{row_part, document_part, stepped, after_step, a
 use Rattle.ide_world.specs.Sound.{AreSoundFiles}
 use Rattle.ide_world.specs.Lawful.{IsLawfulStep, AreLawfulFrom}
 use Rattle.ide_world.specs.declared.summary.Summary.{Summary}
-use Rattle.ide_world.specs.Drafted.{Drafted, IsDraft, world_now, drafted, IsKept}
+use Rattle.ide_world.specs.Drafted.{Drafted, IsDraft, drafted_world, drafted, IsKept}
 use Rattle.ide_world.specs.declared.draft.Draft.TheInside.{Inside}
 use Rattle.ide_world.specs.Walk.{row_after, summary_of, edited_committed, edited_text, id_after, edits_texts, keeps_texts, IsTextEditFit, AreTextEditsFit, is_open_after}
 use Rattle.ide_world.proofs.StepLemmas.{is_open-part, open_count-step, part-after_step, row_part-stepped, document_part-stepped, reads_steps, sound_after_step}
@@ -25,7 +26,7 @@ use Rattle.ide_world.proofs.PathLemmas.{id_at-after_step}
 
 -- ---- the parts of a file
 
-pub row_now : (d : Drafted) (id : ℕ) → IsDraft d → row_part (file_of (world_now d) id) ≡ fold (row_after id) (row_part (file_of d.base id)) d.steps
+pub row_now : (d : Drafted) (id : ℕ) → IsDraft d → row_part (file_of (drafted_world d) id) ≡ fold (row_after id) (row_part (file_of d.base id)) d.steps
 row_now d id h = reads_steps (λ w. row_part (file_of w id)) (row_after id)
     (λ w s sound l. part-after_step row_part (edited_row s.row) w s id l (row_part-stepped s (file_of w s.id))) d.base d.steps h.base.files h.lawful
 
@@ -34,19 +35,13 @@ module _ {A : Type 0} (edit : DocEdit → A → A) (id : ℕ) where
   abbrev pub part_after : A → Step → A
   part_after a s = if s.id == id then edit s.doc a else a
 
-  skipped : (same kept : Bool) (a new : A) → (same && not kept) ≡ false → (kept ≡ true → new ≡ a) → (if same then new else a) ≡ a
-  skipped false kept a new f e = refl
-  skipped true false a new f e = absurd (cc)
-  skipped true true a new f e = e refl
-
   -- it stays where no step changes a text of the document, and an edit that keeps the texts keeps it
   pub part_stays : ((e : DocEdit) (a : A) → keeps_texts e ≡ true → edit e a ≡ a) → (a : A) (ss : List Step)
       → list_any (edits_texts id) ss ≡ false → fold part_after a ss ≡ a
   part_stays keeps a [] f = refl
   part_stays keeps a (s ∷ ss) f =
-      let parts = or_parts (edits_texts id s) (list_any (edits_texts id) ss) f in
-      ap (λ x. fold part_after x ss) (skipped (s.id == id) (keeps_texts s.doc) a (edit s.doc a) parts.0 (keeps s.doc a))
-      ∙ part_stays keeps a ss parts.1
+      let here : part_after a s ≡ a = grind (arith, nat_tests, keeps s.doc a) in
+      rw here (part_stays keeps a ss (grind (arith, nat_tests)))
 
   module _ (part : Option Document → A) (edited : (e : DocEdit) (d : Option Document) → IsDocEditFit e d → part (edited_document e d) ≡ edit e (part d)) where
     pub part-step : (w : World) (s : Step) → IsLawfulStep w s
@@ -56,23 +51,22 @@ module _ {A : Type 0} (edit : DocEdit → A → A) (id : ℕ) where
 
     -- after all steps of a draft
     pub part_now : (d : Drafted) → IsDraft d
-        → part (document_part (file_of (world_now d) id)) ≡ fold part_after (part (document_part (file_of d.base id))) d.steps
+        → part (document_part (file_of (drafted_world d) id)) ≡ fold part_after (part (document_part (file_of d.base id))) d.steps
     part_now d h = reads_steps (λ w. part (document_part (file_of w id))) part_after (λ w s sound l. part-step w s l) d.base d.steps h.base.files h.lawful
 
-pub id_now : (d : Drafted) (path : List ℕ) → IsDraft d → id_at (world_now d) path ≡ fold (id_after path) (id_at d.base path) d.steps
+pub id_now : (d : Drafted) (path : List ℕ) → IsDraft d → id_at (drafted_world d) path ≡ fold (id_after path) (id_at d.base path) d.steps
 id_now d path h = reads_steps (λ w. id_at w path) (id_after path) (id_at-after_step path) d.base d.steps h.base.files h.lawful
 
 pub entries_after_steps : (w : World) (ss : List Step) → (after_steps w ss).entries ≡ w.entries
 entries_after_steps w [] = refl
 entries_after_steps w (s ∷ ss) = entries_after_steps (after_step w s) ss
 
-texts_fit_from : (id : ℕ) (w : World) (ss : List Step) → AreSoundFiles w → AreLawfulFrom w ss → AreTextEditsFit id (text_of_document (document_part (file_of w id))) ss
+texts_fit_from : (id : ℕ) (w : World) (ss : List Step) → AreSoundFiles w → AreLawfulFrom w ss
+    → AreTextEditsFit id (text_of_document (document_part (file_of w id))) ss
 texts_fit_from id w [] sound l = tt
 texts_fit_from id w (s ∷ ss) sound l = (
-  (λ t. subst (λ i. IsTextEditFit s.doc (text_of_document (document_part (file_of w i)))) (eqb-true s.id id t)
-      (text_edit_fits s.doc (document_part (file_of w s.id)) l.0.doc)),
-  subst (λ o. AreTextEditsFit id o ss) (part-step edited_text id text_of_document text-edited w s l.0)
-      (texts_fit_from id (after_step w s) ss (sound_after_step w s sound l.0) l.1),
+  (λ t. rw (← eqb-true s.id id t) (text_edit_fits s.doc (document_part (file_of w s.id)) l.0.doc)),
+  rw (← part-step edited_text id text_of_document text-edited w s l.0) (texts_fit_from id (after_step w s) ss (sound_after_step w s sound l.0) l.1),
 )
 
 pub texts_fit : (d : Drafted) (id : ℕ) → IsDraft d → AreTextEditsFit id (text_of_document (document_part (file_of d.base id))) d.steps
@@ -81,14 +75,11 @@ texts_fit d id h = texts_fit_from id d.base d.steps h.base.files h.lawful
 -- ---- a document that no step changes
 
 same_uncommitted : (d e : Option Document) → text_of_document d ≡ text_of_document e → committed_of d ≡ committed_of e → is_uncommitted d ≡ is_uncommitted e
-same_uncommitted None None t c = refl
-same_uncommitted None (Some e) t c = absurd (cc)
-same_uncommitted (Some d) None t c = absurd (cc)
-same_uncommitted (Some d) (Some e) t c = let t' : d.text ≡ e.text = cc in let c' : d.committed ≡ e.committed = cc in cc
+same_uncommitted d e t c = grind arith
 
 pub uncommitted_as_before : (d : Drafted) (id : ℕ) → IsDraft d → list_any (edits_texts id) d.steps ≡ false
-    → is_uncommitted (document_part (file_of (world_now d) id)) ≡ is_uncommitted (document_part (file_of d.base id))
-uncommitted_as_before d id h f = same_uncommitted (document_part (file_of (world_now d) id)) (document_part (file_of d.base id))
+    → is_uncommitted (document_part (file_of (drafted_world d) id)) ≡ is_uncommitted (document_part (file_of d.base id))
+uncommitted_as_before d id h f = same_uncommitted (document_part (file_of (drafted_world d) id)) (document_part (file_of d.base id))
     (part_now edited_text id text_of_document text-edited d h
     ∙ part_stays edited_text id kept_text (text_of_document (document_part (file_of d.base id))) d.steps f)
     (part_now edited_committed id committed_of committed-edited d h
@@ -104,89 +95,49 @@ lawful_push : (w : World) (ss : List Step) (s : Step) → AreLawfulFrom w ss →
 lawful_push w [] s l h = (h, tt)
 lawful_push w (t ∷ ss) s l h = (l.0, lawful_push (after_step w t) ss s l.1 h)
 
-pub pushed : (d : Drafted) (s : Step) → IsDraft d → IsLawfulStep (world_now d) s → length d.steps < 64
+pub pushed : (d : Drafted) (s : Step) → IsDraft d → IsLawfulStep (drafted_world d) s → length d.steps < 64
     → IsDraft (record { base = d.base; steps = d.steps ++ s ∷ [] })
 pushed d s h l few = record {
   base = h.base;
   lawful = lawful_push d.base d.steps s h.lawful l;
   few = let e = length-append d.steps (s ∷ []) in omega arith;
-  files = subst AreSoundFiles (sym (after_steps-push d.base d.steps s)) (sound_after_step (world_now d) s h.files l);
+  files = subst AreSoundFiles (sym (after_steps-push d.base d.steps s)) (sound_after_step (drafted_world d) s h.files l);
 }
 
 -- ---- how many files were made, and how many are open
 
--- a walk from what the state has gives what the draft has
-pub read_by : {A : Type 0} (edit : A → Step → A) (r first old now : A) (ss kept : List Step) → r ≡ fold edit first ss → first ≡ old → ss ≡ kept → now ≡ fold edit old kept → r ≡ now
-read_by edit r first old now ss kept walked f s read = walked ∙ ap (λ o. fold edit o ss) f ∙ ap (λ l. fold edit old l) s ∙ sym read
-
--- the same of a walk that may fail
-pub read_ok : {A E : Type 0} (edit : A → Step → A) (r : Result A E) (first old now : A) (ss kept : List Step) → IfOk r (λ a. a ≡ fold edit first ss) → first ≡ old → ss ≡ kept → now ≡ fold edit old kept → IfOk r (λ a. a ≡ now)
-read_ok edit (Ok a) first old now ss kept walked f s read = read_by edit a first old now ss kept walked f s read
-read_ok edit (Err e) first old now ss kept walked f s read = tt
-
-pub fits_as : (id : ℕ) (first old : Option (List ℕ)) (ss kept : List Step) → first ≡ old → ss ≡ kept → AreTextEditsFit id old kept → AreTextEditsFit id first ss
-fits_as id first old ss kept f s h = subst (λ o. AreTextEditsFit id o ss) (sym f) (subst (AreTextEditsFit id old) (sym s) h)
-
 is_some-looked : (doc : Option Document) → is_some (option_map summary_of doc) ≡ is_some doc
-is_some-looked None = refl
-is_some-looked (Some doc) = refl
+is_some-looked doc = grind arith
 
--- what holds of the fields, said of what contracts see
-pub record IsKeptAs (inside : Inside) (now : Drafted) : Type 0 where
-  pub draft : IsDraft now
-  pub made : inside.made ≡ length (world_now now).files
-  pub opened : inside.opened ≡ count_of is_open (world_now now)
-  pub stamp : inside.next_stamp ≡ (world_now now).next_stamp
-
-pub kept_as : (inside : Inside) (now : Drafted) → drafted inside ≡ now → IsKept inside → IsKeptAs inside now
-kept_as inside now same kept = subst (IsKeptAs inside) same (record { draft = kept.draft; made = kept.made; opened = kept.opened; stamp = kept.stamp })
-
-pub open_count-after : (inside : Inside) (now : Drafted) (s : Step) (result : ℕ) (was is : Bool) (summary : Option Summary) → IsKeptAs inside now
-    → IsLawfulStep (world_now now) s → summary ≡ option_map summary_of (document_part (file_of (world_now now) s.id)) → was ≡ is_some summary
-    → is ≡ is_open_after s.doc was
-    → result + one_if was ≡ inside.opened + one_if is → result ≡ count_of is_open (after_step (world_now now) s)
-open_count-after inside now s result was is summary kept l looked w i e =
-    let doc = document_part (file_of (world_now now) s.id) in
-    let before : was ≡ is_some doc = w ∙ ap is_some looked ∙ is_some-looked doc in
+pub open_count-after : (w : World) (s : Step) (opened result : ℕ) (was is : Bool) (summary : Option Summary) → opened ≡ count_of is_open w
+    → IsLawfulStep w s → summary ≡ option_map summary_of (document_part (file_of w s.id)) → was ≡ is_some summary
+    → is ≡ is_open_after s.doc was → result + one_if was ≡ opened + one_if is → result ≡ count_of is_open (after_step w s)
+open_count-after w s opened result was is summary kept l looked w' i e =
+    let doc = document_part (file_of w s.id) in
+    let before : was ≡ is_some doc = w' ∙ ap is_some looked ∙ is_some-looked doc in
     let after : is ≡ is_some (edited_document s.doc doc) = i ∙ ap (is_open_after s.doc) before ∙ sym (is_some-edited s.doc doc l.doc) in
-    omega (arith, e, kept.opened, open_count-step (world_now now) s l, ap one_if before, ap one_if after)
+    omega (arith, e, kept, open_count-step w s l, ap one_if before, ap one_if after)
 
-pub some_open : (inside : Inside) (now : Drafted) (id : ℕ) (was : Bool) (summary : Option Summary) → IsKeptAs inside now
-    → summary ≡ option_map summary_of (document_part (file_of (world_now now) id)) → was ≡ is_some summary → one_if was ≤ inside.opened
-some_open inside now id was summary kept looked w =
-    let file = file_of (world_now now) id in
-    let is : was ≡ is_open file = w ∙ ap is_some looked ∙ is_some-looked (document_part file) ∙ sym (is_open-part file) in
-    omega (arith, kept.opened, counted_in is_open refl id (world_now now).files, ap one_if is)
-
-pub made_after_more : (inside : Inside) (now : Drafted) (s : Step) → IsKeptAs inside now → IsLawfulStep (world_now now) s → inside.made < s.id
-    → inside.made + 1 ≡ length (after_step (world_now now) s).files
-made_after_more inside now s kept l lt = let w = world_now now in
-    omega (arith, kept.made, length-next s.id (stepped s (file_of w s.id)) w.files (omega (arith, lt, kept.made, l.within)))
-
-pub made_after_same : (inside : Inside) (now : Drafted) (s : Step) → IsKeptAs inside now → IsLawfulStep (world_now now) s → s.id ≤ inside.made
-    → inside.made ≡ length (after_step (world_now now) s).files
-made_after_same inside now s kept l le = let w = world_now now in
-    omega (arith, kept.made, length-within s.id (stepped s (file_of w s.id)) w.files l.some (omega (arith, le, kept.made)))
-
-pub untouched_by : (r : Bool) (id : ℕ) (ss kept : List Step) → r ≡ list_any (edits_texts id) ss → ss ≡ kept → r ≡ false → list_any (edits_texts id) kept ≡ false
-untouched_by r id ss kept e s f = sym (ap (λ l. list_any (edits_texts id) l) s) ∙ sym e ∙ f
+pub some_open : (w : World) (id opened : ℕ) (was : Bool) (summary : Option Summary) → opened ≡ count_of is_open w
+    → summary ≡ option_map summary_of (document_part (file_of w id)) → was ≡ is_some summary → one_if was ≤ opened
+some_open w id opened was summary kept looked w' =
+    let file = file_of w id in
+    let is : was ≡ is_open file = w' ∙ ap is_some looked ∙ is_some-looked (document_part file) ∙ sym (is_open-part file) in
+    omega (arith, kept, counted_in is_open refl id w.files, ap one_if is)
 
 -- the fields after a step
-pub kept_after : (inside new : Inside) (now : Drafted) (s : Step) → drafted inside ≡ now → IsKept inside → IsLawfulStep (world_now now) s → length now.steps < 64
+pub kept_after : (inside new : Inside) (s : Step) → IsKept inside → IsLawfulStep (drafted_world (drafted inside)) s → length inside.steps < 64
     → new.state ≡ inside.state → new.steps ≡ inside.steps ++ s ∷ []
-    → new.made ≡ length (after_step (world_now now) s).files → new.made ≤ 65536 → new.opened ≡ count_of is_open (after_step (world_now now) s)
+    → new.made ≡ length (after_step (drafted_world (drafted inside)) s).files → new.made ≤ 65536
+    → new.opened ≡ count_of is_open (after_step (drafted_world (drafted inside)) s)
     → new.next_stamp ≡ inside.next_stamp + (if s.draws then 1 else 0) → IsKept new
-kept_after inside new now s same kept lawful few state steps made small opened stamp =
-    let seen = kept_as inside now same kept in
-    let after : Drafted = record { base = now.base; steps = now.steps ++ s ∷ [] } in
-    let whole : drafted new ≡ after = (λ i. record { base = (state i).now.world; steps = steps i })
-    ∙ ap (λ (d : Drafted). record { base = d.base; steps = d.steps ++ s ∷ [] }) same in
-    let world : world_now (drafted new) ≡ after_step (world_now now) s = ap world_now whole ∙ after_steps-push now.base now.steps s in
+kept_after inside new s kept lawful few state steps made small opened stamp =
+    let push = after_steps-push inside.state.now.world inside.steps s in
     record {
-      draft = subst IsDraft (sym whole) (pushed now s seen.draft lawful few);
-      made = made ∙ sym (ap (λ w. length w.files) world);
-      opened = opened ∙ sym (ap (λ w. count_of is_open w) world);
-      stamp = stamp ∙ ap (λ n. n + one_if s.draws) seen.stamp ∙ sym (ap (λ w. w.next_stamp) world);
+      draft = rw (state, steps) (pushed (drafted inside) s kept.draft lawful few);
+      made = rw (state, steps, push) made;
+      opened = rw (state, steps, push) opened;
+      stamp = rw (state, steps, push) (stamp ∙ ap (λ n. n + one_if s.draws) kept.stamp);
       small = small;
       early = omega (arith, stamp, kept.early, one_if_le s.draws, ap length steps, length-append inside.steps (s ∷ []));
     }

@@ -1,6 +1,6 @@
 -- Steps that differ in nothing but the room beside the texts of the documents that they bring.
 use Rattle.std.specs.Prelude.{◌≡◌, List, map}
-use Rattle.document_buf.specs.Held.{HeldDoc}
+use Rattle.document_buf.specs.DocsView.{HeldDoc}
 use Rattle.ide_world.specs.declared.step.DocEdit.{DocEdit}
 use Rattle.ide_world.specs.declared.step.DocEdit.TheVariants.{Keep, Open, Insert, Erase, Commit, MarkSaved, Replace, Close}
 use Rattle.ide_world.specs.declared.step.Step.{Step}

@@ -19,15 +19,15 @@ pub record Drafted : Type 0 where
   pub steps : List Step
 
 -- the world now
-abbrev pub world_now : Drafted → World
-world_now draft = after_steps draft.base draft.steps
+abbrev pub drafted_world : Drafted → World
+drafted_world draft = after_steps draft.base draft.steps
 
 -- what holds of a draft
 pub record IsDraft (draft : Drafted) : Type 0 where
   pub base : IsSoundWorld draft.base
   pub lawful : AreLawfulFrom draft.base draft.steps
   pub few : length draft.steps ≤ max_steps
-  pub files : AreSoundFiles (world_now draft)
+  pub files : AreSoundFiles (drafted_world draft)
 
 -- what contracts see of the fields
 abbrev pub drafted : Inside → Drafted
@@ -36,9 +36,9 @@ drafted inside = record { base = inside.state.now.world; steps = inside.steps }
 -- what holds of the fields
 pub record IsKept (inside : Inside) : Type 0 where
   pub draft : IsDraft (drafted inside)
-  pub made : inside.made ≡ length (world_now (drafted inside)).files
-  pub opened : inside.opened ≡ count_of is_open (world_now (drafted inside))
-  pub stamp : inside.next_stamp ≡ (world_now (drafted inside)).next_stamp
+  pub made : inside.made ≡ length (drafted_world (drafted inside)).files
+  pub opened : inside.opened ≡ count_of is_open (drafted_world (drafted inside))
+  pub stamp : inside.next_stamp ≡ (drafted_world (drafted inside)).next_stamp
   pub small : inside.made ≤ max_files
   pub early : inside.next_stamp ≤ 64 * max_entries + 1 + length inside.steps
 
@@ -46,6 +46,6 @@ pub record IsKept (inside : Inside) : Type 0 where
 pub record IsExtended (old new : Drafted) (change : Change) : Type 0 where
   pub draft : IsDraft new
   pub base : new.base ≡ old.base
-  pub effect : world_now new ≡ effect_of (world_now old) change
-  pub ids : ids_of new.steps ≡ ids_of old.steps ++ (put_of (world_now old) change).id ∷ []
+  pub effect : drafted_world new ≡ effect_of (drafted_world old) change
+  pub ids : ids_of new.steps ≡ ids_of old.steps ++ (put_of (drafted_world old) change).id ∷ []
   pub count : length new.steps ≡ length old.steps + 1

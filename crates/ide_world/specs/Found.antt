@@ -8,7 +8,7 @@ use Rattle.overlay_index.specs.Listing.{listing_of}
 use Rattle.overlay_index.specs.Parts.{Parts, Stub}
 use Rattle.overlay_index.specs.Layers.{base_of}
 use Rattle.write_history.specs.World.{World, File, shown_text, is_unready}
-use Rattle.ide_world.specs.Held.{Held}
+use Rattle.ide_world.specs.StateView.{StateView}
 
 -- the entries of a text's listing that fit
 abbrev pub stubs_in : (Stub → Bool) → List ℕ → List Stub
@@ -19,7 +19,7 @@ abbrev pub masks_in : List ℕ → List ℕ → List ℕ
 masks_in name text = option_to_list (mask_in (words_of text) name)
 
 -- the index data of a file's content, as it was indexed last
-abbrev pub kept_of : Held → ℕ → Parts
+abbrev pub kept_of : StateView → ℕ → Parts
 kept_of held id = base_of held.room.layers id
 
 module _ {X : Type 0} where

@@ -6,7 +6,7 @@ pub mod Task
 -- Which unready file is found first
 pub mod Unready
 -- What contracts see of a state
-pub mod Held
+pub mod StateView
 -- What the walks of a state find
 pub mod Found
 -- Internal: the state and its steps.
@@ -25,7 +25,7 @@ pub mod Lawful
 -- Steps that differ in nothing but the room beside their texts
 pub mod Alike
 -- The ids of the unready files
-pub mod Marks
+pub mod IdSet
 -- What steps need room for
 pub mod Room
 -- What steps give up of the room

@@ -1,7 +1,7 @@
 -- What steps need room for.
 use Rattle.std.specs.Prelude.{ℕ, ◌≡◌, ◌≤◌, ◌<◌, ◌+◌, ◌-◌, ◌==◌, Bool, true, false, if◌then◌else◌, is_some, List, [], ◌∷◌, length, Option, Some, None, IsSome, IfSome}
-use Rattle.vfs_core.specs.Held as files
-use Rattle.document_buf.specs.Held as docs
+use Rattle.vfs_core.specs.FilesView as files
+use Rattle.document_buf.specs.DocsView as docs
 use Rattle.overlay_index.specs.Layers as layers
 use Rattle.overlay_index.specs.Parts.{Parts}
 use Rattle.ide_world.specs.declared.step.DocEdit.{DocEdit}
@@ -11,14 +11,14 @@ use Rattle.ide_world.specs.declared.step.IndexEdit.TheVariants.{SetBase, SetOver
 use Rattle.ide_world.specs.declared.step.Step.{Step}
 use Rattle.ide_world.specs.RowEdits.{put_row}
 use Rattle.list_laws.specs.Rows.{one_if}
-use Rattle.ide_world.specs.Marks.{Marks, has_mark}
+use Rattle.ide_world.specs.IdSet.{IdSet, has_mark}
 
 -- the room of a state: that of its files, its documents, its index data and its marks
 pub record Room : Type 0 where
-  pub files : files.Held
-  pub docs : docs.Held
-  pub layers : layers.Held
-  pub marks : Marks
+  pub files : files.FilesView
+  pub docs : docs.DocsView
+  pub layers : layers.LayersView
+  pub marks : IdSet
 
 -- whether an edit opens a document
 abbrev pub opens : DocEdit → Bool

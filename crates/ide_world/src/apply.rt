@@ -1,8 +1,8 @@
 //! The edits of a step, each carried out on the part of a state that it is about. None takes memory.
 ghost use Rattle.std.specs.Prelude.{◌≡◌, ◌≢◌, ◌≤◌, ◌<◌, ◌+◌, ℕ, true, false, List, length, is_some, IsSome, IfSome, Some, ◌==◌, nat_lt, if◌then◌else◌};
 ghost use Rattle.vfs_core.specs.Row.{IsStamped};
-ghost use Rattle.vfs_core.specs.Held.{row_of, HasRowRoom, MayHave, KeepsRoom as KeepsFileRoom};
-ghost use Rattle.document_buf.specs.Held.{document_of, room_of, open_of, HasPlace, Becomes};
+ghost use Rattle.vfs_core.specs.FilesView.{row_of, HasRowRoom, MayHave, KeepsRoom as KeepsFileRoom};
+ghost use Rattle.document_buf.specs.DocsView.{document_of, room_of, open_of, HasPlace, Becomes};
 ghost use Rattle.overlay_index.specs.Layers.{base_of, overlay_of, HasRoom as HasLayerRoom, HasPlace as HasLayerPlace, KeepsRoom as KeepsLayerRoom, KeepsPlace as KeepsLayerPlace};
 ghost use Rattle.ide_world.specs.RowEdits.{edited_row, put_row};
 ghost use Rattle.ide_world.specs.DocEdits.{edited_document, IsDocEditFit, IsWide, inserted_by};
@@ -13,15 +13,15 @@ ghost use Rattle.ide_world.specs.State.{indexed_in};
 
 use crate::{DocEdit, IndexEdit, RowEdit};
 use document_buf::Docs;
-use overlay_index::{Gone as GoneData, Layers};
+use overlay_index::{Layers, Removed as RemovedData};
 use vfs_core::{FileRow, Files};
 
 /// What a step took out of a state, for the sweep.
 #[derive(Drop)]
-pub(crate) struct Gone {
+pub(crate) struct Removed {
     pub(crate) id: u32,
     pub(crate) row: Option<FileRow>,
-    pub(crate) index: Option<GoneData>,
+    pub(crate) index: Option<RemovedData>,
 }
 
 /// Carries out the edit of a row, and gives the row that went.
@@ -84,7 +84,7 @@ pub(crate) fn apply_document(docs: &mut Docs, id: u32, edit: DocEdit)
 }
 
 /// Carries out the edit of index data, and gives the data that went.
-pub(crate) fn apply_index(layers: &mut Layers, id: u32, edit: IndexEdit) -> Option<GoneData>
+pub(crate) fn apply_index(layers: &mut Layers, id: u32, edit: IndexEdit) -> Option<RemovedData>
     requires room { IfSome (brought edit) (HasLayerRoom layers.old id) }
     requires place { shows_on edit ≡ true → HasLayerPlace layers.old id }
     ensures base { (other : ℕ)

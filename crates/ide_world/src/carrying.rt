@@ -1,10 +1,10 @@
 //! Carrying steps out: the one door by which files, documents and index data change, in step with one another.
 ghost use Rattle.std.specs.Prelude.{◌≡◌, ◌≤◌, ◌<◌, ◌+◌, ◌*◌, ℕ, true, false, List, length, is_some, None, IsSome, IfSome, ◌==◌, if◌then◌else◌, [], ◌++◌, vec_len};
 ghost use Rattle.std.specs.Vec.{vec_capacity};
-ghost use Rattle.vfs_core.specs.Held.{row_of, id_at, HasRowRoom, HasPathRoom, KeepsRoom as KeepsFileRoom};
+ghost use Rattle.vfs_core.specs.FilesView.{row_of, id_at, HasRowRoom, HasPathRoom, KeepsRoom as KeepsFileRoom};
 ghost use Rattle.overlay_index.specs.Layers.{base_of, overlay_of, IsSwept};
 ghost use Rattle.ide_world.specs.Sweep.{Sweeps, SweepsAll};
-ghost use Rattle.document_buf.specs.Held.{document_of, room_of};
+ghost use Rattle.document_buf.specs.DocsView.{document_of, room_of};
 ghost use Rattle.write_history.specs.World.{file_of, is_unready};
 ghost use Rattle.write_history.specs.Effect.{max_entries};
 ghost use Rattle.write_history.specs.Fold.{counted};
@@ -14,15 +14,15 @@ ghost use Rattle.ide_world.specs.Step.{joined, drawn_by, after_step, after_steps
 ghost use Rattle.ide_world.specs.Ready.{first_unready, ids_of};
 ghost use Rattle.ide_world.specs.Lawful.{AreLawful, IsLawfulStep};
 ghost use Rattle.list_laws.specs.Rows.{one_if};
-ghost use Rattle.ide_world.specs.Held.{HasRoom};
+ghost use Rattle.ide_world.specs.StateView.{HasRoom};
 ghost use Rattle.ide_world.specs.StepsReady.{IsReady, ids_of_gone};
 ghost use Rattle.ide_world.specs.Room.{HasStepRoom, room_before_step, KeepsRoom};
 
-use crate::apply::{Gone, apply_document, apply_index, apply_row};
+use crate::apply::{Removed, apply_document, apply_index, apply_row};
 use crate::{State, Step, Steps};
 use document_buf::Docs;
 use dumb_mode::{Mark, passes_filter};
-use overlay_index::{Gone as GoneData, Layers};
+use overlay_index::{Layers, Removed as RemovedData};
 use vfs_core::{FileRow, Files};
 
 /// Draws a stamp, where one is wanted.
@@ -67,7 +67,7 @@ fn sweep_path(files: &mut Files, gone: &Option<FileRow>)
 }
 
 /// Gives up the places that a file has for index data that went, if any did, where it has no use for them.
-fn sweep_index(layers: &mut Layers, id: u32, gone: &Option<GoneData>)
+fn sweep_index(layers: &mut Layers, id: u32, gone: &Option<RemovedData>)
     ensures base { (other : ℕ) → base_of layers.new other ≡ base_of layers.old other }
     ensures overlay { (other : ℕ) → overlay_of layers.new other ≡ overlay_of layers.old other }
     ensures swept { IfSome gone.now (λ parts. IsSwept id parts layers.old layers.new) }
@@ -79,7 +79,7 @@ fn sweep_index(layers: &mut Layers, id: u32, gone: &Option<GoneData>)
 
 impl State {
     /// Carries one step out. It takes no memory.
-    fn carry_out(&mut self, step: Step) -> Gone
+    fn carry_out(&mut self, step: Step) -> Removed
         requires lawful { IsLawfulStep self.old.world step }
         requires room { HasStepRoom self.old.room step }
         requires rows { HasRowRoom self.old.room.files (one_if (is_some (put_row step.row))) }
@@ -104,11 +104,11 @@ impl State {
         let index = apply_index(&mut self.layers, id, step.index);
         let is_unready = is_unready_file(&self.files, &self.docs, id);
         self.unready.set(id, is_unready);
-        Gone { id, row, index }
+        Removed { id, row, index }
     }
 
     /// Carries steps out, one after another, and keeps what they took out. It takes no memory.
-    fn carry_out_all(&mut self, steps: Vec<Step>, gone: &mut Vec<Gone>)
+    fn carry_out_all(&mut self, steps: Vec<Step>, gone: &mut Vec<Removed>)
         requires ready { IsReady self.old steps.items }
         requires place { vec_len gone.old + vec_len steps ≤ vec_capacity gone.old }
         ensures world { self.new.world ≡ after_steps self.old.world steps.items }
@@ -124,7 +124,7 @@ impl State {
     }
 
     /// Gives up the room of what went, where nothing needs it now.
-    fn sweep(&mut self, gone: &Gone)
+    fn sweep(&mut self, gone: &Removed)
         ensures world { self.new.world ≡ self.old.world }
         ensures room { Sweeps gone.now self.old.room self.new.room }
     {
@@ -134,7 +134,7 @@ impl State {
     }
 
     /// The same of all that went.
-    fn sweep_all(&mut self, gone: &[Gone])
+    fn sweep_all(&mut self, gone: &[Removed])
         ensures world { self.new.world ≡ self.old.world }
         ensures room { SweepsAll gone.now self.old.room self.new.room }
     {
@@ -161,7 +161,7 @@ impl State {
     }
 
     /// The first of the files of which something went that is unready, if one is.
-    fn first_unready(&self, gone: &[Gone]) -> Option<u32>
+    fn first_unready(&self, gone: &[Removed]) -> Option<u32>
         ensures { result ≡ first_unready self.now.world (ids_of_gone gone.now) }
     {
         let mut left = gone;

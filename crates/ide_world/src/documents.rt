@@ -4,7 +4,7 @@ ghost use Rattle.write_history.specs.declared.change.Change.TheVariants.{OpenDoc
 ghost use Rattle.write_history.specs.Effect.{refusal_of};
 ghost use Rattle.dumb_mode.specs.Filter.{kind_of};
 ghost use Rattle.dumb_mode.specs.Unready.{is_indexed_at};
-ghost use Rattle.ide_world.specs.Drafted.{world_now};
+ghost use Rattle.ide_world.specs.Drafted.{drafted_world};
 ghost use Rattle.ide_world.specs.Builds.{Builds, overlay_edit, show_index, open_index, commit_index, close_index, edit_step};
 
 use crate::draft::Draft;
@@ -17,8 +17,8 @@ use std::alloc::{AllocError, Global};
 use vfs_core::FileRow;
 
 pub(crate) fn opened(alloc: Global, draft: &Draft<'_>, path: &Name) -> Result<Step, AllocError>
-    requires { refusal_of (world_now draft.now) (OpenDoc path.now) ≡ None }
-    ensures { IfOk result (Builds (world_now draft.now) (OpenDoc path.now)) }
+    requires { refusal_of (drafted_world draft.now) (OpenDoc path.now) ≡ None }
+    ensures { IfOk result (Builds (drafted_world draft.now) (OpenDoc path.now)) }
 {
     let Some(found) = draft.find(path) else {
         unreachable!()
@@ -40,8 +40,8 @@ pub(crate) fn inserted(
     at: u32,
     text: &SharedText,
 ) -> Result<Step, AllocError>
-    requires { refusal_of (world_now draft.now) (Insert path.now at text.now) ≡ None }
-    ensures { IfOk result (Builds (world_now draft.now) (Insert path.now at text.now)) }
+    requires { refusal_of (drafted_world draft.now) (Insert path.now at text.now) ≡ None }
+    ensures { IfOk result (Builds (drafted_world draft.now) (Insert path.now at text.now)) }
 {
     let Some(found) = draft.find(path) else {
         unreachable!()
@@ -56,8 +56,8 @@ pub(crate) fn inserted(
 }
 
 pub(crate) fn erased(draft: &Draft<'_>, path: &Name, from: u32, to: u32) -> Step
-    requires { refusal_of (world_now draft.now) (Erase path.now from to) ≡ None }
-    ensures { Builds (world_now draft.now) (Erase path.now from to) result }
+    requires { refusal_of (drafted_world draft.now) (Erase path.now from to) ≡ None }
+    ensures { Builds (drafted_world draft.now) (Erase path.now from to) result }
 {
     let Some(found) = draft.find(path) else {
         unreachable!()
@@ -79,8 +79,8 @@ fn edit_of(id: u32, doc: DocEdit) -> Step
 }
 
 pub(crate) fn committed(alloc: Global, draft: &Draft<'_>, path: &Name) -> Result<Step, AllocError>
-    requires { refusal_of (world_now draft.now) (Commit path.now) ≡ None }
-    ensures { IfOk result (Builds (world_now draft.now) (Commit path.now)) }
+    requires { refusal_of (drafted_world draft.now) (Commit path.now) ≡ None }
+    ensures { IfOk result (Builds (drafted_world draft.now) (Commit path.now)) }
 {
     let Some(found) = draft.find(path) else {
         unreachable!()
@@ -100,8 +100,8 @@ pub(crate) fn committed(alloc: Global, draft: &Draft<'_>, path: &Name) -> Result
 }
 
 pub(crate) fn saved(alloc: Global, draft: &Draft<'_>, path: &Name) -> Result<Step, AllocError>
-    requires { refusal_of (world_now draft.now) (Save path.now) ≡ None }
-    ensures { IfOk result (Builds (world_now draft.now) (Save path.now)) }
+    requires { refusal_of (drafted_world draft.now) (Save path.now) ≡ None }
+    ensures { IfOk result (Builds (drafted_world draft.now) (Save path.now)) }
 {
     let Some(found) = draft.find(path) else {
         unreachable!()
@@ -127,8 +127,8 @@ pub(crate) fn saved(alloc: Global, draft: &Draft<'_>, path: &Name) -> Result<Ste
 }
 
 pub(crate) fn closed(draft: &Draft<'_>, path: &Name) -> Result<Step, AllocError>
-    requires { refusal_of (world_now draft.now) (CloseDoc path.now) ≡ None }
-    ensures { IfOk result (Builds (world_now draft.now) (CloseDoc path.now)) }
+    requires { refusal_of (drafted_world draft.now) (CloseDoc path.now) ≡ None }
+    ensures { IfOk result (Builds (drafted_world draft.now) (CloseDoc path.now)) }
 {
     let Some(found) = draft.find(path) else {
         unreachable!()

@@ -49,7 +49,7 @@ pub(crate) struct Found<'a> {
 }
 
 impl<'a> Draft<'a> {
-    ghost use Rattle.ide_world.specs.Drafted.{world_now, IsDraft};
+    ghost use Rattle.ide_world.specs.Drafted.{drafted_world, IsDraft};
     ghost use Rattle.ide_world.specs.Walk.{summary_of};
     ghost use Rattle.ide_world.specs.Builds.{IsLiveAt};
 
@@ -69,7 +69,7 @@ impl<'a> Draft<'a> {
 
     /// The number of files that were ever made.
     pub(crate) fn made(&self) -> usize
-        ensures value { result ≡ length (world_now self.now).files }
+        ensures value { result ≡ length (drafted_world self.now).files }
         ensures draft { IsDraft self.now }
     {
         self.made
@@ -77,21 +77,21 @@ impl<'a> Draft<'a> {
 
     /// The number of open documents.
     pub(crate) fn open_count(&self) -> u32
-        ensures { result ≡ count_of is_open (world_now self.now) }
+        ensures { result ≡ count_of is_open (drafted_world self.now) }
     {
         self.opened
     }
 
     /// The stamp that is drawn next.
     pub(crate) fn next_stamp(&self) -> u64
-        ensures { result ≡ (world_now self.now).next_stamp }
+        ensures { result ≡ (drafted_world self.now).next_stamp }
     {
         self.next_stamp
     }
 
     /// The number of accepted entries.
     pub(crate) fn entries(&self) -> u64
-        ensures { result ≡ (world_now self.now).entries }
+        ensures { result ≡ (drafted_world self.now).entries }
     {
         let _ = &self.steps;
         self.state.entries()
@@ -99,14 +99,14 @@ impl<'a> Draft<'a> {
 
     /// The id of the live file at a path.
     pub(crate) fn id_of(&self, path: &Name) -> Option<u32>
-        ensures { result ≡ id_at (world_now self.now) path.now }
+        ensures { result ≡ id_at (drafted_world self.now) path.now }
     {
         walk::id(self.steps.as_slice(), path, self.state.id_of(path))
     }
 
     /// The row of a live file.
     pub(crate) fn row(&self, id: u32) -> Option<&FileRow>
-        ensures value { option_copied result ≡ row_part (file_of (world_now self.now) id) }
+        ensures value { option_copied result ≡ row_part (file_of (drafted_world self.now) id) }
         ensures draft { IsDraft self.now }
     {
         walk::row(self.steps.as_slice(), id, self.state.row(id))
@@ -115,8 +115,8 @@ impl<'a> Draft<'a> {
     /// The live file at a path.
     pub(crate) fn find(&self, path: &Name) -> Option<Found<'_>>
         ensures found { IfSome result
-            (λ found. IsLiveAt (world_now self.now) path.now found.id found.row.now) }
-        ensures none { IfNone result (id_at (world_now self.now) path.now ≡ None) }
+            (λ found. IsLiveAt (drafted_world self.now) path.now found.id found.row.now) }
+        ensures none { IfNone result (id_at (drafted_world self.now) path.now ≡ None) }
         ensures draft { IsDraft self.now }
     {
         let _ = &self.steps;
@@ -129,7 +129,7 @@ impl<'a> Draft<'a> {
 
     /// Whether a live file has the path.
     pub(crate) fn has_file_at(&self, path: &Name) -> bool
-        ensures { result ≡ is_some (id_at (world_now self.now) path.now) }
+        ensures { result ≡ is_some (id_at (drafted_world self.now) path.now) }
     {
         self.id_of(path).is_some()
     }
@@ -137,7 +137,7 @@ impl<'a> Draft<'a> {
     /// What the document of an id looks like, where it is open.
     pub(crate) fn summary(&self, id: u32) -> Option<Summary>
         ensures value { result
-            ≡ option_map summary_of (document_part (file_of (world_now self.now) id)) }
+            ≡ option_map summary_of (document_part (file_of (drafted_world self.now) id)) }
         ensures short { IfSome result (λ summary. summary.len ≤ 65 * 1048576) }
     {
         let first = summary_of(self.state, id);
@@ -146,7 +146,8 @@ impl<'a> Draft<'a> {
 
     /// What the document of the live file at a path looks like, where it is open.
     pub(crate) fn summary_at(&self, path: &Name) -> Option<Summary>
-        ensures value { result ≡ option_map summary_of (document_at (world_now self.now) path.now) }
+        ensures value { result
+            ≡ option_map summary_of (document_at (drafted_world self.now) path.now) }
         ensures short { IfSome result (λ summary. summary.len ≤ 65 * 1048576) }
     {
         self.summary(self.id_of(path)?)
@@ -155,7 +156,7 @@ impl<'a> Draft<'a> {
     /// The committed text of an open document.
     pub(crate) fn committed(&self, id: u32) -> Option<&SharedText>
         ensures { option_copied result
-            ≡ option_map (λ d. d.committed) (document_part (file_of (world_now self.now) id)) }
+            ≡ option_map (λ d. d.committed) (document_part (file_of (drafted_world self.now) id)) }
     {
         let first = committed_of(self.state, id);
         walk::committed(self.steps.as_slice(), id, first)
@@ -165,7 +166,7 @@ impl<'a> Draft<'a> {
     pub(crate) fn text(&self, id: u32) -> Result<Option<Text>, AllocError>
         ensures { IfOk result
             (λ text. text
-            ≡ option_map (λ d. d.text) (document_part (file_of (world_now self.now) id))) }
+            ≡ option_map (λ d. d.text) (document_part (file_of (drafted_world self.now) id))) }
     {
         let first = text_of(self.state, id)?;
         walk::text(self.steps.as_slice(), id, first)
@@ -175,7 +176,7 @@ impl<'a> Draft<'a> {
     /// of the document.
     pub(crate) fn is_uncommitted(&self, id: u32) -> Result<bool, AllocError>
         ensures value { IfOk result
-            (λ answer. answer ≡ is_uncommitted (document_part (file_of (world_now self.now) id))) }
+            (λ answer. answer ≡ is_uncommitted (document_part (file_of (drafted_world self.now) id))) }
         ensures known { OnErr result (self.now.steps ≢ []) }
     {
         if !walk::edits_texts(self.steps.as_slice(), id) {
@@ -194,10 +195,10 @@ impl<'a> Draft<'a> {
         id: u32,
         is_new: bool,
     ) -> Result<Option<SharedText>, AllocError>
-        requires { is_new ≡ is_uncommitted (document_part (file_of (world_now self.now) id)) }
+        requires { is_new ≡ is_uncommitted (document_part (file_of (drafted_world self.now) id)) }
         ensures { IfOk result
             (λ text. text
-            ≡ option_map (λ d. d.text) (document_part (file_of (world_now self.now) id))) }
+            ≡ option_map (λ d. d.text) (document_part (file_of (drafted_world self.now) id))) }
     {
         if is_new {
             return match self.text(id)? {
@@ -213,18 +214,18 @@ impl<'a> Draft<'a> {
 
     /// How many documents are open after a step.
     fn opened_after(&self, step: &Step) -> u32
-        requires { IsLawfulStep (world_now self.now) step.now }
-        ensures { result ≡ count_of is_open (after_step (world_now self.now) step.now) }
+        requires { IsLawfulStep (drafted_world self.now) step.now }
+        ensures { result ≡ count_of is_open (after_step (drafted_world self.now) step.now) }
     {
         let _ = &self.steps;
         let was_open = self.summary(step.id).is_some();
-        exchanged(self.opened, was_open, is_open_after(&step.doc, was_open))
+        count_after(self.opened, was_open, is_open_after(&step.doc, was_open))
     }
 
     /// How many files were made after a step.
     fn made_after(&self, step: &Step) -> usize
-        requires { IsLawfulStep (world_now self.now) step.now }
-        ensures value { result ≡ length (after_step (world_now self.now) step.now).files }
+        requires { IsLawfulStep (drafted_world self.now) step.now }
+        ensures value { result ≡ length (after_step (drafted_world self.now) step.now).files }
         ensures few { result ≤ 65536 }
     {
         if step.id as usize > self.made {
@@ -236,7 +237,7 @@ impl<'a> Draft<'a> {
 
     /// Adds a step.
     pub(crate) fn push(&mut self, step: Step) -> Result<(), AllocError>
-        requires lawful { IsLawfulStep (world_now self.old) step }
+        requires lawful { IsLawfulStep (drafted_world self.old) step }
         requires few { length self.old.steps < 64 }
         ensures ok { OnOk result
             (self.new ≡ record self.old { steps = self.old.steps ++ step ∷ [] }) }
@@ -314,7 +315,7 @@ fn later(stamp: u64, draws: bool) -> u64
 }
 
 /// A number of open documents, where one was open or not and is or isn't now.
-fn exchanged(count: u32, was_open: bool, is_open: bool) -> u32
+fn count_after(count: u32, was_open: bool, is_open: bool) -> u32
     requires some { one_if was_open ≤ count }
     requires few { count < 2 ^ 31 }
     ensures { result + one_if was_open ≡ count + one_if is_open }

@@ -4,7 +4,7 @@ ghost use Rattle.write_history.specs.declared.change.Change.TheVariants.{Create,
 ghost use Rattle.std.specs.Option.{option_copied};
 ghost use Rattle.write_history.specs.Effect.{refusal_of};
 ghost use Rattle.dumb_mode.specs.Filter.{kind_of};
-ghost use Rattle.ide_world.specs.Drafted.{world_now};
+ghost use Rattle.ide_world.specs.Drafted.{drafted_world};
 ghost use Rattle.ide_world.specs.Builds.{Builds, moved_index, intake_index};
 ghost use Rattle.overlay_index.specs.Parts.{parts_of};
 ghost use Rattle.ide_world.specs.Task.{IsOfWorld};
@@ -20,8 +20,8 @@ use std::alloc::{AllocError, Global};
 use vfs_core::FileRow;
 
 pub(crate) fn created(draft: &Draft<'_>, path: &Name, text: &SharedText) -> Result<Step, AllocError>
-    requires { refusal_of (world_now draft.now) (Create path.now text.now) ≡ None }
-    ensures { IfOk result (Builds (world_now draft.now) (Create path.now text.now)) }
+    requires { refusal_of (drafted_world draft.now) (Create path.now text.now) ≡ None }
+    ensures { IfOk result (Builds (drafted_world draft.now) (Create path.now text.now)) }
 {
     Ok(Step {
         id: draft.made() as u32 + 1,
@@ -45,8 +45,8 @@ pub(crate) fn written(
     path: &Name,
     text: &SharedText,
 ) -> Result<Step, AllocError>
-    requires { refusal_of (world_now draft.now) (Write path.now text.now) ≡ None }
-    ensures { IfOk result (Builds (world_now draft.now) (Write path.now text.now)) }
+    requires { refusal_of (drafted_world draft.now) (Write path.now text.now) ≡ None }
+    ensures { IfOk result (Builds (drafted_world draft.now) (Write path.now text.now)) }
 {
     let Some(found) = draft.find(path) else {
         unreachable!()
@@ -74,8 +74,8 @@ pub(crate) fn written(
 }
 
 pub(crate) fn deleted(draft: &Draft<'_>, path: &Name) -> Step
-    requires { refusal_of (world_now draft.now) (Delete path.now) ≡ None }
-    ensures { Builds (world_now draft.now) (Delete path.now) result }
+    requires { refusal_of (drafted_world draft.now) (Delete path.now) ≡ None }
+    ensures { Builds (drafted_world draft.now) (Delete path.now) result }
 {
     let Some(found) = draft.find(path) else {
         unreachable!()
@@ -95,8 +95,8 @@ pub(crate) fn moved(
     path: &Name,
     to: &Name,
 ) -> Result<Step, AllocError>
-    requires { refusal_of (world_now draft.now) (Move path.now to.now) ≡ None }
-    ensures { IfOk result (Builds (world_now draft.now) (Move path.now to.now)) }
+    requires { refusal_of (drafted_world draft.now) (Move path.now to.now) ≡ None }
+    ensures { IfOk result (Builds (drafted_world draft.now) (Move path.now to.now)) }
 {
     let Some(found) = draft.find(path) else {
         unreachable!()
@@ -142,10 +142,10 @@ fn moved_index(
 }
 
 pub(crate) fn taken_in(draft: &Draft<'_>, made: Made) -> Result<Step, AllocError>
-    requires accepted { refusal_of (world_now draft.now) (Intake made.file made.stamp) ≡ None }
-    requires of_world { IsOfWorld (world_now draft.now)
+    requires accepted { refusal_of (drafted_world draft.now) (Intake made.file made.stamp) ≡ None }
+    requires of_world { IsOfWorld (drafted_world draft.now)
         (record { file = made.file; kind = made.kind; stamp = made.stamp; content = made.text }) }
-    ensures { IfOk result (Builds (world_now draft.now) (Intake made.file made.stamp)) }
+    ensures { IfOk result (Builds (drafted_world draft.now) (Intake made.file made.stamp)) }
 {
     let Some(row) = draft.row(made.file) else {
         unreachable!()

@@ -7,10 +7,10 @@ ghost use Rattle.write_history.specs.World.{empty_world};
 ghost use Rattle.write_history.specs.Changes.{AreFew, is_edit};
 ghost use Rattle.write_history.specs.Effect.{refusal_of, max_entries};
 ghost use Rattle.write_history.specs.Fold.{after_list};
-ghost use Rattle.ide_world.specs.Held.{HasRoom};
+ghost use Rattle.ide_world.specs.StateView.{HasRoom};
 ghost use Rattle.ide_world.specs.Ready.{Makes, hinted, IsReadyFor, IsRefusalOf, IsListRefused};
 ghost use Rattle.ide_world.specs.Task.{IsOfWorld};
-ghost use Rattle.ide_world.specs.Drafted.{world_now, IsDraft, IsExtended};
+ghost use Rattle.ide_world.specs.Drafted.{drafted_world, IsDraft, IsExtended};
 ghost use Rattle.ide_world.specs.Alike.{AreAlike};
 ghost use Rattle.ide_world.specs.Lawful.{AreWide};
 ghost use Rattle.write_history.specs.declared.refusal.Refusal.TheVariants.{OutOfMemory};
@@ -147,11 +147,11 @@ pub fn install(state: &mut State, ready: Ready) -> Option<u32>
 fn extend(alloc: Global, draft: &mut Draft<'_>, change: &Change) -> Result<(), Refusal>
     requires edit { is_edit change.now ≡ true }
     requires few { length draft.old.steps < 64 }
-    ensures accepted { OnOk result (refusal_of (world_now draft.old) change.now ≡ None) }
+    ensures accepted { OnOk result (refusal_of (drafted_world draft.old) change.now ≡ None) }
     ensures extended { OnOk result (IsExtended draft.old draft.new change.now) }
     ensures first { draft.old.steps ≡ []
-        → IfSome (refusal_of (world_now draft.old) change.now) (λ why. result ≡ Err why) }
-    ensures refused { IfErr result (IsRefusalOf (refusal_of (world_now draft.old) change.now)) }
+        → IfSome (refusal_of (drafted_world draft.old) change.now) (λ why. result ≡ Err why) }
+    ensures refused { IfErr result (IsRefusalOf (refusal_of (drafted_world draft.old) change.now)) }
 {
     match refusal(draft, change) {
         Ok(None) => (),
@@ -168,7 +168,7 @@ fn extend(alloc: Global, draft: &mut Draft<'_>, change: &Change) -> Result<(), R
 fn add(alloc: Global, draft: &mut Draft<'_>, change: &Change) -> Result<(), AllocError>
     requires edit { is_edit change.now ≡ true }
     requires few { length draft.old.steps < 64 }
-    requires accepted { refusal_of (world_now draft.old) change.now ≡ None }
+    requires accepted { refusal_of (drafted_world draft.old) change.now ≡ None }
     ensures { OnOk result (IsExtended draft.old draft.new change.now) }
 {
     let step = step_of(alloc, draft, change)?;
@@ -178,8 +178,8 @@ fn add(alloc: Global, draft: &mut Draft<'_>, change: &Change) -> Result<(), Allo
 /// Adds the step of an accepted intake.
 fn taken_in(draft: &mut Draft<'_>, made: Made) -> Result<(), AllocError>
     requires few { length draft.old.steps < 64 }
-    requires accepted { refusal_of (world_now draft.old) (Intake made.file made.stamp) ≡ None }
-    requires of_world { IsOfWorld (world_now draft.old)
+    requires accepted { refusal_of (drafted_world draft.old) (Intake made.file made.stamp) ≡ None }
+    requires of_world { IsOfWorld (drafted_world draft.old)
         (record { file = made.file; kind = made.kind; stamp = made.stamp; content = made.text }) }
     ensures { OnOk result (IsExtended draft.old draft.new (Intake made.file made.stamp)) }
 {
@@ -190,8 +190,8 @@ fn taken_in(draft: &mut Draft<'_>, made: Made) -> Result<(), AllocError>
 /// The step of an accepted change.
 fn step_of(alloc: Global, draft: &Draft<'_>, change: &Change) -> Result<Step, AllocError>
     requires edit { is_edit change.now ≡ true }
-    requires accepted { refusal_of (world_now draft.now) change.now ≡ None }
-    ensures { IfOk result (Builds (world_now draft.now) change.now) }
+    requires accepted { refusal_of (drafted_world draft.now) change.now ≡ None }
+    ensures { IfOk result (Builds (drafted_world draft.now) change.now) }
 {
     match change {
         Change::Create { path, text } => files::created(draft, path, text),

@@ -3,7 +3,7 @@ ghost use Rattle.std.specs.Prelude.{◌≡◌, ◌≢◌, ℕ, List, Option, Som
 ghost use Rattle.write_history.specs.declared.change.Change.TheVariants.{Create, Write, Delete, OpenDoc, Insert, Erase, Commit, Save, CloseDoc, Intake, Move};
 ghost use Rattle.write_history.specs.Effect.{refusal_of, max_entries, is_unsaved};
 ghost use Rattle.write_history.specs.World.{document_at};
-ghost use Rattle.ide_world.specs.Drafted.{world_now};
+ghost use Rattle.ide_world.specs.Drafted.{drafted_world};
 
 use crate::draft::Draft;
 use ide_text::{MAX_CHARS, Name};
@@ -19,7 +19,8 @@ const MAX_DOCUMENTS: u32 = 1_024;
 /// Why a change is refused, if it is. Memory is asked for only where a step of the draft changes the document that is
 /// to be closed.
 pub(crate) fn refusal(draft: &Draft<'_>, change: &Change) -> Result<Option<Refusal>, AllocError>
-    ensures value { IfOk result (λ refusal. refusal ≡ refusal_of (world_now draft.now) change.now) }
+    ensures value { IfOk result
+        (λ refusal. refusal ≡ refusal_of (drafted_world draft.now) change.now) }
     ensures known { OnErr result (draft.now.steps ≢ []) }
 {
     match change {
@@ -43,7 +44,8 @@ pub(crate) fn refusal(draft: &Draft<'_>, change: &Change) -> Result<Option<Refus
 }
 
 fn create_refusal(draft: &Draft<'_>, path: &Name) -> Option<Refusal>
-    ensures { (text : List ℕ) → result ≡ refusal_of (world_now draft.now) (Create path.now text) }
+    ensures { (text : List ℕ)
+        → result ≡ refusal_of (drafted_world draft.now) (Create path.now text) }
 {
     if !is_lawful_path(path) {
         return Some(Refusal::BadPath);
@@ -60,8 +62,8 @@ fn create_refusal(draft: &Draft<'_>, path: &Name) -> Option<Refusal>
 /// Of a write and of a delete.
 fn conflict_refusal(draft: &Draft<'_>, path: &Name) -> Option<Refusal>
     ensures write { (text : List ℕ)
-        → result ≡ refusal_of (world_now draft.now) (Write path.now text) }
-    ensures delete { result ≡ refusal_of (world_now draft.now) (Delete path.now) }
+        → result ≡ refusal_of (drafted_world draft.now) (Write path.now text) }
+    ensures delete { result ≡ refusal_of (drafted_world draft.now) (Delete path.now) }
 {
     if !draft.has_file_at(path) {
         return Some(Refusal::NoSuchFile);
@@ -73,7 +75,7 @@ fn conflict_refusal(draft: &Draft<'_>, path: &Name) -> Option<Refusal>
 }
 
 fn open_refusal(draft: &Draft<'_>, path: &Name) -> Option<Refusal>
-    ensures { result ≡ refusal_of (world_now draft.now) (OpenDoc path.now) }
+    ensures { result ≡ refusal_of (drafted_world draft.now) (OpenDoc path.now) }
 {
     if !draft.has_file_at(path) {
         return Some(Refusal::NoSuchFile);
@@ -90,7 +92,7 @@ fn open_refusal(draft: &Draft<'_>, path: &Name) -> Option<Refusal>
 fn insert_refusal(draft: &Draft<'_>, path: &Name, at: u32, count: u32) -> Option<Refusal>
     requires { count ≤ 1048576 }
     ensures { (text : List ℕ) → length text ≡ count
-        → result ≡ refusal_of (world_now draft.now) (Insert path.now at text) }
+        → result ≡ refusal_of (drafted_world draft.now) (Insert path.now at text) }
 {
     if !draft.has_file_at(path) {
         return Some(Refusal::NoSuchFile);
@@ -112,7 +114,7 @@ fn insert_refusal(draft: &Draft<'_>, path: &Name, at: u32, count: u32) -> Option
 }
 
 fn erase_refusal(draft: &Draft<'_>, path: &Name, from: u32, to: u32) -> Option<Refusal>
-    ensures { result ≡ refusal_of (world_now draft.now) (Erase path.now from to) }
+    ensures { result ≡ refusal_of (drafted_world draft.now) (Erase path.now from to) }
 {
     if !draft.has_file_at(path) {
         return Some(Refusal::NoSuchFile);
@@ -130,8 +132,8 @@ fn erase_refusal(draft: &Draft<'_>, path: &Name, from: u32, to: u32) -> Option<R
 
 /// Of a commit and of a save.
 fn closed_refusal(draft: &Draft<'_>, path: &Name) -> Option<Refusal>
-    ensures commit { result ≡ refusal_of (world_now draft.now) (Commit path.now) }
-    ensures save { result ≡ refusal_of (world_now draft.now) (Save path.now) }
+    ensures commit { result ≡ refusal_of (drafted_world draft.now) (Commit path.now) }
+    ensures save { result ≡ refusal_of (drafted_world draft.now) (Save path.now) }
 {
     if !draft.has_file_at(path) {
         return Some(Refusal::NoSuchFile);
@@ -144,7 +146,7 @@ fn closed_refusal(draft: &Draft<'_>, path: &Name) -> Option<Refusal>
 
 fn close_refusal(draft: &Draft<'_>, path: &Name) -> Result<Option<Refusal>, AllocError>
     ensures value { IfOk result
-        (λ refusal. refusal ≡ refusal_of (world_now draft.now) (CloseDoc path.now)) }
+        (λ refusal. refusal ≡ refusal_of (drafted_world draft.now) (CloseDoc path.now)) }
     ensures known { OnErr result (draft.now.steps ≢ []) }
 {
     let Some(id) = draft.id_of(path) else {
@@ -163,7 +165,7 @@ fn close_refusal(draft: &Draft<'_>, path: &Name) -> Result<Option<Refusal>, Allo
 }
 
 pub(crate) fn intake_refusal(draft: &Draft<'_>, file: u32, stamp: u64) -> Option<Refusal>
-    ensures { result ≡ refusal_of (world_now draft.now) (Intake file stamp) }
+    ensures { result ≡ refusal_of (drafted_world draft.now) (Intake file stamp) }
 {
     let Some(row) = draft.row(file) else {
         return Some(Refusal::NoSuchFile);
@@ -178,7 +180,7 @@ pub(crate) fn intake_refusal(draft: &Draft<'_>, file: u32, stamp: u64) -> Option
 }
 
 fn move_refusal(draft: &Draft<'_>, path: &Name, to: &Name) -> Option<Refusal>
-    ensures { result ≡ refusal_of (world_now draft.now) (Move path.now to.now) }
+    ensures { result ≡ refusal_of (drafted_world draft.now) (Move path.now to.now) }
 {
     if !is_lawful_path(to) {
         return Some(Refusal::BadPath);
@@ -194,7 +196,7 @@ fn move_refusal(draft: &Draft<'_>, path: &Name, to: &Name) -> Option<Refusal>
 
 /// Whether the file at a path has a document whose text it doesn't have.
 fn is_unsaved_at(draft: &Draft<'_>, path: &Name) -> bool
-    ensures { result ≡ is_unsaved (document_at (world_now draft.now) path.now) }
+    ensures { result ≡ is_unsaved (document_at (drafted_world draft.now) path.now) }
 {
     match draft.summary_at(path) {
         Some(summary) => !summary.saved,
@@ -205,7 +207,7 @@ fn is_unsaved_at(draft: &Draft<'_>, path: &Name) -> bool
 /// The last reason to refuse any change.
 fn fullness(draft: &Draft<'_>) -> Option<Refusal>
     ensures { result
-        ≡ (if nat_le max_entries (world_now draft.now).entries then Some Refusal.HistoryFull
+        ≡ (if nat_le max_entries (drafted_world draft.now).entries then Some Refusal.HistoryFull
         else None) }
 {
     if draft.entries() >= MAX_ENTRIES {

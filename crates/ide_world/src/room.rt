@@ -1,12 +1,12 @@
 //! Making room for steps, so that carrying them out takes no memory.
 ghost use Rattle.std.specs.Prelude.{◌≡◌, ◌≤◌, ◌<◌, ◌+◌, ℕ, true, List, length, IsSome, IfSome, IfOk, OnOk};
-ghost use Rattle.vfs_core.specs.Held.{HasRowRoom, HasPathRoom, KeepsRoom as KeepsFileRoom};
-ghost use Rattle.document_buf.specs.Held.{document_of, room_of, open_of, HasPlace, KeepsRoom as KeepsDocRoom, SameDocuments};
+ghost use Rattle.vfs_core.specs.FilesView.{HasRowRoom, HasPathRoom, KeepsRoom as KeepsFileRoom};
+ghost use Rattle.document_buf.specs.DocsView.{document_of, room_of, open_of, HasPlace, KeepsRoom as KeepsDocRoom, SameDocuments};
 ghost use Rattle.overlay_index.specs.Layers.{base_of, overlay_of, HasRoom as HasLayerRoom, HasPlace as HasLayerPlace, KeepsRoom as KeepsLayerRoom, KeepsPlace as KeepsLayerPlace};
 ghost use Rattle.ide_world.specs.RowEdits.{put_row};
 ghost use Rattle.ide_world.specs.DocEdits.{inserted_by};
 ghost use Rattle.ide_world.specs.Room.{opens, brought, shows_on, room_needed, HasStepRoom, HasRoomIn, KeepsRoom, KeepsCounts};
-ghost use Rattle.ide_world.specs.Held.{HasRoom};
+ghost use Rattle.ide_world.specs.StateView.{HasRoom};
 
 use crate::steps::room_needed;
 use crate::{DocEdit, IndexEdit, RowEdit, State, Step, Steps};

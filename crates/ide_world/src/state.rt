@@ -8,10 +8,10 @@ ghost use Rattle.ide_world.specs.Step.{row_part, document_part, after_steps};
 ghost use Rattle.ide_world.specs.Unready.{first_unready_from};
 ghost use Rattle.ide_world.specs.Sound.{IsSoundWorld};
 ghost use Rattle.ide_world.specs.Lawful.{AreLawful};
-ghost use Rattle.ide_world.specs.Held.{HasRoom};
+ghost use Rattle.ide_world.specs.StateView.{HasRoom};
 
 use crate::Steps;
-use crate::marks::Marks;
+use crate::id_set::IdSet;
 use document_buf::{Doc, Docs};
 use ide_text::Name;
 use overlay_index::Layers;
@@ -26,14 +26,14 @@ pub struct State {
     pub(crate) docs: Docs,
     pub(crate) layers: Layers,
     /// The ids of the unready files are on.
-    pub(crate) unready: Marks,
+    pub(crate) unready: IdSet,
     pub(crate) entries: u64,
 }
 
 impl Model for State {
-    ghost use Rattle.ide_world.specs.Held.{Held};
+    ghost use Rattle.ide_world.specs.StateView.{StateView};
 
-    ghost Value = { Held };
+    ghost Value = { StateView };
 
     ghost use Rattle.ide_world.specs.State.{held, IsSound};
 
@@ -51,7 +51,7 @@ impl State {
             files: Files::new(alloc),
             docs: Docs::new(alloc),
             layers: Layers::new(alloc),
-            unready: Marks::new(alloc),
+            unready: IdSet::new(alloc),
             entries: 0,
         }
     }

@@ -5,7 +5,7 @@ ghost use Rattle.ide_world.specs.DocEdits.{IsWide};
 ghost use Rattle.ide_world.specs.Lawful.{AreWide};
 ghost use Rattle.ide_world.specs.Alike.{bare_step, AreAlike};
 
-use crate::apply::Gone;
+use crate::apply::Removed;
 use crate::{DocEdit, Step};
 use std::alloc::{AllocError, Global};
 use std::marker::Model;
@@ -17,7 +17,7 @@ pub const MAX_STEPS: usize = 64;
 #[derive(Drop)]
 pub struct Steps {
     pub(crate) steps: Vec<Step>,
-    pub(crate) gone: Vec<Gone>,
+    pub(crate) gone: Vec<Removed>,
 }
 
 impl Model for Steps {

@@ -6,16 +6,16 @@ use Rattle.std.specs.List.Sorted.{IsStrictlySortedBy}
 use Rattle.std.specs.Ordering.{is_lt, match_ordering}
 use Rattle.std.specs.Str.{all_scalars}
 use Rattle.std.specs.Map.{keys_of as names_of}
-use Rattle.std.specs.BTreeMap.{insert_entry, is_at}
+use Rattle.std.specs.BTreeMap.{insert_entry}
 use Rattle.std.proofs.lemmas.Bool.{and_parts, lt-ltb, ltb-true}
 use Rattle.std.proofs.lemmas.List.Elements.{Contains-append_right}
 use Rattle.std.proofs.lemmas.Nat.{or_lt, le_or_r}
 use Rattle.list_laws.proofs.BoolLemmas.{bool_cases}
-use Rattle.list_laws.proofs.FrontLemmas.{All-weaken}
+use Rattle.list_laws.proofs.PrefixLemmas.{All-weaken}
 use Rattle.stub_tree.specs.declared.stub.Stub.{Stub}
 use Rattle.stub_tree.specs.Lawful.{IsLawfulName}
-use Rattle.java_tokens.specs.declared.place.Place.{Place}
-use Rattle.java_tokens.specs.declared.place.Place.TheVariants.{Code, Comment, String}
+use Rattle.java_tokens.specs.declared.context.Context.{Context}
+use Rattle.java_tokens.specs.declared.context.Context.TheVariants.{Code, Comment, String}
 use Rattle.java_tokens.specs.Token.{Token}
 use Rattle.java_tokens.specs.Chars.{begins_word, first_passes}
 use Rattle.java_tokens.specs.Tokens.{characters_of, tokens_of}
@@ -23,7 +23,8 @@ use Rattle.java_tokens.specs.Identifier.{is_word}
 use Rattle.java_tokens.specs.Words.{WordRow, bit_of, ends_word, words_among, words_in, marked, words_at, shown_at, is_identifier_token, is_comment, is_string, occurrences_at, occurrences_of, name_cmp, mask_in, with_occurrence, words_of, AreInOrder}
 use Rattle.decl_parser.specs.Listing.{listing_of, IsNamedIn}
 use Rattle.property_index.specs.Keys.{RiseFrom}
-use Rattle.index_store.specs.Lawful.{AllAfter, is_spelled, are_spelled, word_rises, IsWord, key_rises, IsKey}
+use Rattle.byte_fields.specs.Reading.{AllAfter}
+use Rattle.index_store.specs.Lawful.{is_spelled, are_spelled, word_rises, IsWord, key_rises, IsKey}
 
 -- each identifier among the tokens of a text is one whole word
 abbrev pub IdentifiersAreWords : Type 0
@@ -50,8 +51,7 @@ insert_marked (w ∷ ws) name mask each this =
 
 mask_few : (ws : List WordRow) (name : List ℕ) → AreMarked ws → unwrap_or (mask_in ws name) 0 < 8
 mask_few [] name each = omega arith
-mask_few (w ∷ ws) name each =
-    elim (is_at (name_cmp name) w.0) as (λ b. unwrap_or (cond b (Some w.1) (mask_in ws name)) 0 < 8) [ true ↦ each.0.2 | false ↦ mask_few ws name each.1 ]
+mask_few (w ∷ ws) name each = grind (arith, each.0.2, mask_few ws name each.1)
 
 fold_marked : (os ws : List WordRow) → AreMarked os → AreMarked ws → AreMarked (fold with_occurrence ws os)
 fold_marked [] ws each had = had
@@ -62,11 +62,11 @@ fold_marked (o ∷ os) ws each had =
 
 -- ---- what occurs
 
-bit_bounds : (place : Place) → (1 ≤ bit_of place) × (bit_of place < 8)
+bit_bounds : (place : Context) → (1 ≤ bit_of place) × (bit_of place < 8)
 bit_bounds Code = (omega arith, omega arith)
 bit_bounds other = (omega arith, omega arith)
 
-marked_in : (place : Place) (names : List (List ℕ)) → AllByRecursion (λ n. n ≢ []) names → AreMarked (marked place names)
+marked_in : (place : Context) (names : List (List ℕ)) → AllByRecursion (λ n. n ≢ []) names → AreMarked (marked place names)
 marked_in place [] each = tt
 marked_in place (n ∷ ns) each = let bit = bit_bounds place in ((each.0, bit.0, bit.1), marked_in place ns each.1)
 
@@ -80,7 +80,7 @@ some_words ([] ∷ runs) = some_words runs
 some_words ((c ∷ cs) ∷ runs) =
     one_of (AllByRecursion (λ n. n ≢ [])) (first_passes begins_word (c ∷ cs)) _ _ ((λ none. absurd cc), some_words runs) (some_words runs)
 
-marked_at : (place : Place) (cs : List ℕ) → AreMarked (words_at place cs)
+marked_at : (place : Context) (cs : List ℕ) → AreMarked (words_at place cs)
 unfolding words_in
 marked_at place cs = marked_in place (words_in (shown_at place cs)) (some_words (slice_split ends_word (shown_at place cs)))
 

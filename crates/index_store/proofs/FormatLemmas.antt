@@ -1,108 +1,45 @@
 -- Bytes that are read are those of a store, and the bytes of a store are read.
-use Rattle.std.proofs.Common.{◌≡◌, ℕ, zero, suc, ◌-◌, ◌*◌, ◌^◌, ◌<◌, ◌≤◌, Bool, true, false, not, ◌&&◌, ◌==◌, cond, eqb, ltb, leb, List, [], ◌∷◌, ◌++◌, length, take, drop, All, Option, Some, None, Result, Ok, Err, refl, sym, ap, subst, ◌∙◌, append_assoc, arith, encode_utf8_all}
+use Rattle.std.proofs.Common.{◌≡◌, ℕ, suc, ◌-◌, ◌*◌, ◌^◌, ◌<◌, ◌≤◌, true, not, ◌&&◌, ◌==◌, eqb, ltb, leb, List, [], ◌∷◌, ◌++◌, length, take, drop, All, Option, None, Result, Ok, Err, refl, sym, ap, subst, ◌∙◌, append_assoc, arith, encode_utf8_all}
 use Rattle.std.specs.Char.{encode_utf8}
-use Rattle.std.specs.List.{flat_map, list_all}
+use Rattle.std.specs.List.{list_all}
 use Rattle.std.specs.Str.{all_scalars}
 use Rattle.std.proofs.lemmas.Bool.{and_parts, and_from, not-true, eqb-true, leb-true, le-leb, ltb-true, lt-ltb}
+use Rattle.std.proofs.lemmas.Bool.Decides.{nat_tests}
 use Rattle.std.proofs.Math.ListN.{replicate}
 use Rattle.std.proofs.lemmas.List.Sums.{AllPass-from_list_all, list_all-from_AllPass}
 use Rattle.std.proofs.lemmas.List.{append-nil, nil_from_length, length-append, length-take, take_at, drop_at, take-append-drop}
 use Rattle.std.proofs.lemmas.Str.{length-encode, len_utf8_bounds}
-use Rattle.list_laws.proofs.BoolLemmas.{bool_cases}
-use Rattle.list_laws.proofs.FrontLemmas.{All-weaken}
+use Rattle.list_laws.proofs.PrefixLemmas.{All-weaken}
 use Rattle.ide_text.specs.Text.{max_chars, carriage_return, IsText, HasNoReturn}
 use Rattle.dumb_mode.specs.declared.kind.FileKind.{FileKind}
 use Rattle.dumb_mode.specs.declared.kind.FileKind.TheVariants.{Java, Properties}
 use Rattle.stub_tree.specs.declared.stub.Stub.{Stub}
-use Rattle.byte_fields.specs.Spelling.{number, name}
-use Rattle.byte_fields.specs.Reading.{◌>>=◌, checked, byte_at, number_at, characters_at, name_at}
+use Rattle.byte_fields.specs.Spelling.{number, name, counted}
+use Rattle.byte_fields.specs.Reading.{byte_at, number_at, characters_at, name_at, counted_at}
 use Rattle.stub_codec.specs.Spelling.{spelling, IsStubBytes}
 use Rattle.stub_codec.specs.Reading as stubs
-use Rattle.field_laws.proofs.FieldLemmas.{IsBytes, IsBytes-take, IsBytes-drop, bytes_below, bind_ok, ok_is, Takes, Takes-then, byte_takes, number_takes, number_again, characters_takes, characters_again, name_takes, name_again, some_bytes}
-use Rattle.field_laws.proofs.ManyLemmas as many
-use Rattle.field_laws.proofs.ManyLemmas.{many_takes, many_again}
-use Rattle.index_store.specs.Data.{Entry, code_of}
-use Rattle.index_store.specs.Spelling.{Row, versions, counted, word, key, data_bytes, row_bytes, store_bytes}
-use Rattle.index_store.specs.Lawful.{AllAfter, word_rises, IsWord, key_rises, IsKey, AreStubs, IsData, entry_rises, IsRow, IsStoreBytes}
-use Rattle.index_store.specs.Reading.{other_version_from, other_version, counted_at, is_mask, word_at, key_at, field, stubs_at, data_at, kind_by, kind_at, may_be_text, entry_at, behind, row_at, all_of}
-
--- ---- steps of a reader
-
--- what is read is spelled so, and is good
-abbrev IsRead : {A : Type 0} → (A → List ℕ) → (A → Type 0) → List ℕ → A × List ℕ → Type 0
-IsRead spell Good bytes x = Takes bytes (spell x.0) x.1 × Good x.0
-
-abbrev Reads : {A : Type 0} → (List ℕ → Result (A × List ℕ) ℕ) → (A → List ℕ) → (A → Type 0) → Type 0
-Reads {A} read spell Good = (bytes : List ℕ) (x : A × List ℕ) → IsBytes bytes → read bytes ≡ Ok x → IsRead spell Good bytes x
-
--- what is good and spelled so is read, whatever follows it
-abbrev ReadsBack : {A : Type 0} → (List ℕ → Result (A × List ℕ) ℕ) → (A → List ℕ) → (A → Type 0) → Type 0
-ReadsBack {A} read spell Good = (x : A) (rest : List ℕ) → Good x → read (spell x ++ rest) ≡ Ok (x, rest)
-
--- the value of a step that met no fault, with what is known of it
-step : {A B : Type 0} (r : Result A ℕ) (T : A → Type 0) (f : A → Result B ℕ) (y : B) → ((x : A) → r ≡ Ok x → T x) → (r >>= f) ≡ Ok y
-    → (x : A) × T x × (f x ≡ Ok y)
-step (Ok x) T f y law e = (x, law x refl, e)
-step (Err left) T f y law e = absurd cc
-
--- a test that met no fault
-passed : {B : Type 0} (b : Bool) (bytes : List ℕ) (f : Unit {0} → Result B ℕ) (y : B) → (checked b bytes >>= f) ≡ Ok y → (b ≡ true) × (f tt ≡ Ok y)
-passed true bytes f y e = (refl, e)
-passed false bytes f y e = absurd cc
-
--- ---- so many of a kind behind their number
-
-module _ {A : Type 0} (one : Option A → List ℕ → Result (A × List ℕ) ℕ) (Good : Option A → A → Type 0) (spell : A → List ℕ) where
-  same_after : (before : Option A) (xs : List A) → many.AllAfter one Good spell before xs ≡ AllAfter Good before xs
-  same_after before [] = refl
-  same_after before (x ∷ xs) = ap (λ (t : Type 0). Good before x × t) (same_after (Some x) xs)
-
-  abbrev AreCounted : List A → Type 0
-  AreCounted xs = AllAfter Good None xs × (length xs < 2 ^ 32)
-
-  counted_takes : ((before : Option A) → Reads (one before) spell (Good before)) → Reads (counted_at one) (counted spell) AreCounted
-  unfolding counted_at
-  counted_takes each bytes x fits e =
-      let c = step (number_at bytes) _ _ x (λ n. number_takes bytes n fits) e in
-      let m = many_takes one Good spell each c.0.0 None c.0.1 x c.1.0.rest_fits c.2 in
-      let takes = subst (λ k. Takes bytes (number k ++ flat_map spell x.0) x.1) (sym m.1) (Takes-then _ _ _ _ _ c.1.0 m.0) in
-      (takes, (subst (λ (t : Type 0). t) (same_after None x.0) m.2, omega (arith, c.1.1, m.1)))
-
-  counted_again : ((before : Option A) → ReadsBack (one before) spell (Good before)) → ReadsBack (counted_at one) (counted spell) AreCounted
-  unfolding counted_at
-  counted_again again xs rest is =
-      ap (counted_at one) (append_assoc (number (length xs)) (flat_map spell xs) rest)
-      ∙ rw (number_again (length xs) (flat_map spell xs ++ rest) is.1)
-      (many_again one Good spell again xs None rest (subst (λ (t : Type 0). t) (sym (same_after None xs)) is.0))
-
--- a number, and so many bytes of characters
-name_parts : (bytes : List ℕ) (l : ℕ × List ℕ) (x : List ℕ × List ℕ) → Takes bytes (number l.0) l.1 → characters_at l.0 l.1 ≡ Ok x
-    → IsRead name (λ n. all_scalars n ≡ true) bytes x
-name_parts bytes l x front e =
-    let read = characters_takes l.0 l.1 x front.rest_fits e in
-    (subst (λ k. Takes bytes (number k ++ encode_utf8_all x.0) x.1) (sym read.len_is) (Takes-then _ _ _ _ _ front read.takes), read.scalars)
+use Rattle.field_laws.proofs.FieldLemmas.{IsBytes, IsBytes-take, IsBytes-drop, bytes_below, bind_ok, step, passed, ok_is, Takes, Takes-then, IsRead, Reads, ReadsBack, name_parts, byte_takes, number_takes, number_again, characters_again, name_takes, name_again, some_bytes}
+use Rattle.field_laws.proofs.ManyLemmas.{counted_takes, counted_again}
+use Rattle.index_store.specs.Data.{StoreEntry, code_of}
+use Rattle.index_store.specs.Spelling.{StoreRow, versions, word, key, data_bytes, row_bytes}
+use Rattle.index_store.specs.Lawful.{word_rises, IsWord, key_rises, IsKey, AreStubs, IsData, entry_rises, IsRow, IsStoreBytes}
+use Rattle.index_store.specs.Reading.{other_version_from, other_version, is_mask, word_at, key_at, field, stubs_at, data_at, kind_by, kind_at, may_be_text, entry_at, behind, row_at, all_of}
 
 -- ---- words
 
--- a number that isn't 0, and so many bytes of characters
-named_at : (bytes : List ℕ) (l : ℕ × List ℕ) (x : List ℕ × List ℕ) → number_at bytes ≡ Ok l → ltb 0 l.0 ≡ true → characters_at l.0 l.1 ≡ Ok x
-    → name_at bytes ≡ Ok x
-unfolding name_at
-named_at bytes l x number_is some characters_are = rw (number_is, some) characters_are
-
 word_takes : (before : Option (List ℕ × ℕ)) → Reads (word_at before) word (IsWord before)
-unfolding word_at
+unfolding word_at name_at
 word_takes before bytes x fits e =
     let l = bind_ok (number_at bytes) _ x e in
     let some = passed (ltb 0 l.0.0) bytes _ x l.2 in
-    let n = step (characters_at l.0.0 l.0.1) _ _ x (λ n is. name_takes bytes n fits (named_at bytes l.0 n l.1 some.0 is)) some.1 in
+    let n = step (characters_at l.0.0 l.0.1) _ _ x (λ n is. name_takes bytes n fits (rw (l.1, some.0) is)) some.1 in
     let rises = passed (word_rises before n.0.0) l.0.1 _ x n.2 in
     let m = step (byte_at n.0.1) _ _ x (λ m. byte_takes n.0.1 m n.1.0.rest_fits) rises.1 in
     let known = passed (is_mask m.0.0) n.0.1 _ x m.2 in
     let mask = and_parts (leb 1 m.0.0) (leb m.0.0 7) known.0 in
     subst (IsRead word (IsWord before) bytes) (ok_is _ x known.1) (
-      Takes-then _ _ _ _ _ n.1.0 m.1.0,
-      record { named = n.1.1; scalars = n.1.2; rises = rises.0; masked = (leb-true 1 m.0.0 mask.0, leb-true m.0.0 7 mask.1) },
+      Takes-then n.1.0 m.1.0,
+      record { named = n.1.1.0; scalars = n.1.1.1; rises = rises.0; masked = (leb-true 1 m.0.0 mask.0, leb-true m.0.0 7 mask.1) },
     )
 
 word_again : (before : Option (List ℕ × ℕ)) → ReadsBack (word_at before) word (IsWord before)
@@ -124,14 +61,14 @@ key_takes len before bytes x fits e =
     let lawful = passed (key_rises before a.0.0 && ltb a.0.0 len) n.0.1 _ x a.2 in
     let both = and_parts (key_rises before a.0.0) (ltb a.0.0 len) lawful.0 in
     subst (IsRead key (IsKey len before) bytes) (ok_is _ x lawful.1)
-    (Takes-then _ _ _ _ _ n.1.0 a.1.0, record { named = n.1.1; scalars = n.1.2; rises = both.0; inside = ltb-true a.0.0 len both.1 })
+    (Takes-then n.1.0 a.1.0, record { named = n.1.1.0; scalars = n.1.1.1; rises = both.0; inside = ltb-true a.0.0 len both.1 })
 
 key_again : (len : ℕ) → len ≤ max_chars → (before : Option (List ℕ × ℕ)) → ReadsBack (key_at len before) key (IsKey len before)
 unfolding key_at
 key_again len few before k rest is =
     let test : (key_rises before k.1 && ltb k.1 len) ≡ true = and_from _ _ is.rises (lt-ltb k.1 len is.inside) in
     ap (key_at len before) (append_assoc (name k.0) (number k.1) rest)
-    ∙ rw (name_again k.0 (number k.1 ++ rest) is.named is.scalars, number_again k.1 rest (omega (arith, few, is.inside)), test) refl
+    ∙ rw (name_again k.0 (number k.1 ++ rest) (is.named, is.scalars), number_again k.1 rest (omega (arith, few, is.inside)), test) refl
 
 -- ---- declarations
 
@@ -161,7 +98,7 @@ stubs_takes lists len bytes x fits e =
     let parts : rest ≡ spelling s.0 ++ drop size rest = sym (take-append-drop size rest) ∙ ap (λ (l : List ℕ). l ++ drop size rest) is.spelled in
     subst (IsRead of_stubs (AreStubs len) bytes) (ok_is _ x inside.1) (
       subst (λ k. Takes bytes (number k ++ spelling s.0) (drop size rest)) (sym size_is)
-          (Takes-then _ _ _ _ _ n.1.0 (record { parts = parts; rest_fits = IsBytes-drop size rest n.1.0.rest_fits })),
+          (Takes-then n.1.0 (record { parts = parts; rest_fits = IsBytes-drop size rest n.1.0.rest_fits })),
       record {
         lawful = is.lawful;
         scalars = is.scalars;
@@ -192,7 +129,7 @@ data_takes lists Java len bytes x fits e =
     let s = step (stubs_at len bytes) _ _ x (λ s. stubs_takes lists len bytes s fits) e in
     let w = step (counted_at word_at s.0.1) _ _ x (λ w. counted_takes word_at IsWord word word_takes s.0.1 w s.1.0.rest_fits) s.2 in
     subst (IsRead (data_bytes Java) (IsData Java len) bytes) (ok_is _ x w.2)
-    (Takes-then _ _ _ _ _ s.1.0 w.1.0, (s.1.1, w.1.1.0, w.1.1.1, refl))
+    (Takes-then s.1.0 w.1.0, (s.1.1, w.1.1.0, w.1.1.1, refl))
 data_takes lists Properties len bytes x fits e =
     let k = step (counted_at (key_at len) bytes) _ _ x (λ k. counted_takes (key_at len) (IsKey len) key (key_takes len) bytes k fits) e in
     subst (IsRead (data_bytes Properties) (IsData Properties len) bytes) (ok_is _ x k.2) (k.1.0, (refl, refl, k.1.1.0, k.1.1.1))
@@ -210,9 +147,7 @@ data_again lists Properties len few d rest is =
 
 no_return : (cs : List ℕ) → list_all (λ c. not (c == carriage_return)) cs ≡ true → HasNoReturn cs
 no_return [] e = tt
-no_return (c ∷ cs) e =
-    let both = and_parts (not (c == carriage_return)) (list_all (λ d. not (d == carriage_return)) cs) e in
-    (not-true _ both.0, no_return cs both.1)
+no_return (c ∷ cs) e = let both = and_parts (not (c == carriage_return)) _ e in (not-true _ both.0, no_return cs both.1)
 
 no_return_all : (cs : List ℕ) → HasNoReturn cs → list_all (λ c. not (c == carriage_return)) cs ≡ true
 no_return_all [] none = refl
@@ -221,7 +156,7 @@ no_return_all (c ∷ cs) none = and_from (not (c == carriage_return)) _ (ap not 
 -- characters that are those of a text are one
 is_text : (cs : List ℕ) → may_be_text cs ≡ true → all_scalars cs ≡ true → IsText cs
 is_text cs may scalars =
-    let both = and_parts (leb (length cs) max_chars) (list_all (λ c. not (c == carriage_return)) cs) may in
+    let both = and_parts (leb (length cs) max_chars) _ may in
     record { few = leb-true (length cs) max_chars both.0; scalars = scalars; no_return = no_return cs both.1 }
 
 -- a character takes at most four bytes
@@ -233,12 +168,7 @@ pub text_short : (cs : List ℕ) → IsText cs → length (encode_utf8_all cs) <
 text_short cs is = omega (arith, is.few, bytes_few cs)
 
 code_is : (code : ℕ) → (leb 1 code && leb code 2) ≡ true → code ≡ code_of (kind_by code)
-code_is zero known = absurd cc
-code_is (suc zero) known = refl
-code_is (suc (suc zero)) known = refl
-code_is (suc (suc (suc code))) known =
-    let high = leb-true (suc (suc (suc code))) 2 (and_parts (leb 1 (suc (suc (suc code)))) _ known).1 in
-    absurd (omega (arith, high))
+code_is code known = grind (arith, nat_tests, known)
 
 kind_takes : Reads kind_at (λ kind. code_of kind ∷ []) (λ kind. Unit {0})
 unfolding kind_at
@@ -253,24 +183,24 @@ unfolding kind_at
 kind_again Java rest = refl
 kind_again Properties rest = refl
 
-abbrev of_entry : Entry → List ℕ
+abbrev of_entry : StoreEntry → List ℕ
 of_entry e = code_of e.kind ∷ name e.text
 
-abbrev IsEntry : Option Row → Entry → Type 0
+abbrev IsEntry : Option StoreRow → StoreEntry → Type 0
 IsEntry before e = IsText e.text × (entry_rises before e ≡ true)
 
-entry_takes : (before : Option Row) → Reads (entry_at before) of_entry (IsEntry before)
+entry_takes : (before : Option StoreRow) → Reads (entry_at before) of_entry (IsEntry before)
 unfolding entry_at
 entry_takes before bytes x fits e =
     let k = step (kind_at bytes) _ _ x (λ k. kind_takes bytes k fits) e in
     let l = step (number_at k.0.1) _ _ x (λ l. number_takes k.0.1 l k.1.0.rest_fits) k.2 in
     let n = step (characters_at l.0.0 l.0.1) _ _ x (λ n. name_parts k.0.1 l.0 n l.1.0) l.2 in
     let lawful = passed (may_be_text n.0.0) l.0.1 _ x n.2 in
-    let read : Entry = record { text = n.0.0; kind = k.0.0 } in
+    let read : StoreEntry = record { text = n.0.0; kind = k.0.0 } in
     let rises = passed (entry_rises before read) l.0.1 _ x lawful.1 in
-    subst (IsRead of_entry (IsEntry before) bytes) (ok_is _ x rises.1) (Takes-then _ _ _ _ _ k.1.0 n.1.0, (is_text n.0.0 lawful.0 n.1.1, rises.0))
+    subst (IsRead of_entry (IsEntry before) bytes) (ok_is _ x rises.1) (Takes-then k.1.0 n.1.0, (is_text n.0.0 lawful.0 n.1.1.1, rises.0))
 
-entry_again : (before : Option Row) → ReadsBack (entry_at before) of_entry (IsEntry before)
+entry_again : (before : Option StoreRow) → ReadsBack (entry_at before) of_entry (IsEntry before)
 unfolding entry_at
 entry_again before e rest is =
     let bytes = encode_utf8_all e.text in
@@ -288,7 +218,7 @@ behind_ok (Err left) end e = absurd cc
 in_front : (bytes end : List ℕ) → take (length (bytes ++ end) - length end) (bytes ++ end) ≡ bytes
 in_front bytes end = take_at bytes end _ (omega (arith, length-append bytes end))
 
-row_takes : AreReadBack → (before : Option Row) → Reads (row_at before) row_bytes (IsRow before)
+row_takes : AreReadBack → (before : Option StoreRow) → Reads (row_at before) row_bytes (IsRow before)
 unfolding row_at
 row_takes lists before bytes x fits e =
     let a = step (entry_at before bytes) _ _ x (λ a. entry_takes before bytes a fits) e in
@@ -302,9 +232,9 @@ row_takes lists before bytes x fits e =
     sym (ap (λ (l : List ℕ). take (length l - length end) l) dt.0.parts ∙ in_front (data_bytes entry.kind d.0) end) in
     subst (IsRead row_bytes (IsRow before) bytes) (ok_is _ x b.2)
     (subst (λ (l : List ℕ). Takes bytes (row_bytes (entry, l)) end × IsRow before (entry, l)) front
-    (Takes-then _ _ _ _ _ a.1.0 dt.0, record { text = a.1.1.0; rises = a.1.1.1; held = record { held = d.0; lawful = dt.1; spelled = refl } }))
+    (Takes-then a.1.0 dt.0, record { text = a.1.1.0; rises = a.1.1.1; held = record { held = d.0; lawful = dt.1; spelled = refl } }))
 
-row_again : AreReadBack → (before : Option Row) → ReadsBack (row_at before) row_bytes (IsRow before)
+row_again : AreReadBack → (before : Option StoreRow) → ReadsBack (row_at before) row_bytes (IsRow before)
 unfolding row_at
 row_again lists before row rest is =
     let entry = row.0 in
@@ -319,14 +249,10 @@ row_again lists before row rest is =
 -- versions of which none is another are all 1
 all_ones : (at : ℕ) (vs : List ℕ) → other_version_from at vs ≡ None → vs ≡ replicate (length vs) 1
 all_ones at [] none = refl
-all_ones at (v ∷ vs) none =
-    bool_cases (eqb v 1) (λ b. cond b (other_version_from (suc at) vs) (Some (at, v)) ≡ None → v ∷ vs ≡ 1 ∷ replicate (length vs) 1)
-    (λ one rest. let e = eqb-true v 1 one in let more = all_ones (suc at) vs rest in cc)
-    (λ other never. absurd cc)
-    none
+all_ones at (v ∷ vs) none = grind (arith, nat_tests, none, all_ones (suc at) vs)
 
 -- what is read is spelled so
-pub store_takes : AreReadBack → (bytes : List ℕ) (rows : List Row) → IsBytes bytes → other_version bytes ≡ None → all_of bytes ≡ Ok rows
+pub store_takes : AreReadBack → (bytes : List ℕ) (rows : List StoreRow) → IsBytes bytes → other_version bytes ≡ None → all_of bytes ≡ Ok rows
     → IsStoreBytes rows bytes
 unfolding all_of other_version
 store_takes lists bytes rows fits none e =
@@ -339,18 +265,13 @@ store_takes lists bytes rows fits none e =
     let rest : drop 6 bytes ≡ counted row_bytes r.0.0 =
     r.1.0.parts ∙ ap (λ (l : List ℕ). counted row_bytes r.0.0 ++ l) (nil_from_length r.0.1 (eqb-true _ 0 ended.0)) ∙ append-nil (counted row_bytes r.0.0) in
     let spelled = sym (take-append-drop 6 bytes) ∙ ap (λ (l : List ℕ). l ++ drop 6 bytes) front ∙ ap (λ (l : List ℕ). versions ++ l) rest in
-    subst (λ (rs : List Row). IsStoreBytes rs bytes) (ok_is r.0.0 rows ended.1)
+    subst (λ (rs : List StoreRow). IsStoreBytes rs bytes) (ok_is r.0.0 rows ended.1)
     (record { lawful = r.1.1.0; few = r.1.1.1; spelled = spelled })
 
-rows_again : (bytes rest : List ℕ) (rows : List Row) → leb 6 (length bytes) ≡ true → drop 6 bytes ≡ rest → counted_at row_at rest ≡ Ok (rows, [])
-    → all_of bytes ≡ Ok rows
-unfolding all_of
-rows_again bytes rest rows long behind read = rw (long, behind, read) refl
-
 -- what is spelled is read
-pub store_again : AreReadBack → (bytes : List ℕ) (rows : List Row) → IsStoreBytes rows bytes → (other_version bytes ≡ None) × (all_of bytes ≡ Ok rows)
-unfolding other_version
+pub store_again : AreReadBack → (bytes : List ℕ) (rows : List StoreRow) → IsStoreBytes rows bytes → (other_version bytes ≡ None) × (all_of bytes ≡ Ok rows)
+unfolding all_of other_version
 store_again lists bytes rows is =
-    let read : counted_at row_at (counted row_bytes rows) ≡ Ok (rows, []) =
-    ap (counted_at row_at) (sym (append-nil (counted row_bytes rows))) ∙ counted_again row_at IsRow row_bytes (row_again lists) rows [] (is.lawful, is.few) in
-    (ap other_version is.spelled, ap all_of is.spelled ∙ rows_again (store_bytes rows) (counted row_bytes rows) rows (le-leb 6 _ (omega arith)) refl read)
+    let read = counted_again row_at IsRow row_bytes (row_again lists) rows [] (is.lawful, is.few) in
+    let long : leb 6 (length (versions ++ (counted row_bytes rows ++ []))) ≡ true = le-leb 6 _ (omega arith) in
+    (ap other_version is.spelled, ap all_of (is.spelled ∙ ap (λ (l : List ℕ). versions ++ l) (sym (append-nil (counted row_bytes rows)))) ∙ rw (long, read) refl)

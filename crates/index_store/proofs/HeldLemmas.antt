@@ -1,27 +1,25 @@
 -- The entries that a store holds: one more, a look, and their bytes.
-use Rattle.std.proofs.Common.{Bool, ◌≡◌, ℕ, suc, ◌^◌, ◌<◌, ◌≤◌, true, ◌||◌, cond, List, [], ◌∷◌, ◌++◌, length, Option, Some, None, Ordering, Less, Equal, Greater, refl, sym, ap, subst, ◌∙◌, append_assoc, arith}
+use Rattle.std.proofs.Common.{◌≡◌, ℕ, suc, ◌^◌, ◌<◌, ◌≤◌, true, ◌||◌, List, [], ◌∷◌, ◌++◌, length, Option, Some, None, Ordering, Less, Equal, Greater, refl, sym, ap, subst, ◌∙◌, append_assoc, arith}
 use Rattle.std.specs.Option.{option_map}
 use Rattle.std.specs.List.{flat_map}
 use Rattle.std.specs.List.Sorted.{IsStrictlySortedBy}
 use Rattle.std.specs.Ordering.{is_eq, is_lt, match_ordering, nat_cmp, ordering_reverse}
-use Rattle.std.specs.Cmp.{IsTotalOrder, then_total, on_total, nat_cmp_total, Equal-is, tied_itself}
+use Rattle.std.specs.Cmp.{IsTotalOrder, then_total, on_total, nat_cmp_total, tied_itself}
 use Rattle.std.specs.Cmp.Lexicographic.{slice_cmp, nat_list_cmp_total, bytes_decides}
 use Rattle.std.specs.Map.{keys_of, lookup}
 use Rattle.std.specs.BTreeMap.{insert_entry, is_at}
-use Rattle.std.proofs.Math.Bool.{or_self_left, or_assoc, or_comm}
 use Rattle.std.proofs.lemmas.List.{append-nil, length-map, map-append}
 use Rattle.std.proofs.lemmas.Grind.{flat_map-append}
 use Rattle.std.proofs.lemmas.Map.Lookups.{CmpEqualImpliesEq, exact_pairs, exact_unsigned}
 use Rattle.std.proofs.lemmas.Map.Text.{is_eq-slice_cmp}
-use Rattle.list_laws.proofs.BoolLemmas.{bool_cases}
 use Rattle.ide_text.specs.Text.{IsText}
 use Rattle.dumb_mode.specs.declared.kind.FileKind.{FileKind}
 use Rattle.dumb_mode.specs.declared.kind.FileKind.TheVariants.{Java, Properties}
-use Rattle.overlay_index.specs.Parts.{Parts, parts_of}
 use Rattle.byte_fields.specs.Spelling.{number}
-use Rattle.index_store.specs.Data.{Entry, entry_cmp, code_of, data_of}
-use Rattle.index_store.specs.Spelling.{Row, data_bytes, row_bytes, rows_of, versions}
-use Rattle.index_store.specs.Lawful.{AllAfter, entry_rises, IsRow, IsStoreBytes}
+use Rattle.index_store.specs.Data.{StoreEntry, entry_cmp, code_of, data_of}
+use Rattle.index_store.specs.Spelling.{StoreRow, data_bytes, row_bytes, rows_of, versions}
+use Rattle.byte_fields.specs.Reading.{AllAfter}
+use Rattle.index_store.specs.Lawful.{entry_rises, IsRow, IsStoreBytes}
 use Rattle.index_store.specs.Reading.{kind_by}
 use Rattle.index_store.specs.Entries.{has_entry, with_entry, rows_for}
 use Rattle.index_store.specs.Held.{Key, key_of, entry_of, key_cmp, Stored, AreDataOf, IsHeld, AreHeld, entries_in, held_bytes}
@@ -32,7 +30,7 @@ kind_again : (kind : FileKind) → kind_by (code_of kind) ≡ kind
 kind_again Java = refl
 kind_again Properties = refl
 
-pub entry_again : (e : Entry) → entry_of (key_of e) ≡ e
+pub entry_again : (e : StoreEntry) → entry_of (key_of e) ≡ e
 entry_again e = ap (λ (kind : FileKind). record { text = e.text; kind = kind }) (kind_again e.kind)
 
 key_order : IsTotalOrder key_cmp
@@ -43,85 +41,67 @@ key_equal = exact_pairs (slice_cmp nat_cmp) nat_cmp (λ a b equal. (bytes_decide
 
 lt_is : (r : Ordering) → is_lt r ≡ true → r ≡ Less
 lt_is Less e = refl
-lt_is Equal e = absurd cc
-lt_is Greater e = absurd cc
+lt_is other e = absurd cc
 
 -- entries of which neither is above the other are one
-pub entry_equal : (a b : Entry) → entry_cmp a b ≡ Equal → a ≡ b
+pub entry_equal : (a b : StoreEntry) → entry_cmp a b ≡ Equal → a ≡ b
 entry_equal a b equal = sym (entry_again a) ∙ ap entry_of (key_equal (key_of a) (key_of b) equal) ∙ entry_again b
 
-pub entry_itself : (a : Entry) → entry_cmp a a ≡ Equal
+pub entry_itself : (a : StoreEntry) → entry_cmp a a ≡ Equal
 entry_itself a = tied_itself key_order (key_of a)
 
-turned : (a b c : Bool) → (a || (b || c)) ≡ (b || (a || c))
-turned a b c = sym (or_assoc a b c) ∙ ap (λ d. d || c) (or_comm a b) ∙ or_assoc b a c
-
 -- what is among the entries with one more
-pub has_more : (x e : Entry) (es : List Entry) → has_entry x (with_entry e es) ≡ (is_eq (entry_cmp x e) || has_entry x es)
+pub has_more : (x e : StoreEntry) (es : List StoreEntry) → has_entry x (with_entry e es) ≡ (is_eq (entry_cmp x e) || has_entry x es)
 has_more x e [] = refl
-has_more x e (y ∷ ys) =
-    let all = is_eq (entry_cmp x e) || has_entry x (y ∷ ys) in
-    let P : Ordering → Type 0 = λ r. entry_cmp e y ≡ r → has_entry x (match_ordering r (e ∷ y ∷ ys) (y ∷ ys) (y ∷ with_entry e ys)) ≡ all in
-    (elim (entry_cmp e y) as P [
-      | Less ↦ λ _. refl
-      | Equal ↦ λ equal. rw (entry_equal e y equal) (sym (or_self_left (is_eq (entry_cmp x y)) (has_entry x ys)))
-      | Greater ↦ λ _. rw (has_more x e ys) (turned (is_eq (entry_cmp x y)) (is_eq (entry_cmp x e)) (has_entry x ys))
-    ]) refl
+has_more x e (y ∷ ys) = grind (arith, has_more x e ys, entry_equal e y)
 
 -- ---- one entry more
 
-is_held : (e : Entry) (d : Stored) → IsText e.text → AreDataOf e d → IsHeld (key_of e, d)
+is_held : (e : StoreEntry) (d : Stored) → IsText e.text → AreDataOf e d → IsHeld (key_of e, d)
 is_held e d text right =
-    record { coded = ap key_of (sym (entry_again e)); text = text; right = subst (λ (x : Entry). AreDataOf x d) (sym (entry_again e)) right }
+    record { coded = ap key_of (sym (entry_again e)); text = text; right = subst (λ (x : StoreEntry). AreDataOf x d) (sym (entry_again e)) right }
 
 -- what is held with one more
-pub record IsPut (e : Entry) (d : Stored) (old new : List (Key × Stored)) : Type 0 where
+pub record IsPut (e : StoreEntry) (d : Stored) (old new : List (Key × Stored)) : Type 0 where
   pub entries : entries_in new ≡ with_entry e (entries_in old)
   pub held : AreHeld new
   pub few : length new ≤ suc (length old)
 
-pub put_in : (e : Entry) (d : Stored) → IsText e.text → AreDataOf e d → (hs : List (Key × Stored)) → AreHeld hs
+pub put_in : (e : StoreEntry) (d : Stored) → IsText e.text → AreDataOf e d → (hs : List (Key × Stored)) → AreHeld hs
     → IsPut e d hs (insert_entry key_cmp hs (key_of e) d)
-put_in e d text right [] held = record { entries = ap (λ (x : Entry). x ∷ []) (entry_again e); held = (is_held e d text right, tt); few = omega arith }
+put_in e d text right [] held = record { entries = ap (λ (x : StoreEntry). x ∷ []) (entry_again e); held = (is_held e d text right, tt); few = omega arith }
 put_in e d text right (h ∷ hs) held =
     let this = is_held e d text right in
-    let same : key_cmp (key_of e) h.0 ≡ entry_cmp e (entry_of h.0) = ap (key_cmp (key_of e)) held.0.coded in
+    let same = ap (key_cmp (key_of e)) held.0.coded in
     let more = put_in e d text right hs held.1 in
     let after = λ (r : Ordering). match_ordering r ((key_of e, d) ∷ h ∷ hs) ((h.0, d) ∷ hs) (h ∷ insert_entry key_cmp hs (key_of e) d) in
-    let P : Ordering → Type 0 = λ r. key_cmp (key_of e) h.0 ≡ r → entry_cmp e (entry_of h.0) ≡ r → IsPut e d (h ∷ hs) (after r) in
-    (elim (key_cmp (key_of e) h.0) as P [
-      | Less ↦ λ _ is. record { entries = rw (is, entry_again e) refl; held = (this, held); few = omega arith }
-      | Equal ↦ λ equal is.
-          let one = subst (λ (k : Key). IsHeld (k, d)) (key_equal (key_of e) h.0 equal) this in
-          record { entries = rw is refl; held = (one, held.1); few = omega arith }
-      | Greater ↦ λ _ is. record { entries = rw (is, more.entries) refl; held = (held.0, more.held); few = omega (arith, more.few) }
-    ]) refl (sym same)
+    record {
+      entries = grind (arith, same, entry_again e, more.entries);
+      held = (elim (key_cmp (key_of e) h.0) as (λ r. key_cmp (key_of e) h.0 ≡ r → AreHeld (after r)) [
+        | Less ↦ λ _. (this, held)
+        | Equal ↦ λ equal. (subst (λ (k : Key). IsHeld (k, d)) (key_equal (key_of e) h.0 equal) this, held.1)
+        | Greater ↦ λ _. (held.0, more.held)
+      ]) refl;
+      few = grind (arith, more.few);
+    }
 
 -- ---- a look
 
-pub found : (hs : List (Key × Stored)) (e : Entry) → AreHeld hs
+pub found : (hs : List (Key × Stored)) (e : StoreEntry) → AreHeld hs
     → option_map (λ (d : Stored). d.0) (lookup (is_at (key_cmp (key_of e))) hs) ≡ rows_for e (entries_in hs)
 found [] e held = refl
 found (h ∷ hs) e held =
-    let later = lookup (is_at (key_cmp (key_of e))) hs in
-    let look = λ (b : Bool). option_map (λ (d : Stored). d.0) (cond b (Some h.1) later) in
-    let rows : Option Parts = Some (parts_of e.kind e.text) in
-    let other = entry_of h.0 in
-    ap (λ (k : Key). look (is_eq (key_cmp (key_of e) k))) held.0.coded
-    ∙ bool_cases (is_eq (entry_cmp e other)) (λ b. look b ≡ cond (b || has_entry e (entries_in hs)) rows None)
-    (λ equal.
-    let same = entry_equal e other ((Equal-is (entry_cmp e other)).0 equal) in
-    ap (λ (p : Parts). Some p) (held.0.right.rows ∙ ap (λ (x : Entry). parts_of x.kind x.text) (sym same)))
-    (λ differs. found hs e held.1)
+    let same = entry_equal e (entry_of h.0) in
+    rw held.0.coded (grind (arith, same, held.0.right.rows, found hs e held.1))
 
 -- ---- rows
 
 -- the row of an entry that is held
-abbrev row_of : Key × Stored → Row
+abbrev row_of : Key × Stored → StoreRow
 row_of h = (entry_of h.0, data_bytes (entry_of h.0).kind (data_of (entry_of h.0).kind h.0.0))
 
 -- rows that are held are lawful where their keys rise
-row_is : (before : Option Row) (h : Key × Stored) → entry_rises before (entry_of h.0) ≡ true → IsHeld h → IsRow before (row_of h)
+row_is : (before : Option StoreRow) (h : Key × Stored) → entry_rises before (entry_of h.0) ≡ true → IsHeld h → IsRow before (row_of h)
 row_is before h rises is =
     record { text = is.text; rises = rises; held = record { held = data_of (entry_of h.0).kind h.0.0; lawful = is.right.lawful; spelled = refl } }
 
@@ -166,27 +146,27 @@ held_store hs bytes held ordered few spelled =
 -- ---- entries taken in order
 
 -- a row is above the one before it
-abbrev IsAbove : Option Row → Entry → Type 0
+abbrev IsAbove : Option StoreRow → StoreEntry → Type 0
 IsAbove None e = Unit {0}
 IsAbove (Some before) e = entry_cmp before.0 e ≡ Less
 
-above_from : (before : Option Row) (a b : Entry) → entry_rises before a ≡ true → entry_cmp a b ≡ Less → IsAbove before b
+above_from : (before : Option StoreRow) (a b : StoreEntry) → entry_rises before a ≡ true → entry_cmp a b ≡ Less → IsAbove before b
 above_from None a b rises less = tt
 above_from (Some before) a b rises less = key_order.trans (key_of before.0) (key_of a) (key_of b) (lt_is (entry_cmp before.0 a) rises) less
 
 -- an entry whose row stands behind those of others comes behind them
-appended : (es : List Entry) (row : Row) (rest : List Row) (before : Option Row) → AllAfter IsRow before (rows_of es ++ row ∷ rest)
-    → (with_entry row.0 es ≡ es ++ row.0 ∷ []) × IsAbove before row.0
-appended [] row rest None good = (refl, tt)
-appended [] row rest (Some before) good = (refl, lt_is (entry_cmp before.0 row.0) good.0.rises)
+pub appended : (es : List StoreEntry) (row : StoreRow) (rest : List StoreRow) (before : Option StoreRow) → AllAfter IsRow before (rows_of es ++ row ∷ rest)
+    → (with_entry row.0 es ≡ es ++ row.0 ∷ []) × IsAbove before row.0 × IsText row.0.text
+appended [] row rest None good = (refl, tt, good.0.text)
+appended [] row rest (Some before) good = (refl, lt_is (entry_cmp before.0 row.0) good.0.rises, good.0.text)
 appended (e ∷ es) row rest before good =
     let more = appended es row rest (Some (e, data_bytes e.kind (data_of e.kind e.text))) good.1 in
     let above : entry_cmp row.0 e ≡ Greater = key_order.antisymm (key_of row.0) (key_of e) ∙ ap ordering_reverse more.1 in
-    (rw (above, more.0) refl, above_from before e row.0 good.0.rises more.1)
+    (rw (above, more.0) refl, above_from before e row.0 good.0.rises more.1, more.2)
 
 -- a row whose data are right is taken in
-pub taken : (es : List Entry) (row : Row) (rest rows : List Row) → AllAfter IsRow None rows → rows_of es ++ row ∷ rest ≡ rows
+pub taken : (es : List StoreEntry) (row : StoreRow) (rest rows : List StoreRow) → AllAfter IsRow None rows → rows_of es ++ row ∷ rest ≡ rows
     → row.1 ≡ data_bytes row.0.kind (data_of row.0.kind row.0.text) → rows_of (with_entry row.0 es) ++ rest ≡ rows
 taken es row rest rows good split right =
-    ap (λ (l : List Entry). rows_of l ++ rest) (appended es row rest None (subst (AllAfter IsRow None) (sym split) good)).0
+    ap (λ (l : List StoreEntry). rows_of l ++ rest) (appended es row rest None (subst (AllAfter IsRow None) (sym split) good)).0
     ∙ simp (map-append, append_assoc) (ap (λ (l : List ℕ). rows_of es ++ (row.0, l) ∷ rest) (sym right) ∙ split)

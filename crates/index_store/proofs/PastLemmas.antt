@@ -19,8 +19,7 @@ module _ {A : Type 0} where
     unfolding many_at
     goes_on before count i bytes x after total less read so_far =
         let more : count - i ≡ suc (count - (i + 1)) = omega arith in
-        let turned = rw (more, read) at so_far in
-        sym (behind-cons x (many_at one (count - (i + 1)) (Some x) after)) ∙ turned
+        sym (behind-cons x (many_at one (count - (i + 1)) (Some x) after)) ∙ (rw (more, read) at so_far)
 
     -- a turn that meets a fault
     pub ends : (fault : Fault) (before : Option A) (count i : ℕ) (bytes : List ℕ) (total : Result (List ℕ) ℕ) → i < count → Fails fault (one before bytes)
@@ -29,8 +28,7 @@ module _ {A : Type 0} where
     ends faults.Memory before count i bytes total less fails so_far = tt
     ends (faults.Unlawful left) before count i bytes total less fails so_far =
         let more : count - i ≡ suc (count - (i + 1)) = omega arith in
-        let turned = rw (more, fails) at so_far in
-        sym turned
+        sym (rw (more, fails) at so_far)
 
     -- the end of the loop
     pub is_done : (before : Option A) (count i : ℕ) (bytes : List ℕ) (total : Result (List ℕ) ℕ) → count ≤ i
@@ -38,5 +36,4 @@ module _ {A : Type 0} where
     unfolding many_at
     is_done before count i bytes total all so_far =
         let none : count - i ≡ 0 = omega arith in
-        let turned = rw none at so_far in
-        sym turned
+        sym (rw none at so_far)

@@ -11,7 +11,7 @@ use Rattle.decl_parser.specs.Listing.{listing_of}
 use Rattle.property_index.specs.Keys.{keys_of}
 
 -- a text, and the kind of a file with it
-pub record Entry : Type 0 where
+pub record StoreEntry : Type 0 where
   pub text : List ℕ
   pub kind : FileKind
 
@@ -21,7 +21,7 @@ code_of Java = 1
 code_of Properties = 2
 
 -- entries go by their texts, and those of one text by the codes of their kinds
-abbrev pub entry_cmp : Entry → Entry → Ordering
+abbrev pub entry_cmp : StoreEntry → StoreEntry → Ordering
 entry_cmp a b = ordering_then (slice_cmp nat_cmp a.text b.text) (nat_cmp (code_of a.kind) (code_of b.kind))
 
 -- data of a text: declarations, words with their masks, keys with their offsets

@@ -7,8 +7,8 @@ use Rattle.std.specs.Cmp.Lexicographic.{slice_cmp}
 use Rattle.ide_text.specs.Text.{IsText}
 use Rattle.byte_fields.specs.Spelling.{name}
 use Rattle.overlay_index.specs.Parts.{Parts, parts_of}
-use Rattle.index_store.specs.Data.{Entry, code_of, data_of}
-use Rattle.index_store.specs.Spelling.{Row, data_bytes}
+use Rattle.index_store.specs.Data.{StoreEntry, code_of, data_of}
+use Rattle.index_store.specs.Spelling.{StoreRow, data_bytes}
 use Rattle.index_store.specs.Lawful.{IsData}
 use Rattle.index_store.specs.Reading.{kind_by}
 use Rattle.index_store.specs.Entries.{with_entry}
@@ -18,11 +18,11 @@ abbrev pub Key : Type 0
 Key = List ℕ × ℕ
 
 -- the key of an entry
-abbrev pub key_of : Entry → Key
+abbrev pub key_of : StoreEntry → Key
 key_of e = (e.text, code_of e.kind)
 
 -- the entry of a key
-abbrev pub entry_of : Key → Entry
+abbrev pub entry_of : Key → StoreEntry
 entry_of k = record { text = k.0; kind = kind_by k.1 }
 
 -- keys go as their entries do
@@ -34,7 +34,7 @@ abbrev pub Stored : Type 0
 Stored = Parts × List ℕ
 
 -- these are the data of an entry's text, and its bytes can be read again
-pub record AreDataOf (e : Entry) (d : Stored) : Type 0 where
+pub record AreDataOf (e : StoreEntry) (d : Stored) : Type 0 where
   pub rows : d.0 ≡ parts_of e.kind e.text
   pub spelled : d.1 ≡ data_bytes e.kind (data_of e.kind e.text)
   pub lawful : IsData e.kind (length e.text) (data_of e.kind e.text)
@@ -50,7 +50,7 @@ abbrev pub AreHeld : List (Key × Stored) → Type 0
 AreHeld hs = AllByRecursion IsHeld hs
 
 -- the entries that are held
-abbrev pub entries_in : List (Key × Stored) → List Entry
+abbrev pub entries_in : List (Key × Stored) → List StoreEntry
 entries_in hs = map (λ (h : Key × Stored). entry_of h.0) hs
 
 -- an entry that is held, as bytes
@@ -58,6 +58,6 @@ abbrev pub held_bytes : Key × Stored → List ℕ
 held_bytes h = h.0.1 ∷ (name h.0.0 ++ h.1.1)
 
 -- what becomes of entries at a row whose data are right, and at one whose data aren't
-abbrev pub IsTakenIn : Bool → Row → List Entry → List Entry → Type 0
+abbrev pub IsTakenIn : Bool → StoreRow → List StoreEntry → List StoreEntry → Type 0
 IsTakenIn true row old new = (row.1 ≡ data_bytes row.0.kind (data_of row.0.kind row.0.text)) × (new ≡ with_entry row.0 old)
 IsTakenIn false row old new = (row.1 ≡ data_bytes row.0.kind (data_of row.0.kind row.0.text) → ⊥) × (new ≡ old)

@@ -1,5 +1,5 @@
 -- What the format asks of a store.
-use Rattle.std.specs.Prelude.{◌≡◌, ℕ, ◌<◌, ◌≤◌, ◌^◌, Bool, true, List, [], ◌∷◌, length, Option, Some, None, All, nat_lt, ◌&&◌, encode_utf8_all}
+use Rattle.std.specs.Prelude.{◌≡◌, ℕ, ◌<◌, ◌≤◌, ◌^◌, Bool, true, List, [], length, Option, Some, None, All, nat_lt, ◌&&◌, encode_utf8_all}
 use Rattle.std.specs.List.{list_all}
 use Rattle.std.specs.Str.{all_scalars}
 use Rattle.std.specs.Ordering.{nat_cmp, is_lt}
@@ -10,13 +10,9 @@ use Rattle.dumb_mode.specs.declared.kind.FileKind.TheVariants.{Java, Properties}
 use Rattle.stub_tree.specs.declared.stub.Stub.{Stub}
 use Rattle.stub_tree.specs.Lawful.{IsLawfulName, IsLawfulList}
 use Rattle.stub_codec.specs.Spelling.{spelling, has_scalars}
-use Rattle.index_store.specs.Data.{Entry, Data, entry_cmp}
-use Rattle.index_store.specs.Spelling.{Row, data_bytes, store_bytes}
-
--- each of a list is lawful behind the one before it
-abbrev pub AllAfter : {A : Type 0} → (Option A → A → Type 0) → Option A → List A → Type 0
-AllAfter Lawful before [] = Unit {0}
-AllAfter Lawful before (x ∷ xs) = Lawful before x × AllAfter Lawful (Some x) xs
+use Rattle.byte_fields.specs.Reading.{AllAfter}
+use Rattle.index_store.specs.Data.{StoreEntry, Data, entry_cmp}
+use Rattle.index_store.specs.Spelling.{StoreRow, data_bytes, store_bytes}
 
 -- whether a name can be spelled: it is a text of Unicode, and four bytes tell the number of its bytes
 abbrev pub is_spelled : List ℕ → Bool
@@ -69,18 +65,18 @@ pub record IsDataBytes (kind : FileKind) (len : ℕ) (bytes : List ℕ) : Type 0
   pub spelled : bytes ≡ data_bytes kind held
 
 -- whether an entry may stand behind one
-abbrev pub entry_rises : Option Row → Entry → Bool
+abbrev pub entry_rises : Option StoreRow → StoreEntry → Bool
 entry_rises None e = true
 entry_rises (Some before) e = is_lt (entry_cmp before.0 e)
 
 -- an entry: its text is one, it is above the one before it, and its data are such
-pub record IsRow (before : Option Row) (row : Row) : Type 0 where
+pub record IsRow (before : Option StoreRow) (row : StoreRow) : Type 0 where
   pub text : IsText row.0.text
   pub rises : entry_rises before row.0 ≡ true
   pub held : IsDataBytes row.0.kind (length row.0.text) row.1
 
 -- The bytes are those of a store with these entries and data.
-pub record IsStoreBytes (rows : List Row) (bytes : List ℕ) : Type 0 where
+pub record IsStoreBytes (rows : List StoreRow) (bytes : List ℕ) : Type 0 where
   pub lawful : AllAfter IsRow None rows
   pub few : length rows < 2 ^ 32
   pub spelled : bytes ≡ store_bytes rows

@@ -6,9 +6,9 @@ use Rattle.dumb_mode.specs.declared.kind.FileKind.{FileKind}
 use Rattle.dumb_mode.specs.declared.kind.FileKind.TheVariants.{Java, Properties}
 use Rattle.stub_tree.specs.declared.stub.Stub.{Stub}
 use Rattle.stub_codec.specs.Reading as stubs
-use Rattle.byte_fields.specs.Reading.{◌>>=◌, checked, byte_at, number_at, characters_at, name_at, many_at}
-use Rattle.index_store.specs.Data.{Entry, Data}
-use Rattle.index_store.specs.Spelling.{Row}
+use Rattle.byte_fields.specs.Reading.{◌>>=◌, checked, byte_at, number_at, characters_at, name_at, counted_at}
+use Rattle.index_store.specs.Data.{StoreEntry, Data}
+use Rattle.index_store.specs.Spelling.{StoreRow}
 use Rattle.index_store.specs.Lawful.{word_rises, key_rises, entry_rises}
 
 -- the place and the value of the first of the versions that is another than 1, where they begin at a place
@@ -19,12 +19,6 @@ other_version_from at (v ∷ vs) = if v == 1 then other_version_from (suc at) vs
 -- the same of the first six bytes
 unfoldable pub other_version : List ℕ → Option (ℕ × ℕ)
 other_version bytes = other_version_from 0 (take 6 bytes)
-
--- so many of a kind behind their number, each of which may depend on the one before it
-unfoldable pub counted_at : {A : Type 0} → (Option A → List ℕ → Result (A × List ℕ) ℕ) → List ℕ → Result (List A × List ℕ) ℕ
-counted_at one_at bytes = do
-  count ← number_at bytes
-  many_at one_at count.0 None count.1
 
 -- whether a mask has one of three bits, and no other
 abbrev pub is_mask : ℕ → Bool
@@ -89,7 +83,7 @@ abbrev pub may_be_text : List ℕ → Bool
 may_be_text cs = nat_le (length cs) max_chars && list_all (λ c. not (c == carriage_return)) cs
 
 -- a text with the kind of its file, behind the entry before it
-unfoldable pub entry_at : Option Row → List ℕ → Result (Entry × List ℕ) ℕ
+unfoldable pub entry_at : Option StoreRow → List ℕ → Result (StoreEntry × List ℕ) ℕ
 entry_at before bytes = do
   kind ← kind_at bytes
   len ← number_at kind.1
@@ -104,14 +98,14 @@ behind (Ok x) = Ok x.1
 behind (Err left) = Err left
 
 -- an entry with its data, behind the one before it
-unfoldable pub row_at : Option Row → List ℕ → Result (Row × List ℕ) ℕ
+unfoldable pub row_at : Option StoreRow → List ℕ → Result (StoreRow × List ℕ) ℕ
 row_at before bytes = do
   entry ← entry_at before bytes
   end ← behind (data_at entry.0.kind (length entry.0.text) entry.1)
   Ok ((entry.0, take (length entry.1 - length end) entry.1), end)
 
 -- all of the bytes; the versions are looked at before
-unfoldable pub all_of : List ℕ → Result (List Row) ℕ
+unfoldable pub all_of : List ℕ → Result (List StoreRow) ℕ
 all_of bytes = do
   whole ← checked (nat_le 6 (length bytes)) []
   rows ← counted_at row_at (drop 6 bytes)

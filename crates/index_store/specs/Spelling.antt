@@ -1,19 +1,14 @@
 -- The bytes of a store.
 use Rattle.std.specs.Prelude.{ℕ, List, [], ◌∷◌, ◌++◌, length, map}
-use Rattle.std.specs.List.{flat_map}
 use Rattle.dumb_mode.specs.declared.kind.FileKind.{FileKind}
 use Rattle.dumb_mode.specs.declared.kind.FileKind.TheVariants.{Java, Properties}
-use Rattle.byte_fields.specs.Spelling.{number, name}
+use Rattle.byte_fields.specs.Spelling.{number, name, counted}
 use Rattle.stub_codec.specs.Spelling.{spelling}
-use Rattle.index_store.specs.Data.{Entry, Data, code_of, data_of}
+use Rattle.index_store.specs.Data.{StoreEntry, Data, code_of, data_of}
 
 -- the version of the format, and those of the rows of types, supers, methods, words and keys
 abbrev pub versions : List ℕ
 versions = 1 ∷ 1 ∷ 1 ∷ 1 ∷ 1 ∷ 1 ∷ []
-
--- so many of a kind, behind their number
-abbrev pub counted : {A : Type 0} → (A → List ℕ) → List A → List ℕ
-counted spell xs = number (length xs) ++ flat_map spell xs
 
 -- a word: its name, and a byte for its mask
 abbrev pub word : List ℕ × ℕ → List ℕ
@@ -33,17 +28,17 @@ data_bytes Java d = stub_bytes d ++ counted word d.words
 data_bytes Properties d = counted key d.keys
 
 -- an entry, with the bytes of the data that stand with it
-abbrev pub Row : Type 0
-Row = Entry × List ℕ
+abbrev pub StoreRow : Type 0
+StoreRow = StoreEntry × List ℕ
 
 -- entries with the data that their texts have
-abbrev pub rows_of : List Entry → List Row
-rows_of entries = map (λ (e : Entry). (e, data_bytes e.kind (data_of e.kind e.text))) entries
+abbrev pub rows_of : List StoreEntry → List StoreRow
+rows_of entries = map (λ (e : StoreEntry). (e, data_bytes e.kind (data_of e.kind e.text))) entries
 
 -- an entry: a byte for its kind, its text as a name, and its data
-abbrev pub row_bytes : Row → List ℕ
+abbrev pub row_bytes : StoreRow → List ℕ
 row_bytes row = code_of row.0.kind ∷ (name row.0.text ++ row.1)
 
 -- a store: the versions, and its entries behind their number; nothing follows
-abbrev pub store_bytes : List Row → List ℕ
+abbrev pub store_bytes : List StoreRow → List ℕ
 store_bytes rows = versions ++ counted row_bytes rows

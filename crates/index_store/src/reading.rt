@@ -5,14 +5,15 @@ ghost use Rattle.std.specs.Prelude.{◌≡◌, None, option_copied};
 ghost use Rattle.byte_fields.specs.Answers.{Gives};
 ghost use Rattle.byte_fields.specs.Reading.{many_at};
 ghost use Rattle.index_store.specs.Lawful.{key_rises, word_rises};
-ghost use Rattle.index_store.specs.Reading.{behind, counted_at, is_mask, key_at, word_at};
+ghost use Rattle.byte_fields.specs.Reading.{counted_at};
+ghost use Rattle.index_store.specs.Reading.{behind, is_mask, key_at, word_at};
 
 use byte_fields::{Fault, byte_of, characters_of, check, name_of, number_of};
 use ide_text::Name;
 use std::alloc::Global;
 
 /// What is left behind the words of a text.
-#[tactic(auto, unfolding(crate::specs::Reading::counted_at))]
+#[tactic(auto, unfolding(byte_fields::specs::Reading::counted_at))]
 pub(crate) fn past_words(alloc: Global, bytes: &[u8]) -> Result<&[u8], Fault>
     ensures { Gives (λ left. left.now) result (behind (counted_at word_at bytes.now)) }
 {
@@ -70,7 +71,7 @@ fn is_mask(mask: u8) -> bool
 }
 
 /// What is left behind the keys of a text with so many characters.
-#[tactic(auto, unfolding(crate::specs::Reading::counted_at))]
+#[tactic(auto, unfolding(byte_fields::specs::Reading::counted_at))]
 pub(crate) fn past_keys(alloc: Global, len: u32, bytes: &[u8]) -> Result<&[u8], Fault>
     ensures { Gives (λ left. left.now) result (behind (counted_at (key_at len) bytes.now)) }
 {

@@ -7,7 +7,8 @@ ghost use Rattle.byte_fields.specs.Answers.{Gives};
 ghost use Rattle.byte_fields.specs.Reading.{many_at};
 ghost use Rattle.index_store.specs.Data.{entry_cmp};
 ghost use Rattle.index_store.specs.Lawful.{entry_rises};
-ghost use Rattle.index_store.specs.Reading.{all_of, counted_at, entry_at, may_be_text, row_at};
+ghost use Rattle.byte_fields.specs.Reading.{counted_at};
+ghost use Rattle.index_store.specs.Reading.{all_of, entry_at, may_be_text, row_at};
 
 use crate::data_reading::past_data;
 use crate::kind_code::{code_of, kind_of};
@@ -19,23 +20,23 @@ use std::marker::Model;
 
 /// An entry whose fields were read, with the bytes of its data.
 #[derive(Drop)]
-pub(crate) struct Held<'a> {
+pub(crate) struct RowRef<'a> {
     pub(crate) text: Name,
     pub(crate) kind: FileKind,
     pub(crate) data: &'a [u8],
 }
 
-impl<'a> Model for Held<'a> {
-    ghost use Rattle.index_store.specs.Spelling.{Row};
+impl<'a> Model for RowRef<'a> {
+    ghost use Rattle.index_store.specs.Spelling.{StoreRow};
 
-    ghost Value = { Row };
+    ghost Value = { StoreRow };
 
     ghost view = { λ h. (record { text = h.text; kind = h.kind }, h.data.now) };
 }
 
 /// All entries of the bytes of a store, whose versions were looked at.
-#[tactic(auto, unfolding(crate::specs::Reading::all_of, crate::specs::Reading::counted_at))]
-pub(crate) fn all(alloc: Global, bytes: &[u8]) -> Result<Vec<Held>, Fault>
+#[tactic(auto, unfolding(crate::specs::Reading::all_of, byte_fields::specs::Reading::counted_at))]
+pub(crate) fn all(alloc: Global, bytes: &[u8]) -> Result<Vec<RowRef>, Fault>
     ensures { Gives (λ rows. rows.items) result (all_of bytes.now) }
 {
     check(6 <= bytes.len(), &[])?;
@@ -47,7 +48,7 @@ pub(crate) fn all(alloc: Global, bytes: &[u8]) -> Result<Vec<Held>, Fault>
 }
 
 /// So many entries.
-fn rows_of(alloc: Global, count: u32, bytes: &[u8]) -> Result<(Vec<Held>, &[u8]), Fault>
+fn rows_of(alloc: Global, count: u32, bytes: &[u8]) -> Result<(Vec<RowRef>, &[u8]), Fault>
     ensures { Gives (λ x. (x.0.items, x.1.now)) result (many_at row_at count None bytes.now) }
 {
     let mut rows = Vec::new(alloc);
@@ -64,22 +65,22 @@ fn rows_of(alloc: Global, count: u32, bytes: &[u8]) -> Result<(Vec<Held>, &[u8])
 #[tactic(auto, unfolding(crate::specs::Reading::row_at))]
 fn row_of<'a>(
     alloc: Global,
-    before: Option<&Held>,
+    before: Option<&RowRef>,
     bytes: &'a [u8],
-) -> Result<(Held<'a>, &'a [u8]), Fault>
+) -> Result<(RowRef<'a>, &'a [u8]), Fault>
     ensures { Gives (λ x. (x.0, x.1.now)) result (row_at (option_copied before.entry) bytes.now) }
 {
     let (text, kind, rest) = entry_of(alloc, before, bytes)?;
     let end = past_data(alloc, kind, text.len() as u32, rest)?;
     let (data, _) = rest.split_at(rest.len().saturating_sub(end.len()));
-    Ok((Held { text, kind, data }, end))
+    Ok((RowRef { text, kind, data }, end))
 }
 
 /// A text with the kind of its file, behind the entry before it.
 #[tactic(auto, unfolding(crate::specs::Reading::entry_at))]
 fn entry_of<'a>(
     alloc: Global,
-    before: Option<&Held>,
+    before: Option<&RowRef>,
     bytes: &'a [u8],
 ) -> Result<(Name, FileKind, &'a [u8]), Fault>
     ensures value { Gives (λ x. (record { text = x.0; kind = x.1 }, x.2.now)) result
@@ -117,7 +118,7 @@ fn is_no_return(c: char) -> bool
 }
 
 /// Whether an entry may stand behind one.
-fn entry_rises(before: Option<&Held>, text: &Name, kind: FileKind) -> bool
+fn entry_rises(before: Option<&RowRef>, text: &Name, kind: FileKind) -> bool
     ensures { result
         ≡ entry_rises (option_copied before.entry) (record { text = text.now; kind = kind }) }
 {
@@ -128,7 +129,7 @@ fn entry_rises(before: Option<&Held>, text: &Name, kind: FileKind) -> bool
 }
 
 /// Whether an entry is below one of this text and kind.
-fn is_below(last: &Held, text: &Name, kind: FileKind) -> bool
+fn is_below(last: &RowRef, text: &Name, kind: FileKind) -> bool
     ensures { result ≡ is_lt (entry_cmp last.now.0 (record { text = text.now; kind = kind })) }
 {
     last.text

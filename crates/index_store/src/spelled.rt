@@ -4,7 +4,8 @@ ghost use Rattle.dumb_mode.specs.declared.kind.FileKind.TheVariants.{Java, Prope
 ghost use Rattle.byte_fields.specs.Spelling.{name, number};
 ghost use Rattle.index_store.specs.Data.{data_of};
 ghost use Rattle.index_store.specs.Lawful.{IsData, are_spelled, is_spelled};
-ghost use Rattle.index_store.specs.Spelling.{counted, data_bytes, key, word};
+ghost use Rattle.byte_fields.specs.Spelling.{counted};
+ghost use Rattle.index_store.specs.Spelling.{data_bytes, key, word};
 
 use byte_fields::{put_name, put_number};
 use decl_parser::laws::names_are_identifiers;

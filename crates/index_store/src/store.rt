@@ -5,7 +5,7 @@ ghost use Rattle.std.specs.Option.{option_copied, option_map};
 ghost use Rattle.ide_text.specs.Text.{IsText};
 ghost use Rattle.index_store.specs.declared.refusal.StoreRefusal.TheVariants.{OutOfMemory};
 ghost use Rattle.index_store.specs.Answers.{IsRefusalOf};
-ghost use Rattle.index_store.specs.Data.{Entry as AnEntry};
+ghost use Rattle.index_store.specs.Data.{StoreEntry as AnEntry};
 ghost use Rattle.index_store.specs.Entries.{has_entry, rows_for, with_entry};
 ghost use Rattle.index_store.specs.Held.{AreDataOf, IsTakenIn, Stored as Seen, held_bytes};
 ghost use Rattle.index_store.specs.Lawful.{IsStoreBytes};
@@ -13,7 +13,7 @@ ghost use Rattle.index_store.specs.Spelling.{rows_of};
 
 use crate::kind_code::code_of;
 use crate::refusal::StoreRefusal;
-use crate::row_reading::Held;
+use crate::row_reading::RowRef;
 use crate::spelled::put_short_name;
 use crate::store_reading::read_store;
 use crate::stored::Stored;
@@ -41,10 +41,10 @@ impl Model for Store {
     ghost use Rattle.std.specs.Prelude.{List, length, ◌<◌, ◌^◌};
     ghost use Rattle.std.specs.Map.{keys_of};
     ghost use Rattle.std.specs.List.Sorted.{IsStrictlySortedBy};
-    ghost use Rattle.index_store.specs.Data.{Entry};
+    ghost use Rattle.index_store.specs.Data.{StoreEntry};
     ghost use Rattle.index_store.specs.Held.{AreHeld, entries_in, key_cmp};
 
-    ghost Value = { List Entry };
+    ghost Value = { List StoreEntry };
 
     ghost view = { λ s. entries_in s.held.entries };
 
@@ -153,7 +153,7 @@ impl Store {
     }
 
     /// Takes in an entry that was read, behind all others, if its data are those of its text, and tells whether they are.
-    pub(crate) fn take_in(&mut self, row: &Held) -> Result<bool, AllocError>
+    pub(crate) fn take_in(&mut self, row: &RowRef) -> Result<bool, AllocError>
         requires text { IsText row.now.0.text }
         requires few { length self.old < 4294967295 }
         ensures { IfOk result (λ right. IsTakenIn right row.now self.old self.new) }

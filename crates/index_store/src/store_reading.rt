@@ -2,13 +2,14 @@
 ghost use Rattle.std.specs.Prelude.{◌≡◌, ◌<◌, ◌^◌, None, List, length, IfOk, IfErr};
 ghost use Rattle.index_store.specs.declared.refusal.StoreRefusal.TheVariants.{OutOfMemory};
 ghost use Rattle.index_store.specs.Answers.{IsRefusalOf, IsWrongIn};
-ghost use Rattle.index_store.specs.Data.{Entry as AnEntry};
-ghost use Rattle.index_store.specs.Lawful.{AllAfter, IsRow, IsStoreBytes};
+ghost use Rattle.index_store.specs.Data.{StoreEntry as AnEntry};
+ghost use Rattle.byte_fields.specs.Reading.{AllAfter};
+ghost use Rattle.index_store.specs.Lawful.{IsRow, IsStoreBytes};
 ghost use Rattle.index_store.specs.Spelling.{rows_of};
 
 use crate::laws::reading_is_exact;
 use crate::refusal::StoreRefusal;
-use crate::row_reading::{Held, all};
+use crate::row_reading::{RowRef, all};
 use crate::store::Store;
 use crate::versions::other_version;
 use byte_fields::Fault;
@@ -44,7 +45,7 @@ fn checked_store(alloc: Global, bytes: &[u8]) -> Result<Store, StoreRefusal>
 }
 
 /// The store with the entries of these rows, if all of their data are right.
-fn store_of(alloc: Global, rows: &[Held]) -> Result<Store, StoreRefusal>
+fn store_of(alloc: Global, rows: &[RowRef]) -> Result<Store, StoreRefusal>
     requires lawful { AllAfter IsRow None rows.now }
     requires few { length rows.now < 2 ^ 32 }
     ensures right { IfOk result (λ store. rows_of store ≡ rows.now) }

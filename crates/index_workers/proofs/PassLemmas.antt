@@ -4,12 +4,12 @@ use Rattle.std.specs.Prelude.{List, Option, IfSome, IfNone}
 use Rattle.job_queue.specs.Fifo.{Held}
 use Rattle.job_queue.specs.Rule.{Stood}
 use Rattle.job_queue.specs.Views.{taking}
-use Rattle.list_laws.proofs.FrontLemmas.{front_self, front_trans, front_length}
+use Rattle.list_laws.proofs.PrefixLemmas.{front_self, front_trans, front_length}
 use Rattle.write_history.specs.declared.entry.Entry.{Entry}
 use Rattle.job_queue.specs.declared.hint.Hint.{Hint}
 use Rattle.job_queue.specs.declared.view.QueueView.{QueueView}
 use Rattle.index_workers.specs.declared.pass.IdePass.{IdePass}
-use Rattle.index_workers.specs.Hints.{HasTaken, HasOnlyTaken}
+use Rattle.index_workers.specs.Hints.{HasPopped, HasOnlyPopped}
 use Rattle.index_workers.specs.Passes.{ide_view, IsIdePassOf, IsSameIdePass}
 use Rattle.job_queue.specs.declared.queue.JobQueue.{JobQueue}
 use Rattle.job_queue.specs.Passes.{queue_view, IsQueuePassOf}
@@ -22,21 +22,21 @@ use Rattle.ide_calls.specs.declared.share.IdeShare.{IdeShare}
 pub same_on : (p q r : IdePass) → IsSameIdePass p q → IsSameIdePass q r → IsSameIdePass p r
 same_on p q r a b = search (rules, a, b, a.of_lock, b.of_lock, a.of_queue, b.of_queue)
 
-pub none_taken : (q : QueueView) → HasOnlyTaken q q
+pub none_taken : (q : QueueView) → HasOnlyPopped q q
 none_taken q = record { same = refl; took = front_self q.took }
 
-pub one_taken : (q r : QueueView) (hint : Option Hint) → HasTaken hint q r → HasOnlyTaken q r
+pub one_taken : (q r : QueueView) (hint : Option Hint) → HasPopped hint q r → HasOnlyPopped q r
 one_taken q r None takes = rw takes.0 (none_taken q)
 one_taken q r (Some hint) takes = rw takes.0 (record { same = refl; took = (hint ∷ [], refl) })
 
 -- what `take` answers
 pub has_taken : (q r : QueueView) (hint : Option Hint) → IfSome hint (λ h. (r ≡ taking h q) × ((rest : List Hint) × Stood q (h ∷ rest)))
-    → IfNone hint ((r ≡ q) × Held 0 (Stood q)) → HasTaken hint q r
+    → IfNone hint ((r ≡ q) × Held 0 (Stood q)) → HasPopped hint q r
 has_taken q r (Some hint) some none = some
 has_taken q r None some none = none
 
 -- after one more step
-pub only_taken : (q r s : QueueView) (hint : Option Hint) → HasOnlyTaken q r → HasTaken hint r s → HasOnlyTaken q s
+pub only_taken : (q r s : QueueView) (hint : Option Hint) → HasOnlyPopped q r → HasPopped hint r s → HasOnlyPopped q s
 only_taken q r s hint a takes =
     let b = one_taken r s hint takes in
     record {
@@ -46,7 +46,7 @@ only_taken q r s hint a takes =
 
 -- a pass that has gone on with the lock and put no hint is one of the two still
 pub rests_on : (l : ActionLock IdeHome Entry IdeShare) (j : JobQueue) (p p' : IdePass) → IsIdePassOf l j p → IsPassOf l p'.lock → IsQueuePassOf j p'.queue
-    → Advances (ide_view p) (ide_view p') → HasOnlyTaken (queue_view p.queue) (queue_view p'.queue) → IsIdePassOf l j p'
+    → Advances (ide_view p) (ide_view p') → HasOnlyPopped (queue_view p.queue) (queue_view p'.queue) → IsIdePassOf l j p'
 rests_on l j p p' old rests queued advances taken =
     let few : length (queue_view p'.queue).put ≤ length (ide_view p').mine = omega (
       arith,

@@ -4,7 +4,7 @@ use Rattle.std.proofs.Common.{◌∙◌, arith, Some, append_assoc, append-nil, 
 use Rattle.std.specs.Prelude.{Option}
 use Rattle.std.proofs.lemmas.List.Elements.{All-append, All-nil, All-push, All-weaker}
 use Rattle.std.proofs.lemmas.List.Quantifiers.{all_pairs_push}
-use Rattle.list_laws.specs.Fronts.{IsFront}
+use Rattle.list_laws.specs.Prefixes.{IsPrefix}
 use Rattle.action_lock.specs.declared.view.View.{View}
 use Rattle.action_lock.specs.Advances.{Advances}
 use Rattle.lock_laws.proofs.AdvanceLemmas.{advances_not, advances_on}
@@ -21,23 +21,23 @@ use Rattle.ide_calls.specs.declared.step.Stepped.TheVariants.{Idle, Gone, Stale,
 use Rattle.ide_calls.specs.Step.{HasStepped, HasTried}
 use Rattle.index_workers.specs.declared.worked.End.{End}
 use Rattle.index_workers.specs.declared.worked.End.TheVariants as end
-use Rattle.index_workers.specs.Hints.{HasTaken, IsFirstTried}
+use Rattle.index_workers.specs.Hints.{HasPopped, IsFirstTried}
 use Rattle.index_workers.specs.declared.worked.Worked.{Worked}
-use Rattle.index_workers.specs.Work.{Done, Leads, taken_by, Sayings, any_answer, GoesOn, IsEndOf, WentOn, WorkEnds, EndsBy, IsAtEnd, IsIntakeBy, AreApart}
+use Rattle.index_workers.specs.Work.{WorkStep, Leads, taken_by, Sayings, any_answer, GoesOn, IsEndOf, WentOn, WorkEnds, EndsBy, IsAtEnd, IsIntakeBy, AreApart}
 use Rattle.index_workers.specs.Work.{StandsIn, HasGone, HasGoneOn, HasWorked, HasWorkedSo}
 use Rattle.index_workers.proofs.ReadyLemmas.{not_unready}
 
 -- ---- lists
 
 -- an entry of a history stands in each longer one
-stands_on : (earlier later : List Entry) (e : Entry) → IsFront earlier later → StandsIn earlier e → StandsIn later e
+stands_on : (earlier later : List Entry) (e : Entry) → IsPrefix earlier later → StandsIn earlier e → StandsIn later e
 stands_on earlier later e front at = record {
   before = at.before;
   behind = at.behind ++ front.0;
   are = cc (front.1, at.are, append_assoc at.before (e ∷ at.behind) front.0);
 }
 
-leads_more : (v w : View Entry) (q r : QueueView) (steps : List Done) (d : Done) → Leads v q steps w r → HasTaken d.hint r d.queue
+leads_more : (v w : View Entry) (q r : QueueView) (steps : List WorkStep) (d : WorkStep) → Leads v q steps w r → HasPopped d.hint r d.queue
     → IsFirstTried d.hint d.file → HasStepped (Some d.file) w d.after d.answer → Leads v q (steps ++ d ∷ []) d.after d.queue
 leads_more v w q r [] d same takes first stepped = (rw same.1 at takes, first, rw same.0 at stepped, (refl, refl))
 leads_more v w q r (c ∷ cs) d leads takes first stepped = (leads.0, leads.1, leads.2, leads_more c.after w c.queue r cs d leads.3 takes first stepped)
@@ -90,16 +90,16 @@ added_by seat v w hint (Taken place) number t = one_added seat v w hint place nu
 -- ---- the run
 
 -- a run with one step more, and its entries
-record GoneFurther (seat : ℕ) (v u : View Entry) (q s : QueueView) (steps : List Done) (own : List Entry) (taken : ℕ) : Type 0 where
+record GoneFurther (seat : ℕ) (v u : View Entry) (q s : QueueView) (steps : List WorkStep) (own : List Entry) (taken : ℕ) : Type 0 where
   all : List Entry
   count : length all ≡ length own + taken
   gone : HasGone seat v u q s steps all
 
-gone_further : (seat : ℕ) (v w u : View Entry) (q r s : QueueView) (steps : List Done) (own : List Entry) (hint : Option Hint) (file : ℕ) (answer : Stepped)
-    → HasGone seat v w q r steps own → HasTaken hint r s → IsFirstTried hint file → HasStepped (Some file) w u answer
+gone_further : (seat : ℕ) (v w u : View Entry) (q r s : QueueView) (steps : List WorkStep) (own : List Entry) (hint : Option Hint) (file : ℕ) (answer : Stepped)
+    → HasGone seat v w q r steps own → HasPopped hint r s → IsFirstTried hint file → HasStepped (Some file) w u answer
     → GoneFurther seat v u q s (steps ++ record { hint = hint; file = file; answer = answer; after = u; queue = s } ∷ []) own (taken_by answer)
 gone_further seat v w u q r s steps own hint file answer gone takes first stepped =
-    let d : Done = record { hint = hint; file = file; answer = answer; after = u; queue = s } in
+    let d : WorkStep = record { hint = hint; file = file; answer = answer; after = u; queue = s } in
     let a = added_by seat w u (Some file) answer (gone.advances.number ∙ gone.number) stepped in
     record {
       all = own ++ a.more;
@@ -127,7 +127,7 @@ not_yet said seat v q number =
     let leads : Leads v q [] v q = (refl, refl) in
     let apart : AreApart [] = λ i j e less l. absurd (omega arith) in
     let gone : HasGone seat v v q q [] [] = search (rules, number, advances_not v, All-nil (IsIntakeBy seat), All-nil (StandsIn v.seen)) in
-    search (rules, gone, All-nil (λ (d : Done). GoesOn said seat d.answer))
+    search (rules, gone, All-nil (λ (d : WorkStep). GoesOn said seat d.answer))
 
 taken_few : (answer : Stepped) → taken_by answer ≤ 1
 taken_few (Taken place) = omega arith
@@ -135,22 +135,22 @@ taken_few answer = omega arith
 
 -- after a step with which the worker goes on
 pub goes_on : (said : Sayings) (seat turns taken : ℕ) (v w u : View Entry) (q r s : QueueView) (hint : Option Hint) (file : ℕ) (answer : Stepped)
-    → HasGoneOn said seat turns taken v w q r → HasTaken hint r s → IsFirstTried hint file → HasStepped (Some file) w u answer → GoesOn said seat answer
+    → HasGoneOn said seat turns taken v w q r → HasPopped hint r s → IsFirstTried hint file → HasStepped (Some file) w u answer → GoesOn said seat answer
     → HasGoneOn said seat (turns + 1) (taken + taken_by answer) v u q s
 goes_on said seat turns taken v w u q r s hint file answer on takes first stepped going =
-    let d : Done = record { hint = hint; file = file; answer = answer; after = u; queue = s } in
+    let d : WorkStep = record { hint = hint; file = file; answer = answer; after = u; queue = s } in
     let further = gone_further seat v w u q r s on.steps on.own hint file answer on.gone takes first stepped in
     record {
       steps = on.steps ++ d ∷ [];
       own = further.all;
       gone = further.gone;
-      going = All-push (λ (e : Done). GoesOn said seat e.answer) on.steps d on.going going;
+      going = All-push (λ (e : WorkStep). GoesOn said seat e.answer) on.steps d on.going going;
       turns_are = omega (arith, length-append on.steps (d ∷ []), on.turns_are);
       taken_are = omega (arith, further.count, on.taken_are);
       few = omega (arith, on.few, taken_few answer);
     }
 
-ends_by : (said : Sayings) (seat : ℕ) (end : End) (steps : List Done) → WorkEnds said seat end steps → (answer : Stepped) → IsEndOf said seat answer end
+ends_by : (said : Sayings) (seat : ℕ) (end : End) (steps : List WorkStep) → WorkEnds said seat end steps → (answer : Stepped) → IsEndOf said seat answer end
     → EndsBy said seat end steps
 ends_by said seat end.Turns steps ends answer is = absurd is
 ends_by said seat why steps ends answer is = ends
@@ -165,10 +165,10 @@ at_end said seat v w hint answer end.Turns stepped is = absurd is
 
 -- after a step with which the worker ends
 pub ends : (said : Sayings) (seat turns taken : ℕ) (v w u : View Entry) (q r s : QueueView) (hint : Option Hint) (file : ℕ) (answer : Stepped) (why : End)
-    → HasGoneOn said seat turns taken v w q r → HasTaken hint r s → IsFirstTried hint file → HasStepped (Some file) w u answer → IsEndOf said seat answer why
+    → HasGoneOn said seat turns taken v w q r → HasPopped hint r s → IsFirstTried hint file → HasStepped (Some file) w u answer → IsEndOf said seat answer why
     → HasWorked said v u q s (record { seat = seat; turns = turns + 1; taken = taken + taken_by answer; end = why })
 ends said seat turns taken v w u q r s hint file answer why on takes first stepped is =
-    let d : Done = record { hint = hint; file = file; answer = answer; after = u; queue = s } in
+    let d : WorkStep = record { hint = hint; file = file; answer = answer; after = u; queue = s } in
     let further = gone_further seat v w u q r s on.steps on.own hint file answer on.gone takes first stepped in
     record {
       steps = on.steps ++ d ∷ [];
@@ -186,11 +186,11 @@ whatever_goes : (said : Sayings) (seat : ℕ) (answer : Stepped) → GoesOn said
 whatever_goes said seat (Refused len) goes = absurd goes
 whatever_goes said seat answer goes = tt
 
-whatever_went : (said : Sayings) (seat : ℕ) (steps : List Done) → WentOn said seat steps → WentOn any_answer seat steps
+whatever_went : (said : Sayings) (seat : ℕ) (steps : List WorkStep) → WentOn said seat steps → WentOn any_answer seat steps
 whatever_went said seat steps all =
-    All-weaker (λ (d : Done). GoesOn said seat d.answer) (λ (d : Done). GoesOn any_answer seat d.answer) (λ d. whatever_goes said seat d.answer) steps all
+    All-weaker (λ (d : WorkStep). GoesOn said seat d.answer) (λ (d : WorkStep). GoesOn any_answer seat d.answer) (λ d. whatever_goes said seat d.answer) steps all
 
-whatever_ends : (said : Sayings) (seat : ℕ) (why : End) (steps : List Done) → EndsBy said seat why steps → EndsBy any_answer seat why steps
+whatever_ends : (said : Sayings) (seat : ℕ) (why : End) (steps : List WorkStep) → EndsBy said seat why steps → EndsBy any_answer seat why steps
 whatever_ends said seat (end.Idle len) steps h = search (rules, h, h.ends.0, whatever_went said seat h.before h.going)
 whatever_ends said seat (end.Refused len) steps h = search (rules, h, whatever_went said seat h.before h.going)
 whatever_ends said seat end.Turns steps h = (h.0, whatever_went said seat steps h.1)

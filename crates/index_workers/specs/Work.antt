@@ -15,7 +15,7 @@ use Rattle.ide_calls.specs.declared.step.Stepped.TheVariants as step
 use Rattle.ide_calls.specs.Step.{HasStepped}
 use Rattle.job_queue.specs.declared.hint.Hint.{Hint}
 use Rattle.job_queue.specs.declared.view.QueueView.{QueueView}
-use Rattle.index_workers.specs.Hints.{HasTaken, IsFirstTried}
+use Rattle.index_workers.specs.Hints.{HasPopped, IsFirstTried}
 use Rattle.index_workers.specs.declared.worked.End.{End}
 use Rattle.index_workers.specs.declared.worked.End.TheVariants.{Idle, Refused, Turns}
 use Rattle.index_workers.specs.declared.worked.Worked.{Worked}
@@ -25,7 +25,7 @@ abbrev pub max_turns : ℕ
 max_turns = 131072
 
 -- one step: the hint that it took, the file that it tried first, the answer, and what the pass's views are after it
-pub record Done : Type 0 where
+pub record WorkStep : Type 0 where
   pub hint : Option Hint
   pub file : ℕ
   pub answer : Stepped
@@ -33,10 +33,10 @@ pub record Done : Type 0 where
   pub queue : QueueView
 
 -- these steps lead from one view to another, and of the queue too: each took a hint, if one was there, and tried that file first
-abbrev pub Leads : View Entry → QueueView → List Done → View Entry → QueueView → Type 0
+abbrev pub Leads : View Entry → QueueView → List WorkStep → View Entry → QueueView → Type 0
 Leads v q [] w r = (w ≡ v) × (r ≡ q)
 Leads v q (d ∷ ds) w r =
-    HasTaken d.hint q d.queue
+    HasPopped d.hint q d.queue
     × IsFirstTried d.hint d.file
     × HasStepped (Some d.file) v d.after d.answer
     × Leads d.after d.queue ds w r
@@ -68,19 +68,19 @@ IsEndOf said seat answer (Refused len) = answer ≡ step.Refused len
 IsEndOf said seat answer Turns = ⊥
 
 -- the worker went on after each of these steps
-abbrev pub WentOn : Sayings → ℕ → List Done → Type 0
-WentOn said seat steps = All (λ (d : Done). GoesOn said seat d.answer) steps
+abbrev pub WentOn : Sayings → ℕ → List WorkStep → Type 0
+WentOn said seat steps = All (λ (d : WorkStep). GoesOn said seat d.answer) steps
 
 -- the steps end with one by which the worker ends so, and it went on after all others
-pub record WorkEnds (said : Sayings) (seat : ℕ) (end : End) (steps : List Done) : Type 0 where
-  pub before : List Done
-  pub last : Done
+pub record WorkEnds (said : Sayings) (seat : ℕ) (end : End) (steps : List WorkStep) : Type 0 where
+  pub before : List WorkStep
+  pub last : WorkStep
   pub are : steps ≡ before ++ last ∷ []
   pub ends : IsEndOf said seat last.answer end
   pub going : WentOn said seat before
 
 -- why the worker ended with these steps
-abbrev pub EndsBy : Sayings → ℕ → End → List Done → Type 0
+abbrev pub EndsBy : Sayings → ℕ → End → List WorkStep → Type 0
 EndsBy said seat Turns steps = (length steps ≡ max_turns) × WentOn said seat steps
 EndsBy said seat end steps = WorkEnds said seat end steps
 
@@ -108,7 +108,7 @@ pub record StandsIn (history : List Entry) (e : Entry) : Type 0 where
 
 -- Steps of the worker with this number led from one view to another, of the lock and of the queue, and made these entries: each takes a file in, no two the same
 -- file at the same stamp
-pub record HasGone (seat : ℕ) (v w : View Entry) (q r : QueueView) (steps : List Done) (own : List Entry) : Type 0 where
+pub record HasGone (seat : ℕ) (v w : View Entry) (q r : QueueView) (steps : List WorkStep) (own : List Entry) : Type 0 where
   pub leads : Leads v q steps w r
   pub number : v.number ≡ Some seat
   pub advances : Advances v w
@@ -119,7 +119,7 @@ pub record HasGone (seat : ℕ) (v w : View Entry) (q r : QueueView) (steps : Li
 
 -- so many steps were made, after each of which the worker went on, and so many entries
 pub record HasGoneOn (said : Sayings) (seat turns taken : ℕ) (v w : View Entry) (q r : QueueView) : Type 0 where
-  pub steps : List Done
+  pub steps : List WorkStep
   pub own : List Entry
   pub gone : HasGone seat v w q r steps own
   pub going : WentOn said seat steps
@@ -129,7 +129,7 @@ pub record HasGoneOn (said : Sayings) (seat turns taken : ℕ) (v w : View Entry
 
 -- What a worker did, as it tells, with a gate that may answer so
 pub record HasWorked (said : Sayings) (v w : View Entry) (q r : QueueView) (worked : Worked) : Type 0 where
-  pub steps : List Done
+  pub steps : List WorkStep
   pub own : List Entry
   pub gone : HasGone worked.seat v w q r steps own
   pub turns : length steps ≡ worked.turns
@@ -152,6 +152,6 @@ pub record HasWorkedInPart (said : Sayings) (v w : View Entry) (q r : QueueView)
   pub between : View Entry
   pub middle : QueueView
   pub so_far : HasGoneOn said seat turns taken v between q middle
-  pub hint : (hint : Option Hint) × HasTaken hint middle r
+  pub hint : (hint : Option Hint) × HasPopped hint middle r
   pub advances : Advances between w
   pub mine : w.mine ≡ between.mine

@@ -1,6 +1,6 @@
 //! How passes are made, split and met, for the lock and the queue at once.
 ghost use Rattle.std.specs.Prelude.{◌≡◌, ◌≢◌, ◌<◌, ◌↔◌, Some, List, IfOk, IfErr, IsTrue};
-ghost use Rattle.list_laws.specs.Fronts.{IsFront};
+ghost use Rattle.list_laws.specs.Prefixes.{IsPrefix};
 ghost use Rattle.action_lock.specs.Passes.{IsPassOf, IsLast};
 ghost use Rattle.action_lock.specs.Passes.{view_of};
 ghost use Rattle.action_lock.specs.Steps.{KnowsItsLists, joined, splitting, split_off, told};
@@ -58,8 +58,8 @@ pub fn meet(lock: &ActionLock<IdeHome>, queue: &JobQueue, other: IdePass, pass: 
     requires follows { (ide_view other).number ≢ Some 0 }
     ensures pass { IsIdePassOf lock.now queue.now pass.new × IsSameIdePass pass.old pass.new }
     ensures view { ide_view pass.new ≡ told (joined (ide_view pass.old) (ide_view other)) }
-    ensures keeps { IsFront (ide_view pass.old).seen (ide_view pass.new).seen }
-    ensures learns { IsFront (ide_view other).seen (ide_view pass.new).seen }
+    ensures keeps { IsPrefix (ide_view pass.old).seen (ide_view pass.new).seen }
+    ensures learns { IsPrefix (ide_view other).seen (ide_view pass.new).seen }
     ensures knows { KnowsItsLists (λ (e : Entry). e.seat) (ide_view pass.new) }
 {
     let IdePass {

@@ -3,7 +3,7 @@ ghost use Rattle.std.specs.Prelude.{◌≡◌, ℕ, IfOk, OnErr, Option, Some};
 ghost use Rattle.job_queue.specs.declared.hint.Hint.{Hint};
 ghost use Rattle.job_queue.specs.Passes.{queue_view};
 ghost use Rattle.ide_calls.specs.Step.{HasStepped};
-ghost use Rattle.index_workers.specs.Hints.{HasTaken, IsFirstTried};
+ghost use Rattle.index_workers.specs.Hints.{HasPopped, IsFirstTried};
 ghost use Rattle.index_workers.specs.Passes.{ide_view, IsIdePassOf, Continues};
 
 use crate::cursor::SharedCursor;
@@ -29,7 +29,7 @@ pub fn index_step<R: Wait, G: Gate>(
     requires { IsIdePassOf lock.now queue.now pass.old }
     ensures pass { Continues lock.now queue.now pass.old pass.new }
     ensures step { (hint : Option Hint) × (file : ℕ)
-        × HasTaken hint (queue_view pass.old.queue) (queue_view pass.new.queue)
+        × HasPopped hint (queue_view pass.old.queue) (queue_view pass.new.queue)
         × IsFirstTried hint file
         × IfOk result (HasStepped (Some file) (ide_view pass.old) (ide_view pass.new)) }
     ensures err { OnErr result ((ide_view pass.new).mine ≡ (ide_view pass.old).mine) }

@@ -1,7 +1,7 @@
 //! A worker's run.
 ghost use Rattle.std.specs.Prelude.{◌≡◌, IfOk, OnErr};
 ghost use Rattle.job_queue.specs.Passes.{queue_view};
-ghost use Rattle.index_workers.specs.Hints.{HasOnlyTaken};
+ghost use Rattle.index_workers.specs.Hints.{HasOnlyPopped};
 ghost use Rattle.index_workers.specs.Passes.{ide_view, IsIdePassOf, Continues};
 ghost use Rattle.index_workers.specs.Work.{HasWorked, HasWorkedInPart};
 
@@ -33,7 +33,7 @@ pub fn worker<R: Wait, G: Gate>(
 ) -> Result<Worked, AllocError>
     requires { IsIdePassOf lock.now queue.now pass.old }
     ensures pass { Continues lock.now queue.now pass.old pass.new }
-    ensures hints { HasOnlyTaken (queue_view pass.old.queue) (queue_view pass.new.queue) }
+    ensures hints { HasOnlyPopped (queue_view pass.old.queue) (queue_view pass.new.queue) }
     ensures ok { IfOk result
         (HasWorked (G.may_say gate.now) (ide_view pass.old) (ide_view pass.new)
         (queue_view pass.old.queue) (queue_view pass.new.queue)) }

@@ -3,11 +3,6 @@ pub mod SkipLemmas
 pub mod TokenLemmas
 pub mod WideLemmas
 pub mod WordLemmas
-pub mod WordListLemmas
 pub mod MaskLemmas
-pub mod GatherLemmas
-pub mod AsciiWords
-pub mod IdentifierLemmas
 pub mod FrontLemmas
 pub mod PlaceLemmas
-pub mod WholeWords

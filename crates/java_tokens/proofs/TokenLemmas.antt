@@ -1,123 +1,100 @@
 -- How the tokens of a text go on, one after another.
-use Rattle.std.proofs.Common.{◌≡◌, ℕ, zero, suc, ◌+◌, ◌-◌, ◌<◌, ◌≤◌, false, cond, List, [], ◌∷◌, length, get_or, drop, refl, sym, ap, ◌∙◌, subst, ⊎_elim, arith, length-drop}
+use Rattle.std.proofs.Common.{◌≡◌, ℕ, zero, suc, ◌+◌, ◌-◌, ◌<◌, ◌≤◌, false, List, [], ◌∷◌, length, get_or, drop, refl, ap, ◌∙◌, ⊎_elim, arith, length-drop, inl, inr}
 use Rattle.std.specs.Prelude.{All}
-use Rattle.std.specs.List.{AllByRecursion, prefix_len}
-use Rattle.std.proofs.lemmas.List.Elements.{All-from_recursion}
-use Rattle.std.proofs.lemmas.List.{drop-drop, get_or-drop}
+use Rattle.std.specs.List.{prefix_len}
+use Rattle.std.proofs.lemmas.List.Elements.{All-nil, All-cons}
+use Rattle.std.proofs.lemmas.List.{drop-drop, drop_all, get_or-drop}
 use Rattle.std.proofs.lemmas.List.Sums.{prefix_len_stops}
 use Rattle.std.proofs.Math.Seq.{drop-cons}
-use Rattle.std.proofs.Math.ListN.{drop_of_length-le}
-use Rattle.std.proofs.lemmas.Bool.{cases_Bool, cases_lt, cond-true}
+use Rattle.std.proofs.lemmas.Bool.{cases_Bool, cases_lt}
 use Rattle.java_tokens.specs.Chars.{is_white_space}
+use Rattle.java_tokens.specs.Token.{Token}
 use Rattle.java_tokens.specs.Tokens.{token_len, token_at, tokens_past, tokens_of, IsInside, AreTokensFrom}
-use Rattle.java_tokens.proofs.KindLemmas.{length_of-le, length_of-positive}
+use Rattle.java_tokens.proofs.KindLemmas.{length_of-fits}
 
 -- the rest of the token before may be left out
-pub tokens_past-skip : (skip at : ℕ) (cs : List ℕ) → tokens_past skip at cs ≡ tokens_past 0 (at + skip) (drop skip cs)
+tokens_past-skip : (skip at : ℕ) (cs : List ℕ) → tokens_past skip at cs ≡ tokens_past 0 (at + skip) (drop skip cs)
 unfolding tokens_past
-tokens_past-skip zero at [] = refl
+tokens_past-skip zero at cs = ap (λ n. tokens_past 0 n cs) (omega arith)
 tokens_past-skip (suc skip) at [] = refl
-tokens_past-skip zero at (c ∷ cs) = ap (λ n. tokens_past 0 n (c ∷ cs)) (omega arith)
-tokens_past-skip (suc skip) at (c ∷ cs) =
-    tokens_past-skip skip (suc at) cs ∙ ap (λ n. tokens_past 0 n (drop skip cs)) (omega arith)
+tokens_past-skip (suc skip) at (c ∷ cs) = tokens_past-skip skip (suc at) cs ∙ ap (λ n. tokens_past 0 n (drop skip cs)) (omega arith)
 
 -- white space may be left out
-pub tokens_past-white_space : (at : ℕ) (cs : List ℕ) → tokens_past 0 at cs ≡ tokens_past 0 (at + prefix_len is_white_space cs) (drop (prefix_len is_white_space cs) cs)
+tokens_past-white_space : (at : ℕ) (cs : List ℕ) → let n = prefix_len is_white_space cs in tokens_past 0 at cs ≡ tokens_past 0 (at + n) (drop n cs)
 unfolding tokens_past
 tokens_past-white_space at [] = refl
 tokens_past-white_space at (c ∷ cs) =
     let n = prefix_len is_white_space cs in
-    let P : ℕ → Type 0 = λ m. tokens_past 0 at (c ∷ cs) ≡ tokens_past 0 (at + m) (drop m (c ∷ cs)) in
-    let others : tokens_past 0 (suc at) cs ≡ tokens_past 0 (at + suc n) (drop n cs) =
-    tokens_past-white_space (suc at) cs ∙ ap (λ k. tokens_past 0 k (drop n cs)) (omega arith) in
-    let more : suc n ≡ 1 + n = omega arith in
-    ⊎_elim
-    (λ white. subst P (more ∙ sym (ap (λ b. cond b (1 + n) 0) white)) (cond-true (is_white_space c) (tokens_past 0 (suc at) cs) (token_at at (c ∷ cs) ∷ tokens_past (token_len (c ∷ cs) - 1) (suc at) cs) white ∙ others))
-    (λ visible. subst P (sym (ap (λ b. cond b (1 + n) 0) visible)) (ap (λ k. tokens_past 0 k (c ∷ cs)) (omega arith)))
-    (cases_Bool (is_white_space c))
+    let more : 1 + n ≡ suc n = omega arith in
+    let next : at + suc n ≡ suc at + n = omega arith in
+    let here : at + 0 ≡ at = omega arith in
+    elim (cases_Bool (is_white_space c)) [
+      | inl white ↦ rw (white, more, next) (tokens_past-white_space (suc at) cs)
+      | inr visible ↦ let none : prefix_len is_white_space (c ∷ cs) ≡ 0 = rw visible refl in rw (none, here) refl
+    ]
 
 -- the first token, and then the others
-pub tokens_past-token : (at c : ℕ) (cs : List ℕ) → is_white_space c ≡ false → tokens_past 0 at (c ∷ cs) ≡ token_at at (c ∷ cs) ∷ tokens_past 0 (at + token_len (c ∷ cs)) (drop (token_len (c ∷ cs)) (c ∷ cs))
+tokens_past-token : (at c : ℕ) (cs : List ℕ) → is_white_space c ≡ false → let n = token_len (c ∷ cs) in
+    tokens_past 0 at (c ∷ cs) ≡ token_at at (c ∷ cs) ∷ tokens_past 0 (at + n) (drop n (c ∷ cs))
 unfolding tokens_past
 tokens_past-token at c cs visible =
     let n = token_len (c ∷ cs) in
-    let positive : 0 < n = length_of-positive c cs in
-    let others : tokens_past (n - 1) (suc at) cs ≡ tokens_past 0 (at + n) (drop n (c ∷ cs)) =
-    let more : suc (n - 1) ≡ n = omega arith in
-    tokens_past-skip (n - 1) (suc at) cs
-    ∙ ap (λ k. tokens_past 0 k (drop (n - 1) cs)) (omega arith)
-    ∙ ap (λ k. tokens_past 0 (at + n) (drop k (c ∷ cs))) more in
-    rw visible (ap (λ ts. token_at at (c ∷ cs) ∷ ts) others)
+    let more : n ≡ suc (n - 1) = omega (arith, (length_of-fits c cs).0) in
+    let next : at + n ≡ suc at + (n - 1) = omega arith in
+    let behind : drop n (c ∷ cs) ≡ drop (n - 1) cs = ap (λ k. drop k (c ∷ cs)) more in
+    rw (visible, behind, next) (ap (λ ts. token_at at (c ∷ cs) ∷ ts) (tokens_past-skip (n - 1) (suc at) cs))
 
 -- none is left where the white space reaches the end
 pub tokens_past-none : (from at : ℕ) (text : List ℕ) → at ≡ from + prefix_len is_white_space (drop from text) → length text ≤ at → tokens_past 0 from (drop from text) ≡ []
 unfolding tokens_past
-tokens_past-none from at text skipped past =
-    let n = prefix_len is_white_space (drop from text) in
-    let nothing : drop n (drop from text) ≡ [] = drop-drop n from text ∙ ap (λ k. drop k text) (sym skipped) ∙ drop_of_length-le text past in
-    tokens_past-white_space from (drop from text) ∙ ap (tokens_past 0 (from + n)) nothing
-
--- what stands behind the white space begins a token
-visible_at : (from at : ℕ) (text : List ℕ) → at ≡ from + prefix_len is_white_space (drop from text) → at < length text → is_white_space (get_or text at 0) ≡ false
-visible_at from at text skipped inside =
-    let n = prefix_len is_white_space (drop from text) in
-    ap is_white_space (ap (λ k. get_or text k 0) skipped ∙ sym (get_or-drop from text n 0))
-    ∙ prefix_len_stops is_white_space (drop from text) 0 (omega (arith, length-drop from text))
+tokens_past-none from at text skipped past = tokens_past-white_space from (drop from text) ∙ rw (drop-drop, ← skipped, drop_all at text past) refl
 
 -- the first token stands behind the white space, and then the others come
-pub tokens_past-next : (from at : ℕ) (text : List ℕ) → at ≡ from + prefix_len is_white_space (drop from text) → at < length text → tokens_past 0 from (drop from text) ≡ token_at at (drop at text) ∷ tokens_past 0 (at + token_len (drop at text)) (drop (at + token_len (drop at text)) text)
+pub tokens_past-next : (from at : ℕ) (text : List ℕ) → at ≡ from + prefix_len is_white_space (drop from text) → at < length text
+    → let end = at + token_len (drop at text) in tokens_past 0 from (drop from text) ≡ token_at at (drop at text) ∷ tokens_past 0 end (drop end text)
 tokens_past-next from at text skipped inside =
     let n = prefix_len is_white_space (drop from text) in
-    let rest : drop n (drop from text) ≡ drop at text = drop-drop n from text ∙ ap (λ k. drop k text) (sym skipped) in
-    let Q : List ℕ → Type 0 = λ cs. tokens_past 0 at cs ≡ token_at at cs ∷ tokens_past 0 (at + token_len cs) (drop (token_len cs) cs) in
-    tokens_past-white_space from (drop from text)
-    ∙ ap (λ k. tokens_past 0 k (drop n (drop from text))) (sym skipped)
-    ∙ ap (tokens_past 0 at) rest
-    ∙ subst Q (sym (drop-cons text at 0 inside)) (tokens_past-token at _ _ (visible_at from at text skipped inside))
-    ∙ ap (λ cs. token_at at (drop at text) ∷ tokens_past 0 (at + token_len (drop at text)) cs) (drop-drop (token_len (drop at text)) at text)
+    let visible : is_white_space (get_or text at 0) ≡ false =
+    rw (skipped, ← get_or-drop) (prefix_len_stops is_white_space (drop from text) 0 (omega (arith, length-drop from text))) in
+    let first : tokens_past 0 at (drop at text) ≡ token_at at (drop at text) ∷ tokens_past 0 (at + token_len (drop at text)) (drop (token_len (drop at text)) (drop at text)) =
+    rw (drop-cons text at 0 inside) (tokens_past-token at _ _ visible) in
+    tokens_past-white_space from (drop from text) ∙ rw (drop-drop, ← skipped) (first ∙ rw drop-drop refl)
 
 -- a token that begins inside a text has a character, and ends inside
 pub token_len-inside : (at : ℕ) (text : List ℕ) → at < length text → (0 < token_len (drop at text)) × (at + token_len (drop at text) ≤ length text)
 token_len-inside at text inside =
-    let Q : List ℕ → Type 0 = λ cs. (0 < token_len cs) × (token_len cs ≤ length cs) in
-    let both : Q (drop at text) = subst Q (sym (drop-cons text at 0 inside)) (length_of-positive _ _, length_of-le _ _) in
-    (both.0, omega (arith, both.1, length-drop at text))
+    let fits : (0 < token_len (drop at text)) × (token_len (drop at text) ≤ length (drop at text)) = rw (drop-cons text at 0 inside) (length_of-fits _ _) in
+    omega (arith, fits.0, fits.1, length-drop at text)
 
--- no token is left where the white space reaches the end
-none_are_tokens : (from : ℕ) (text : List ℕ) → length text ≤ from + prefix_len is_white_space (drop from text) → AreTokensFrom from text (tokens_past 0 from (drop from text))
-none_are_tokens from text past =
-    subst (AreTokensFrom from text) (sym (tokens_past-none from _ text refl past))
-    (drop-drop (prefix_len is_white_space (drop from text)) from text ∙ drop_of_length-le text past)
-
+-- the tokens that are left are tokens as the relation says
 are_tokens_within : (fuel from : ℕ) (text : List ℕ) → length text ≤ from + fuel → AreTokensFrom from text (tokens_past 0 from (drop from text))
-are_tokens_within zero from text enough = none_are_tokens from text (omega arith)
+unfolding tokens_past
+are_tokens_within zero from text enough = let none = drop_all from text (omega arith) in rw none (rw none refl)
 are_tokens_within (suc fuel) from text enough =
     let at = from + prefix_len is_white_space (drop from text) in
     ⊎_elim
     (λ inside.
-    let sized = token_len-inside at text inside in
-    subst (AreTokensFrom from text) (sym (tokens_past-next from at text refl inside))
-    ((λ none. let some = drop-cons text at 0 inside in cc), refl, are_tokens_within fuel (at + token_len (drop at text)) text (omega (arith, sized.0))))
-    (λ past. none_are_tokens from text past)
+    let rest = are_tokens_within fuel (at + token_len (drop at text)) text (omega (arith, (token_len-inside at text inside).0)) in
+    rw (tokens_past-next from at text refl inside) ((λ none. let some = drop-cons text at 0 inside in cc), refl, rest))
+    (λ past. rw (tokens_past-none from at text refl past) (drop-drop _ from text ∙ drop_all at text past))
     (cases_lt at (length text))
 
 -- the tokens of a text are its tokens as the relation says
 pub are_tokens_of : (text : List ℕ) → AreTokensFrom 0 text (tokens_of text)
 are_tokens_of text = are_tokens_within (length text) 0 text (omega arith)
 
--- each token that is left is inside the text
-inside_within : (fuel from : ℕ) (text : List ℕ) → length text ≤ from + fuel → AllByRecursion (IsInside text) (tokens_past 0 from (drop from text))
-inside_within zero from text enough = subst (AllByRecursion (IsInside text)) (sym (tokens_past-none from _ text refl (omega arith))) tt
-inside_within (suc fuel) from text enough =
-    let at = from + prefix_len is_white_space (drop from text) in
-    ⊎_elim
-    (λ inside.
-    let sized = token_len-inside at text inside in
-    subst (AllByRecursion (IsInside text)) (sym (tokens_past-next from at text refl inside))
-    (sized, inside_within fuel (at + token_len (drop at text)) text (omega (arith, sized.0))))
-    (λ past. subst (AllByRecursion (IsInside text)) (sym (tokens_past-none from at text refl past)) tt)
-    (cases_lt at (length text))
+-- the first of some tokens begins inside the text
+pub first-inside : (from : ℕ) (text : List ℕ) (t : Token) (ts : List Token) → AreTokensFrom from text (t ∷ ts) → from + prefix_len is_white_space (drop from text) < length text
+first-inside from text t ts are = ⊎_elim (λ inside. inside) (λ past. absurd (are.0 (drop_all _ text past))) (cases_lt _ (length text))
+
+-- what holds of each token that begins inside a text holds of each of its tokens
+pub each_token : (P : Token → Type 0) (text : List ℕ) → ((at : ℕ) → at < length text → P (token_at at (drop at text))) → All P (tokens_of text)
+each_token P text holds = along 0 (tokens_of text) (are_tokens_of text)
+  where
+    along : (from : ℕ) (ts : List Token) → AreTokensFrom from text ts → All P ts
+    along from [] are = All-nil P
+    along from (t ∷ ts) are = All-cons P t ts (rw are.1 (holds _ (first-inside from text t ts are))) (along (from + prefix_len is_white_space (drop from text) + t.len) ts are.2)
 
 -- each token of a text is inside it
 pub inside_tokens_of : (text : List ℕ) → All (IsInside text) (tokens_of text)
-inside_tokens_of text = All-from_recursion (IsInside text) (tokens_of text) (inside_within (length text) 0 text (omega arith))
+inside_tokens_of text = each_token (IsInside text) text (λ at inside. token_len-inside at text inside)

@@ -1,6 +1,6 @@
 -- What callers may rest on: the classes of characters, the kinds of tokens, tokens, identifiers, words, and where a name stands.
 pub mod Chars
-pub mod Kind
+pub mod TokenKind
 pub mod Token
 pub mod Tokens
 pub mod Identifier

@@ -1,7 +1,7 @@
 -- Where a name stands in code.
 use Rattle.std.specs.Prelude.{ℕ, suc, ◌<◌, ◌≤◌, Bool, false, ◌&&◌, List, [], ◌∷◌, map, filter, Option, Some, None}
 use Rattle.std.specs.Str.{bytes_eq}
-use Rattle.java_tokens.specs.declared.place.Place.TheVariants.{Code}
+use Rattle.java_tokens.specs.declared.context.Context.TheVariants.{Code}
 use Rattle.java_tokens.specs.Token.{Token}
 use Rattle.java_tokens.specs.Tokens.{characters_of, tokens_of}
 use Rattle.java_tokens.specs.Words.{has_bit, is_identifier_token}

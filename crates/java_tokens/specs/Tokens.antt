@@ -3,7 +3,7 @@ use Rattle.std.specs.Prelude.{◌≡◌, ◌≢◌, ℕ, zero, suc, ◌+◌, ◌
 use Rattle.std.specs.List.{prefix_len}
 use Rattle.java_tokens.specs.Token.{Token}
 use Rattle.java_tokens.specs.Chars.{is_white_space}
-use Rattle.java_tokens.specs.Kind.{code_of, kind_at, length_of}
+use Rattle.java_tokens.specs.TokenKind.{code_of, kind_at, length_of}
 
 -- how many characters the token at the front has
 abbrev pub token_len : List ℕ → ℕ

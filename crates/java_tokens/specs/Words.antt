@@ -8,23 +8,23 @@ use Rattle.std.specs.List.Sorted.{IsStrictlySortedBy}
 use Rattle.std.specs.Str.{bytes_eq}
 use Rattle.std.specs.Map.{lookup, keys_of}
 use Rattle.std.specs.BTreeMap.{is_at, insert_entry}
-use Rattle.java_tokens.specs.declared.kind.Kind.TheVariants.{Word, Str, TextBlock, LineComment, BlockComment}
-use Rattle.java_tokens.specs.declared.place.Place.{Place}
-use Rattle.java_tokens.specs.declared.place.Place.TheVariants.{Code, Comment, String}
+use Rattle.java_tokens.specs.declared.kind.TokenKind.TheVariants.{Word, Str, TextBlock, LineComment, BlockComment}
+use Rattle.java_tokens.specs.declared.context.Context.{Context}
+use Rattle.java_tokens.specs.declared.context.Context.TheVariants.{Code, Comment, String}
 use Rattle.java_tokens.specs.Token.{Token}
 use Rattle.java_tokens.specs.Chars.{space, backslash, begins_word, continues_word, first_passes}
-use Rattle.java_tokens.specs.Kind.{code_of}
+use Rattle.java_tokens.specs.TokenKind.{code_of}
 use Rattle.java_tokens.specs.Tokens.{characters_of, tokens_of}
 use Rattle.java_tokens.specs.Identifier.{is_reserved}
 
 -- the bit of a place in a mask
-abbrev pub bit_of : Place → ℕ
+abbrev pub bit_of : Context → ℕ
 bit_of Code = 1
 bit_of Comment = 2
 bit_of String = 4
 
 -- the place is among those of a mask
-abbrev pub has_bit : Place → ℕ → Bool
+abbrev pub has_bit : Context → ℕ → Bool
 has_bit place mask = not (bit_and mask (bit_of place) == 0)
 
 -- what no word goes on over
@@ -51,13 +51,13 @@ unfoldable mutual
   past_escape (c ∷ cs) = space ∷ without_escapes cs
 
 -- the characters of a comment or a string that words may have: in a string an escape has none
-abbrev pub shown_at : Place → List ℕ → List ℕ
+abbrev pub shown_at : Context → List ℕ → List ℕ
 shown_at Code cs = cs
 shown_at Comment cs = cs
 shown_at String cs = without_escapes cs
 
 -- how many characters part a run from the next, the first of them c: an escape in a string is two
-abbrev pub gap_at : Place → ℕ → ℕ
+abbrev pub gap_at : Context → ℕ → ℕ
 gap_at Code c = 1
 gap_at Comment c = 1
 gap_at String c = if c == backslash then 2 else 1
@@ -67,11 +67,11 @@ abbrev pub WordRow : Type 0
 WordRow = List ℕ × ℕ
 
 -- each name with the bit of this place
-abbrev pub marked : Place → List (List ℕ) → List WordRow
+abbrev pub marked : Context → List (List ℕ) → List WordRow
 marked place names = map (λ name. (name, bit_of place)) names
 
 -- the words in a comment or a string
-abbrev pub words_at : Place → List ℕ → List WordRow
+abbrev pub words_at : Context → List ℕ → List WordRow
 words_at place cs = marked place (words_in (shown_at place cs))
 
 -- a comment of either kind

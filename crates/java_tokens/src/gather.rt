@@ -3,15 +3,15 @@ ghost use Rattle.std.specs.Prelude.{◌≡◌, ◌+◌, ◌-◌, ◌≤◌, OnOk
 ghost use Rattle.std.specs.List.{prefix_len};
 ghost use Rattle.java_tokens.specs.Chars.{continues_word};
 ghost use Rattle.java_tokens.specs.Identifier.{is_reserved};
-ghost use Rattle.java_tokens.specs.declared.place.Place.TheVariants.{Code};
+ghost use Rattle.java_tokens.specs.declared.context.Context.TheVariants.{Code};
 ghost use Rattle.java_tokens.specs.Tokens.{tokens_of};
 ghost use Rattle.java_tokens.specs.Words.{AreInOrder, HasMasksOf, bit_of, gap_at, words_among, words_at, marked, occurrences_at, occurrences_of, with_occurrence, words_of};
 
 use crate::chars::{Class, continues_word};
-use crate::kind::Kind;
+use crate::context::Context;
+use crate::kind::TokenKind;
 use crate::masks::Masks;
 use crate::piece::Piece;
-use crate::place::Place;
 use crate::reserved::is_reserved;
 use crate::scan::run_end;
 use crate::token::Token;
@@ -57,19 +57,19 @@ fn add_token(masks: &mut Masks, text: &Text, token: &Token) -> Result<(), AllocE
     ensures { OnOk result (masks.new
         ≡ fold with_occurrence masks.old (occurrences_at text.now token.now)) }
 {
-    if token.is(Kind::Word) {
+    if token.is(TokenKind::Word) {
         add_identifier(masks, &Piece::part(text, token.at(), token.len()))?;
-    } else if token.is(Kind::LineComment) || token.is(Kind::BlockComment) {
+    } else if token.is(TokenKind::LineComment) || token.is(TokenKind::BlockComment) {
         add_words(
             masks,
             &Piece::part(text, token.at(), token.len()),
-            Place::Comment,
+            Context::Comment,
         )?;
-    } else if token.is(Kind::Str) || token.is(Kind::TextBlock) {
+    } else if token.is(TokenKind::Str) || token.is(TokenKind::TextBlock) {
         add_words(
             masks,
             &Piece::part(text, token.at(), token.len()),
-            Place::String,
+            Context::String,
         )?;
     }
     Ok(())
@@ -83,13 +83,13 @@ fn add_identifier(masks: &mut Masks, piece: &Piece) -> Result<(), AllocError>
         (if is_reserved piece.now then [] else marked Code (piece.now ∷ []))) }
 {
     if !is_reserved(piece) {
-        masks.add(piece, 0, piece.len(), Place::Code)?;
+        masks.add(piece, 0, piece.len(), Context::Code)?;
     }
     Ok(())
 }
 
 /// Adds the words in a comment or a string.
-fn add_words(masks: &mut Masks, piece: &Piece, place: Place) -> Result<(), AllocError>
+fn add_words(masks: &mut Masks, piece: &Piece, place: Context) -> Result<(), AllocError>
     ensures { OnOk result (masks.new
         ≡ fold with_occurrence masks.old (words_at place piece.now)) }
 {
@@ -106,7 +106,7 @@ fn add_words(masks: &mut Masks, piece: &Piece, place: Place) -> Result<(), Alloc
 }
 
 /// Where the first run of what may go on in a word begins, from a place on. What parts runs is passed by in one loop.
-fn run_start(piece: &Piece, from: u32, place: Place) -> u32
+fn run_start(piece: &Piece, from: u32, place: Context) -> u32
     ensures same { words_at place (drop result piece.now) ≡ words_at place (drop from piece.now) }
     ensures forward { from ≤ result }
 {
@@ -121,13 +121,13 @@ fn run_start(piece: &Piece, from: u32, place: Place) -> u32
 }
 
 /// How many characters part a run from the next, `c` the first of them.
-fn gap_at(place: Place, c: char) -> u32
+fn gap_at(place: Context, c: char) -> u32
     ensures value { result ≡ gap_at place c }
     ensures few { result ≤ 2 }
     ensures some { 1 ≤ result }
 {
     match place {
-        Place::String if c == '\\' => 2,
+        Context::String if c == '\\' => 2,
         _ => 1,
     }
 }
@@ -138,7 +138,7 @@ fn add_run(
     piece: &Piece,
     at: u32,
     end: u32,
-    place: Place,
+    place: Context,
 ) -> Result<(), AllocError>
     requires { end ≡ at + prefix_len continues_word (drop at piece.now) }
     ensures { OnOk result (let run = take (end - at) (drop at piece.now) in

@@ -7,7 +7,7 @@ ghost use Rattle.java_tokens.specs.Tokens.{characters_of};
 ghost use Rattle.java_tokens.specs.Words.{is_identifier_token};
 
 use crate::chars::{begins_word, continues_word};
-use crate::kind::Kind;
+use crate::kind::TokenKind;
 use crate::piece::Piece;
 use crate::reserved::{self, is_reserved, is_reserved_text};
 use crate::token::Token;
@@ -33,7 +33,7 @@ pub fn is_identifier_at(text: &Text, token: &Token) -> bool
     requires { token.now.at + token.now.len ≤ length text.now }
     ensures { result ≡ is_identifier_token text.now token.now }
 {
-    token.is(Kind::Word) && !is_reserved(&Piece::part(text, token.at(), token.len()))
+    token.is(TokenKind::Word) && !is_reserved(&Piece::part(text, token.at(), token.len()))
 }
 
 /// Whether a token of a text has the characters of an ASCII word.

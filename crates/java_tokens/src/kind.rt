@@ -1,10 +1,10 @@
 //! The kinds of tokens.
 ghost use Rattle.std.specs.Prelude.{◌≡◌};
-ghost use Rattle.java_tokens.specs.Kind.{code_of};
+ghost use Rattle.java_tokens.specs.TokenKind.{code_of};
 
 /// The kind of a token.
 #[derive(Clone, Copy, Debug, PartialEq, Eq)]
-pub enum Kind {
+pub enum TokenKind {
     /// An identifier, a keyword, `true`, `false` or `null`.
     Word = 1,
     /// A number, cut without a grammar of its own.
@@ -23,7 +23,7 @@ pub enum Kind {
     Punct = 8,
 }
 
-impl Kind {
+impl TokenKind {
     /// The code by which a token tells its kind.
     pub fn code(self) -> u8
         ensures { result ≡ code_of self }

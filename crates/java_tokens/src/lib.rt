@@ -2,6 +2,7 @@
 #![tactic(auto)]
 
 mod chars;
+mod context;
 mod fronted;
 mod gather;
 mod identifier;
@@ -10,7 +11,6 @@ pub mod laws;
 mod masks;
 mod name_places;
 mod piece;
-mod place;
 mod reserved;
 mod scan;
 mod token;
@@ -18,11 +18,11 @@ mod tokenizer;
 mod wide;
 mod word_list;
 
+pub use context::Context;
 pub use gather::words;
 pub use identifier::{is_identifier, is_identifier_at, is_word, spells};
-pub use kind::Kind;
+pub use kind::TokenKind;
 pub use name_places::places;
-pub use place::Place;
 pub use token::Token;
 pub use tokenizer::tokens;
 pub use word_list::WordList;

@@ -6,9 +6,9 @@ ghost use Rattle.std.specs.Str.{bytes_eq};
 ghost use Rattle.indexmap.specs.IndexMap.{IsUnique};
 ghost use Rattle.java_tokens.specs.Words.{bit_of, in_order_of, with_occurrence};
 
+use crate::context::Context;
 use crate::fronted::Fronted;
 use crate::piece::Piece;
-use crate::place::Place;
 use ide_text::{Name, Spelt};
 use indexmap::IndexMap;
 use std::alloc::{AllocError, Global};
@@ -53,7 +53,7 @@ impl Masks {
         piece: &Piece,
         from: u32,
         to: u32,
-        place: Place,
+        place: Context,
     ) -> Result<(), AllocError>
         requires ordered { from ≤ to }
         requires inside { to ≤ length piece.now }
@@ -82,7 +82,7 @@ fn add_spelt(
     rows: &mut IndexMap<Name, u8>,
     alloc: Global,
     word: &Spelt,
-    place: Place,
+    place: Context,
 ) -> Result<(), AllocError>
     ensures words { OnOk result
         (in_order_of rows.new.entries
@@ -98,7 +98,7 @@ fn add_spelt(
 }
 
 /// Adds one occurrence of a name, which is hashed and looked up once.
-fn add_name(rows: &mut IndexMap<Name, u8>, name: Name, place: Place) -> Result<(), AllocError>
+fn add_name(rows: &mut IndexMap<Name, u8>, name: Name, place: Context) -> Result<(), AllocError>
     ensures words { OnOk result
         (in_order_of rows.new.entries
         ≡ with_occurrence (in_order_of rows.old.entries) (name, bit_of place)) }

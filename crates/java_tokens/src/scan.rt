@@ -4,7 +4,7 @@ ghost use Rattle.std.specs.List.{prefix_len};
 ghost use Rattle.ide_text.specs.Text.{max_chars};
 ghost use Rattle.java_tokens.specs.Chars.{begins_with};
 ghost use Rattle.java_tokens.specs.Class.{is_in};
-ghost use Rattle.java_tokens.specs.Kind.{comment_end, text_block_mark, comment_rest, literal_rest, literal_escape, text_block_rest, text_block_escape};
+ghost use Rattle.java_tokens.specs.TokenKind.{comment_end, text_block_mark, comment_rest, literal_rest, literal_escape, text_block_rest, text_block_escape};
 
 use crate::chars::Class;
 use crate::piece::Piece;
@@ -55,7 +55,7 @@ fn run_end_in_text(piece: &Piece, from: u32, class: Class) -> u32
 }
 
 /// Where a comment ends whose inside begins at a place.
-#[tactic(auto, unfolding(crate::specs::Kind::comment_rest))]
+#[tactic(auto, unfolding(crate::specs::TokenKind::comment_rest))]
 pub fn comment_end(piece: &Piece, from: u32) -> u32
     ensures { result ≡ from + comment_rest (drop from piece.now) }
 {
@@ -79,7 +79,7 @@ fn ends_comment(c: char, piece: &Piece, behind: u32) -> bool
 }
 
 /// Where a string or a character ends whose inside begins at a place.
-#[tactic(auto, unfolding(crate::specs::Kind::literal_rest))]
+#[tactic(auto, unfolding(crate::specs::TokenKind::literal_rest))]
 pub fn literal_end(piece: &Piece, from: u32, quote: char) -> u32
     ensures { result ≡ from + literal_rest quote (drop from piece.now) }
 {
@@ -100,7 +100,7 @@ pub fn literal_end(piece: &Piece, from: u32, quote: char) -> u32
 }
 
 /// Where the character ends that a backslash right before it takes, in a string or a character.
-#[tactic(auto, unfolding(crate::specs::Kind::literal_rest, crate::specs::Kind::literal_escape))]
+#[tactic(auto, unfolding(crate::specs::TokenKind::literal_rest, crate::specs::TokenKind::literal_escape))]
 fn literal_escape_end(piece: &Piece, at: u32) -> u32
     ensures rest { (quote : ℕ) → result + literal_rest quote (drop result piece.now)
         ≡ at + literal_escape quote (drop at piece.now) }
@@ -113,7 +113,7 @@ fn literal_escape_end(piece: &Piece, at: u32) -> u32
 }
 
 /// Where a text block ends whose inside begins at a place.
-#[tactic(auto, unfolding(crate::specs::Kind::text_block_rest))]
+#[tactic(auto, unfolding(crate::specs::TokenKind::text_block_rest))]
 pub fn text_block_end(piece: &Piece, from: u32) -> u32
     ensures { result ≡ from + text_block_rest (drop from piece.now) }
 {
@@ -140,7 +140,7 @@ fn ends_text_block(c: char, piece: &Piece, behind: u32) -> bool
 }
 
 /// Where the character ends that a backslash right before it takes, in a text block.
-#[tactic(auto, unfolding(crate::specs::Kind::text_block_rest, crate::specs::Kind::text_block_escape))]
+#[tactic(auto, unfolding(crate::specs::TokenKind::text_block_rest, crate::specs::TokenKind::text_block_escape))]
 fn text_block_escape_end(piece: &Piece, at: u32) -> u32
     ensures rest { result + text_block_rest (drop result piece.now)
         ≡ at + text_block_escape (drop at piece.now) }

@@ -1,8 +1,8 @@
 //! A token: its kind and where it stands.
 ghost use Rattle.std.specs.Prelude.{◌≡◌, ◌==◌, ◌<◌};
-ghost use Rattle.java_tokens.specs.Kind.{code_of};
+ghost use Rattle.java_tokens.specs.TokenKind.{code_of};
 
-use crate::kind::Kind;
+use crate::kind::TokenKind;
 use std::marker::Model;
 
 /// A token of a text. Places and lengths count characters.
@@ -34,7 +34,7 @@ const _: () = prove!(size_of::<Token>() == 8);
 impl Token {
     /// The token of a kind that begins at a place and has so many characters.
     #[inline]
-    pub(crate) fn of(kind: Kind, at: u32, len: u32) -> Token
+    pub(crate) fn of(kind: TokenKind, at: u32, len: u32) -> Token
         requires { len < 16777216 }
         ensures { result ≡ record { kind = code_of kind; at = at; len = len } }
     {
@@ -46,7 +46,7 @@ impl Token {
         }
     }
 
-    /// The code of its kind, as `Kind::code` gives it.
+    /// The code of its kind, as `TokenKind::code` gives it.
     #[inline]
     pub fn kind(&self) -> u8
         ensures { result ≡ self.now.kind }
@@ -72,7 +72,7 @@ impl Token {
 
     /// Whether the token is of this kind.
     #[inline]
-    pub fn is(&self, kind: Kind) -> bool
+    pub fn is(&self, kind: TokenKind) -> bool
         ensures { result ≡ (self.now.kind == code_of kind) }
     {
         self.kind == kind.code()

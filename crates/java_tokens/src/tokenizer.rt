@@ -3,11 +3,11 @@ ghost use Rattle.std.specs.Prelude.{◌≡◌, ◌+◌, ◌<◌, ◌≤◌, [], 
 ghost use Rattle.std.specs.Char.{is_ascii_digit};
 ghost use Rattle.ide_text.specs.Text.{max_chars};
 ghost use Rattle.java_tokens.specs.Chars.{slash, double_quote, begins_word, first_passes};
-ghost use Rattle.java_tokens.specs.Kind.{kind_at, length_of};
+ghost use Rattle.java_tokens.specs.TokenKind.{kind_at, length_of};
 ghost use Rattle.java_tokens.specs.Tokens.{AreTokensFrom, IsInside, tokens_past, tokens_of};
 
 use crate::chars::{Class, begins_word};
-use crate::kind::Kind;
+use crate::kind::TokenKind;
 use crate::piece::Piece;
 use crate::scan::{comment_end, literal_end, run_end, text_block_end};
 use crate::token::Token;
@@ -55,20 +55,20 @@ pub fn next_token(piece: &Piece, from: u32) -> Option<Token>
 
 /// The kind of the token that begins at a place.
 #[inline(always)]
-#[tactic(auto, unfolding(crate::specs::Kind::kind_at))]
-fn kind_at(piece: &Piece, at: u32) -> Kind
+#[tactic(auto, unfolding(crate::specs::TokenKind::kind_at))]
+fn kind_at(piece: &Piece, at: u32) -> TokenKind
     ensures { result ≡ kind_at (drop at piece.now) }
 {
     match piece.get(at) {
         Some(first) => kind_from(first, piece, at + 1),
-        None => Kind::Punct,
+        None => TokenKind::Punct,
     }
 }
 
 /// The kind of a token, by its first character and the place behind that.
 #[inline(always)]
-#[tactic(auto, unfolding(crate::specs::Kind::kind_at))]
-fn kind_from(first: char, piece: &Piece, behind: u32) -> Kind
+#[tactic(auto, unfolding(crate::specs::TokenKind::kind_at))]
+fn kind_from(first: char, piece: &Piece, behind: u32) -> TokenKind
     requires { behind ≤ max_chars }
     ensures { result ≡ kind_at (first ∷ drop behind piece.now) }
 {
@@ -77,41 +77,41 @@ fn kind_from(first: char, piece: &Piece, behind: u32) -> Kind
     } else if first == '"' {
         kind_from_quote(piece, behind)
     } else if first == '\'' {
-        Kind::Char
+        TokenKind::Char
     } else if begins_word(first) {
-        Kind::Word
+        TokenKind::Word
     } else if first.is_ascii_digit() || (first == '.' && digit_at(piece, behind)) {
-        Kind::Number
+        TokenKind::Number
     } else {
-        Kind::Punct
+        TokenKind::Punct
     }
 }
 
 /// The kind of a token that begins with a slash, by what stands behind it.
-#[tactic(auto, unfolding(crate::specs::Kind::kind_at))]
-fn kind_from_slash(piece: &Piece, behind: u32) -> Kind
+#[tactic(auto, unfolding(crate::specs::TokenKind::kind_at))]
+fn kind_from_slash(piece: &Piece, behind: u32) -> TokenKind
     requires { behind ≤ max_chars }
     ensures { result ≡ kind_at (slash ∷ drop behind piece.now) }
 {
     if piece.has(behind, &['/']) {
-        Kind::LineComment
+        TokenKind::LineComment
     } else if piece.has(behind, &['*']) {
-        Kind::BlockComment
+        TokenKind::BlockComment
     } else {
-        Kind::Punct
+        TokenKind::Punct
     }
 }
 
 /// The kind of a token that begins with a double quote, by what stands behind it.
-#[tactic(auto, unfolding(crate::specs::Kind::kind_at))]
-fn kind_from_quote(piece: &Piece, behind: u32) -> Kind
+#[tactic(auto, unfolding(crate::specs::TokenKind::kind_at))]
+fn kind_from_quote(piece: &Piece, behind: u32) -> TokenKind
     requires { behind ≤ max_chars }
     ensures { result ≡ kind_at (double_quote ∷ drop behind piece.now) }
 {
     if piece.has(behind, &['"', '"']) {
-        Kind::TextBlock
+        TokenKind::TextBlock
     } else {
-        Kind::Str
+        TokenKind::Str
     }
 }
 
@@ -137,19 +137,19 @@ fn digit_at(piece: &Piece, at: u32) -> bool
 
 /// Where the token of a kind that begins at a place ends.
 #[inline(always)]
-#[tactic(auto, unfolding(crate::specs::Kind::length_of))]
-fn token_end(piece: &Piece, at: u32, kind: Kind) -> u32
+#[tactic(auto, unfolding(crate::specs::TokenKind::length_of))]
+fn token_end(piece: &Piece, at: u32, kind: TokenKind) -> u32
     requires { at ≤ max_chars }
     ensures { result ≡ at + length_of kind (drop at piece.now) }
 {
     match kind {
-        Kind::LineComment => piece.skip_to(at, b'\n'),
-        Kind::BlockComment => comment_end(piece, at + 2),
-        Kind::TextBlock => text_block_end(piece, at + 3),
-        Kind::Str => literal_end(piece, at + 1, '"'),
-        Kind::Char => literal_end(piece, at + 1, '\''),
-        Kind::Word => run_end(piece, at, Class::Word),
-        Kind::Number => run_end(piece, at, Class::Number),
-        Kind::Punct => at + 1,
+        TokenKind::LineComment => piece.skip_to(at, b'\n'),
+        TokenKind::BlockComment => comment_end(piece, at + 2),
+        TokenKind::TextBlock => text_block_end(piece, at + 3),
+        TokenKind::Str => literal_end(piece, at + 1, '"'),
+        TokenKind::Char => literal_end(piece, at + 1, '\''),
+        TokenKind::Word => run_end(piece, at, Class::Word),
+        TokenKind::Number => run_end(piece, at, Class::Number),
+        TokenKind::Punct => at + 1,
     }
 }

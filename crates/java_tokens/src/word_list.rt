@@ -8,7 +8,7 @@ use std::alloc::AllocError;
 use std::marker::Model;
 
 /// Names with masks: the names in order, each once, and the mask of each the union of the bits of the places where
-/// it stands (`Place`).
+/// it stands (`Context`).
 #[derive(Drop)]
 pub struct WordList {
     rows: Vec<(Name, u8)>,

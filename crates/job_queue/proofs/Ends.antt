@@ -10,7 +10,7 @@ use Rattle.job_queue.specs.declared.view.Hand.{Hand}
 use Rattle.job_queue.specs.declared.view.QueueView.{QueueView}
 use Rattle.job_queue.specs.declared.pass.QueuePass.{QueuePass}
 use Rattle.job_queue.specs.Passes.{queue_view}
-use Rattle.job_queue.specs.Hints.{bit, is_hint, times, hints_of, IsNumbered}
+use Rattle.job_queue.specs.Hints.{is_hint, times, hints_of, IsNumbered}
 use Rattle.job_queue.specs.Views.{hands, weigh, joined, IsLast}
 use Rattle.job_queue.specs.Rule.{IsHand, Stood}
 use Rattle.job_queue.specs.Accounts.{IsHandOf, IsKnown, IsAccounted}
@@ -19,6 +19,7 @@ use Rattle.job_queue.proofs.ViewLemmas.{count, hands_are, own_weighs}
 use Rattle.list_laws.specs.Totals.{total}
 use Rattle.list_laws.proofs.BoolLemmas.{bool_cases}
 use Rattle.list_laws.proofs.TotalLemmas.{total-append, total-at, total-only}
+use Rattle.list_laws.specs.Rows.{one_if}
 
 count_length : (hs : List Hand) → total (λ (h : Hand). 1) hs ≡ length hs
 count_length [] = refl
@@ -41,7 +42,7 @@ module _ (v : QueueView) (items : List Hint) (at : Stood v items) where
 
   -- a hint that is gone or in the queue is one that its pusher put
   sent_times : (x : Hint) → times x (at.kept.gone x.pusher) + times x items ≡ puts x
-  sent_times x = omega (arith, total-append (λ y. bit (is_hint x y)) (at.kept.gone x.pusher) (hints_of x.pusher items), times_own x items)
+  sent_times x = omega (arith, total-append (λ y. one_if (is_hint x y)) (at.kept.gone x.pusher) (hints_of x.pusher items), times_own x items)
 
   hand_is : (h : Hand) → IsHand at.kept.gone items h → IsHandOf items h
   hand_is h is = record {
@@ -59,17 +60,17 @@ module _ (v : QueueView) (items : List Hint) (at : Stood v items) where
   }
 
   -- hands put a hint as often as its pusher did, if this one is among them
-  put_once : (x : Hint) (h : Hand) → IsHand at.kept.gone items h → times x h.put ≡ bit (eqb h.number x.pusher) * puts x
-  put_once x h is = bool_cases (eqb h.number x.pusher) (λ b. times x h.put ≡ bit b * puts x)
+  put_once : (x : Hint) (h : Hand) → IsHand at.kept.gone items h → times x h.put ≡ one_if (eqb h.number x.pusher) * puts x
+  put_once x h is = bool_cases (eqb h.number x.pusher) (λ b. times x h.put ≡ one_if b * puts x)
       (λ e. omega (arith, ap (times x) (is.put ∙ ap (sent at.kept.gone items) (eqb-true h.number x.pusher e))))
       (λ e. omega (arith, times_other x h.number 1 h.put (hand_is h is).numbered (eqb-false h.number x.pusher e)))
 
   put_total : (x : Hint) (hs : List Hand) → All (IsHand at.kept.gone items) hs
-      → total (λ (h : Hand). times x h.put) hs ≡ total (λ (h : Hand). bit (eqb h.number x.pusher)) hs * puts x
+      → total (λ (h : Hand). times x h.put) hs ≡ total (λ (h : Hand). one_if (eqb h.number x.pusher)) hs * puts x
   put_total x [] all = omega arith
   put_total x (h ∷ hs) all = let Hands : Hand → Type 0 = IsHand at.kept.gone items in
       (λ k. put_once x h (All-head Hands h hs all) k + put_total x hs (All-tail Hands h hs all) k)
-      ∙ sym (add-mul (bit (eqb h.number x.pusher)) (total (λ (g : Hand). bit (eqb g.number x.pusher)) hs) (puts x))
+      ∙ sym (add-mul (one_if (eqb h.number x.pusher)) (total (λ (g : Hand). one_if (eqb g.number x.pusher)) hs) (puts x))
 
   -- what the last pass knows of all hints
   pub accounts : IsLast v → IsAccounted v items
@@ -79,9 +80,9 @@ module _ (v : QueueView) (items : List Hint) (at : Stood v items) where
       λ f. total-only count (weigh f) at.views at.seat v at.here
       (omega (arith, own_weighs v last.leads (λ h. 1), count_length v.ended, at.kept.counted.in_all, sound.counts last.leads, last.all_met))
       (λ j w e none_there. ap (total f) (nil_from_length (hands w) (omega (arith, count_length (hands w))))) in
-      let numbered = (λ (x : Hint). sym (has_all (λ h. bit (eqb h.number x.pusher))) ∙ at.kept.counted.once x.pusher) in
+      let numbered = (λ (x : Hint). sym (has_all (λ h. one_if (eqb h.number x.pusher))) ∙ at.kept.counted.once x.pusher) in
       let put_times : (x : Hint) → weigh (λ h. times x h.put) v ≡ puts x =
       λ x. put_total x (hands v) sound.hands_are ∙ (ap (λ (k : ℕ). k * puts x) (numbered x)
-      ∙ bool_cases (nat_lt x.pusher at.kept.drawn) (λ b. bit b * puts x ≡ puts x) (λ _. omega arith)
+      ∙ bool_cases (nat_lt x.pusher at.kept.drawn) (λ b. one_if b * puts x ≡ puts x) (λ _. omega arith)
       (λ e. omega (arith, ap (times x) (at.kept.unused x.pusher (ltb-false x.pusher at.kept.drawn e))))) in
       record { known = knows; all = λ x. omega (arith, has_all (λ h. times x h.took), at.kept.taken x, sent_times x, put_times x) }

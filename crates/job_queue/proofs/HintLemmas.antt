@@ -2,7 +2,8 @@
 use Rattle.std.proofs.Common.{◌≡◌, ◌≢◌, ℕ, suc, ◌+◌, ◌≤◌, List, [], ◌∷◌, ◌++◌, length, refl, arith, nat_lt}
 use Rattle.std.proofs.lemmas.Bool.Decides.{nat_tests}
 use Rattle.job_queue.specs.declared.hint.Hint.{Hint}
-use Rattle.job_queue.specs.Hints.{bit, times, hints_of, IsNumbered}
+use Rattle.job_queue.specs.Hints.{times, hints_of, IsNumbered}
+use Rattle.list_laws.specs.Rows.{one_if}
 
 -- what the pass with this number put: what is gone of it, and what is in the queue
 abbrev pub sent : (ℕ → List Hint) → List Hint → ℕ → List Hint
@@ -20,7 +21,7 @@ numbered_seam n turn [] ys x all = omega (arith, all.1)
 numbered_seam n turn (z ∷ zs) ys x all = omega (arith, numbered_seam n (suc turn) zs ys x all.2)
 
 -- a hint is at most once in what a pass put from a turn on, and not at all if its own turn is an earlier one
-pub times_few : (x : Hint) (n turn : ℕ) (xs : List Hint) → IsNumbered n turn xs → times x xs + bit (nat_lt x.turn turn) ≤ 1
+pub times_few : (x : Hint) (n turn : ℕ) (xs : List Hint) → IsNumbered n turn xs → times x xs + one_if (nat_lt x.turn turn) ≤ 1
 times_few x n turn [] all = grind (arith, nat_tests)
 times_few x n turn (y ∷ ys) all = grind (arith, nat_tests, times_few x n (suc turn) ys all.2, all.1)
 

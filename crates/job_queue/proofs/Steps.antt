@@ -13,14 +13,16 @@ use Rattle.crossbeam_queue.specs.Fifo.{Pushes, Pops, Forks, Merges, Learns}
 use Rattle.job_queue.specs.declared.hint.Hint.{Hint}
 use Rattle.job_queue.specs.declared.view.Hand.{Hand}
 use Rattle.job_queue.specs.declared.view.QueueView.{QueueView}
-use Rattle.job_queue.specs.Hints.{bit, is_hint, times, hints_of, IsNumbered}
+use Rattle.job_queue.specs.Hints.{is_hint, times, hints_of, IsNumbered}
 use Rattle.job_queue.specs.Views.{hand, own_hand, hands, weigh, number_is, leading, first_view, splitting, split_off, joined, spent_view, putting, taking}
 use Rattle.job_queue.specs.Rule.{IsHand, IsSound, IsKept, Stood, IsPut, IsTaken}
 use Rattle.job_queue.proofs.HintLemmas.{sent, numbered_more, numbered_seam, times_own}
-use Rattle.job_queue.proofs.ViewLemmas.{each_set, each_snoc, numbers, count, hands_are, own_weighs, given, sound_with, fresh_sound}
+use Rattle.job_queue.proofs.ViewLemmas.{numbers, count, hands_are, own_weighs, given, sound_with, fresh_sound}
 use Rattle.list_laws.specs.Totals.{total}
 use Rattle.list_laws.proofs.TotalLemmas.{total-set, total-same, total-two, total-at, total-zero, total-append}
-use Rattle.list_laws.proofs.FrontLemmas.{filter_more, filter_same}
+use Rattle.list_laws.proofs.PrefixLemmas.{filter_more, filter_same}
+use Rattle.list_laws.proofs.EachLemmas.{Each, each_set, each_snoc}
+use Rattle.list_laws.specs.Rows.{one_if}
 
 -- what a look tells
 pub stands : (id : ℕ) (v : QueueView) → Learns IsKept id v (Stood v)
@@ -48,7 +50,7 @@ splits id v leads room items views r at =
       drawn = r.drawn + 1;
       gone = r.gone;
       counted = record {
-        one_leads = added leading refl ∙ omega (arith, one_leads, ap bit (ne_eqb v.drawn 0 (λ e. omega arith)));
+        one_leads = added leading refl ∙ omega (arith, one_leads, ap one_if (ne_eqb v.drawn 0 (λ e. omega arith)));
         once = λ n. added (numbers n) refl ∙ grind (arith, nat_tests, r.counted.once n, is_drawn);
         in_all = added count refl ∙ omega (arith, r.counted.in_all);
         limit = omega arith;
@@ -78,8 +80,8 @@ joins id v other w {n} {m} has has' follows items views r at apart there =
       drawn = r.drawn;
       gone = r.gone;
       counted = record {
-        one_leads = kept leading (omega (arith, ap (number_is 0) has', ap bit (ne_eqb m 0 (λ e. follows (has' ∙ ap Some e))))) ∙ r.counted.one_leads;
-        once = λ k. hand_kept (λ h. bit (eqb h.number k)) ∙ r.counted.once k;
+        one_leads = kept leading (omega (arith, ap (number_is 0) has', ap one_if (ne_eqb m 0 (λ e. follows (has' ∙ ap Some e))))) ∙ r.counted.one_leads;
+        once = λ k. hand_kept (λ h. one_if (eqb h.number k)) ∙ r.counted.once k;
         in_all = hand_kept (λ h. 1) ∙ r.counted.in_all;
         limit = r.counted.limit;
       };
@@ -103,9 +105,9 @@ module _ {items : List Hint} {views : List QueueView} (r : IsKept items views) (
       (same : (m : ℕ) → m ≢ n → sent gone later m ≡ sent r.gone items m)
       (longer : (m : ℕ) → length (r.gone m) ≤ length (gone m)) where
     -- hands of other numbers
-    hands_later : (hs : List Hand) → total (λ (h : Hand). bit (eqb h.number n)) hs ≡ 0 → All (IsHand r.gone items) hs → All (IsHand gone later) hs
+    hands_later : (hs : List Hand) → total (λ (h : Hand). one_if (eqb h.number n)) hs ≡ 0 → All (IsHand r.gone items) hs → All (IsHand gone later) hs
     hands_later hs none_there are = λ k d l. let h : Hand = get_or hs k d in let is : IsHand r.gone items h = are k d l in
-        let other : h.number ≢ n = λ e. omega (arith, total-zero (λ (g : Hand). bit (eqb g.number n)) hs none_there k d l, ap bit (eq-eqb h.number n e)) in
+        let other : h.number ≢ n = λ e. omega (arith, total-zero (λ (g : Hand). one_if (eqb g.number n)) hs none_there k d l, ap one_if (eq-eqb h.number n e)) in
         record { put = is.put ∙ sym (same h.number other); rises = is.rises; early = λ i x l. omega (arith, is.early i x l, longer (get_or h.took i x).pusher) }
 
     hand_changed : IsNumbered n 1 (sent gone later n) → IsHand gone later (hand n put took)
@@ -125,7 +127,7 @@ module _ {items : List Hint} {views : List QueueView} (r : IsKept items views) (
       unused = λ m le. same m (λ e. omega (arith, given v has views id r.counted at)) ∙ r.unused m le;
       taken = λ y. let f : Hand → ℕ = λ h. times y h.took in
           omega (arith, total-set (weigh f) views id v w at, own_weighs v has f, own_weighs w has f, taken y, r.taken y);
-      each = let own_number = own_weighs v has (λ h. bit (eqb h.number n)) in each_set (IsSound gone later r.drawn) views id w
+      each = let own_number = own_weighs v has (λ h. one_if (eqb h.number n)) in each_set (IsSound gone later r.drawn) views id w
           (sound_with w has (r.each id v at).counts (subst (All (IsHand gone later)) (sym (hands_are w has))
           (All-cons (IsHand gone later) (hand n put took) v.ended own
           (hands_later v.ended (grind (arith, nat_tests, total-at (numbers n) views id v at, r.counted.once n, own_number)) held.1))))
@@ -178,6 +180,6 @@ pub takes : (id : ℕ) (v : QueueView) (n : ℕ) → v.number ≡ Some n → Pop
 takes id v n has x items views r at =
     let rule = hand_changed r id v at has items (gone_later x r) v.put (v.took ++ x ∷ []) (λ m _. stays x r m) (longer x r)
     (subst (IsNumbered n 1) (sym (stays x r n)) (r.numbered n)) (taking_hand x r (hand n v.put v.took) (held r id v at has).0)
-    (λ y. let f : Hint → ℕ = λ z. bit (is_hint y z) in
+    (λ y. let f : Hint → ℕ = λ z. one_if (is_hint y z) in
     omega (arith, total-append f v.took (x ∷ []), total-append f (r.gone y.pusher) (hints_of y.pusher (x ∷ [])), times_own y (x ∷ []))) in
     (taking x v, rule, (refl, (items, stands id v _ views r at)))

@@ -8,28 +8,16 @@ use Rattle.crossbeam_queue.proofs.Lists.{at_set, at_snoc}
 use Rattle.job_queue.specs.declared.hint.Hint.{Hint}
 use Rattle.job_queue.specs.declared.view.Hand.{Hand}
 use Rattle.job_queue.specs.declared.view.QueueView.{QueueView}
-use Rattle.job_queue.specs.Hints.{bit}
 use Rattle.job_queue.specs.Views.{hand, own_hand, hands, weigh, fresh}
 use Rattle.job_queue.specs.Rule.{IsCounted, IsHand, IsSound}
 use Rattle.job_queue.proofs.HintLemmas.{sent}
 use Rattle.list_laws.specs.Totals.{total}
 use Rattle.list_laws.proofs.TotalLemmas.{total-at}
-
-module _ {A : Type 0} where
-  -- it holds of each element
-  abbrev pub Each : (A → Type 0) → List A → Type 0
-  Each P xs = (i : ℕ) (x : A) → get_elem? xs i ≡ some x → P x
-
-  pub each_set : (P : A → Type 0) (xs : List A) (i : ℕ) (y : A) → P y → ((j : ℕ) (x : A) → j ≢ i → get_elem? xs j ≡ some x → P x) → Each P (set xs i y)
-  each_set P xs i y here others j x e =
-      ⊎_elim (λ (t : (j ≡ i) × (y ≡ x)). subst P t.1 here) (λ (t : (j ≢ i) × (get_elem? xs j ≡ some x)). others j x t.0 t.1) (at_set xs i j y x e)
-
-  pub each_snoc : (P : A → Type 0) (xs : List A) (y : A) → Each P xs → P y → Each P (xs ++ y ∷ [])
-  each_snoc P xs y all last j x e = ⊎_elim (λ (t : get_elem? xs j ≡ some x). all j x t) (λ (t : y ≡ x). subst P t last) (at_snoc xs y x j e)
+use Rattle.list_laws.specs.Rows.{one_if}
 
 -- 1 where the hand has this number
 abbrev pub numbers : ℕ → QueueView → ℕ
-numbers n = weigh (λ h. bit (eqb h.number n))
+numbers n = weigh (λ h. one_if (eqb h.number n))
 
 -- how many hands there are
 abbrev pub count : QueueView → ℕ
@@ -45,7 +33,7 @@ module _ (v : QueueView) {n : ℕ} (has : v.number ≡ Some n) where
 
   -- a number that a view has was given
   pub given : {drawn : ℕ} (views : List QueueView) (id : ℕ) → IsCounted drawn views → get_elem? views id ≡ some v → n < drawn
-  given views id c at = grind (arith, nat_tests, own_weighs (λ h. bit (eqb h.number n)), total-at (numbers n) views id v at, c.once n)
+  given views id c at = grind (arith, nat_tests, own_weighs (λ h. one_if (eqb h.number n)), total-at (numbers n) views id v at, c.once n)
 
 module _ {gone : ℕ → List Hint} {items : List Hint} {drawn : ℕ} where
   -- a view with a number

@@ -2,11 +2,7 @@
 use Rattle.std.specs.Prelude.{◌≡◌, ℕ, suc, ◌<◌, ◌==◌, ◌&&◌, Bool, true, false, List, [], ◌∷◌, filter, AllPairs, ⊤}
 use Rattle.job_queue.specs.declared.hint.Hint.{Hint}
 use Rattle.list_laws.specs.Totals.{total}
-
--- 1 for yes, 0 for no
-abbrev pub bit : Bool → ℕ
-bit true = 1
-bit false = 0
+use Rattle.list_laws.specs.Rows.{one_if}
 
 -- the two hints are the same
 abbrev pub is_hint : Hint → Hint → Bool
@@ -14,7 +10,7 @@ is_hint x y = (x.file == y.file) && ((x.pusher == y.pusher) && (x.turn == y.turn
 
 -- how often the hint is in the list
 abbrev pub times : Hint → List Hint → ℕ
-times x xs = total (λ y. bit (is_hint x y)) xs
+times x xs = total (λ y. one_if (is_hint x y)) xs
 
 -- the hints of the pusher with this number
 abbrev pub hints_of : ℕ → List Hint → List Hint

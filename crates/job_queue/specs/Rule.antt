@@ -5,16 +5,17 @@ use lib.ListN.{get_elem?}
 use Rattle.job_queue.specs.declared.hint.Hint.{Hint}
 use Rattle.job_queue.specs.declared.view.Hand.{Hand}
 use Rattle.job_queue.specs.declared.view.QueueView.{QueueView}
-use Rattle.job_queue.specs.Hints.{bit, times, hints_of, IsNumbered, Rises}
+use Rattle.job_queue.specs.Hints.{times, hints_of, IsNumbered, Rises}
 use Rattle.job_queue.specs.Views.{hands, weigh, leading, putting, spent_view, taking}
 use Rattle.list_laws.specs.Totals.{total}
+use Rattle.list_laws.specs.Rows.{one_if}
 
 -- Numbers: which pass has which. Number 0 alone gives them
 pub record IsCounted (drawn : ℕ) (views : List QueueView) : Type 0 where
   -- one view has number 0
   pub one_leads : total leading views ≡ 1
   -- the numbers of the views and of the passes that they met are those below `drawn`, each once
-  pub once : (n : ℕ) → total (weigh (λ h. bit (h.number == n))) views ≡ bit (nat_lt n drawn)
+  pub once : (n : ℕ) → total (weigh (λ h. one_if (h.number == n))) views ≡ one_if (nat_lt n drawn)
   -- so they are `drawn` in all
   pub in_all : total (weigh (λ h. 1)) views ≡ drawn
   -- there are 65,536 at most

@@ -3,8 +3,8 @@ use Rattle.std.specs.Prelude.{◌≡◌, ℕ, ◌+◌, ◌==◌, List, [], ◌�
 use Rattle.job_queue.specs.declared.hint.Hint.{Hint}
 use Rattle.job_queue.specs.declared.view.Hand.{Hand}
 use Rattle.job_queue.specs.declared.view.QueueView.{QueueView}
-use Rattle.job_queue.specs.Hints.{bit}
 use Rattle.list_laws.specs.Totals.{total}
+use Rattle.list_laws.specs.Rows.{one_if}
 
 -- what the pass with this number put and took
 abbrev pub hand : ℕ → List Hint → List Hint → Hand
@@ -25,7 +25,7 @@ weigh f v = total f (hands v)
 
 -- 1 where the number is `n`
 abbrev pub number_is : ℕ → Option ℕ → ℕ
-number_is n (Some m) = bit (m == n)
+number_is n (Some m) = one_if (m == n)
 number_is n None = 0
 
 -- 1 for the view of number 0

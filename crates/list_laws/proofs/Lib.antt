@@ -1,6 +1,7 @@
 pub mod BoolLemmas
 pub mod TotalLemmas
-pub mod FrontLemmas
+pub mod PrefixLemmas
 pub mod PositionLemmas
 pub mod RowLemmas
 pub mod PartLemmas
+pub mod EachLemmas

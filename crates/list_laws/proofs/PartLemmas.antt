@@ -1,15 +1,19 @@
 -- Parts of lists, by places.
-use Rattle.std.proofs.Common.{◌≡◌, true, bytes_eq, ℕ, zero, suc, ◌+◌, ◌-◌, ◌<◌, ◌≤◌, List, [], ◌∷◌, length, take, drop, Some, sym, ap, ◌∙◌, arith, length-drop, length-take}
+use Rattle.std.proofs.Common.{◌≡◌, true, bytes_eq, ℕ, zero, suc, ◌+◌, ◌-◌, ◌<◌, ◌≤◌, List, [], ◌∷◌, length, take, drop, get_or, Some, sym, ap, ◌∙◌, arith, length-drop, length-take}
 use Rattle.std.specs.List.{slice_get}
 use Rattle.std.specs.Cmp.Lexicographic.{bytes_decides}
-use Rattle.std.proofs.lemmas.List.{get_or-drop, get_or-take, take-take, drop-drop, drop-take, take_all}
+use Rattle.std.proofs.lemmas.List.{get_or-drop, get_or-take, take-take, drop-drop, drop-take, take_all, drop_more}
 use Rattle.std.proofs.lemmas.Option.{slice_get-get_or, slice_get_within, get_or_from_slice_get}
 
 -- a list from the place of an element on
-pub drop_from_slice_get : (xs : List ℕ) (i x : ℕ) → slice_get xs i ≡ Some x → drop i xs ≡ x ∷ drop (suc i) xs
+pub drop_from_slice_get : {A : Type 0} (xs : List A) (i : ℕ) (x : A) → slice_get xs i ≡ Some x → drop i xs ≡ x ∷ drop (suc i) xs
 drop_from_slice_get [] i x found = absurd (cc)
 drop_from_slice_get (y ∷ ys) zero x found = cc
 drop_from_slice_get (y ∷ ys) (suc i) x found = drop_from_slice_get ys i x found
+
+-- what is left from a place on: the element there, and what is left from the next place on
+pub next_left : {A : Type 0} (xs : List A) (i : ℕ) {x : A} → i < length xs → x ≡ get_or xs i x → drop i xs ≡ x ∷ drop (i + 1) xs
+next_left xs i {x} within is = drop_more xs i x within ∙ ap (λ y. y ∷ drop (i + 1) xs) (sym is)
 
 -- an element of a part is the one that stands so far behind the part's beginning
 pub slice_get-part : (xs : List ℕ) (from n i x : ℕ) → i < n → slice_get xs (from + i) ≡ Some x → slice_get (take n (drop from xs)) i ≡ Some x

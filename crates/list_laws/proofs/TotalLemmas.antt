@@ -3,7 +3,7 @@ use Rattle.std.proofs.Common.{◌≡◌, ℕ, zero, suc, ◌+◌, ◌≤◌, ◌
 use mathlib.Core.Option.{some, some-injective, some-ne-none}
 use lib.ListN.{get_elem?}
 use Rattle.list_laws.specs.Totals.{total}
-use Rattle.list_laws.proofs.FrontLemmas.{All-cons}
+use Rattle.list_laws.proofs.PrefixLemmas.{All-cons}
 
 module _ {A : Type 0} where
   -- the total after the element at `i` was replaced

@@ -1,3 +1,3 @@
 pub mod Totals
-pub mod Fronts
+pub mod Prefixes
 pub mod Rows

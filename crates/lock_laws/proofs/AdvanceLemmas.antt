@@ -6,7 +6,7 @@ use Rattle.action_lock.specs.Advances.{Advances}
 use Rattle.action_lock.specs.Views.{all_checks}
 use Rattle.action_lock.specs.Steps.{with_phase}
 use Rattle.action_lock.specs.Reads.{HasLooked}
-use Rattle.list_laws.proofs.FrontLemmas.{front_self, front_trans}
+use Rattle.list_laws.proofs.PrefixLemmas.{front_self, front_trans}
 
 module _ {E : Type 0} where
   -- a view advances to itself

@@ -1,13 +1,13 @@
 -- What one change leaves of a pass's view.
 use Rattle.std.specs.Prelude.{◌≡◌, List, [], ◌∷◌, ◌++◌}
 use Rattle.action_lock.specs.declared.view.View.{View}
-use Rattle.list_laws.specs.Fronts.{IsFront}
+use Rattle.list_laws.specs.Prefixes.{IsPrefix}
 
 -- the pass has seen some more, and then made one entry
 pub record HasMade {E : Type 0} (v w : View E) : Type 0 where
   pub before : List E
   pub entry : E
-  pub longer : IsFront v.seen before
+  pub longer : IsPrefix v.seen before
   pub seen : w.seen ≡ before ++ entry ∷ []
   pub mine : w.mine ≡ v.mine ++ entry ∷ []
 
@@ -22,6 +22,6 @@ pub record HasMadeTwo {E : Type 0} (v w : View E) : Type 0 where
   pub before : List E
   pub first : E
   pub second : E
-  pub longer : IsFront v.seen before
+  pub longer : IsPrefix v.seen before
   pub seen : w.seen ≡ (before ++ first ∷ []) ++ second ∷ []
   pub mine : w.mine ≡ (v.mine ++ first ∷ []) ++ second ∷ []

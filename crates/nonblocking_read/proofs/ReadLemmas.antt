@@ -9,7 +9,7 @@ use Rattle.action_lock.specs.Reads.{HasLooked, HasRead}
 use Rattle.action_lock.specs.Steps.{with_phase}
 use Rattle.action_lock.specs.Views.{all_checks}
 use Rattle.lock_laws.proofs.AdvanceLemmas.{advances_on, looked-advances, with_phase-advances}
-use Rattle.list_laws.proofs.FrontLemmas.{front_self}
+use Rattle.list_laws.proofs.PrefixLemmas.{front_self}
 use Rattle.nonblocking_read.specs.declared.attempt.Miss.{Miss}
 use Rattle.nonblocking_read.specs.declared.attempt.Miss.TheVariants.{Seen}
 use Rattle.nonblocking_read.specs.Soft.{HasOnlyRead, HasReadLast}

@@ -10,7 +10,7 @@ use Rattle.nonblocking_read.specs.declared.attempt.Miss.TheVariants.{Seen}
 use Rattle.nonblocking_read.specs.declared.soft_read.SoftRefusal.{SoftRefusal}
 use Rattle.nonblocking_read.specs.declared.soft_read.SoftRefusal.TheVariants.{Cancelled}
 use Rattle.nonblocking_read.specs.Soft.{HasOnlyRead, HasReadLast}
-use Rattle.list_laws.proofs.FrontLemmas.{front_trans}
+use Rattle.list_laws.proofs.PrefixLemmas.{front_trans}
 
 -- one sighting more
 pub risen_more : (n a b c : ℕ) → HasRisenBy n a b → HasRisen b c → b ≤ c → HasRisenBy (n + 1) a c

@@ -4,7 +4,7 @@ use Rattle.action_lock.specs.declared.view.View.{View}
 use Rattle.action_lock.specs.Advances.{Advances}
 use Rattle.action_lock.specs.Reads.{HasChecked}
 use Rattle.action_lock.specs.Rule.{entries_of}
-use Rattle.list_laws.specs.Fronts.{IsFront}
+use Rattle.list_laws.specs.Prefixes.{IsPrefix}
 
 module _ {E : Type 0} where
   -- the pass has looked and read, and has made no entry
@@ -16,7 +16,7 @@ module _ {E : Type 0} where
   -- The entries with its number in it are those that it made
   pub record HasReadLast (number_of : E → ℕ) (v w : View E) : Type 0 where
     pub earlier : List ℕ
-    pub reads : IsFront v.reads earlier
+    pub reads : IsPrefix v.reads earlier
     pub last : w.reads ≡ earlier ++ length w.seen ∷ []
     pub own : (n : ℕ) → w.number ≡ Some n → w.mine ≡ entries_of number_of n w.seen
     -- it looked at the gate while it was open

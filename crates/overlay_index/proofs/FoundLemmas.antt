@@ -1,5 +1,5 @@
 -- What a name finds, file after file.
-use Rattle.std.proofs.Common.{◌≡◌, ℕ, zero, suc, ◌+◌, ◌<◌, ◌≤◌, Bool, true, false, ◌||◌, cond, eqb, List, [], ◌∷◌, ◌++◌, map, filter, refl, sym, ap, ◌∙◌, arith, ⊎_elim, Some}
+use Rattle.std.proofs.Common.{◌≡◌, ℕ, zero, suc, ◌+◌, ◌<◌, ◌≤◌, Bool, true, false, cond, List, [], ◌∷◌, map, filter, refl, sym, ap, ◌∙◌, arith, Some}
 use Rattle.std.specs.Prelude.{option_to_list}
 use Rattle.std.specs.Ordering.{nat_cmp, is_eq}
 use Rattle.std.specs.Map.{keys_of}
@@ -10,8 +10,8 @@ use Rattle.std.specs.declared.cmp.Ordering.TheVariants.{Less}
 use Rattle.std.specs.Str.{bytes_eq}
 use Rattle.std.specs.List.{AllByRecursion}
 use Rattle.std.specs.List.Sorted.{IsStrictlySortedBy}
-use Rattle.std.proofs.lemmas.Bool.{eq-eqb, false≢true, cases_order}
-use Rattle.file_index.specs.KeyRows.{has_key, rows_with}
+use Rattle.std.proofs.lemmas.Bool.Decides.{nat_tests}
+use Rattle.file_index.specs.KeyRows.{rows_with}
 use Rattle.file_index.specs.Places.{has_id}
 use Rattle.file_index.specs.Rows.{rows_in_file}
 use Rattle.file_index.specs.Walk.{HasAllFiles, walked, shown}
@@ -38,56 +38,47 @@ ids_rise first (suc count) = (above first (suc first) count (omega arith), ids_r
 pub among : (id first count : ℕ) → first ≤ id → id < first + count → has_id id (ids_from first count) ≡ true
 unfolding ids_from
 among id first zero low high = absurd (omega (arith, low, high))
-among id first (suc count) low high = ⊎_elim (λ same. ap (λ b. b || has_id id (ids_from (suc first) count)) (eq-eqb id first same)) (λ rest. ⊎_elim (λ less. absurd (omega (arith, less, low))) (λ more. later (eqb id first) (among id (suc first) count (omega (arith, more)) (omega (arith, high)))) rest) (cases_order id first)
-  where
-    later : (b : Bool) → has_id id (ids_from (suc first) count) ≡ true → (b || has_id id (ids_from (suc first) count)) ≡ true
-    later true e = refl
-    later false e = e
+among id first (suc count) low high = grind (arith, nat_tests, among id (suc first) count)
 
 module _ {V : Type 0} (name : List ℕ) (files : List (ℕ × List (List ℕ × V))) where
   shown_is_found : (id : ℕ) (rows : List (List ℕ × V)) → shown id rows ≡ with_id id (map (λ row. row.1) rows)
   shown_is_found id [] = refl
   shown_is_found id (r ∷ rs) = ap (λ l. (id, r.1) ∷ l) (shown_is_found id rs)
 
-  walked_is_found : (first count : ℕ) → walked bytes_eq name files (ids_from first count) ≡ found_from (λ id. values_of name (rows_in_file id files)) first count
+  walked_is_found : (first count : ℕ) → walked bytes_eq name files (ids_from first count)
+      ≡ found_from (λ id. values_of name (rows_in_file id files)) first count
   unfolding ids_from
   walked_is_found first zero = refl
-  walked_is_found first (suc count) =
-      ap (λ l. l ++ walked bytes_eq name files (ids_from (suc first) count)) (shown_is_found first (rows_with bytes_eq name (rows_in_file first files)))
-      ∙ ap (λ l. with_id first (values_of name (rows_in_file first files)) ++ l) (walked_is_found (suc first) count)
+  walked_is_found first (suc count) = cc (shown_is_found first (rows_with bytes_eq name (rows_in_file first files)), walked_is_found (suc first) count)
 
   -- where no other file has a row, the ids from 1 to the last are all files
-  all_files : (last : ℕ) → rows_in_file 0 files ≡ [] → ((file : ℕ) → last < file → rows_in_file file files ≡ []) → HasAllFiles bytes_eq name files (ids_from 1 last)
-  all_files last first rest file has =
-      ⊎_elim (λ same. absurd (no (ap (λ f. rows_in_file f files) same ∙ first))) (λ apart. ⊎_elim (λ less. absurd (omega (arith, less))) (λ more. ⊎_elim (λ same. inside more (omega (arith, same))) (λ apart. ⊎_elim (λ less. inside more (omega (arith, less))) (λ past. absurd (no (rest file past))) apart) (cases_order file last)) apart) (cases_order file 0)
-    where
-      no : rows_in_file file files ≡ [] → ⊥
-      no none = false≢true (sym (ap (has_key bytes_eq name) none) ∙ has)
-
-      inside : 0 < file → file ≤ last → has_id file (ids_from 1 last) ≡ true
-      inside more most = among file 1 last (omega (arith, more)) (omega (arith, most))
+  all_files : (last : ℕ) → rows_in_file 0 files ≡ [] → ((file : ℕ) → last < file → rows_in_file file files ≡ [])
+      → HasAllFiles bytes_eq name files (ids_from 1 last)
+  all_files last first rest file has = grind (arith, among file 1 last, rest file)
 
   -- a walk over the rows under a name finds what each file shows under it
-  pub walk_finds : (result : List (ℕ × V)) → ((ids : List ℕ) → IsStrictlySortedBy nat_cmp ids → HasAllFiles bytes_eq name files ids → result ≡ walked bytes_eq name files ids)
-      → (last : ℕ) → rows_in_file 0 files ≡ [] → ((file : ℕ) → last < file → rows_in_file file files ≡ []) → result ≡ found_from (λ id. values_of name (rows_in_file id files)) 1 last
+  pub walk_finds : (result : List (ℕ × V)) → ((ids : List ℕ) → IsStrictlySortedBy nat_cmp ids → HasAllFiles bytes_eq name files ids
+      → result ≡ walked bytes_eq name files ids)
+      → (last : ℕ) → rows_in_file 0 files ≡ [] → ((file : ℕ) → last < file → rows_in_file file files ≡ [])
+      → result ≡ found_from (λ id. values_of name (rows_in_file id files)) 1 last
   walk_finds result by_files last first rest = by_files (ids_from 1 last) (ids_rise 1 last) (all_files last first rest) ∙ walked_is_found 1 last
 
 module _ (name : List ℕ) where
-  none_above : (word : List ℕ) (ws : List WordRow) → bytes_eq name word ≡ true → AllByRecursion (λ key. name_cmp word key ≡ Less) (keys_of ws) → filter (λ (row : WordRow). bytes_eq name row.0) ws ≡ []
+  none_above : (word : List ℕ) (ws : List WordRow) → bytes_eq name word ≡ true → AllByRecursion (λ key. name_cmp word key ≡ Less) (keys_of ws)
+      → filter (λ (row : WordRow). bytes_eq name row.0) ws ≡ []
   none_above word [] same all = refl
   none_above word (w ∷ ws) same all =
       let less : name_cmp name w.0 ≡ Less = ap (λ n. name_cmp n w.0) ((bytes_decides name word).0 same) ∙ all.0 in
-      ap (λ b. cond b (w ∷ filter (λ (row : WordRow). bytes_eq name row.0) ws) (filter (λ (row : WordRow). bytes_eq name row.0) ws)) (texts_ties name w.0 ∙ ap is_eq less)
-      ∙ none_above word ws same all.1
+      let other : bytes_eq name w.0 ≡ false = texts_ties name w.0 ∙ ap is_eq less in
+      rw other (none_above word ws same all.1)
 
   -- a word stands once among words in order
   pub mask_found : (ws : List WordRow) → AreInOrder ws → values_of name ws ≡ option_to_list (mask_in ws name)
   mask_found [] rise = refl
-  mask_found (w ∷ ws) rise = by (bytes_eq name w.0) refl (mask_found ws (sorted_tail name_cmp w.0 (keys_of ws) rise))
+  mask_found (w ∷ ws) rise = rw (← texts_ties name w.0) (by (bytes_eq name w.0) refl (mask_found ws (sorted_tail name_cmp w.0 (keys_of ws) rise)))
     where
       by : (b : Bool) → bytes_eq name w.0 ≡ b → values_of name ws ≡ option_to_list (mask_in ws name)
-          → map (λ (row : WordRow). row.1) (cond b (w ∷ filter (λ (row : WordRow). bytes_eq name row.0) ws) (filter (λ (row : WordRow). bytes_eq name row.0) ws)) ≡ option_to_list (cond (is_eq (name_cmp name w.0)) (Some w.1) (mask_in ws name))
-      by true e behind =
-          ap (λ l. w.1 ∷ map (λ (row : WordRow). row.1) l) (none_above w.0 ws e (sorted_head name_cmp w.0 (keys_of ws) rise))
-          ∙ ap (λ b. option_to_list (cond b (Some w.1) (mask_in ws name))) (sym e ∙ texts_ties name w.0)
-      by false e behind = behind ∙ ap (λ b. option_to_list (cond b (Some w.1) (mask_in ws name))) (sym e ∙ texts_ties name w.0)
+          → map (λ (row : WordRow). row.1) (cond b (w ∷ rows_with bytes_eq name ws) (rows_with bytes_eq name ws))
+          ≡ option_to_list (cond b (Some w.1) (mask_in ws name))
+      by true same behind = rw (none_above w.0 ws same (sorted_head name_cmp w.0 (keys_of ws) rise))
+      by false other behind = behind

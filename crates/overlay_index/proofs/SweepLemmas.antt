@@ -1,5 +1,5 @@
 -- The places that a file has left after a sweep.
-use Rattle.std.proofs.Common.{◌≡◌, ℕ, Bool, true, false, ◌&&◌, ◌||◌, eqb, List, [], ◌++◌, refl, sym, ap, subst, ◌∙◌}
+use Rattle.std.proofs.Common.{◌≡◌, ℕ, Bool, ◌&&◌, ◌||◌, eqb, List, ◌++◌, arith, ap, sym}
 use Rattle.std.specs.Prelude.{not}
 use Rattle.std.specs.Str.{bytes_eq}
 use Rattle.std.proofs.lemmas.Grind.{flat_map-append}
@@ -11,6 +11,10 @@ use Rattle.file_index.specs.Rows.{Table, rows_in_file}
 use Rattle.overlay_index.specs.Parts.{Parts}
 use Rattle.overlay_index.specs.Layers.{Shown, GivesUp, KeepsPlaces, parts_in}
 
+-- what goes under two lists of keys, one after the other, goes under both
+gone_twice : (there here a b own : Bool) → (there && not (here && a && not own) && not (here && b && not own)) ≡ (there && not (here && (a || b) && not own))
+gone_twice there here a b own = grind (arith)
+
 module _ {V : Type 0} (file : ℕ) where
   abbrev Gives : List (List ℕ × V) → Table (List ℕ) V → Table (List ℕ) V → Type 0
   Gives = index.GivesUp bytes_eq file
@@ -19,52 +23,29 @@ module _ {V : Type 0} (file : ℕ) where
   both_given : (first rest : List (List ℕ × V)) (old mid new : Table (List ℕ) V) → rows_in_file file mid.files ≡ rows_in_file file new.files
       → Gives first old mid → Gives rest mid new → Gives (first ++ rest) old new
   both_given first rest old mid new same one two key other =
-      let there = is_placed bytes_eq old.room key other in
-      let own = has_key bytes_eq key (rows_in_file file new.files) in
-      let later = has_key bytes_eq key rest in
-      two key other
-      ∙ ap (λ b. b && not (eqb other file && later && not own)) (one key other)
-      ∙ ap (λ l. there && not (eqb other file && has_key bytes_eq key first && not (has_key bytes_eq key l)) && not (eqb other file && later && not own)) same
-      ∙ by there (eqb other file) (has_key bytes_eq key first) later own
-      ∙ ap (λ b. there && not (eqb other file && b && not own)) (sym (list_any-append (λ (row : List ℕ × V). bytes_eq key row.0) first rest))
-    where
-      by : (there here a b own : Bool) → (there && not (here && a && not own) && not (here && b && not own)) ≡ (there && not (here && (a || b) && not own))
-      by false here a b own = refl
-      by true false a b own = refl
-      by true true true true true = refl
-      by true true true true false = refl
-      by true true true false true = refl
-      by true true true false false = refl
-      by true true false b own = refl
+      rw (two key other, one key other, same, list_any-append (λ (row : List ℕ × V). bytes_eq key row.0) first rest)
+      (gone_twice (is_placed bytes_eq old.room key other) (eqb other file) (has_key bytes_eq key first) (has_key bytes_eq key rest) (has_key bytes_eq key (rows_in_file file new.files)))
 
   -- the same where the table changed in nothing but which files are known
   given_same : (rows : List (List ℕ × V)) (old mid new : Table (List ℕ) V) → new.room ≡ mid.room → rows_in_file file mid.files ≡ rows_in_file file new.files
       → Gives rows old mid → Gives rows old new
-  given_same rows old mid new room same one key other =
-      ap (λ places. is_placed bytes_eq places key other) room
-      ∙ one key other
-      ∙ ap (λ l. is_placed bytes_eq old.room key other && not (eqb other file && has_key bytes_eq key rows && not (has_key bytes_eq key l))) same
+  given_same rows old mid new room same one key other = rw (room, ← same) (one key other)
 
 module _ (file : ℕ) (old mid new : Shown) (same : parts_in new file ≡ parts_in mid file) where
   pub gives_both : (first rest : List Parts) → GivesUp file first old mid → GivesUp file rest mid new → GivesUp file (first ++ rest) old new
   gives_both first rest one two = record {
-    types = subst (λ rows. index.GivesUp bytes_eq file rows old.types new.types) (sym (flat_map-append (λ (parts : Parts). parts.types) first rest))
-        (both_given file _ _ old.types mid.types new.types (ap (λ (parts : Parts). parts.types) (sym same)) one.types two.types);
-    supers = subst (λ rows. index.GivesUp bytes_eq file rows old.supers new.supers) (sym (flat_map-append (λ (parts : Parts). parts.supers) first rest))
-        (both_given file _ _ old.supers mid.supers new.supers (ap (λ (parts : Parts). parts.supers) (sym same)) one.supers two.supers);
-    methods = subst (λ rows. index.GivesUp bytes_eq file rows old.methods new.methods) (sym (flat_map-append (λ (parts : Parts). parts.methods) first rest))
-        (both_given file _ _ old.methods mid.methods new.methods (ap (λ (parts : Parts). parts.methods) (sym same)) one.methods two.methods);
-    words = subst (λ rows. index.GivesUp bytes_eq file rows old.words new.words) (sym (flat_map-append (λ (parts : Parts). parts.words) first rest))
-        (both_given file _ _ old.words mid.words new.words (ap (λ (parts : Parts). parts.words) (sym same)) one.words two.words);
-    keys = subst (λ rows. index.GivesUp bytes_eq file rows old.keys new.keys) (sym (flat_map-append (λ (parts : Parts). parts.keys) first rest))
-        (both_given file _ _ old.keys mid.keys new.keys (ap (λ (parts : Parts). parts.keys) (sym same)) one.keys two.keys);
+    types = rw flat_map-append (both_given file _ _ old.types mid.types new.types (ap (λ (p : Parts). p.types) (sym same)) one.types two.types);
+    supers = rw flat_map-append (both_given file _ _ old.supers mid.supers new.supers (ap (λ (p : Parts). p.supers) (sym same)) one.supers two.supers);
+    methods = rw flat_map-append (both_given file _ _ old.methods mid.methods new.methods (ap (λ (p : Parts). p.methods) (sym same)) one.methods two.methods);
+    words = rw flat_map-append (both_given file _ _ old.words mid.words new.words (ap (λ (p : Parts). p.words) (sym same)) one.words two.words);
+    keys = rw flat_map-append (both_given file _ _ old.keys mid.keys new.keys (ap (λ (p : Parts). p.keys) (sym same)) one.keys two.keys);
   }
 
   pub gives_still : (gone : List Parts) → KeepsPlaces mid new → GivesUp file gone old mid → GivesUp file gone old new
   gives_still gone keeps one = record {
-    types = given_same file _ old.types mid.types new.types keeps.types (ap (λ (parts : Parts). parts.types) (sym same)) one.types;
-    supers = given_same file _ old.supers mid.supers new.supers keeps.supers (ap (λ (parts : Parts). parts.supers) (sym same)) one.supers;
-    methods = given_same file _ old.methods mid.methods new.methods keeps.methods (ap (λ (parts : Parts). parts.methods) (sym same)) one.methods;
-    words = given_same file _ old.words mid.words new.words keeps.words (ap (λ (parts : Parts). parts.words) (sym same)) one.words;
-    keys = given_same file _ old.keys mid.keys new.keys keeps.keys (ap (λ (parts : Parts). parts.keys) (sym same)) one.keys;
+    types = given_same file _ old.types mid.types new.types keeps.types (ap (λ (p : Parts). p.types) (sym same)) one.types;
+    supers = given_same file _ old.supers mid.supers new.supers keeps.supers (ap (λ (p : Parts). p.supers) (sym same)) one.supers;
+    methods = given_same file _ old.methods mid.methods new.methods keeps.methods (ap (λ (p : Parts). p.methods) (sym same)) one.methods;
+    words = given_same file _ old.words mid.words new.words keeps.words (ap (λ (p : Parts). p.words) (sym same)) one.words;
+    keys = given_same file _ old.keys mid.keys new.keys keeps.keys (ap (λ (p : Parts). p.keys) (sym same)) one.keys;
   }

@@ -20,7 +20,7 @@ pub record Shown : Type 0 where
   pub keys : Table (List ℕ) ℕ
 
 -- what layers hold: the rows that are shown, and the base of each file that has an overlay; `None` is room alone
-pub record Held : Type 0 where
+pub record LayersView : Type 0 where
   pub shown : Shown
   pub hidden : List (ℕ × Option Parts)
 
@@ -47,19 +47,19 @@ abbrev pub has_place : List (ℕ × Option Parts) → ℕ → Bool
 has_place hidden file = is_some (lookup (is_at (nat_cmp file)) hidden)
 
 -- the base of a file: no rows where none was set
-unfoldable pub base_of : Held → ℕ → Parts
+unfoldable pub base_of : LayersView → ℕ → Parts
 base_of held file = unwrap_or (hidden_in held.hidden file) (parts_in held.shown file)
 
 -- the overlay of a file, if it has one
-unfoldable pub overlay_of : Held → ℕ → Option Parts
+unfoldable pub overlay_of : LayersView → ℕ → Option Parts
 overlay_of held file = if is_some (hidden_in held.hidden file) then Some (parts_in held.shown file) else None
 
 -- what a file shows: its overlay, which hides its base, or else its base
-abbrev pub shown_of : Held → ℕ → Parts
+abbrev pub shown_of : LayersView → ℕ → Parts
 shown_of held file = unwrap_or (overlay_of held file) (base_of held file)
 
 -- the base that goes when a file's overlay goes
-abbrev pub covered_of : Held → ℕ → List Parts
+abbrev pub covered_of : LayersView → ℕ → List Parts
 covered_of held file = if is_some (overlay_of held file) then base_of held file ∷ [] else []
 
 -- the tables have room to show these rows for a file
@@ -71,24 +71,24 @@ pub record HasTableRoom (shown : Shown) (file : ℕ) (parts : Parts) : Type 0 wh
   pub keys : index.HasRoom bytes_eq shown.keys file parts.keys
 
 -- there is room to give a file these rows, as its base or as its overlay
-pub record HasRoom (held : Held) (file : ℕ) (parts : Parts) : Type 0 where
+pub record HasRoom (held : LayersView) (file : ℕ) (parts : Parts) : Type 0 where
   pub tables : HasTableRoom held.shown file parts
   pub place : has_place held.hidden file ≡ true
 
 -- there is a place for the base of a file, so that what it shows may become its overlay
-abbrev pub HasPlace : Held → ℕ → Type 0
+abbrev pub HasPlace : LayersView → ℕ → Type 0
 HasPlace held file = has_place held.hidden file ≡ true
 
 -- what had a place still has it
-abbrev pub KeepsPlace : Held → Held → Type 0
+abbrev pub KeepsPlace : LayersView → LayersView → Type 0
 KeepsPlace old new = (file : ℕ) → HasPlace old file → HasPlace new file
 
 -- what had room still has it
-abbrev pub KeepsRoom : Held → Held → Type 0
+abbrev pub KeepsRoom : LayersView → LayersView → Type 0
 KeepsRoom old new = (file : ℕ) (parts : Parts) → HasRoom old file parts → HasRoom new file parts
 
 -- what had room still has it, but for one file
-abbrev pub KeepsRoomBut : ℕ → Held → Held → Type 0
+abbrev pub KeepsRoomBut : ℕ → LayersView → LayersView → Type 0
 KeepsRoomBut changed old new = (file : ℕ) (parts : Parts) → (changed == file) ≡ false → HasRoom old file parts → HasRoom new file parts
 
 -- a file gave up its places in the tables under the keys of these rows, but for keys that its own rows have
@@ -116,12 +116,12 @@ pub record IsKnownByRows (file : ℕ) (shown : Shown) : Type 0 where
   pub keys : index.IsKnownByRows file shown.keys.files
 
 -- a file has no place left but those that its rows need, once these rows went
-pub record IsSwept (file : ℕ) (gone : List Parts) (old new : Held) : Type 0 where
+pub record IsSwept (file : ℕ) (gone : List Parts) (old new : LayersView) : Type 0 where
   pub places : GivesUp file gone old.shown new.shown
   pub known : IsKnownByRows file new.shown
   pub hidden : has_place new.hidden file ≡ is_some (hidden_in new.hidden file)
 
 -- no file shows any row but those from 1 to the last
-pub record IsShownTo (held : Held) (last : ℕ) : Type 0 where
+pub record IsShownTo (held : LayersView) (last : ℕ) : Type 0 where
   pub first : shown_of held 0 ≡ no_parts
   pub rest : (file : ℕ) → last < file → shown_of held file ≡ no_parts

@@ -8,8 +8,8 @@ ghost use Rattle.overlay_index.specs.Found.{values_of, found_to};
 use crate::beside::beside;
 use crate::data::FileData;
 use crate::found::{KeyWalk, StubWalk, WordWalk};
-use crate::gone::Gone;
 use crate::hidden::Hidden;
+use crate::removed::Removed;
 use crate::tables::Tables;
 use ide_text::Name;
 use std::alloc::{AllocError, Global};
@@ -28,9 +28,9 @@ pub struct Layers {
 }
 
 impl Model for Layers {
-    ghost use Rattle.overlay_index.specs.Layers.{Held};
+    ghost use Rattle.overlay_index.specs.Layers.{LayersView};
 
-    ghost Value = { Held };
+    ghost Value = { LayersView };
 
     ghost view = { λ l. record { shown = l.tables; hidden = l.hidden } };
 }
@@ -74,7 +74,7 @@ impl Layers {
     }
 
     /// Gives a file these rows as its base. They are shown where the file has no overlay.
-    pub fn set_base(&mut self, file: u32, parts: FileData) -> Gone
+    pub fn set_base(&mut self, file: u32, parts: FileData) -> Removed
         requires { HasRoom self.old file parts }
         ensures gone { result ≡ base_of self.old file ∷ [] }
         ensures base { (other : ℕ)
@@ -84,12 +84,12 @@ impl Layers {
         ensures keeps_place { KeepsPlace self.old self.new }
     {
         if self.hidden.has(file) {
-            Gone {
+            Removed {
                 shown: None,
                 hidden: self.hidden.put(file, Some(parts)),
             }
         } else {
-            Gone {
+            Removed {
                 shown: Some(self.tables.swap(file, parts)),
                 hidden: None,
             }
@@ -97,7 +97,7 @@ impl Layers {
     }
 
     /// Gives a file these rows as its overlay, which hides its base.
-    pub fn set_overlay(&mut self, file: u32, parts: FileData) -> Gone
+    pub fn set_overlay(&mut self, file: u32, parts: FileData) -> Removed
         requires { HasRoom self.old file parts }
         ensures gone { result ≡ option_to_list (overlay_of self.old file) }
         ensures base { (other : ℕ) → base_of self.new other ≡ base_of self.old other }
@@ -109,12 +109,12 @@ impl Layers {
     {
         let old = self.tables.swap(file, parts);
         if self.hidden.has(file) {
-            Gone {
+            Removed {
                 shown: Some(old),
                 hidden: None,
             }
         } else {
-            Gone {
+            Removed {
                 shown: None,
                 hidden: self.hidden.put(file, Some(old)),
             }
@@ -122,7 +122,7 @@ impl Layers {
     }
 
     /// Lets a file's overlay, if it has one, be its base from now on. The base that it hid goes.
-    pub fn overlay_to_base(&mut self, file: u32) -> Gone
+    pub fn overlay_to_base(&mut self, file: u32) -> Removed
         ensures gone { result ≡ covered_of self.old file }
         ensures base { (other : ℕ)
             → base_of self.new other
@@ -133,14 +133,14 @@ impl Layers {
         ensures keeps_room { KeepsRoom self.old self.new }
         ensures keeps_place { KeepsPlace self.old self.new }
     {
-        Gone {
+        Removed {
             shown: None,
             hidden: self.hidden.take(file),
         }
     }
 
     /// Lets what a file shows be its overlay from now on, over a base without rows. The base that an overlay hid goes.
-    pub fn base_to_overlay(&mut self, file: u32) -> Gone
+    pub fn base_to_overlay(&mut self, file: u32) -> Removed
         requires { HasPlace self.old file }
         ensures gone { result ≡ covered_of self.old file }
         ensures base { (other : ℕ)
@@ -154,14 +154,14 @@ impl Layers {
         ensures keeps_place { KeepsPlace self.old self.new }
     {
         let bare = FileData::new(self.alloc);
-        Gone {
+        Removed {
             shown: None,
             hidden: self.hidden.put(file, Some(bare)),
         }
     }
 
     /// Takes a file's base and overlay out.
-    pub fn drop_file(&mut self, file: u32) -> Gone
+    pub fn drop_file(&mut self, file: u32) -> Removed
         ensures gone { result ≡ shown_of self.old file ∷ covered_of self.old file }
         ensures base { (other : ℕ)
             → base_of self.new other
@@ -172,14 +172,14 @@ impl Layers {
         ensures keeps_room { KeepsRoom self.old self.new }
         ensures keeps_place { KeepsPlace self.old self.new }
     {
-        Gone {
+        Removed {
             shown: Some(self.tables.withdraw(file)),
             hidden: self.hidden.take(file),
         }
     }
 
     /// Gives up the room that a file has under the keys of rows that went, and that it needs no more. No row changes.
-    pub fn sweep(&mut self, file: u32, gone: &Gone)
+    pub fn sweep(&mut self, file: u32, gone: &Removed)
         ensures base { (other : ℕ) → base_of self.new other ≡ base_of self.old other }
         ensures overlay { (other : ℕ) → overlay_of self.new other ≡ overlay_of self.old other }
         ensures keeps_room { KeepsRoomBut file self.old self.new }

@@ -4,15 +4,15 @@
 mod beside;
 mod data;
 mod found;
-mod gone;
 mod hidden;
 pub mod laws;
 mod layers;
+mod removed;
 mod tables;
 mod word_masks;
 
 pub use data::{FileData, data_of};
 pub use found::{KeyWalk, StubWalk, WordWalk};
-pub use gone::Gone;
 pub use layers::Layers;
+pub use removed::Removed;
 pub use word_masks::WordMasks;

@@ -1,7 +1,7 @@
 -- From what a call leaves of a pass's view to how the command of a line is answered.
 use Rattle.std.proofs.Common.{ℕ, ◌≡◌, inl, inr, Bool, true, false, ◌&&◌, List}
 use Rattle.std.proofs.Common.{refl, ap, subst, append-nil, Some, rules, Result, Ok, Err, IfOk}
-use Rattle.list_laws.proofs.FrontLemmas.{front_self}
+use Rattle.list_laws.proofs.PrefixLemmas.{front_self}
 use Rattle.action_lock.specs.declared.view.View.{View}
 use Rattle.write_history.specs.declared.entry.Entry.{Entry}
 use Rattle.write_history.specs.World.{World}

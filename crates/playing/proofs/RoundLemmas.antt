@@ -5,8 +5,9 @@ use Rattle.std.specs.List.{flat_map}
 use Rattle.std.proofs.lemmas.List.Concat.{flat_map-append}
 use Rattle.std.proofs.lemmas.List.Elements.{All-cons, All-nil, All-push, All-weaker}
 use Rattle.std.proofs.lemmas.List.{drop_all}
-use Rattle.list_laws.specs.Fronts.{IsFront}
-use Rattle.list_laws.proofs.FrontLemmas.{front_trans, front_length, front_self}
+use Rattle.list_laws.specs.Prefixes.{IsPrefix}
+use Rattle.list_laws.proofs.PartLemmas.{drop_from_slice_get}
+use Rattle.list_laws.proofs.PrefixLemmas.{front_trans, front_length, front_self}
 use Rattle.action_lock.specs.declared.view.Ended.{Ended}
 use Rattle.action_lock.specs.declared.view.View.{View}
 use Rattle.action_lock.specs.Advances.{Advances}
@@ -20,17 +21,17 @@ use Rattle.index_workers.specs.Passes.{ide_view}
 use Rattle.index_workers.specs.declared.worked.End.{End}
 use Rattle.index_workers.specs.declared.worked.End.TheVariants.{Idle, Refused, Turns}
 use Rattle.index_workers.specs.declared.worked.Worked.{Worked}
-use Rattle.index_workers.specs.Work.{Done, any_answer, EndsBy, IsAtEnd}
+use Rattle.index_workers.specs.Work.{WorkStep, any_answer, EndsBy, IsAtEnd}
 use Rattle.shared_ide.specs.declared.shared.SharedIde.{SharedIde}
 use Rattle.shared_ide.specs.Passes.{IsIdePassOf}
-use Rattle.transcripts.specs.Fits.{run_beside, Mark, mark_at, made_by, SectionFits, LanesFit, EndFits, WorkerFits, WorkersFit}
+use Rattle.transcripts.specs.Fits.{run_beside, Progress, progress_at, made_by, SectionFits, LanesFit, EndFits, WorkerFits, WorkersFit}
 use Rattle.transcripts.specs.declared.loaded.Loaded.{Loaded}
 use Rattle.transcripts.specs.declared.record.Record.{Record}
-use Rattle.playing.specs.declared.answers.Answers.{Answers}
+use Rattle.playing.specs.declared.outcomes.Outcomes.{Outcomes}
 use Rattle.playing.specs.declared.player.Player.{Player}
 use Rattle.playing.specs.declared.player.Duty.{Duty}
 use Rattle.playing.specs.declared.player.Duty.TheVariants.{Lane, Worker}
-use Rattle.playing.specs.Players.{AllFrom, IsDutyOf, IsDutyAt, CanRun, CanMeet, IsBegun, HasBegun, HasDoneDuty, HasRun, HasMet, HasTaken, HaveTaken, IsWhole}
+use Rattle.playing.specs.Players.{AllFrom, IsDutyOf, IsDutyAt, CanRun, CanMeet, IsBegun, HasBegun, HasDoneDuty, HasRun, HasMet, HasGathered, HaveGathered, IsWhole}
 use Rattle.playing.specs.Players.{kept_of, records_of, worked_of}
 use Rattle.playing.specs.Rounds.{IsSeatFrom, IsAlone, HasDoneAlone, HasPlayed}
 use Rattle.playing.specs.Done.{HasAdded}
@@ -128,17 +129,17 @@ more_of {A} f old now new players p before is = cc (append_assoc old (flat_map f
 
 -- one more
 pub met_more : {v x : View Entry} {players : List Player} (y : View Entry) (p : Player) → HasMet players v x → y ≡ told (joined x (ide_view p.pass))
-    → IsFront x.seen y.seen → IsFront (ide_view p.pass).seen y.seen → HasMet (players ++ p ∷ []) v y
+    → IsPrefix x.seen y.seen → IsPrefix (ide_view p.pass).seen y.seen → HasMet (players ++ p ∷ []) v y
 met_more {v} {x} {players} y p met gives keeps learns =
-    let Learned : List Entry → Player → Type 0 = λ (seen : List Entry) (q : Player). IsFront (ide_view q.pass).seen seen in
+    let Learned : List Entry → Player → Type 0 = λ (seen : List Entry) (q : Player). IsPrefix (ide_view q.pass).seen seen in
     let ended = more_of (λ (q : Player). kept_of (ide_view q.pass)) v.ended x.ended y.ended players p met.ended (ap (λ (u : View Entry). u.ended) gives) in
     let learned = All-push (Learned y.seen) players p (All-weaker (Learned x.seen) (Learned y.seen)
     (λ q front. front_trans (ide_view q.pass).seen x.seen y.seen front keeps) players met.learned) learns in
     search (rules, gives, met, ended, front_trans v.seen x.seen y.seen met.seen keeps, learned)
 
 -- one more is taken
-pub taken_more : {old now new : Answers} {players : List Player} (p : Player) → HaveTaken players old now → HasTaken p.outcome now new
-    → HaveTaken (players ++ p ∷ []) old new
+pub taken_more : {old now new : Outcomes} {players : List Player} (p : Player) → HaveGathered players old now → HasGathered p.outcome now new
+    → HaveGathered (players ++ p ∷ []) old new
 taken_more {old} {now} {new} {players} p taken takes = record {
   whole = All-push (λ (q : Player). IsWhole q.outcome) players p taken.whole takes.whole;
   records = more_of (λ (q : Player). records_of q.outcome) old.records now.records new.records players p taken.records takes.records;
@@ -199,12 +200,6 @@ module _ {ide : SharedIde} {lanes : List (List Line)} {beside : Bool} {v : View 
 
 -- ---- what each player tells
 
--- a list from the place of an element on
-drop_at : {A : Type 0} (xs : List A) (i : ℕ) (x : A) → slice_get xs i ≡ Some x → drop i xs ≡ x ∷ drop (suc i) xs
-drop_at [] i x found = absurd (cc)
-drop_at (y ∷ ys) zero x found = cc
-drop_at (y ∷ ys) (suc i) x found = drop_at ys i x found
-
 module _ (ide : SharedIde) (lanes : List (List Line)) (beside : Bool) (v : View Entry) (history middle : List Entry) where
   -- a lane's records fit, from where the round began
   record LaneTells (seat : ℕ) (o : Outcome) : Type 0 where
@@ -212,8 +207,8 @@ module _ (ide : SharedIde) (lanes : List (List Line)) (beside : Bool) (v : View 
     seat_is : seat ≡ v.drawn + place
     lane : List Line
     front : drop place lanes ≡ lane ∷ drop (suc place) lanes
-    high : Mark
-    fits : SectionFits beside history seat (mark_at (length v.seen)) lane [] (records_of o) (made_by seat middle) high
+    high : Progress
+    fits : SectionFits beside history seat (progress_at (length v.seen)) lane [] (records_of o) (made_by seat middle) high
     no_worker : worked_of o ≡ []
 
   -- what a worker tells fits, where the history isn't longer than may be
@@ -230,8 +225,8 @@ module _ (ide : SharedIde) (lanes : List (List Line)) (beside : Bool) (v : View 
   abbrev Tells : ℕ → Player → Type 0
   Tells seat p = LaneTells seat p.outcome ⊎ WorkerTells seat p.outcome
 
-  end_fits : (w : View Entry) (seat turns : ℕ) (end : End) (steps : List Done) → length steps ≡ turns → EndsBy any_answer seat end steps → IsAtEnd end w
-      → IsFront v.seen w.seen → IsFront w.seen history → length history ≤ max_entries → EndFits history (length v.seen) turns end
+  end_fits : (w : View Entry) (seat turns : ℕ) (end : End) (steps : List WorkStep) → length steps ≡ turns → EndsBy any_answer seat end steps → IsAtEnd end w
+      → IsPrefix v.seen w.seen → IsPrefix w.seen history → length history ≤ max_entries → EndFits history (length v.seen) turns end
   end_fits w seat turns (Idle len) steps count ends at_end before front bounded = record {
     start = w.seen;
     stands = front;
@@ -244,14 +239,14 @@ module _ (ide : SharedIde) (lanes : List (List Line)) (beside : Bool) (v : View 
   end_fits w seat turns Turns steps count ends at_end before front bounded = sym count ∙ ends.0
 
   tells : (place seat : ℕ) (w : View Entry) (duty : Duty) (o : Outcome) → seat ≡ v.drawn + place → IsDutyAt (length lanes) place duty
-      → HasDoneDuty lanes beside duty (fresh v.places (Some seat) 0 v.seen) w o → IsWhole o → w.mine ≡ made_by seat middle → IsFront w.seen history
+      → HasDoneDuty lanes beside duty (fresh v.places (Some seat) 0 v.seen) w o → IsWhole o → w.mine ≡ made_by seat middle → IsPrefix w.seen history
       → LaneTells seat o ⊎ WorkerTells seat o
   tells place seat w (Lane index) (Answered records) is at told whole mine front =
       let done = told.done in
       let seat_is : told.seat ≡ seat = cc told.number in
-      let fits : SectionFits beside history seat (mark_at (length v.seen)) told.lane [] records (made_by seat middle) done.high =
+      let fits : SectionFits beside history seat (progress_at (length v.seen)) told.lane [] records (made_by seat middle) done.high =
       rw (← mine, done.mine, ← seat_is) (done.fits history front) in
-      inl (search (rules, is, drop_at lanes place told.lane (rw at.0 at told.is), fits))
+      inl (search (rules, is, drop_from_slice_get lanes place told.lane (rw at.0 at told.is), fits))
   tells place seat w Worker (Indexed worked) is past so whole mine front =
       let done = so.done in
       let seat_is : worked.seat ≡ seat = cc done.gone.number in
@@ -278,7 +273,7 @@ module _ (ide : SharedIde) (lanes : List (List Line)) (beside : Bool) (v : View 
   -- all players tell, whose entries are those with their seats, and which have seen a front of the history
   all_tell : (seat : ℕ) (players : List Player) → AllFrom (IsRun ide lanes beside v) seat players
       → All (λ (e : Ended Entry). e.entries ≡ made_by e.number middle) (ends seat players)
-      → All (λ (q : Player). IsFront (ide_view q.pass).seen history) players → All (λ (q : Player). IsWhole q.outcome) players → AllFrom Tells seat players
+      → All (λ (q : Player). IsPrefix (ide_view q.pass).seen history) players → All (λ (q : Player). IsWhole q.outcome) players → AllFrom Tells seat players
   all_tell seat [] run mine learned whole = tt
   all_tell seat (p ∷ ps) run mine learned whole = (
     tells run.0.place seat (ide_view p.pass) run.0.duty p.outcome run.0.seat_is run.0.is_duty run.0.done (whole 0 p (omega arith))
@@ -289,7 +284,7 @@ module _ (ide : SharedIde) (lanes : List (List Line)) (beside : Bool) (v : View 
 
   -- lanes, of which these are left, tell their records, and workers, who come behind them, one thing each
   record PartsTell (seat : ℕ) (left : List (List Line)) (players : List Player) : Type 0 where
-    lanes_fit : LanesFit beside history (mark_at (length v.seen)) seat left middle (flat_map (λ (q : Player). records_of q.outcome) players)
+    lanes_fit : LanesFit beside history (progress_at (length v.seen)) seat left middle (flat_map (λ (q : Player). records_of q.outcome) players)
     count : length (flat_map (λ (q : Player). worked_of q.outcome) players) + length left ≡ length players
     workers_fit : (first : ℕ) → first ≡ seat + length left → length history ≤ max_entries
         → WorkersFit history (length v.seen) first middle (flat_map (λ (q : Player). worked_of q.outcome) players)
@@ -328,7 +323,7 @@ module _ {ide : SharedIde} {lanes : List (List Line)} {v : View Entry} {workers 
   round_ends = record { last = alone_again alone.last (met_all round w met); knows = knows }
 
   -- what the round left
-  pub played : (old new : Answers) → HaveTaken players old new → HasPlayed lanes workers v w old new
+  pub played : (old new : Outcomes) → HaveGathered players old new → HasPlayed lanes workers v w old new
   played old new taken =
       let all = met_all round w met in
       let middle : List Entry = all.seen.0 in

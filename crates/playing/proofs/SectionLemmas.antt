@@ -2,9 +2,9 @@
 use Rattle.std.proofs.Common.{ℕ, ◌≡◌, ◌+◌, ◌<◌, ◌≤◌, ◌⊎◌, inl, inr, Bool, true, false, ◌&&◌, arith, List, [], ◌∷◌, ◌++◌, length}
 use Rattle.std.proofs.Common.{refl, ap, sym, ◌∙◌, rules, le_refl, le_trans, append_assoc, append-nil, Some, drop, get_or}
 use Rattle.std.proofs.lemmas.List.{drop_more, drop_all}
-use Rattle.list_laws.specs.Fronts.{IsFront}
+use Rattle.list_laws.specs.Prefixes.{IsPrefix}
 use Rattle.list_laws.specs.Rows.{one_if}
-use Rattle.list_laws.proofs.FrontLemmas.{front_length, front_trans}
+use Rattle.list_laws.proofs.PrefixLemmas.{front_length, front_trans}
 use Rattle.action_lock.specs.declared.view.View.{View}
 use Rattle.action_lock.specs.Advances.{Advances}
 use Rattle.action_lock.specs.Counts.{HasRisenBy}
@@ -15,27 +15,27 @@ use Rattle.transcripts.specs.declared.loaded.Loaded.{Loaded}
 use Rattle.transcripts.specs.declared.record.Answer.{Answer}
 use Rattle.transcripts.specs.declared.record.Record.{Record}
 use Rattle.transcripts.specs.Serial.{first_load, later_loads}
-use Rattle.transcripts.specs.Fits.{Mark, Fits, SectionFits}
+use Rattle.transcripts.specs.Fits.{Progress, Fits, SectionFits}
 use Rattle.playing.specs.Answered.{IsLineAnswered, HasCheckedIf, HasAnsweredLine, is_soft}
-use Rattle.playing.specs.Done.{mark_of, is_reply, looks_owed, HasAdded}
+use Rattle.playing.specs.Done.{progress_of, is_reply, looks_owed, HasAdded}
 
 -- ---- one line
 
 -- the answer to a line fits any history that begins with all that is now seen, from one mark to the next
-record HasMoved (beside : Bool) (seat : ℕ) (line : Line) (load : Loaded) (v w : View Entry) (low : Mark) (answer : Answer) : Type 0 where
+record HasMoved (beside : Bool) (seat : ℕ) (line : Line) (load : Loaded) (v w : View Entry) (low : Progress) (answer : Answer) : Type 0 where
   own : List Entry
-  high : Mark
+  high : Progress
   mine : w.mine ≡ v.mine ++ own
   seen : high.seen ≤ length w.seen
   sights : high.sights ≤ w.sights
-  fits : (history : List Entry) → IsFront w.seen history → Fits beside history seat line load low own answer high
+  fits : (history : List Entry) → IsPrefix w.seen history → Fits beside history seat line load low own answer high
 
-moved : (beside : Bool) (seat : ℕ) (line : Line) (load : Loaded) (v w : View Entry) (low : Mark) (answer : Answer)
+moved : (beside : Bool) (seat : ℕ) (line : Line) (load : Loaded) (v w : View Entry) (low : Progress) (answer : Answer)
     → v.number ≡ Some seat → Advances v w → low.seen ≤ length v.seen → low.sights ≤ v.sights
     → IsLineAnswered beside line load v w answer → HasMoved beside seat line load v w low answer
 moved beside seat line load v w low answer number advances seen sights (inl (a, checked)) = record {
   own = a.own;
-  high = mark_of w;
+  high = progress_of w;
   mine = a.mine;
   seen = le_refl (length w.seen);
   sights = le_refl w.sights;
@@ -81,22 +81,22 @@ module _ (beside : Bool) (seat : ℕ) (lines : List Line) (loads : List Loaded) 
   pub record IsUnderWay (w : View Entry) (new : List Record) (lines_left : List Line) (loads_left : List Loaded) : Type 0 where
     records : List Record
     own : List Entry
-    mark : Mark
+    mark : Progress
     added : new ≡ old ++ records
     mine : w.mine ≡ v.mine ++ own
     seen : mark.seen ≤ length w.seen
     sights : mark.sights ≤ w.sights
     looked : (later : List Record) → all_checks v + looks_owed beside lines (records ++ later) ≤ all_checks w + looks_owed beside lines_left later
-    fits : (history : List Entry) → IsFront w.seen history → (later : List Record) (own_later : List Entry) (high : Mark)
+    fits : (history : List Entry) → IsPrefix w.seen history → (later : List Record) (own_later : List Entry) (high : Progress)
         → SectionFits beside history seat mark lines_left loads_left later own_later high
-        → SectionFits beside history seat (mark_of v) lines loads (records ++ later) (own ++ own_later) high
+        → SectionFits beside history seat (progress_of v) lines loads (records ++ later) (own ++ own_later) high
 
   -- before the first line
   pub section_begins : IsUnderWay v old lines loads
   section_begins = record {
     records = [];
     own = [];
-    mark = mark_of v;
+    mark = progress_of v;
     added = sym (append-nil old);
     mine = sym (append-nil v.mine);
     seen = le_refl (length v.seen);
@@ -150,6 +150,6 @@ module _ (beside : Bool) (seat : ℕ) (lines : List Line) (loads : List Loaded) 
       → IsUnderWay w new (drop i lines) loads_left → HasAdded beside seat lines loads v w old new
   section_over w new i loads_left past under_way =
       let h = rw (drop_all i lines past) at under_way in
-      let fits = λ (history : List Entry) (front : IsFront w.seen history). simp append-nil at (h.fits history front [] [] h.mark (refl, refl, refl)) in
+      let fits = λ (history : List Entry) (front : IsPrefix w.seen history). simp append-nil at (h.fits history front [] [] h.mark (refl, refl, refl)) in
       let looked : all_checks v + looks_owed beside lines h.records ≤ all_checks w = let all = simp append-nil at (h.looked []) in omega arith in
       search (rules, h, fits, looked)

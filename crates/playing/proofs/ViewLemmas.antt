@@ -5,16 +5,17 @@ use Rattle.std.proofs.lemmas.Bool.{eqb-true, eq-eqb, ne_eqb}
 use Rattle.std.proofs.lemmas.List.{append_cancel_left, get_or-append-add}
 use Rattle.std.proofs.lemmas.List.Elements.{All-append, All-cons, All-nil, All-tail, All-weaker, filter-append}
 use Rattle.list_laws.specs.Totals.{total}
-use Rattle.list_laws.specs.Fronts.{IsFront}
+use Rattle.list_laws.specs.Prefixes.{IsPrefix}
 use Rattle.list_laws.proofs.BoolLemmas.{bool_cases}
-use Rattle.list_laws.proofs.FrontLemmas.{filter_none, front_all}
+use Rattle.list_laws.proofs.PrefixLemmas.{filter_none, front_all}
 use Rattle.action_lock.specs.declared.view.Ended.{Ended}
 use Rattle.action_lock.specs.declared.view.View.{View}
 use Rattle.action_lock.specs.Advances.{Advances}
 use Rattle.action_lock.specs.Passes.{IsLast}
 use Rattle.action_lock.specs.Rule.{entries_of}
 use Rattle.action_lock.specs.Steps.{KnowsItsLists}
-use Rattle.action_lock.specs.Views.{times, number_is, bit}
+use Rattle.action_lock.specs.Views.{times, number_is}
+use Rattle.list_laws.specs.Rows.{one_if}
 
 -- ---- lists
 
@@ -38,9 +39,9 @@ module _ {A : Type 0} where
 
 module _ {E : Type 0} where
   -- a number that is among those of kept lists has what all of these have
-  among : (P : ℕ → Type 0) (n : ℕ) (es : List (Ended E)) → All (λ (e : Ended E). P e.number) es → 0 < total (λ (e : Ended E). bit (eqb e.number n)) es → P n
+  among : (P : ℕ → Type 0) (n : ℕ) (es : List (Ended E)) → All (λ (e : Ended E). P e.number) es → 0 < total (λ (e : Ended E). one_if (eqb e.number n)) es → P n
   among P n [] all some = absurd (omega arith)
-  among P n (e ∷ es) all some = bool_cases (eqb e.number n) (λ b. 0 < bit b + total (λ (e : Ended E). bit (eqb e.number n)) es → P n)
+  among P n (e ∷ es) all some = bool_cases (eqb e.number n) (λ b. 0 < one_if b + total (λ (e : Ended E). one_if (eqb e.number n)) es → P n)
       (λ is h. subst P (eqb-true e.number n is) (all 0 e (omega arith)))
       (λ not h. among P n es (All-tail (λ (e : Ended E). P e.number) e es all) (omega arith))
       some
@@ -50,7 +51,7 @@ module _ {E : Type 0} where
     pub number : w.number ≡ v.number
     pub drawn : w.drawn ≡ v.drawn + length kept
     pub ended : w.ended ≡ v.ended ++ kept
-    pub seen : IsFront v.seen w.seen
+    pub seen : IsPrefix v.seen w.seen
 
   -- number 0 is alone again
   pub alone_again : {v w : View E} {kept : List (Ended E)} → IsLast v → HasMetAll v w kept → IsLast w

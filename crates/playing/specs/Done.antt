@@ -1,6 +1,6 @@
 -- What doing the lines of a section leaves of a pass's view.
 use Rattle.std.specs.Prelude.{ℕ, ◌≡◌, ◌≤◌, ◌+◌, Bool, true, false, ◌&&◌, List, [], ◌∷◌, ◌++◌, length}
-use Rattle.list_laws.specs.Fronts.{IsFront}
+use Rattle.list_laws.specs.Prefixes.{IsPrefix}
 use Rattle.list_laws.specs.Rows.{one_if}
 use Rattle.action_lock.specs.declared.view.View.{View}
 use Rattle.action_lock.specs.Views.{all_checks}
@@ -10,12 +10,12 @@ use Rattle.transcripts.specs.declared.loaded.Loaded.{Loaded}
 use Rattle.transcripts.specs.declared.record.Answer.{Answer}
 use Rattle.transcripts.specs.declared.record.Answer.TheVariants.{Cancelled}
 use Rattle.transcripts.specs.declared.record.Record.{Record}
-use Rattle.transcripts.specs.Fits.{Mark, SectionFits}
+use Rattle.transcripts.specs.Fits.{Progress, SectionFits}
 use Rattle.playing.specs.Answered.{is_soft}
 
 -- where a pass stands
-abbrev pub mark_of : View Entry → Mark
-mark_of v = record { seen = length v.seen; sights = v.sights }
+abbrev pub progress_of : View Entry → Progress
+progress_of v = record { seen = length v.seen; sights = v.sights }
 
 -- a question wasn't given up
 abbrev pub is_reply : Answer → Bool
@@ -33,9 +33,9 @@ looks_owed beside (line ∷ lines) (r ∷ records) = one_if ((is_soft line.comma
 -- had found no more writes waiting, than it has now
 pub record HasDone (beside : Bool) (seat : ℕ) (lines : List Line) (loads : List Loaded) (v w : View Entry) (records : List Record) : Type 0 where
   pub own : List Entry
-  pub high : Mark
+  pub high : Progress
   pub mine : w.mine ≡ v.mine ++ own
-  pub fits : (history : List Entry) → IsFront w.seen history → SectionFits beside history seat (mark_of v) lines loads records own high
+  pub fits : (history : List Entry) → IsPrefix w.seen history → SectionFits beside history seat (progress_of v) lines loads records own high
   pub seen : high.seen ≤ length w.seen
   pub looked : all_checks v + looks_owed beside lines records ≤ all_checks w
   pub sights : high.sights ≤ w.sights

@@ -1,7 +1,7 @@
 -- Players of a round: what is done with each, and what is learned of it.
 use Rattle.std.specs.Prelude.{ℕ, suc, ◌+◌, ◌<◌, ◌≤◌, ◌≡◌, ◌≢◌, Bool, List, [], ◌∷◌, ◌++◌, length, All, Some, slice_get}
 use Rattle.std.specs.List.{flat_map}
-use Rattle.list_laws.specs.Fronts.{IsFront}
+use Rattle.list_laws.specs.Prefixes.{IsPrefix}
 use Rattle.action_lock.specs.declared.view.Ended.{Ended}
 use Rattle.action_lock.specs.declared.view.View.{View}
 use Rattle.action_lock.specs.Advances.{Advances}
@@ -17,7 +17,7 @@ use Rattle.shared_ide.specs.declared.shared.SharedIde.{SharedIde}
 use Rattle.shared_ide.specs.Passes.{IsIdePassOf}
 use Rattle.transcripts.specs.declared.record.Record.{Record}
 use Rattle.playing.specs.Done.{HasDone}
-use Rattle.playing.specs.declared.answers.Answers.{Answers}
+use Rattle.playing.specs.declared.outcomes.Outcomes.{Outcomes}
 use Rattle.playing.specs.declared.player.Outcome.{Outcome}
 use Rattle.playing.specs.declared.player.Outcome.TheVariants.{Nothing, Answered, Indexed}
 use Rattle.playing.specs.declared.player.Player.{Player}
@@ -106,8 +106,8 @@ pub record HasMet (players : List Player) (v w : View Entry) : Type 0 where
   pub drawn : w.drawn ≡ v.drawn
   pub mine : w.mine ≡ v.mine
   pub ended : w.ended ≡ v.ended ++ flat_map (λ (p : Player). kept_of (ide_view p.pass)) players
-  pub seen : IsFront v.seen w.seen
-  pub learned : All (λ (p : Player). IsFront (ide_view p.pass).seen w.seen) players
+  pub seen : IsPrefix v.seen w.seen
+  pub learned : All (λ (p : Player). IsPrefix (ide_view p.pass).seen w.seen) players
 
 -- the records that an outcome tells
 abbrev pub records_of : Outcome → List Record
@@ -125,13 +125,13 @@ IsWhole Nothing = ⊥
 IsWhole outcome = Unit {0}
 
 -- what one player has done was put behind the answers
-pub record HasTaken (outcome : Outcome) (old new : Answers) : Type 0 where
+pub record HasGathered (outcome : Outcome) (old new : Outcomes) : Type 0 where
   pub whole : IsWhole outcome
   pub records : new.records ≡ old.records ++ records_of outcome
   pub workers : new.workers.items ≡ old.workers.items ++ worked_of outcome
 
 -- what all players have done was put behind the answers, in order
-pub record HaveTaken (players : List Player) (old new : Answers) : Type 0 where
+pub record HaveGathered (players : List Player) (old new : Outcomes) : Type 0 where
   pub whole : All (λ (p : Player). IsWhole p.outcome) players
   pub records : new.records ≡ old.records ++ flat_map (λ (p : Player). records_of p.outcome) players
   pub workers : new.workers.items ≡ old.workers.items ++ flat_map (λ (p : Player). worked_of p.outcome) players

@@ -9,9 +9,9 @@ use Rattle.script_lang.specs.declared.line.Line.{Line}
 use Rattle.index_workers.specs.declared.worked.Worked.{Worked}
 use Rattle.transcripts.specs.declared.loaded.Loaded.{Loaded}
 use Rattle.transcripts.specs.declared.record.Record.{Record}
-use Rattle.transcripts.specs.Fits.{Mark, mark_at, SectionFits, LanesFit, WorkersFit, run_beside}
-use Rattle.playing.specs.Done.{mark_of}
-use Rattle.playing.specs.declared.answers.Answers.{Answers}
+use Rattle.transcripts.specs.Fits.{Progress, progress_at, SectionFits, LanesFit, WorkersFit, run_beside}
+use Rattle.playing.specs.Done.{progress_of}
+use Rattle.playing.specs.declared.outcomes.Outcomes.{Outcomes}
 
 -- the view is that of number 0, every other number that was given was met, and it knows whose entries it has seen
 pub record IsAlone (v : View Entry) : Type 0 where
@@ -22,10 +22,10 @@ pub record IsAlone (v : View Entry) : Type 0 where
 pub record HasDoneAlone (lines : List Line) (loads : List Loaded) (v w : View Entry) (old new : List Record) : Type 0 where
   pub own : List Entry
   pub records : List Record
-  pub high : Mark
+  pub high : Progress
   pub seen : w.seen ≡ v.seen ++ own
   pub added : new ≡ old ++ records
-  pub fits : SectionFits false w.seen 0 (mark_of v) lines loads records own high
+  pub fits : SectionFits false w.seen 0 (progress_of v) lines loads records own high
 
 -- the seat is one of so many, from this one on
 pub record IsSeatFrom (first count seat : ℕ) : Type 0 where
@@ -33,7 +33,7 @@ pub record IsSeatFrom (first count seat : ℕ) : Type 0 where
   pub to : seat < first + count
 
 -- A round was played: the history grew by what its lanes and workers made, and their answers, put behind others, fit it
-pub record HasPlayed (lanes : List (List Line)) (workers : ℕ) (v w : View Entry) (old new : Answers) : Type 0 where
+pub record HasPlayed (lanes : List (List Line)) (workers : ℕ) (v w : View Entry) (old new : Outcomes) : Type 0 where
   pub middle : List Entry
   pub records : List Record
   pub worked : List Worked
@@ -42,5 +42,5 @@ pub record HasPlayed (lanes : List (List Line)) (workers : ℕ) (v w : View Entr
   pub records_are : new.records ≡ old.records ++ records
   pub workers_are : new.workers.items ≡ old.workers.items ++ worked
   pub count : length worked ≡ workers
-  pub lanes_fit : LanesFit (run_beside (length lanes) workers) w.seen (mark_at (length v.seen)) v.drawn lanes middle records
+  pub lanes_fit : LanesFit (run_beside (length lanes) workers) w.seen (progress_at (length v.seen)) v.drawn lanes middle records
   pub workers_fit : length w.seen ≤ max_entries → WorkersFit w.seen (length v.seen) (v.drawn + length lanes) middle worked

@@ -3,11 +3,11 @@
 #![tactic(auto)]
 
 mod answering;
-mod answers;
 mod asking;
 mod changing;
 mod lane_gate;
 mod line;
+mod outcomes;
 mod player;
 mod round;
 mod run;

@@ -3,10 +3,10 @@ ghost use Rattle.std.specs.Prelude.{◌≡◌, ℕ, ◌+◌, ◌<◌, ◌≤◌,
 ghost use Rattle.transcripts.specs.Fits.{run_beside};
 ghost use Rattle.index_workers.specs.Passes.{ide_view, IsSameIdePass};
 ghost use Rattle.shared_ide.specs.Passes.{IsIdePassOf};
-ghost use Rattle.playing.specs.Players.{CanRun, HasRun, IsDutyAt, HasBegun, CanMeet, HasMet, HaveTaken};
+ghost use Rattle.playing.specs.Players.{CanRun, HasRun, IsDutyAt, HasBegun, CanMeet, HasMet, HaveGathered};
 ghost use Rattle.playing.specs.Rounds.{IsAlone, HasPlayed};
 
-use crate::answers::Answers;
+use crate::outcomes::Outcomes;
 use crate::player::{Duty, Outcome, Player, run_player};
 use action_lock::Gate;
 use crossbeam_utils::CachePadded;
@@ -55,7 +55,7 @@ pub(crate) fn play_round<R: Threads + Wait + Sync, G: Gate + Sync>(
     pass: &mut IdePass,
     script: &Script,
     workers: u32,
-    answers: &mut Answers,
+    answers: &mut Outcomes,
     gate: &G,
 ) -> Result<(), AllocError>
     requires pass { IsIdePassOf ide.now pass.old }
@@ -198,13 +198,13 @@ fn meet_players(
     ide: &SharedIde,
     pass: &mut IdePass,
     players: Vec<Player>,
-    answers: &mut Answers,
+    answers: &mut Outcomes,
 ) -> Result<(), AllocError>
     requires pass { IsIdePassOf ide.now pass.old }
     requires players { All (CanMeet ide.now) players.items }
     ensures pass { IsIdePassOf ide.now pass.new × IsSameIdePass pass.old pass.new }
     ensures met { HasMet players.items (ide_view pass.old) (ide_view pass.new) }
-    ensures taken { OnOk result (HaveTaken players.items answers.old answers.new) }
+    ensures taken { OnOk result (HaveGathered players.items answers.old answers.new) }
 {
     passes_stay_the_same();
     let mut left = players;

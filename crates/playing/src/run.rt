@@ -9,8 +9,8 @@ ghost use Rattle.shared_ide.specs.Passes.{IsIdePassOf};
 ghost use Rattle.playing.specs.Rounds.{IsAlone, HasDoneAlone};
 ghost use Rattle.playing.specs.Runs.{HasRunAll};
 
-use crate::answers::Answers;
 use crate::do_section;
+use crate::outcomes::Outcomes;
 use crate::round::play_round;
 use action_lock::Gate;
 use index_workers::IdePass;
@@ -42,7 +42,7 @@ pub fn play<R: Threads + Wait + Sync, G: Gate + Sync>(
 {
     let places = script.lanes() as u32 + workers;
     let (ide, mut pass) = SharedIde::new(alloc, store, places)?;
-    let mut answers = Answers::new(alloc);
+    let mut answers = Outcomes::new(alloc);
     let mut last = Records::new(alloc);
     let done = play_all(
         rt,
@@ -58,7 +58,7 @@ pub fn play<R: Threads + Wait + Sync, G: Gate + Sync>(
     );
     let history = ide.close(pass).into_history();
     done?;
-    let Answers { records, workers } = answers;
+    let Outcomes { records, workers } = answers;
     Ok(Played {
         history,
         records,
@@ -77,7 +77,7 @@ fn play_all<R: Threads + Wait + Sync, G: Gate + Sync>(
     script: &Script,
     loads: &[Loaded],
     workers: u32,
-    answers: &mut Answers,
+    answers: &mut Outcomes,
     last: &mut Records,
     gate: &G,
 ) -> Result<(), AllocError>

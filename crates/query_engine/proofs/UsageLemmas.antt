@@ -6,7 +6,7 @@ use Rattle.std.proofs.lemmas.Grind.{common_steps, flat_map-append}
 use Rattle.std.proofs.lemmas.List.{length-append}
 use Rattle.std.proofs.lemmas.List.Elements.{filter-append}
 use Rattle.dumb_mode.specs.declared.kind.FileKind.TheVariants.{Java}
-use Rattle.java_tokens.specs.declared.place.Place.TheVariants.{Code}
+use Rattle.java_tokens.specs.declared.context.Context.TheVariants.{Code}
 use Rattle.java_tokens.specs.Places.{RiseFrom, places_of, is_in_code}
 use Rattle.java_tokens.specs.Words.{has_bit, words_of, mask_in}
 use Rattle.write_history.specs.World.{World, File, file_of, shown_text, lowest_unready}

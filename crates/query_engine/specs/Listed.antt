@@ -2,7 +2,7 @@
 use Rattle.std.specs.Prelude.{ℕ, ◌≡◌, ◌≤◌, ◌==◌, if◌then◌else◌, Bool, List, [], ◌∷◌, map, length, Option, Some, IsSome, All}
 use Rattle.std.specs.Option.{option_map_or}
 use Rattle.ide_text.specs.Text.{max_chars}
-use Rattle.java_tokens.specs.declared.place.Place.TheVariants.{Code}
+use Rattle.java_tokens.specs.declared.context.Context.TheVariants.{Code}
 use Rattle.java_tokens.specs.Places.{places_of}
 use Rattle.java_tokens.specs.Words.{has_bit}
 use Rattle.stub_tree.specs.declared.stub.Stub.{Stub}

@@ -15,7 +15,7 @@ use action_lock::Watch;
 use ide_text::Name;
 use ide_world::{State, WordWalk, shown};
 use java_tokens::laws::masks_tell_uses;
-use java_tokens::{Place, places};
+use java_tokens::{Context, places};
 use std::alloc::{AllocError, Global};
 
 /// Where the name stands as an identifier in code; refused where a file is unready.
@@ -62,7 +62,7 @@ fn use_rows<W: Watch>(
 {
     let mut rows = RowList::new(alloc);
     for (file, mask) in found {
-        if Place::Code.is_in(mask) {
+        if Context::Code.is_in(mask) {
             add_uses(alloc, state, file, name, &mut rows)?;
             look(watch)?;
         }

@@ -48,19 +48,16 @@ parts_from_split bs (Some p) text h =
     let parts = split_parts 32 bs (Some p) h (lit< tt) in
     let is_space : get_or bs (length xs) 0 ≡ 32 = ap (λ l. get_or l (length xs) 0) parts.0 ∙ get_or_at xs 32 ys 0 (length xs) refl in
     let inside : length xs < length bs = omega (arith, ap length parts.0, length-append xs (32 ∷ ys)) in
-    let cut : IsUtf8 (take (length xs) bs) = IsUtf8-take bs (length xs) text (IsCharBoundary-before_ascii bs (length xs) inside (omega arith)) in
+    let cut = IsUtf8-take bs (length xs) text (IsCharBoundary-before_ascii bs (length xs) inside (omega arith)) in
     let front : IsUtf8 xs = subst IsUtf8 (ap (take (length xs)) parts.0 ∙ take_at xs (32 ∷ ys) (length xs) refl) cut in
     let all : chars bs ≡ chars xs ++ 32 ∷ chars ys
     = ap chars parts.0 ∙ chars-append xs (32 ∷ ys) front ∙ ap (λ l. chars xs ++ l) (chars-append (32 ∷ []) ys (32 ∷ [], (refl, refl))) in
     sym (ap parts_at_space all ∙ parts_at_space-found (chars xs) (chars ys) (All-lacks 32 xs (lit< tt) front parts.1))
 
 -- what passes a test is no character that fails it
-pub differs : (test : ℕ → Bool) (c mark : ℕ) → test c ≡ true → test mark ≡ false → c ≢ mark
-differs test c mark passes fails e = let f : true ≡ false = sym passes ∙ ap test e ∙ fails in cc
-
 pub none_of : (test : ℕ → Bool) (mark : ℕ) → test mark ≡ false → (cs : List ℕ) → list_all test cs ≡ true → All (λ c. c ≢ mark) cs
 none_of test mark fails cs all =
-    All-weaker (λ c. test c ≡ true) (λ c. c ≢ mark) (λ c passes. differs test c mark passes fails) cs (AllPass-from_list_all test cs all)
+    All-weaker (λ c. test c ≡ true) (λ c. c ≢ mark) (λ c passes e. cc (ap test e)) cs (AllPass-from_list_all test cs all)
 
 -- characters that pass a test of ASCII
 pub ascii_of : (test : ℕ → Bool) → ((c : ℕ) → test c ≡ true → c < 128) → (cs : List ℕ) → list_all test cs ≡ true → IsAscii cs
@@ -73,11 +70,7 @@ ascii_bytes w k text ascii e =
 
 pub bytes_eq-chars : (w k : List ℕ) → IsUtf8 w → IsAscii k → bytes_eq (chars w) k ≡ bytes_eq w k
 bytes_eq-chars w k text ascii =
-    let by_bytes = bytes_eq-Decides w k in
-    let by_chars = bytes_eq-Decides (chars w) k in
-    let one = ascii_bytes w k text ascii in
-    let other = chars-IsAscii k ascii in
-    grind arith
+    grind (arith, bytes_eq-Decides w k, bytes_eq-Decides (chars w) k, ascii_bytes w k text ascii, chars-IsAscii k ascii)
 
 -- a text with one more character at its end
 pub chars-push : (old new : List ℕ) (c : ℕ) → IsUtf8 old → IsUtf8 new → new ≡ old ++ encode c → chars new ≡ chars old ++ c ∷ []

@@ -1,32 +1,36 @@
 -- A line is read by a table of forms just where it has one of them.
-use Rattle.std.proofs.Common.{◌≡◌, ◌⊎◌, inl, inr, ℕ, Bool, true, false, ◌&&◌, leb, ltb, List, [], ◌∷◌, ◌++◌, Option, Some, None, map, refl, ap, sym, ◌∙◌, arith, IsAscii}
+use Rattle.std.proofs.Common.{◌≡◌, ◌⊎◌, inl, inr, ℕ, Bool, true, false, ◌&&◌, leb, ltb, List, [], ◌∷◌, ◌++◌, Option, Some, None, option_map, map, refl, ap, ◌∙◌, arith, IsAscii}
 use Rattle.std.specs.List.{list_all}
+use Rattle.std.specs.Str.{chars, IsUtf8}
 use Rattle.std.proofs.lemmas.Bool.{and_parts, false≢true}
 use Rattle.std.proofs.lemmas.List.{append-nil}
 use Rattle.std.proofs.lemmas.Option.{none-some}
 use Rattle.std.proofs.lemmas.Slice.Eq.{bytes_eq-Decides}
 use Rattle.script_lang.specs.Fields.{space, parts_at_space}
-use Rattle.script_lang.specs.Forms.{Kind, Value, Maker, Form, Spells, HasOneOf}
+use Rattle.script_lang.specs.Forms.{FieldKind, Value, Maker, Form, Spells, HasOneOf}
 use Rattle.script_lang.specs.Readers.{value_of, read, look_up, rows_of}
-use Rattle.script_lang.proofs.CharLemmas.{none_of, ascii_of, parts_at_space-found}
-use Rattle.script_lang.proofs.GrammarFields.{IsField-value_of, value_of-IsField, ends_at_space, no_space-IsField, split-parts_at_space}
-use Rattle.script_lang.proofs.OptionLemmas.{option_map-some}
+use Rattle.script_lang.proofs.CharLemmas.{none_of, ascii_of, bytes_eq-chars, parts_at_space-found}
+use Rattle.script_lang.proofs.FieldLemmas.{IsField-value_of, value_of-IsField, ends_at_space, no_space-IsField, split-parts_at_space}
+
+-- what an option was made from
+pub option_map-some : {A B : Type 0} (f : A → B) (o : Option A) (y : B) → option_map f o ≡ Some y → (x : A) × (o ≡ Some x) × (f x ≡ y)
+option_map-some f o y e = grind arith
 
 -- ---- the fields of one form
 
 -- what is read is spelled so
-split-read : {A : Type 0} (kind second : Kind) (kinds : List Kind) (make : Maker (kind ∷ second ∷ kinds) A) (fields : List ℕ) (a : A)
+split-read : {A : Type 0} (kind second : FieldKind) (kinds : List FieldKind) (make : Maker (kind ∷ second ∷ kinds) A) (fields : List ℕ) (a : A)
     → read (kind ∷ second ∷ kinds) make fields ≡ Some a
     → (p : List ℕ × List ℕ) × (value : Value kind) × (parts_at_space fields ≡ Some p) × (value_of kind p.0 ≡ Some value)
     × (read (second ∷ kinds) (make value) p.1 ≡ Some a)
 split-read kind second kinds make fields a e = grind arith
 
-Spells-read : {A : Type 0} (kinds : List Kind) (make : Maker kinds A) (fields : List ℕ) (a : A) → read kinds make fields ≡ Some a
+Spells-read : {A : Type 0} (kinds : List FieldKind) (make : Maker kinds A) (fields : List ℕ) (a : A) → read kinds make fields ≡ Some a
     → Spells kinds make (space ∷ fields) a
 Spells-read [] make fields a e = absurd cc
 Spells-read (kind ∷ []) make fields a e =
     let found = option_map-some make (value_of kind fields) a e in
-    (fields, [], found.0, ap (λ f. space ∷ f) (sym (append-nil fields)), IsField-value_of kind fields found.0 found.1, (refl, found.2))
+    (fields, [], found.0, grind (arith, append-nil), IsField-value_of kind fields found.0 found.1, (refl, found.2))
 Spells-read (kind ∷ next ∷ kinds) make fields a e =
     let found = split-read kind next kinds make fields a e in
     let first = IsField-value_of kind found.0.0 found.1 found.3 in
@@ -34,18 +38,18 @@ Spells-read (kind ∷ next ∷ kinds) make fields a e =
     (_, _, found.1, ap (λ f. space ∷ f) (split-parts_at_space fields found.0 found.2), first, rest)
 
 -- there is a field, and each but the last ends at the first space
-abbrev are_parted : List Kind → Bool
+abbrev are_parted : List FieldKind → Bool
 are_parted [] = false
 are_parted (kind ∷ []) = true
 are_parted (kind ∷ next ∷ kinds) = ends_at_space kind && are_parted (next ∷ kinds)
 
 -- and what is spelled so is read
-read-more : {A : Type 0} (kind second : Kind) (kinds : List Kind) (make : Maker (kind ∷ second ∷ kinds) A) (field fields : List ℕ) (value : Value kind)
+read-more : {A : Type 0} (kind second : FieldKind) (kinds : List FieldKind) (make : Maker (kind ∷ second ∷ kinds) A) (field fields : List ℕ) (value : Value kind)
     → parts_at_space (field ++ space ∷ fields) ≡ Some (field, fields) → value_of kind field ≡ Some value
     → read (kind ∷ second ∷ kinds) make (field ++ space ∷ fields) ≡ read (second ∷ kinds) (make value) fields
 read-more kind second kinds make field fields value parts is = grind arith
 
-read-Spells : {A : Type 0} (kinds : List Kind) (make : Maker kinds A) (text : List ℕ) (a : A) → are_parted kinds ≡ true → Spells kinds make text a
+read-Spells : {A : Type 0} (kinds : List FieldKind) (make : Maker kinds A) (text : List ℕ) (a : A) → are_parted kinds ≡ true → Spells kinds make text a
     → (fields : List ℕ) × (text ≡ space ∷ fields) × (read kinds make fields ≡ Some a)
 read-Spells [] make text a parted is = absurd (false≢true parted)
 read-Spells (kind ∷ []) make text a parted (field, rest, value, e, is, (none, makes)) =
@@ -79,37 +83,27 @@ lawful_row form forms lawful = grind arith
 
 -- ---- a table
 
--- what is looked up is what a row holds, or what comes otherwise
-abbrev pub EachGives : {A : Type 0} → Type 0 → List (List ℕ × Option A) → List ℕ → A → Type 0
-EachGives P [] word a = Unit {0}
-EachGives P (row ∷ rows) word a = (word ≡ row.0 → row.1 ≡ Some a → P) × EachGives P rows word a
+-- what is looked up was found in a row, or it comes otherwise
+abbrev pub Found : {A : Type 0} → List (List ℕ × Option A) → List ℕ → Option A → A → Type 0
+Found [] word other a = other ≡ Some a
+Found (row ∷ rows) word other a = ((word ≡ row.0) × (row.1 ≡ Some a)) ⊎ Found rows word other a
 
-look_up-row : {A : Type 0} (rows : List (List ℕ × Option A)) (row : List ℕ × Option A) (word : List ℕ) (other : Option A) (a : A)
-    → look_up (row ∷ rows) word other ≡ Some a → ((word ≡ row.0) × (row.1 ≡ Some a)) ⊎ (look_up rows word other ≡ Some a)
-look_up-row rows row word other a e = grind (arith, (bytes_eq-Decides word row.0).0)
-
-pub look_up-some : {A : Type 0} (P : Type 0) (rows : List (List ℕ × Option A)) (word : List ℕ) (other : Option A) (a : A) → EachGives P rows word a
-    → (other ≡ Some a → P) → look_up rows word other ≡ Some a → P
-look_up-some P [] word other a each else e = else e
-look_up-some P (row ∷ rows) word other a each else e = elim (look_up-row rows row word other a e) [
-  | inl (same, found) ↦ each.0 same found
-  | inr more ↦ look_up-some P rows word other a each.1 else more
-]
+pub found : {A : Type 0} (rows : List (List ℕ × Option A)) (word : List ℕ) (other : Option A) (a : A) → look_up rows word other ≡ Some a
+    → Found rows word other a
+found [] word other a e = e
+found (row ∷ rows) word other a e = grind (arith, (bytes_eq-Decides word row.0).0, found rows word other a)
 
 -- what a form makes of fields is made of a line that has it
-pub each_has_form : {A : Type 0} (P : Type 0) (forms : List (Form A)) (line word fields : List ℕ) (a : A) → line ≡ word ++ space ∷ fields
-    → (HasOneOf forms line a → P) → EachGives P (rows_of forms fields) word a
-each_has_form P [] line word fields a parts into = tt
-each_has_form P (form ∷ forms) line word fields a parts into = (
-  λ e read. into (inl (space ∷ fields, parts ∙ ap (λ w. w ++ space ∷ fields) e, Spells-read form.kinds form.make fields a read)),
-  each_has_form P forms line word fields a parts (λ is. into (inr is)),
-)
+pub HasOneOf-found : {A : Type 0} (forms : List (Form A)) (line word fields : List ℕ) (a : A) → line ≡ word ++ space ∷ fields
+    → Found (rows_of forms fields) word None a → HasOneOf forms line a
+HasOneOf-found [] line word fields a parts none = none-some a none
+HasOneOf-found (form ∷ forms) line word fields a parts (inl (e, read)) =
+    inl (space ∷ fields, parts ∙ ap (λ w. w ++ space ∷ fields) e, Spells-read form.kinds form.make fields a read)
+HasOneOf-found (form ∷ forms) line word fields a parts (inr more) = inr (HasOneOf-found forms line word fields a parts more)
 
 pub HasOneOf-look_up : {A : Type 0} (forms : List (Form A)) (line word fields : List ℕ) (a : A) → line ≡ word ++ space ∷ fields
     → look_up (rows_of forms fields) word None ≡ Some a → HasOneOf forms line a
-HasOneOf-look_up forms line word fields a parts =
-    look_up-some (HasOneOf forms line a) (rows_of forms fields) word None a
-    (each_has_form (HasOneOf forms line a) forms line word fields a parts (λ is. is)) (λ none. absurd (none-some a none))
+HasOneOf-look_up forms line word fields a parts e = HasOneOf-found forms line word fields a parts (found (rows_of forms fields) word None a e)
 
 -- a line that has one of the forms, where something reads each word of the table as the table has it
 pub record IsRead {B : Type 0} (reads : List ℕ → List ℕ → Option B) (line : List ℕ) (given : Option B) : Type 0 where
@@ -151,3 +145,16 @@ pub parts_behind : (word fields line : List ℕ) → is_spelled word ≡ true �
     → parts_at_space line ≡ Some (word, fields)
 parts_behind word fields line spelled e =
     rw e (parts_at_space-found word fields (none_of is_letter space refl word (all_letters word spelled)))
+
+-- words of letters are looked up by their bytes as by their characters
+abbrev pub all_spelled : {A : Type 0} → List (List ℕ × Option A) → Bool
+all_spelled [] = true
+all_spelled (row ∷ rows) = is_spelled row.0 && all_spelled rows
+
+-- with what comes otherwise, by characters and by bytes
+pub look_up-chars : {A : Type 0} (rows : List (List ℕ × Option A)) (w : List ℕ) (one other : Option A) → IsUtf8 w → all_spelled rows ≡ true
+    → one ≡ other → look_up rows (chars w) one ≡ look_up rows w other
+look_up-chars [] w one other text spelled same = same
+look_up-chars (row ∷ rows) w one other text spelled same =
+    let words = and_parts (is_spelled row.0) (all_spelled rows) spelled in
+    rw (bytes_eq-chars w row.0 text (spelled_ascii row.0 words.0), look_up-chars rows w one other text words.1 same) refl

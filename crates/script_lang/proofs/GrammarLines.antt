@@ -1,13 +1,14 @@
 -- The lines that bytes are cut into are the lines of the grammar, and no others are.
-use Rattle.std.proofs.Common.{◌≡◌, ◌≢◌, ◌⊎◌, inl, inr, ℕ, zero, suc, ◌<◌, true, false, eqb, cond, List, [], ◌∷◌, ◌++◌, length, take, drop, get_or, Option, Some, None, MatchOption, refl, ap, sym, ◌∙◌, arith, slice_get}
+use Rattle.std.proofs.Common.{◌≡◌, ◌≢◌, ◌⊎◌, inl, inr, ℕ, zero, suc, ◌<◌, false, eqb, cond, List, [], ◌∷◌, ◌++◌, length, take, drop, get_or, Option, Some, None, MatchOption, refl, ap, sym, ◌∙◌, arith}
 use Rattle.std.specs.List.{All}
 use Rattle.std.proofs.lemmas.Bool.{eq-eqb, eqb-true}
 use Rattle.std.proofs.lemmas.List.{length-append, take_at, same_from_push, append_cancel_right}
 use Rattle.std.proofs.lemmas.List.Elements.{All-tail}
-use Rattle.std.proofs.lemmas.Grind.{common_steps}
+use Rattle.std.proofs.lemmas.Grind.{common_steps, get_or_at_push}
+use Rattle.std.proofs.lemmas.Option.{slice_get-get_or}
 use Rattle.memchr.specs.Find.{IsFirstByte, is_byte}
-use Rattle.script_lang.specs.Lines.{lines_of, line_feed, carriage_return, without_return, is_passed_by}
-use Rattle.script_lang.specs.Grammar.{AreLines, DropsReturn, IsPassedBy}
+use Rattle.script_lang.specs.Lines.{lines_of, line_feed, carriage_return, without_return}
+use Rattle.script_lang.specs.Grammar.{AreLines, DropsReturn}
 
 -- bytes are their lines
 pub AreLines-lines_of : (bs : List ℕ) → AreLines bs (lines_of bs)
@@ -62,13 +63,10 @@ last_or_none (b ∷ line) = elim (last_or_none line) [
   | inr (front, last, e) ↦ inr (b ∷ front, last, ap (λ l. b ∷ l) e)
 ]
 
-last_at : (front : List ℕ) (last : ℕ) → slice_get (front ++ last ∷ []) (length front) ≡ Some last
-last_at [] last = refl
-last_at (b ∷ front) last = last_at front last
-
 without_return-push : (front : List ℕ) (last : ℕ) → without_return (front ++ last ∷ []) ≡ cond (eqb last carriage_return) front (front ++ last ∷ [])
 without_return-push front last =
-    grind (arith, common_steps, last_at front last, length-append front (last ∷ []), take_at front (last ∷ []) (length front) refl)
+    let taken = take_at front (last ∷ []) (length front) refl in
+    grind (arith, common_steps, slice_get-get_or {X = ℕ}, get_or_at_push front last, length-append front (last ∷ []), taken)
 
 pub DropsReturn-without_return : (line : List ℕ) → DropsReturn line (without_return line)
 DropsReturn-without_return line = elim (last_or_none line) [
@@ -78,10 +76,3 @@ DropsReturn-without_return line = elim (last_or_none line) [
 
 pub without_return-DropsReturn : (line kept : List ℕ) → DropsReturn line kept → without_return line ≡ kept
 without_return-DropsReturn line kept drops = let is = DropsReturn-without_return line in grind (arith, append_cancel_right)
-
--- what is passed by
-pub is_passed_by-IsPassedBy : (bytes : List ℕ) → IsPassedBy bytes → is_passed_by bytes ≡ true
-is_passed_by-IsPassedBy bytes is = grind arith
-
-pub IsPassedBy-is_passed_by : (bytes : List ℕ) → is_passed_by bytes ≡ true → IsPassedBy bytes
-IsPassedBy-is_passed_by bytes e = grind arith

@@ -1,13 +1,11 @@
 -- Scripts that are printed line by line are read back.
-use Rattle.std.proofs.Common.{◌≡◌, arith, inl, inr, ℕ, ◌+◌, true}
-use Rattle.std.proofs.Common.{List, [], ◌∷◌, ◌++◌, codes, None, refl, ap, sym, subst}
+use Rattle.std.proofs.Common.{◌≡◌, arith, inl, inr, ℕ, ◌+◌, true, List, [], ◌∷◌, ◌++◌, codes, None, refl, ap, sym, subst}
 use Rattle.std.specs.List.{list_all}
 use Rattle.std.proofs.lemmas.List.Folds.{list_all-append}
 use Rattle.std.proofs.lemmas.Str.{chars-IsAscii, IsUtf8-from_ascii}
 use Rattle.ide_text.specs.Text.{repaired}
 use Rattle.script_lang.specs.Forms.{AreSpelled}
-use Rattle.script_lang.specs.Grammar.{IsCommandLine, DropsReturn, IsLine}
-use Rattle.script_lang.specs.Grammar.{Rest, HoldRest}
+use Rattle.script_lang.specs.Grammar.{IsCommandLine, DropsReturn, IsLine, Rest, HoldRest, HoldScript}
 use Rattle.script_lang.specs.Lines.{line_feed, carriage_return}
 use Rattle.script_lang.specs.Printed.{is_ink, is_plain, SpellRest, IsReadBack}
 use Rattle.script_lang.specs.declared.command.Command.{Command}
@@ -21,13 +19,9 @@ use Rattle.script_lang.proofs.CharLemmas.{none_of, ascii_of}
 -- ---- a text between quotes
 
 -- plain characters stand for themselves, and no line break among them is repaired
-plain_spelled : (cs : List ℕ) → list_all is_plain cs ≡ true → AreSpelled cs cs
-plain_spelled [] all = refl
-plain_spelled (c ∷ cs) all = (c ∷ [], cs, refl, grind arith, plain_spelled cs (grind arith))
-
-plain_repaired : (cs : List ℕ) → list_all is_plain cs ≡ true → repaired cs ≡ cs
-plain_repaired [] all = refl
-plain_repaired (c ∷ cs) all = grind (arith, plain_repaired cs)
+plain_text : (cs : List ℕ) → list_all is_plain cs ≡ true → AreSpelled cs cs × (repaired cs ≡ cs)
+plain_text [] all = (refl, refl)
+plain_text (c ∷ cs) all = let rest = plain_text cs (grind arith) in ((c ∷ [], cs, refl, grind arith, rest.0), grind arith)
 
 -- ---- a line of ink
 
@@ -56,14 +50,9 @@ spells_line section other number line bytes first rest all ink is spelled held =
 
 pub is_read_back : IsReadBack
 is_read_back = record {
-  text = λ text plain fits. record {
-    characters = text;
-    spelling = text;
-    in_quotes = refl;
-    spelled = plain_spelled text plain;
-    breaks = sym (plain_repaired text plain);
-    fits = fits;
-  };
+  text = λ text plain fits.
+      let (spelled, repaired) = plain_text text plain in
+      record { characters = text; spelling = text; in_quotes = refl; spelled = spelled; breaks = sym repaired; fits = fits };
   none = λ section number. record { lines = []; contents = []; cut = refl; read = refl; held = refl };
   command = λ section number line bytes command rest ink is stands spelled.
       spells_line section section number line bytes (Holds command) rest _ ink (ink_holds line command ink is) spelled (stands, (rest, refl, spelled.held));
@@ -73,10 +62,7 @@ is_read_back = record {
   finally = λ section number bytes rest ends spelled.
       spells_line section Finally number (codes "finally") bytes content.Finally rest _ refl (codes "finally", kept_whole (codes "finally") refl, refl) spelled
       (ends, (rest, refl, spelled.held));
-  script = λ bytes script few spelled. record {
-    few = few;
-    lines = spelled.lines;
-    cut = spelled.cut;
-    held = record { contents = spelled.contents; read = spelled.read; held = spelled.held };
-  };
+  script = λ bytes script few spelled.
+      let held : HoldScript spelled.lines script = record { contents = spelled.contents; read = spelled.read; held = spelled.held } in
+      record { few = few; lines = spelled.lines; cut = spelled.cut; held = held };
 }

@@ -34,39 +34,39 @@ pub record IsPath (path : List ℕ) : Type 0 where
   pub no_space : All (λ c. c ≢ space) path
 
 -- what a field may be: a path, one whole word of Java, a number in decimal digits, a text in quotes
-pub data Kind : Type 0 where
-  Path : Kind
-  Word : Kind
-  Number : Kind
-  Text : Kind
+pub data FieldKind : Type 0 where
+  Path : FieldKind
+  Word : FieldKind
+  Number : FieldKind
+  Text : FieldKind
 
 -- what a field of a kind stands for
-abbrev pub Value : Kind → Type 0
+abbrev pub Value : FieldKind → Type 0
 Value Path = List ℕ
 Value Word = List ℕ
 Value Number = ℕ
 Value Text = List ℕ
 
 -- a field of a kind stands for a value
-abbrev pub IsField : (kind : Kind) → List ℕ → Value kind → Type 0
+abbrev pub IsField : (kind : FieldKind) → List ℕ → Value kind → Type 0
 IsField Path field path = (field ≡ path) × IsPath path
 IsField Word field word = (field ≡ word) × IsTrue (is_word word)
 IsField Number field n = (field ≡ decimal n) × (n ≤ max_number)
 IsField Text field text = IsQuoted field text
 
 -- what makes something of a value of each kind
-abbrev pub Maker : List Kind → Type 0 → Type 0
+abbrev pub Maker : List FieldKind → Type 0 → Type 0
 Maker [] A = A
 Maker (kind ∷ kinds) A = Value kind → Maker kinds A
 
 -- a word, the kinds of the fields behind it, and what is made of what they stand for
 pub record Form (A : Type 0) : Type 0 where
   pub word : List ℕ
-  pub kinds : List Kind
+  pub kinds : List FieldKind
   pub make : Maker kinds A
 
 -- what stands behind a word: fields of these kinds, each behind one space, of which this is made
-abbrev pub Spells : {A : Type 0} → (kinds : List Kind) → Maker kinds A → List ℕ → A → Type 0
+abbrev pub Spells : {A : Type 0} → (kinds : List FieldKind) → Maker kinds A → List ℕ → A → Type 0
 Spells [] make behind a = (behind ≡ []) × (make ≡ a)
 Spells (kind ∷ kinds) make behind a =
     (field : List ℕ) × (rest : List ℕ) × (value : Value kind) × (behind ≡ space ∷ (field ++ rest)) × IsField kind field value

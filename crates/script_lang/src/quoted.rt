@@ -1,7 +1,7 @@
 //! A text in quotes: its form, its escapes, its line breaks and its length.
 ghost use Rattle.std.specs.Prelude.{◌≡◌, ℕ, ◌<◌, ◌≤◌, [], ◌∷◌, ◌++◌, IfOk, MatchOption, Some, None, length, take, drop, option_map, string_bytes};
 ghost use Rattle.std.specs.Str.{chars, IsCharBoundary};
-ghost use Rattle.script_lang.specs.Quotes.{escape_of, step_of, unquoted_from, text_of_field};
+ghost use Rattle.script_lang.specs.Quotes.{escape_of, quote_step, unquoted_from, text_of_field};
 
 use ide_text::{Name, SharedText, Text, TextRefusal};
 use memchr::memchr2;
@@ -9,7 +9,7 @@ use std::alloc::{AllocError, Global};
 
 /// Where the reading of a text in quotes stands.
 #[derive(Clone, Copy)]
-pub(crate) enum Place {
+pub(crate) enum QuoteState {
     /// Before the first quote.
     Outside,
     /// Between the quotes.
@@ -59,10 +59,10 @@ fn read_field(alloc: Global, field: &str) -> Result<Option<Text>, AllocError>
 /// What stands between the quotes of a field, its escapes undone.
 fn unquoted(alloc: Global, field: &str) -> Result<Option<String>, AllocError>
     ensures { IfOk result (λ text. option_map (λ s. chars (string_bytes s)) text
-        ≡ unquoted_from Place.Outside (chars field.now)) }
+        ≡ unquoted_from QuoteState.Outside (chars field.now)) }
 {
     let mut text = String::with_capacity(alloc, field.len())?;
-    let mut place = Place::Outside;
+    let mut place = QuoteState::Outside;
     let mut rest = field;
     while let Some((c, after)) = first_char(rest) {
         let Some((next, meant)) = step(place, c) else {
@@ -75,7 +75,7 @@ fn unquoted(alloc: Global, field: &str) -> Result<Option<String>, AllocError>
         place = next;
     }
     Ok(match place {
-        Place::Behind => Some(text),
+        QuoteState::Behind => Some(text),
         _ => None,
     })
 }
@@ -94,7 +94,7 @@ fn first_char(text: &str) -> Option<(char, &str)>
 
 /// Adds the first characters of a text, read from a place on, that mean themselves, where there are some; and gives
 /// what stands behind them.
-fn add_plain<'a>(out: &mut String, place: Place, text: &'a str) -> Result<&'a str, AllocError>
+fn add_plain<'a>(out: &mut String, place: QuoteState, text: &'a str) -> Result<&'a str, AllocError>
     ensures same { IfOk result
         (λ rest. option_map (λ cs. chars (string_bytes out.new) ++ cs)
         (unquoted_from place (chars rest.now))
@@ -111,9 +111,9 @@ fn add_plain<'a>(out: &mut String, place: Place, text: &'a str) -> Result<&'a st
 }
 
 /// Whether two bytes at the front mean themselves: a single one isn't worth a search.
-fn begins_plain(place: Place, bytes: &[u8]) -> bool {
+fn begins_plain(place: QuoteState, bytes: &[u8]) -> bool {
     match place {
-        Place::Inside => 1 < bytes.len() && is_plain(bytes[0]) && is_plain(bytes[1]),
+        QuoteState::Inside => 1 < bytes.len() && is_plain(bytes[0]) && is_plain(bytes[1]),
         _ => false,
     }
 }
@@ -124,29 +124,29 @@ fn is_plain(byte: u8) -> bool {
 }
 
 /// How many bytes of a text, read from a place on, spell characters that mean themselves, up to the first that doesn't.
-fn plain_len(place: Place, text: &str) -> usize
+fn plain_len(place: QuoteState, text: &str) -> usize
     ensures boundary { IsCharBoundary text.now result }
     ensures cut { unquoted_from place (chars text.now)
         ≡ option_map (λ cs. chars (take result text.now) ++ cs)
         (unquoted_from place (chars (drop result text.now))) }
 {
     match place {
-        Place::Inside => memchr2(b'"', b'\\', text.as_bytes()).unwrap_or(text.len()),
+        QuoteState::Inside => memchr2(b'"', b'\\', text.as_bytes()).unwrap_or(text.len()),
         _ => 0,
     }
 }
 
 /// The place after a character and the character that it means, where the form goes on.
-fn step(place: Place, c: char) -> Option<(Place, Option<char>)>
-    ensures { result ≡ step_of place c }
+fn step(place: QuoteState, c: char) -> Option<(QuoteState, Option<char>)>
+    ensures { result ≡ quote_step place c }
 {
     match (place, c) {
-        (Place::Outside, '"') => Some((Place::Inside, None)),
-        (Place::Inside, '"') => Some((Place::Behind, None)),
-        (Place::Inside, '\\') => Some((Place::Escaping, None)),
-        (Place::Inside, _) => Some((Place::Inside, Some(c))),
-        (Place::Escaping, _) => meant_by(c).map(|meant| (Place::Inside, Some(meant))),
-        (Place::Outside | Place::Behind, _) => None,
+        (QuoteState::Outside, '"') => Some((QuoteState::Inside, None)),
+        (QuoteState::Inside, '"') => Some((QuoteState::Behind, None)),
+        (QuoteState::Inside, '\\') => Some((QuoteState::Escaping, None)),
+        (QuoteState::Inside, _) => Some((QuoteState::Inside, Some(c))),
+        (QuoteState::Escaping, _) => meant_by(c).map(|meant| (QuoteState::Inside, Some(meant))),
+        (QuoteState::Outside | QuoteState::Behind, _) => None,
     }
 }
 

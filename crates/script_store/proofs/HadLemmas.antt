@@ -12,7 +12,7 @@ use Rattle.dumb_mode.specs.declared.kind.FileKind.{FileKind}
 use Rattle.dumb_mode.specs.declared.kind.FileKind.TheVariants.{Java, Properties}
 use Rattle.dumb_mode.specs.Filter.{kind_of, is_same_kind, has_kind}
 use Rattle.write_history.specs.World.{World, File}
-use Rattle.index_store.specs.Data.{Entry, code_of, entry_cmp}
+use Rattle.index_store.specs.Data.{StoreEntry, code_of, entry_cmp}
 use Rattle.index_store.specs.Entries.{has_entry, with_entry}
 use Rattle.script_store.specs.Indexed.{is_indexed, with_file, with_files, entries_of}
 use Rattle.script_store.specs.Kept.{is_kept}
@@ -43,15 +43,15 @@ same_entry text content Properties Properties = then_equal (slice_cmp nat_cmp te
 
 -- an entry that is added is there, and so is each that was there before, and no other
 abbrev pub OneIsAdded : Type 0
-OneIsAdded = (x e : Entry) (es : List Entry) → has_entry x (with_entry e es) ≡ (is_eq (entry_cmp x e) || has_entry x es)
+OneIsAdded = (x e : StoreEntry) (es : List StoreEntry) → has_entry x (with_entry e es) ≡ (is_eq (entry_cmp x e) || has_entry x es)
 
 -- a path is of a kind exactly where that is its kind
 abbrev pub HasOneKind : Type 0
 HasOneKind = (kind : FileKind) (path : List ℕ) → has_kind kind path ≡ is_same_kind (kind_of path) (Some kind)
 
-module _ (added : OneIsAdded) (one_kind : HasOneKind) (x : Entry) where
+module _ (added : OneIsAdded) (one_kind : HasOneKind) (x : StoreEntry) where
   -- by whether a file is indexed, and by its kind
-  had_by : (indexed : Bool) (kind : Option FileKind) (content : List ℕ) (es : List Entry)
+  had_by : (indexed : Bool) (kind : Option FileKind) (content : List ℕ) (es : List StoreEntry)
       → has_entry x (option_map_or (λ e. with_entry e es)
       (if indexed then option_map (λ k. record { text = content; kind = k }) kind else None) es)
       ≡ ((indexed && is_same_kind kind (Some x.kind) && bytes_eq x.text content) || has_entry x es)
@@ -60,7 +60,7 @@ module _ (added : OneIsAdded) (one_kind : HasOneKind) (x : Entry) where
   had_by true (Some kind) content es =
       added x (record { text = content; kind = kind }) es ∙ ap (λ (b : Bool). b || has_entry x es) (same_entry x.text content x.kind kind)
 
-  had_of_file : (file : Option File) (es : List Entry) → has_entry x (with_file file es) ≡ (is_kept x file || has_entry x es)
+  had_of_file : (file : Option File) (es : List StoreEntry) → has_entry x (with_file file es) ≡ (is_kept x file || has_entry x es)
   had_of_file None es = refl
   had_of_file (Some file) es =
       had_by (is_indexed file) (kind_of file.path) file.content es
@@ -72,7 +72,7 @@ module _ (added : OneIsAdded) (one_kind : HasOneKind) (x : Entry) where
   in_front false true had = refl
   in_front false false had = refl
 
-  pub had_of_files : (files : List (Option File)) (es : List Entry) → has_entry x (with_files files es) ≡ (list_any (is_kept x) files || has_entry x es)
+  pub had_of_files : (files : List (Option File)) (es : List StoreEntry) → has_entry x (with_files files es) ≡ (list_any (is_kept x) files || has_entry x es)
   had_of_files [] es = refl
   had_of_files (file ∷ files) es =
       had_of_files files (with_file file es)

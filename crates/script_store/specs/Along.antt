@@ -9,7 +9,7 @@ use Rattle.write_history.specs.Serial.{changes_step}
 use Rattle.script_lang.specs.declared.command.Command.{Command}
 use Rattle.script_lang.specs.declared.line.Line.{Line}
 use Rattle.transcripts.specs.declared.loaded.Loaded.{Loaded}
-use Rattle.transcripts.specs.Serial.{Done, step_of, done_from, lanes_from}
+use Rattle.transcripts.specs.Serial.{RunState, step_of, done_from, lanes_from}
 
 -- changes that go in together, or not at all, lead from one world to another
 pub record HasEntered (changes : List Change) (world after : World) : Type 0 where
@@ -25,8 +25,8 @@ pub record HasGone (load : Loaded) (command : Command) (world after : World) : T
 
 -- the lines of a section do, of each of which this was read
 pub record HasGoneAlong (lines : List Line) (loads : List Loaded) (world after : World) : Type 0 where
-  pub is : (done : Done) (seat : ℕ) → fold done.history ≡ world → after ≡ fold (done_from seat done lines loads).history
+  pub is : (done : RunState) (seat : ℕ) → fold done.history ≡ world → after ≡ fold (done_from seat done lines loads).history
 
 -- lanes do, one after another
 pub record HasGoneLanes (lanes : List (List Line)) (world after : World) : Type 0 where
-  pub is : (done : Done) (seat : ℕ) → fold done.history ≡ world → after ≡ fold (lanes_from seat done lanes).history
+  pub is : (done : RunState) (seat : ℕ) → fold done.history ≡ world → after ≡ fold (lanes_from seat done lanes).history

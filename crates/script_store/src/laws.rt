@@ -2,7 +2,7 @@
 ghost use Rattle.std.specs.Prelude.{◌≡◌};
 ghost use Rattle.std.specs.List.{list_any};
 ghost use Rattle.write_history.specs.World.{World};
-ghost use Rattle.index_store.specs.Data.{Entry};
+ghost use Rattle.index_store.specs.Data.{StoreEntry};
 ghost use Rattle.index_store.specs.Entries.{has_entry};
 ghost use Rattle.script_store.specs.Indexed.{entries_of};
 ghost use Rattle.script_store.specs.Kept.{is_kept};
@@ -13,7 +13,7 @@ use index_store::laws::one_entry_is_added;
 /// The store of a world has a text with a kind exactly where some live file that is indexed at its present stamp has that
 /// content and that kind.
 pub fn a_store_has_the_indexed_texts()
-    ensures { (x : Entry) (world : World)
+    ensures { (x : StoreEntry) (world : World)
         → has_entry x (entries_of world) ≡ list_any (is_kept x) world.files }
 {
     a_path_has_one_kind();

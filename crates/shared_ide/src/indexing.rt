@@ -4,7 +4,7 @@ ghost use Rattle.job_queue.specs.declared.hint.Hint.{Hint};
 ghost use Rattle.job_queue.specs.Passes.{queue_view};
 ghost use Rattle.ide_calls.specs.Settling.{IsSettled, HasStopped};
 ghost use Rattle.ide_calls.specs.Step.{HasStepped};
-ghost use Rattle.index_workers.specs.Hints.{HasTaken, IsFirstTried, HasOnlyTaken};
+ghost use Rattle.index_workers.specs.Hints.{HasPopped, IsFirstTried, HasOnlyPopped};
 ghost use Rattle.index_workers.specs.Passes.{ide_view};
 ghost use Rattle.index_workers.specs.Work.{HasWorked, HasWorkedInPart};
 ghost use Rattle.shared_ide.specs.Passes.{IsIdePassOf, Continues};
@@ -49,7 +49,7 @@ impl SharedIde {
         requires { IsIdePassOf self.now pass.old }
         ensures pass { Continues self.now pass.old pass.new }
         ensures step { (hint : Option Hint) × (file : ℕ)
-            × HasTaken hint (queue_view pass.old.queue) (queue_view pass.new.queue)
+            × HasPopped hint (queue_view pass.old.queue) (queue_view pass.new.queue)
             × IsFirstTried hint file
             × IfOk result (HasStepped (Some file) (ide_view pass.old) (ide_view pass.new)) }
         ensures err { OnErr result ((ide_view pass.new).mine ≡ (ide_view pass.old).mine) }
@@ -77,7 +77,7 @@ impl SharedIde {
     ) -> Result<Worked, AllocError>
         requires { IsIdePassOf self.now pass.old }
         ensures pass { Continues self.now pass.old pass.new }
-        ensures hints { HasOnlyTaken (queue_view pass.old.queue) (queue_view pass.new.queue) }
+        ensures hints { HasOnlyPopped (queue_view pass.old.queue) (queue_view pass.new.queue) }
         ensures ok { IfOk result
             (HasWorked (G.may_say gate.now) (ide_view pass.old) (ide_view pass.new)
             (queue_view pass.old.queue) (queue_view pass.new.queue)) }

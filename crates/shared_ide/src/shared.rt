@@ -1,6 +1,6 @@
 //! The shared workspace, and how its passes are made and met.
 ghost use Rattle.std.specs.Prelude.{◌≡◌, ◌≢◌, ◌<◌, ◌≤◌, ◌↔◌, List, Some, IfOk, IfErr, IsTrue, length};
-ghost use Rattle.list_laws.specs.Fronts.{IsFront};
+ghost use Rattle.list_laws.specs.Prefixes.{IsPrefix};
 ghost use Rattle.action_lock.specs.Passes.{IsLast};
 ghost use Rattle.action_lock.specs.Steps.{KnowsItsLists, joined, splitting, split_off, told};
 ghost use Rattle.action_lock.specs.Views.{first_view};
@@ -82,8 +82,8 @@ impl SharedIde {
         requires follows { (ide_view other).number ≢ Some 0 }
         ensures pass { IsIdePassOf self.now pass.new × IsSameIdePass pass.old pass.new }
         ensures view { ide_view pass.new ≡ told (joined (ide_view pass.old) (ide_view other)) }
-        ensures keeps { IsFront (ide_view pass.old).seen (ide_view pass.new).seen }
-        ensures learns { IsFront (ide_view other).seen (ide_view pass.new).seen }
+        ensures keeps { IsPrefix (ide_view pass.old).seen (ide_view pass.new).seen }
+        ensures learns { IsPrefix (ide_view other).seen (ide_view pass.new).seen }
         ensures knows { KnowsItsLists (λ (e : Entry). e.seat) (ide_view pass.new) }
     {
         meet(&self.lock, &self.queue, other, pass);

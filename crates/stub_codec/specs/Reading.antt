@@ -4,15 +4,13 @@ use Rattle.ide_text.specs.Text.{max_chars}
 use Rattle.stub_tree.specs.declared.stub.Stub.{Stub}
 use Rattle.stub_tree.specs.Stub.{is_type}
 use Rattle.stub_tree.specs.Lawful.{max_depth}
-use Rattle.byte_fields.specs.Reading.{◌>>=◌, checked, byte_at, number_at, name_at, many_at}
+use Rattle.byte_fields.specs.Reading.{◌>>=◌, checked, byte_at, number_at, name_at, counted_at}
 use Rattle.stub_codec.specs.Spelling.{version}
 
 -- the supers of a type; of any other declaration none are read
 unfoldable pub supers_at : Bool → List ℕ → Result (List (List ℕ) × List ℕ) ℕ
 supers_at false bytes = Ok ([], bytes)
-supers_at true bytes = do
-  count ← number_at bytes
-  many_at (λ _. name_at) count.0 None count.1
+supers_at true bytes = counted_at (λ _. name_at) bytes
 
 -- a byte is the code of a kind
 abbrev pub is_kind : ℕ → Bool
@@ -50,11 +48,10 @@ unfoldable pub all_of : List ℕ → Result (List Stub) ℕ
 all_of bytes = do
   first ← byte_at bytes
   known ← checked (first.0 == version) bytes
-  count ← number_at first.1
-  stubs ← many_at stub_at count.0 None count.1
+  stubs ← counted_at stub_at first.1
   ended ← checked (length stubs.1 == 0) stubs.1
   Ok stubs.0
 
 -- the place of a fault that is told by the number of bytes from it on
-abbrev pub place_of : List ℕ → ℕ → ℕ
-place_of bytes left = length bytes - left
+abbrev pub offset_of : List ℕ → ℕ → ℕ
+offset_of bytes left = length bytes - left

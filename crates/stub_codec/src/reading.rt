@@ -37,7 +37,7 @@ pub fn decode(alloc: Global, bytes: &[u8]) -> Result<StubList, StubRefusal>
 }
 
 /// All of the bytes.
-#[tactic(auto, unfolding(crate::specs::Reading::all_of))]
+#[tactic(auto, unfolding(crate::specs::Reading::all_of, byte_fields::specs::Reading::counted_at))]
 fn all(alloc: Global, bytes: &[u8]) -> Result<StubList, Fault>
     ensures { Gives (λ stubs. stubs) result (all_of bytes.now) }
 {
@@ -128,7 +128,7 @@ fn may_be_offset(before: Option<&Stub>, at: u32) -> bool
 }
 
 /// The supers of a type; of any other declaration none are read.
-#[tactic(auto, unfolding(crate::specs::Reading::supers_at))]
+#[tactic(auto, unfolding(crate::specs::Reading::supers_at, byte_fields::specs::Reading::counted_at))]
 fn supers_of(alloc: Global, of_type: bool, bytes: &[u8]) -> Result<(Names, &[u8]), Fault>
     ensures { Gives (λ x. (x.0, x.1.now)) result (supers_at of_type bytes.now) }
 {

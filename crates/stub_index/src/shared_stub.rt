@@ -1,7 +1,7 @@
 //! A stub with several owners: the rows of all indexes that find it have one copy of it.
 ghost use Rattle.std.specs.Prelude.{◌≡◌, IfOk};
 
-use file_index::Place;
+use file_index::Rank;
 use std::alloc::{AllocError, Global};
 use std::marker::Model;
 use std::sync::Arc;
@@ -48,11 +48,11 @@ impl SharedStub {
     }
 }
 
-impl Place for SharedStub {
-    ghost place_of = { λ stub. stub.at };
+impl Rank for SharedStub {
+    ghost rank_of = { λ stub. stub.at };
 
     /// The offset of its name.
-    fn place(&self) -> u32 {
+    fn rank(&self) -> u32 {
         self.stub.at
     }
 }

@@ -1,15 +1,15 @@
 -- What a section that goes alone does, line by line, from what the code found.
 use Rattle.std.proofs.Common.{ℕ, ◌≡◌, ◌+◌, ◌-◌, ◌<◌, ◌≤◌, Bool, true, false, List, [], ◌∷◌, ◌++◌, length, refl, sym, ◌∙◌, append_assoc, length-append, arith, get_or, take, drop, suc, zero, add-one, Some, None, Option, Result, Ok, Err, inl, inr}
-use Rattle.std.specs.Prelude.{◌&&◌, is_none, nat_le, if◌then◌else◌, bytes_eq, option_map, unwrap_or, slice_get, slice_index_or, MatchOption, IfSome}
-use Rattle.std.proofs.lemmas.Bool.{and_parts, cases_Bool, true≢false, false≢true}
+use Rattle.std.specs.Prelude.{◌&&◌, is_none, if◌then◌else◌, bytes_eq, option_map, unwrap_or, slice_get, slice_index_or, MatchOption, IfSome}
+use Rattle.std.proofs.lemmas.Bool.{and_parts, cases_Bool}
 use Rattle.std.proofs.lemmas.List.{append-nil, take_rest, drop_all, length-drop}
 use Rattle.std.specs.List.{HoldsAt}
 use Rattle.std.proofs.Math.Seq.{drop-nil}
 use Rattle.std.proofs.lemmas.Option.{slice_get_past, slice_get_read}
-use Rattle.transcript_check.proofs.ChoiceLemmas.{is_nil-true, from_place}
+use Rattle.transcript_check.proofs.ChoiceLemmas.{is_nil-true, held}
+use Rattle.list_laws.proofs.PartLemmas.{next_left}
 use Rattle.write_history.specs.declared.entry.Entry.{Entry}
 use Rattle.write_history.specs.World.{World, lowest_unready, unready_ids}
-use Rattle.write_history.specs.Effect.{max_entries}
 use Rattle.write_history.specs.Fold.{fold, list_refusal}
 use Rattle.write_history.specs.Print.{entry_line}
 use Rattle.history_laws.proofs.UnreadyLemmas.{fewer-intake}
@@ -25,7 +25,7 @@ use Rattle.transcript_check.specs.Section.{Cursor, is_nil, line_step, told_text,
 use Rattle.transcript_check.specs.Here.{IsMadeAs, HasChanged, HasTakenLowest, IsTakenLowest, settle_in, tells_in}
 use Rattle.transcript_check.specs.declared.stop.LineStop.{LineStop}
 use Rattle.transcript_check.specs.Checked.{line_so}
-use Rattle.transcript_check.specs.Alone.{IsGoneTo, HasGone, IsTakenNext, HasTakenNext, left_where}
+use Rattle.transcript_check.specs.Alone.{IsGoneTo, HasGone, HasTakenNext, left_where}
 use Rattle.transcript_check.specs.Going.{HasComeAlone}
 use Rattle.transcript_check.proofs.StepLemmas.{step_is}
 use Rattle.transcript_check.proofs.HereLemmas.{settle_told, tells_so}
@@ -120,13 +120,9 @@ record Next (world : World) : Type 0 where
 
 -- there is one where a settle isn't answered yet
 next_of : (world : World) → is_none (settle_in world (lowest_unready world)) ≡ true → Next world
-next_of world on = by (lowest_unready world) (nat_le max_entries world.entries) refl refl on
-  where
-    by : (o : Option ℕ) (full : Bool) → lowest_unready world ≡ o → nat_le max_entries world.entries ≡ full → is_none (settle_in world o) ≡ true
-        → Next world
-    by (Some id) false lowest is on = record { file = id; lowest = lowest; accepted = intake_refusal world id lowest ∙ rw is }
-    by (Some id) true lowest is on = absurd (false≢true (rw is at on))
-    by None full lowest is on = absurd (cc)
+next_of world on =
+    let found = held (λ o. is_none (settle_in world o)) (lowest_unready world) refl on in
+    record { file = found.0; lowest = found.1; accepted = intake_refusal world found.0 found.1 ∙ grind (arith, found.2) }
 
 -- an entry was printed as that of the next file behind a history, or wasn't
 record IsTaken (seat number : ℕ) (after : World) (entry : List ℕ) (went : Bool) (history : List Entry) : Type 0 where
@@ -148,63 +144,45 @@ next_taken {seat} {number} {world} {after} {entry} {went} on taken history is =
       goes_on = settled-goes_on history seat number next.file next.lowest next.accepted;
     }
 
-module _ {seat number : ℕ} {text : List ℕ} {world after final : World} {entries left : List (List ℕ)} {went : Bool} where
-  -- the next file went in as the next entry: a settle goes as it goes on from there
-  pub settle_next : {came : Option (List (List ℕ))} → is_none (settle_in world (lowest_unready world)) ≡ true
-      → went ≡ true → HasTakenNext world after seat number entries left went
-      → HasGone (λ history. settle_step history seat number) seat number text left after final came
-      → HasGone (λ history. settle_step history seat number) seat number text entries world final came
-  settle_next {came = came} on so taken rest = by entries went so taken.is
-    where
-      by : (entries : List (List ℕ)) (went : Bool) → went ≡ true → IsTakenNext world after seat number entries left went
-          → HasGone (λ history. settle_step history seat number) seat number text entries world final came
-      by (entry ∷ later) true so taken = gone (λ history is. (
-          let t = next_taken on taken.1 history is in
-          let more : List Entry = history ++ t.taken ∷ [] in
-          let moved = sym (append_assoc history (t.taken ∷ []) (settled more seat number).added) in
-          let position : length history + 1 + 1 ≡ length more + 1 = omega (arith, length-append history (t.taken ∷ [])) in
-          record {
-            left_is = rw (t.goes_on, moved, sym t.is, position, sym taken.0) (rest.left_is more (sym (t.leads refl)));
-            leads = rw (t.goes_on, moved) (rest.leads more (sym (t.leads refl)));
-          }))
-      by entries went so taken = absurd (cc)
+-- the next file went in as the next entry: a settle goes as it goes on from there
+pub settle_next : {seat number : ℕ} {text : List ℕ} {world after final : World} {entries left : List (List ℕ)} {went : Bool}
+    {came : Option (List (List ℕ))} → is_none (settle_in world (lowest_unready world)) ≡ true
+    → went ≡ true → HasTakenNext world after seat number entries left went
+    → HasGone (λ history. settle_step history seat number) seat number text left after final came
+    → HasGone (λ history. settle_step history seat number) seat number text entries world final came
+settle_next {seat} {number} {entries = entry ∷ later} {went = true} on so taken rest = gone (λ history is. (
+    let t = next_taken on taken.is.1 history is in
+    let more : List Entry = history ++ t.taken ∷ [] in
+    let moved = sym (append_assoc history (t.taken ∷ []) (settled more seat number).added) in
+    let position : length history + 1 + 1 ≡ length more + 1 = omega (arith, length-append history (t.taken ∷ [])) in
+    record {
+      left_is = rw (t.goes_on, moved, sym t.is, position, sym taken.is.0) (rest.left_is more (sym (t.leads refl)));
+      leads = rw (t.goes_on, moved) (rest.leads more (sym (t.leads refl)));
+    }))
+settle_next {entries = entries} {went = went} on so taken rest = let stays = taken.is in absurd (cc)
 
-  -- no entry is left, or it is another
-  pub settle_stops : is_none (settle_in world (lowest_unready world)) ≡ true → went ≡ false → HasTakenNext world after seat number entries left went
-      → HasGone (λ history. settle_step history seat number) seat number text entries world final None
-  settle_stops on so taken = by entries went so taken.is
-    where
-      by : (entries : List (List ℕ)) (went : Bool) → went ≡ false → IsTakenNext world after seat number entries left went
-          → HasGone (λ history. settle_step history seat number) seat number text entries world final None
-      by [] went so taken = gone (λ history is. (
-          let next : Next (fold history) = rw is (next_of world on) in
-          record { left_is = rw (settled-goes_on history seat number next.file next.lowest next.accepted) (never _); leads = tt }))
-      by (entry ∷ later) false so taken = gone (λ history is. (
-          let t = next_taken on taken.1 history is in record { left_is = rw (t.goes_on, sym t.is) (never _); leads = tt }))
-      by (entry ∷ later) true so taken = absurd (cc)
+-- no entry is left, or it is another
+pub settle_stops : {seat number : ℕ} {text : List ℕ} {world after final : World} {entries left : List (List ℕ)} {went : Bool}
+    → is_none (settle_in world (lowest_unready world)) ≡ true → went ≡ false → HasTakenNext world after seat number entries left went
+    → HasGone (λ history. settle_step history seat number) seat number text entries world final None
+settle_stops {seat} {number} {entries = []} on so taken = gone (λ history is. (
+    let next : Next (fold history) = rw is (next_of _ on) in
+    record { left_is = rw (settled-goes_on history seat number next.file next.lowest next.accepted) (never _); leads = tt }))
+settle_stops {entries = entry ∷ later} {went = false} on so taken = gone (λ history is. (
+    let t = next_taken on taken.is.1 history is in record { left_is = rw (t.goes_on, sym t.is) (never _); leads = tt }))
+settle_stops {entries = entry ∷ later} {went = true} on so taken = absurd (cc)
 
 -- the number of unready files falls
 pub fewer_unready : {world after : World} {seat number : ℕ} {entries left : List (List ℕ)} {went : Bool}
     → is_none (settle_in world (lowest_unready world)) ≡ true
     → went ≡ true → HasTakenNext world after seat number entries left went → length (unready_ids after) < length (unready_ids world)
-fewer_unready {world} {after} {seat} {number} {entries} {left} {went} on so taken = by entries went so taken.is
-  where
-    by : (entries : List (List ℕ)) (went : Bool) → went ≡ true → IsTakenNext world after seat number entries left went
-        → length (unready_ids after) < length (unready_ids world)
-    by (entry ∷ later) true so taken =
-        let next = next_of world on in
-        let gone : IsTakenLowest (Some next.file) world after seat number entry true = rw next.lowest at taken.1.is in
-        rw (gone.then_after refl) (fewer-intake world next.file next.lowest)
-    by entries went so taken = absurd (cc)
+fewer_unready {world} {after} {seat} {number} {entries = entry ∷ later} {went = true} on so taken =
+    let next = next_of world on in
+    let gone : IsTakenLowest (Some next.file) world after seat number entry true = rw next.lowest at taken.is.1.is in
+    rw (gone.then_after refl) (fewer-intake world next.file next.lowest)
+fewer_unready {entries = entries} {went = went} on so taken = let stays = taken.is in absurd (cc)
 
 -- ---- a settle that takes nothing in
-
-nothing_more : (history : List Entry) (seat line : ℕ) → is_none (settle_in (fold history) (lowest_unready (fold history))) ≡ false
-    → is_nil (settle_step history seat line).added ≡ true
-nothing_more history seat line ends = elim (cases_Bool (is_nil (settle_step history seat line).added)) [
-  | inl nothing ↦ nothing
-  | inr some ↦ absurd (true≢false (rw (settle_told history seat line, some) at ends))
-]
 
 -- it is answered so, or it isn't
 pub settle_answered : {world : World} {seat : ℕ} {line : Line} {text : List ℕ} {entries : List (List ℕ)} {told : Bool}
@@ -216,8 +194,10 @@ settle_answered {world} {seat} {line} {text} {entries} {told} is ends so = rw is
         → HasGone (λ history. line_step history seat line) seat line.number text entries world world (left_where told entries)
     by true so = told_gone line so
     by false other = gone (λ history at. (
-        let none : is_nil (line_step history seat line).added ≡ true = rw is (nothing_more history seat line.number (rw at ends)) in
-        goes_otherwise history seat line.number text (line_step history seat line) entries world (rw none at (tells_here seat line text other history at))))
+        let ended : is_none (settle_in (fold history) (lowest_unready (fold history))) ≡ false = rw at ends in
+        let none : is_nil (line_step history seat line).added ≡ true = rw is (grind (arith, ended, settle_told history seat line.number)) in
+        goes_otherwise history seat line.number text (line_step history seat line) entries world
+        (rw none at (tells_here seat line text other history at))))
 
 -- ---- line by line
 
@@ -263,20 +243,20 @@ module _ {seat : ℕ} {lines : List Line} {loads : List Loaded} {entries records
 
     -- the next line goes so
     pub next_line : went ≡ true → ComesFrom seat lines loads entries records world (at + 1) later after
-    next_line so = λ final came rest. comes final came (rw (from_place lines within line_is, from_place records there text_is) (record {
+    next_line so = λ final came rest. comes final came (rw (next_left lines _ within line_is, next_left records _ there text_is) (record {
       is = λ history is. (let gone = goes_as true so in
           rw (sym (gone.left_is history is), loads_later loads at, sym (add-one at)) (rest.is _ (sym (gone.leads history is))));
     }))
 
     -- it doesn't fit: the section stops there
     pub other_line : (final : World) → went ≡ false → HasComeAlone seat lines loads entries records world final (Err (stop_at seat line at made records))
-    other_line final other = comes final _ (rw (made_is, sym (length-drop at records), from_place lines within line_is, from_place records there text_is)
+    other_line final other = comes final _ (rw (made_is, sym (length-drop at records), next_left lines _ within line_is, next_left records _ there text_is)
         (record { is = λ history is. rw (sym ((goes_as false other).left_is history is)) refl }))
 
   -- no record is left for it
   pub no_record : {line : Line} (final : World) → at < length lines → line ≡ get_or lines at line → length records ≤ at
       → HasComeAlone seat lines loads entries records world final (Err (stop_at seat line at made records))
-  no_record final within line_is past = comes final _ (rw (made_is, sym (length-drop at records), from_place lines within line_is, drop_all at records past)
+  no_record final within line_is past = comes final _ (rw (made_is, sym (length-drop at records), next_left lines _ within line_is, drop_all at records past)
       (record { is = λ history is. refl }))
 
   -- all lines went so

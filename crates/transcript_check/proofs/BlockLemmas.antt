@@ -4,18 +4,13 @@ use Rattle.std.specs.Prelude.{All}
 use Rattle.std.specs.List.{concat}
 use Rattle.std.proofs.lemmas.Bool.Decides.{nat_tests}
 use Rattle.std.proofs.lemmas.List.Elements.{All-head, All-tail}
-use Rattle.transcript_check.specs.Blocks.{begins_with_space, first_len, before_first, blocks_of, EndsOnce, IsBlock}
-
--- a byte put before the first block stands before the joined blocks
-joined-before : (byte : ℕ) (blocks : List (List ℕ)) → concat (before_first byte blocks) ≡ byte ∷ concat blocks
-joined-before byte [] = refl
-joined-before byte (block ∷ blocks) = refl
+use Rattle.transcript_check.specs.Blocks.{begins_with_space, first_len, blocks_of, EndsOnce, IsBlock}
 
 -- the blocks of some bytes, joined, are the bytes
 pub blocks-joined : (bytes : List ℕ) → concat (blocks_of bytes) ≡ bytes
 unfolding blocks_of
 blocks-joined [] = refl
-blocks-joined (byte ∷ bytes) = grind (arith, joined-before byte (blocks_of bytes), blocks-joined bytes)
+blocks-joined (byte ∷ bytes) = grind (arith, blocks-joined bytes)
 
 -- the first block and the others
 pub blocks-first : (byte : ℕ) (bytes : List ℕ) → blocks_of (byte ∷ bytes)

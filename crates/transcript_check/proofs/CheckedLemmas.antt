@@ -1,5 +1,5 @@
 -- What is checked is what a run printed, and all that a run printed is checked.
-use Rattle.std.proofs.Common.{ℕ, suc, ◌≡◌, ◌+◌, ◌^◌, ◌≤◌, ◌<◌, true, false, List, [], ◌∷◌, ◌++◌, length, refl, sym, ap, ◌∙◌, append_assoc, length-append, arith, Option, Some, None}
+use Rattle.std.proofs.Common.{ℕ, suc, ◌≡◌, ◌+◌, ◌^◌, ◌≤◌, ◌<◌, true, false, List, [], ◌∷◌, ◌++◌, length, refl, sym, ap, ◌∙◌, append_assoc, length-append, arith, Some}
 use Rattle.std.proofs.lemmas.List.{append-nil, append_cancel_left, map-append}
 use Rattle.std.proofs.lemmas.Bool.{and_parts}
 use Rattle.write_history.specs.declared.entry.Entry.{Entry}
@@ -9,12 +9,11 @@ use Rattle.script_lang.specs.Parts.{Parts}
 use Rattle.transcripts.specs.Worked.{Worked}
 use Rattle.transcripts.specs.declared.loaded.Loaded.{Loaded}
 use Rattle.transcripts.specs.declared.record.Record.{Record}
-use Rattle.transcripts.specs.Serial.{Done, done_from}
-use Rattle.transcripts.specs.Fits.{Mark, mark_at, SectionFits, RunFits}
-use Rattle.transcript_check.specs.Section.{Cursor}
+use Rattle.transcripts.specs.Serial.{RunState, done_from}
+use Rattle.transcripts.specs.Fits.{Progress, progress_at, SectionFits, RunFits}
 use Rattle.transcript_check.specs.Phase.{Sides, Reached, phase_from, cursors_of, after_lanes}
 use Rattle.transcript_check.specs.Checked.{entry_texts, record_texts, Came, serial_from, ends_so, sides_of, goes_on_so, begins_so, are_checked, AreTextsOfRun}
-use Rattle.transcript_check.proofs.ChoiceLemmas.{is_nil-true}
+use Rattle.transcript_check.proofs.ChoiceLemmas.{is_nil-true, held}
 use Rattle.transcript_check.proofs.ReadLemmas.{seat-read}
 use Rattle.transcript_check.proofs.Texts.{texts_of_section}
 use Rattle.transcript_check.proofs.CursorLemmas.{AreFew, first_seat, own_seated}
@@ -23,40 +22,34 @@ use Rattle.transcript_check.proofs.PhaseLemmas.{AllSeats, sound, StopsBefore, co
 use Rattle.transcript_check.proofs.MiddleLemmas.{sides_of_lanes, lanes_of_sides, cursors_seated, seats_all, all_seats, told_of, length-told_of, workers_fit, workers_are}
 use Rattle.transcript_check.proofs.SerialLemmas.{entry_texts-append, serial_fits}
 
--- how the check went, section by section
-record Went (loads : List Loaded) (script : Parts) (workers : ℕ) (entries records : List (List ℕ)) (came : Came) (reached : Reached) (last : Came)
-    : Type 0 where
-  first : serial_from 0 [] script.prelude loads entries records ≡ Some came
-  beside : phase_from (sides_of script workers came.history) [] (cursors_of 1 script.lanes came.records) came.entries ≡ Some reached
-  closing : serial_from 0 (came.history ++ reached.added) script.last [] reached.left (after_lanes script.lanes came.records) ≡ Some last
-  nothing : (last.entries ≡ []) × (last.records ≡ [])
-
 -- what is left behind each of three parts is the next, and nothing behind the last
 three_parts : {A : Type 0} {whole rest later left : List A} (first second third : List A) → whole ≡ first ++ rest → rest ≡ second ++ later
     → later ≡ third ++ left → left ≡ [] → whole ≡ (first ++ second) ++ third
 three_parts first second third whole rest later none = rw (whole, rest, later, none) (simp (append_assoc, append-nil))
 
--- what such a check leads to is a run
-went_sound : {loads : List Loaded} {script : Parts} {workers : ℕ} {entries records : List (List ℕ)} {came : Came} {reached : Reached} {last : Came}
-    → Went loads script workers entries records came reached last → AreTextsOfRun loads script workers entries records
-went_sound {loads} {script} {workers} {entries} {records} {came} {reached} {last} went =
+-- what a check that comes to its end leads to is a run
+went_sound : (loads : List Loaded) (script : Parts) (workers : ℕ) (entries records : List (List ℕ)) (came : Came) (reached : Reached) (last : Came)
+    → serial_from 0 [] script.prelude loads entries records ≡ Some came
+    → phase_from (sides_of script workers came.history) [] (cursors_of 1 script.lanes came.records) came.entries ≡ Some reached
+    → serial_from 0 (came.history ++ reached.added) script.last [] reached.left (after_lanes script.lanes came.records) ≡ Some last
+    → last.entries ≡ [] → last.records ≡ [] → AreTextsOfRun loads script workers entries records
+went_sound loads script workers entries records came reached last begun beside closing no_entry no_record =
     let prelude = serial_fits 0 script.prelude loads [] in
     let opening : List Entry = prelude.own in
-    let first = prelude.comes entries records came went.first in
-    let cursors : List Cursor = cursors_of 1 script.lanes came.records in
+    let first = prelude.comes entries records came begun in
     let sides : Sides = sides_of script workers opening in
-    let goes = sound sides came.entries [] cursors reached (cursors_seated 1 (suc (length script.lanes)) script.lanes came.records (omega arith))
-    (rw first.0 at went.beside) in
+    let goes = sound sides came.entries [] (cursors_of 1 script.lanes came.records) reached
+    (cursors_seated 1 (suc (length script.lanes)) script.lanes came.records (omega arith))
+    (rw first.0 at beside) in
     let middle : List Entry = goes.behind in
     let lower : List Entry = opening ++ middle in
     let final = serial_fits 0 script.last [] lower in
-    let ends = final.comes reached.left (after_lanes script.lanes came.records) last (rw (first.0, goes.added_is) at went.closing) in
+    let ends = final.comes reached.left (after_lanes script.lanes came.records) last (rw (first.0, goes.added_is) at closing) in
     let lanes = lanes_of_sides sides.beside lower opening 1 script.lanes middle came.records (rw append-nil at goes.fits) in
     let told : List Worked = told_of (1 + length script.lanes) workers middle in
     let count : length told ≡ workers = length-told_of (1 + length script.lanes) workers middle in
     let made : (s : ℕ) → 1 + length script.lanes ≤ s → AreWorkers s middle =
     λ s past. workers_all (length script.lanes) [] middle (λ seat beyond. workers_none seat) goes.workers s (omega arith) in
-    let texts_are = rw append-nil at goes.texts_are in
     record {
       told = told;
       ended = record { history = lower ++ final.own; records = prelude.records ++ lanes.records; last = final.records };
@@ -81,48 +74,36 @@ went_sound {loads} {script} {workers} {entries} {records} {came} {reached} {last
         last = final.fits;
       };
       entries_are = three_parts (entry_texts 1 opening) (entry_texts (length opening + 1) middle) (entry_texts (length lower + 1) final.own)
-          first.1 texts_are ends.1 went.nothing.0
+          first.1 (rw append-nil at goes.texts_are) ends.1 no_entry
           ∙ rw (entry_texts-append 1 (length lower + 1) lower final.own (omega arith), entry_texts-append 1 (length opening + 1) opening middle (omega arith));
       records_are = three_parts (record_texts prelude.records) (record_texts lanes.records) (record_texts final.records)
-          first.2 lanes.texts_are ends.2 went.nothing.1 ∙ simp map-append;
+          first.2 lanes.texts_are ends.2 no_record ∙ simp map-append;
     }
 
 -- WHAT IS CHECKED IS WHAT A RUN PRINTED
 pub checked_sound : (loads : List Loaded) (script : Parts) (workers : ℕ) (entries records : List (List ℕ))
     → are_checked loads script workers entries records ≡ true → AreTextsOfRun loads script workers entries records
-checked_sound loads script workers entries records = began (serial_from 0 [] script.prelude loads entries records) refl
-  where
-    ended : (came : Came) (reached : Reached) (o : Option Came)
-        → serial_from 0 (came.history ++ reached.added) script.last [] reached.left (after_lanes script.lanes came.records) ≡ o → ends_so o ≡ true
-        → serial_from 0 [] script.prelude loads entries records ≡ Some came
-        → phase_from (sides_of script workers came.history) [] (cursors_of 1 script.lanes came.records) came.entries ≡ Some reached
-        → AreTextsOfRun loads script workers entries records
-    ended came reached None closing h first beside = absurd (cc)
-    ended came reached (Some last) closing h first beside = let parts = and_parts _ _ h in
-        went_sound (record { first = first; beside = beside; closing = closing; nothing = (is_nil-true _ parts.0, is_nil-true _ parts.1) })
-
-    went_on : (came : Came) (o : Option Reached)
-        → phase_from (sides_of script workers came.history) [] (cursors_of 1 script.lanes came.records) came.entries ≡ o
-        → goes_on_so script came.history came.records o ≡ true → serial_from 0 [] script.prelude loads entries records ≡ Some came
-        → AreTextsOfRun loads script workers entries records
-    went_on came None beside h first = absurd (cc)
-    went_on came (Some reached) beside h first = ended came reached _ refl h first beside
-
-    began : (o : Option Came) → serial_from 0 [] script.prelude loads entries records ≡ o → begins_so script workers o ≡ true
-        → AreTextsOfRun loads script workers entries records
-    began None first h = absurd (cc)
-    began (Some came) first h = went_on came _ refl h first
+checked_sound loads script workers entries records checked =
+    let first = held (begins_so script workers) (serial_from 0 [] script.prelude loads entries records) refl checked in
+    let came : Came = first.0 in
+    let beside = held (goes_on_so script came.history came.records)
+    (phase_from (sides_of script workers came.history) [] (cursors_of 1 script.lanes came.records) came.entries) refl first.2 in
+    let reached : Reached = beside.0 in
+    let closing = held ends_so (serial_from 0 (came.history ++ reached.added) script.last [] reached.left (after_lanes script.lanes came.records))
+    refl beside.2 in
+    let parts = and_parts _ _ closing.2 in
+    went_sound loads script workers entries records came reached closing.0 first.1 beside.1 closing.1 (is_nil-true _ parts.0) (is_nil-true _ parts.1)
 
 -- ALL THAT A RUN PRINTED IS CHECKED
 
 -- a section that made all of a history behind its beginning was done as on one thread
 abbrev pub IsSerial : Type 0
-IsSerial = (seat : ℕ) (low high : Mark) (lines : List Line) (loads : List Loaded) (earlier records : List Record) (start own : List Entry)
+IsSerial = (seat : ℕ) (low high : Progress) (lines : List Line) (loads : List Loaded) (earlier records : List Record) (start own : List Entry)
     → low.seen ≡ length start → SectionFits false (start ++ own) seat low lines loads records own high
     → done_from seat (record { history = start; records = earlier }) lines loads ≡ record { history = start ++ own; records = earlier ++ records }
 
 -- the last section's first entry has a seat that is nobody else's
-stops_before : (sides : Sides) (history : List Entry) (low high : Mark) (lines : List Line) (records : List Record) (position : ℕ) (closing : List Entry)
+stops_before : (sides : Sides) (history : List Entry) (low high : Progress) (lines : List Line) (records : List Record) (position : ℕ) (closing : List Entry)
     → SectionFits false history 0 low lines [] records closing high → StopsBefore sides (entry_texts position closing)
 stops_before sides history low high lines records position [] fits = tt
 stops_before sides history low high lines records position (e ∷ closing) fits =
@@ -138,9 +119,8 @@ serial_goes : (lines : List Line) (loads : List Loaded) (start own : List Entry)
 serial_goes lines loads start own told left rest is =
     let serial = serial_fits 0 lines loads start in
     let both = sym (serial.made []) ∙ is in
-    let same : serial.own ≡ own = append_cancel_left start serial.own own (ap (λ (d : Done). d.history) both) in
-    let same_told : serial.records ≡ told = ap (λ (d : Done). d.records) both in
-    rw (sym same, sym same_told) (serial.goes left rest)
+    let same : serial.own ≡ own = append_cancel_left start serial.own own (ap (λ (d : RunState). d.history) both) in
+    rw (sym same, sym (ap (λ (d : RunState). d.records) both)) (serial.goes left rest)
 
 pub checked_complete : IsSerial → (loads : List Loaded) (script : Parts) (workers : ℕ) (entries records : List (List ℕ))
     → length script.lanes + workers < 2 ^ 64 → (run : AreTextsOfRun loads script workers entries records) → AreFew run.ended.history
@@ -153,10 +133,8 @@ checked_complete alone loads script workers entries records small run few =
     let closing : List Entry = fits.closing in
     let sides : Sides = sides_of script workers opening in
     let whole : run.ended.history ≡ lower ++ closing = fits.history in
-    let legal = (IsLegal-split lower closing (rw whole at fits.legal)).0 in
-    let lower_few : AreFew lower = omega (arith, ap length whole, length-append lower closing) in
     let last_fits = rw whole at fits.last in
-    let first = alone 0 (mark_at 0) fits.prelude_end script.prelude loads [] fits.prelude_records [] opening refl fits.prelude in
+    let first = alone 0 (progress_at 0) fits.prelude_end script.prelude loads [] fits.prelude_records [] opening refl fits.prelude in
     let last = alone 0 fits.last_begins fits.last_end script.last [] [] run.ended.last lower closing fits.last_behind last_fits in
     let closing_texts : List (List ℕ) = entry_texts (length lower + 1) closing in
     let entries_left : List (List ℕ) = entry_texts (length opening + 1) middle ++ closing_texts in
@@ -169,12 +147,12 @@ checked_complete alone loads script workers entries records small run few =
       entry_texts-append 1 (length opening + 1) opening middle (omega arith),
     ) (append_assoc (entry_texts 1 opening) _ _) in
     let records_are : records ≡ record_texts fits.prelude_records ++ records_left = rw (run.records_are, fits.records) (simp (map-append, append_assoc)) in
-    let cursors : List Cursor = cursors_of 1 script.lanes records_left in
     let side = sides_of_lanes sides.beside lower opening 1 script.lanes middle fits.lanes_records (record_texts run.ended.last) (rw run.count at fits.lanes) in
     let seats : AllSeats sides middle = all_seats sides (length script.lanes + length run.told) middle (rw run.count) fits.seats in
     let workers_go = workers_from (length script.lanes) [] middle
     (λ seat past. workers_are lower (length opening) sides middle run.told run.count seats fits.worked seat past) in
-    let goes = complete sides small lower lower_few legal middle [] cursors closing_texts (rw append-nil)
+    let goes = complete sides small lower (omega (arith, ap length whole, length-append lower closing))
+    (IsLegal-split lower closing (rw whole at fits.legal)).0 middle [] (cursors_of 1 script.lanes records_left) closing_texts (rw append-nil)
     (cursors_seated 1 (suc (length script.lanes)) script.lanes records_left (omega arith))
     (stops_before sides (lower ++ closing) fits.last_begins fits.last_end script.last run.ended.last (length lower + 1) closing last_fits)
     seats workers_go (rw append-nil side.fits) in

@@ -1,9 +1,9 @@
 -- Lists and choices: what follows where it is known what is there, or what was chosen.
-use Rattle.std.proofs.Common.{ℕ, zero, suc, ◌≡◌, ◌+◌, ◌<◌, ◌∙◌, Bool, true, false, cond, List, [], ◌∷◌, ◌++◌, map, take, drop, length, get_or, sym, refl, ap, Option, Some, None, Result, Err, ◌⊎◌, inl, inr}
-use Rattle.std.specs.Prelude.{filter, is_none, option_map, slice_get}
+use Rattle.std.proofs.Common.{ℕ, zero, suc, ◌≡◌, ◌+◌, Bool, true, false, cond, List, [], ◌∷◌, ◌++◌, map, take, drop, refl, ap, Option, Some, None, Result, Err, ◌⊎◌, inl, inr}
+use Rattle.std.specs.Prelude.{filter, is_none, option_map}
 use Rattle.std.specs.List.{AllByRecursion}
-use Rattle.std.proofs.lemmas.List.{drop_more}
 use Rattle.std.specs.Option.{option_map_or}
+use Rattle.std.proofs.lemmas.Bool.{cond_both}
 use Rattle.transcript_check.specs.Section.{is_nil}
 
 pub is_nil-true : {A : Type 0} (xs : List A) → is_nil xs ≡ true → xs ≡ []
@@ -20,26 +20,13 @@ all-append P (x ∷ xs) ys first later = (first.0, all-append P xs ys first.1 la
 
 pub all-filter : {X : Type 0} (P : X → Type 0) (test : X → Bool) (xs : List X) → AllByRecursion P xs → AllByRecursion P (filter test xs)
 all-filter P test [] all = tt
-all-filter P test (x ∷ xs) all = by (test x) (all-filter P test xs all.1)
-  where
-    by : (b : Bool) → AllByRecursion P (filter test xs) → AllByRecursion P (cond b (x ∷ filter test xs) (filter test xs))
-    by true later = (all.0, later)
-    by false later = later
+all-filter P test (x ∷ xs) all =
+    let later = all-filter P test xs all.1 in cond_both (test x) _ _ (AllByRecursion P) (λ _. (all.0, later)) (λ _. later)
 
 pub all-map : {X Y : Type 0} (P : X → Type 0) (Q : Y → Type 0) (f : X → Y) (xs : List X)
     → ((x : X) → P x → Q (f x)) → AllByRecursion P xs → AllByRecursion Q (map f xs)
 all-map P Q f [] each all = tt
 all-map P Q f (x ∷ xs) each all = (each x all.0, all-map P Q f xs each all.1)
-
--- from a place on, a list begins with the element there
-pub from_place : {A : Type 0} (xs : List A) {i : ℕ} {x : A} → i < length xs → x ≡ get_or xs i x → drop i xs ≡ x ∷ drop (i + 1) xs
-from_place xs {i} {x} within is = drop_more xs i x within ∙ rw (sym is)
-
--- from the place of an element on, a list begins with it
-pub list_from : {A : Type 0} (xs : List A) (i : ℕ) (x : A) → slice_get xs i ≡ Some x → drop i xs ≡ x ∷ drop (suc i) xs
-list_from [] i x found = absurd (cc)
-list_from (y ∷ ys) zero x found = cc
-list_from (y ∷ ys) (suc i) x found = list_from ys i x found
 
 -- with that element one more is in front of the others
 pub up_to : {A : Type 0} (xs : List A) (i : ℕ) (x : A) (rest : List A) → drop i xs ≡ x ∷ rest
@@ -48,6 +35,16 @@ up_to [] zero x rest is = absurd (cc)
 up_to [] (suc i) x rest is = absurd (cc)
 up_to (y ∷ ys) zero x rest is = (cc, cc)
 up_to (y ∷ ys) (suc i) x rest is = let later = up_to ys i x rest is in (later.0, ap (λ zs. y ∷ zs) later.1)
+
+-- what holds of a choice, and not of nothing, holds of what was chosen
+pub held : {A : Type 0} (test : Option A → Bool) (o : Option A) → test None ≡ false → test o ≡ true → (x : A) × (o ≡ Some x) × (test (Some x) ≡ true)
+held test None none h = absurd (cc)
+held test (Some x) none h = (x, refl, h)
+
+-- nothing is there, or this
+pub found_or : {A : Type 0} (o : Option A) → (o ≡ None) ⊎ ((x : A) × (o ≡ Some x))
+found_or None = inl refl
+found_or (Some x) = inr (x, refl)
 
 -- which of two was chosen
 pub chosen : {A : Type 0} {z : A} (b : Bool) (x y : A) → cond b x y ≡ z → ((b ≡ true) × (x ≡ z)) ⊎ ((b ≡ false) × (y ≡ z))

@@ -1,17 +1,16 @@
 -- A section on its way fits what is behind it exactly where it fits what is behind its next record or entry.
-use Rattle.std.proofs.Common.{ℕ, ◌≡◌, ◌+◌, ◌^◌, ◌≤◌, ◌<◌, Bool, true, false, cond, not, ◌&&◌, List, [], ◌∷◌, ◌++◌, length, refl, sym, ap, ◌∙◌, append_assoc, length-append, arith, Some, None, ◌⊎◌, inl, inr, eqb}
+use Rattle.std.proofs.Common.{ℕ, ◌≡◌, ◌+◌, ◌^◌, ◌≤◌, ◌<◌, Bool, true, false, not, ◌&&◌, List, [], ◌∷◌, ◌++◌, length, refl, sym, ap, ◌∙◌, append_assoc, length-append, arith, Some, None, ◌⊎◌, inl, inr, eqb}
 use Rattle.std.specs.Prelude.{bytes_eq}
 use Rattle.std.proofs.lemmas.Option.{same_Some}
 use Rattle.std.proofs.lemmas.Slice.Eq.{bytes_eq-Decides}
 use Rattle.std.proofs.lemmas.Bool.Decides.{nat_tests}
-use Rattle.std.proofs.lemmas.Bool.{both_ways, and_parts, or_cases, cases_lt}
+use Rattle.std.proofs.lemmas.Bool.{both_ways, and_parts, or_cases, cases_lt, cases_Bool, not-true}
 use Rattle.std.proofs.lemmas.List.{append_cancel_left, append-nil}
 use Rattle.std.proofs.lemmas.List.Elements.{filter-append}
-use Rattle.list_laws.specs.Fronts.{IsFront}
-use Rattle.list_laws.proofs.BoolLemmas.{bool_cases}
+use Rattle.list_laws.specs.Prefixes.{IsPrefix}
 use Rattle.transcript_check.proofs.ChoiceLemmas.{is_nil-true}
 use Rattle.list_laws.proofs.RowLemmas.{count_le}
-use Rattle.list_laws.proofs.FrontLemmas.{front_trans, front_length, front_filter, front_shorter, front_whole}
+use Rattle.list_laws.proofs.PrefixLemmas.{front_trans, front_length, front_filter, front_shorter, front_whole}
 use Rattle.write_history.specs.declared.entry.Entry.{Entry}
 use Rattle.write_history.specs.Fold.{fold, list_refusal}
 use Rattle.script_lang.specs.declared.line.Line.{Line}
@@ -19,7 +18,7 @@ use Rattle.transcripts.specs.declared.loaded.Loaded.TheVariants.{Nothing}
 use Rattle.transcripts.specs.declared.record.Answer.{Answer}
 use Rattle.transcripts.specs.Serial.{CommandStep}
 use Rattle.transcripts.specs.Fits.{made_by}
-use Rattle.transcript_check.specs.Section.{Cursor, Made, is_nil, line_step, told_text, given_up, tells_given_up, is_told_here, told_from, is_settle, made_by_line, made_from}
+use Rattle.transcript_check.specs.Section.{Cursor, NextEntry, is_nil, line_step, told_text, given_up, tells_given_up, is_told_here, told_from, is_settle, made_by_line, made_from}
 use Rattle.transcript_check.proofs.TextLemmas.{at_of, IsShort, same_at}
 use Rattle.transcript_check.proofs.StepLemmas.{TellsAt, IsStep, step_is, settle_steps, settle_later, settle_sooner, made_by-own, made_by-all}
 use Rattle.transcript_check.proofs.Texts.{DoneBehind, DoneLate, WasGivenUp, FirstFits, first_as, TextsFit, gave_up, text_is}
@@ -56,7 +55,7 @@ module _ (seat : ℕ) (here : List Entry) where
   stepped line = step_is seat Nothing here line.number line.command
 
   -- The entry that a section makes next, and how it stands behind it: a settle is on its way, and any other line is done
-  pub data Makes : List Line → List (List ℕ) → Made → Type 0 where
+  pub data Makes : List Line → List (List ℕ) → NextEntry → Type 0 where
     begins : {line : Line} {lines : List Line} {text : List ℕ} {texts : List (List ℕ)} {e : Entry} (more : List Entry)
         → is_settle line.command ≡ true → (line_step here seat line).added ≡ e ∷ more
         → Makes (line ∷ lines) (text ∷ texts)
@@ -66,7 +65,7 @@ module _ (seat : ℕ) (here : List Entry) where
         → Makes (line ∷ lines) (text ∷ texts)
         (record { entry = e; cursor = record { seat = seat; lines = lines; texts = texts; settling = false } })
 
-  pub makes_so : (lines : List Line) (texts : List (List ℕ)) (m : Made) → made_from here seat lines texts ≡ Some m → Makes lines texts m
+  pub makes_so : (lines : List Line) (texts : List (List ℕ)) (m : NextEntry) → made_from here seat lines texts ≡ Some m → Makes lines texts m
   makes_so (line ∷ lines) (text ∷ texts) m h = by (is_settle line.command) (line_step here seat line).added _ refl refl refl h
     where
       by : (settles : Bool) (added : List Entry) (told : Bool) → is_settle line.command ≡ settles → (line_step here seat line).added ≡ added
@@ -80,7 +79,7 @@ module _ (seat : ℕ) (here : List Entry) where
   makes_so lines texts m h = absurd (cc)
 
   -- a section keeps its seat, which its entry has, and the entry isn't refused where it stands
-  pub made_keeps : {lines : List Line} {texts : List (List ℕ)} {m : Made} → Makes lines texts m
+  pub made_keeps : {lines : List Line} {texts : List (List ℕ)} {m : NextEntry} → Makes lines texts m
       → (m.cursor.seat ≡ seat) × (m.entry.seat ≡ seat) × (list_refusal (fold here) m.entry.changes ≡ None)
   made_keeps (begins {line} {e = e} more settles adds) = (refl, (rw adds at (stepped line).own).0, (stepped line).lawful e more adds)
   made_keeps (does {line} {e = e} adds told) = (refl, (rw adds at (stepped line).own).0, (stepped line).lawful e [] adds)
@@ -112,7 +111,7 @@ module _ (beside : Bool) (history : List Entry) (seat : ℕ) where
   sooner lines len less texts own below fits = fits
 
   -- a section has no more entries of its own than there are with its seat behind what it had seen
-  few_own : (lines : List Line) (texts : List (List ℕ)) (own before : List Entry) → IsFront before history
+  few_own : (lines : List Line) (texts : List (List ℕ)) (own before : List Entry) → IsPrefix before history
       → TextsFit beside history seat (length before) lines texts own → length (made_by seat before) + length own ≤ length (made_by seat history)
   few_own [] texts own before front fits =
       omega (arith, ap length fits.1, front_length _ _ (front_filter (λ (x : Entry). eqb x.seat seat) before history front))
@@ -146,6 +145,12 @@ module _ (beside : Bool) (history : List Entry) (seat : ℕ) where
     loosen false (line ∷ lines) (text ∷ texts) own fits =
         first_as fits (inl (record { start = here; late = omega arith; done = fits.first.0; between_is = fits.first.1 }))
     loosen false lines texts own fits = absurd fits
+
+    -- so is a line of any section
+    quiet : (settling : Bool) (lines : List Line) (texts : List (List ℕ)) (own : List Entry)
+        → StateFits beside history here seat settling lines texts own → StateFits beside history here seat false lines texts own
+    quiet false lines texts own fits = fits
+    quiet true lines texts own fits = loosen false lines texts own fits
 
     -- WHAT IS TOLD HERE
 
@@ -212,7 +217,7 @@ module _ (beside : Bool) (history : List Entry) (seat : ℕ) where
         ] in
         rw (fits.own_is, goes.0) (sooner lines fits.between (length here) texts fits.made_later goes.1 fits.rest)
 
-    tell_back : (settling : Bool) (line : Line) (lines : List Line) (text : List ℕ) (texts : List (List ℕ)) (own : List Entry) → IsFront here history
+    tell_back : (settling : Bool) (line : Line) (lines : List Line) (text : List ℕ) (texts : List (List ℕ)) (own : List Entry) → IsPrefix here history
         → Told (beside && not settling) line text → TextsFit beside history seat (length here) lines texts own
         → StateFits beside history here seat settling (line ∷ lines) (text ∷ texts) own
     tell_back settling line lines text texts own front told fits = elim told.how [
@@ -224,20 +229,15 @@ module _ (beside : Bool) (history : List Entry) (seat : ℕ) where
         first = (record { answer = told.answer; stands = rw append-nil front; step = step; told = told.text_is }, rw append-nil);
         rest = fits;
       })
-      | inr given ↦ by settling given
+      | inr given ↦ rw (not-true settling (and_parts beside (not settling) given.0).1) (record {
+        made = [];
+        between = length here;
+        made_later = own;
+        own_is = refl;
+        first = inr ((and_parts _ _ given.0).0, record { told = given.1; nothing = refl; between_is = refl });
+        rest = fits;
+      })
     ]
-      where
-        by : (settling : Bool) → ((beside && not settling) ≡ true) × (tells_given_up seat line.number line.command text ≡ true)
-            → StateFits beside history here seat settling (line ∷ lines) (text ∷ texts) own
-        by true given = absurd (both_ways false refl (and_parts _ _ given.0).1)
-        by false given = record {
-          made = [];
-          between = length here;
-          made_later = own;
-          own_is = refl;
-          first = inr ((and_parts _ _ given.0).0, record { told = given.1; nothing = refl; between_is = refl });
-          rest = fits;
-        }
 
     -- a section behind all records that are told here fits where it did before them
     pub record ToldFits (settling : Bool) (lines : List Line) (texts : List (List ℕ)) (c : Cursor) : Type 0 where
@@ -246,23 +246,17 @@ module _ (beside : Bool) (history : List Entry) (seat : ℕ) where
       pub seat_is : c.seat ≡ seat
       pub stops : StopsAt beside here seat c.settling c.lines c.texts
 
-    pub told_fits : (settling : Bool) (lines : List Line) (texts : List (List ℕ)) → IsFront here history
+    pub told_fits : (settling : Bool) (lines : List Line) (texts : List (List ℕ)) → IsPrefix here history
         → ToldFits settling lines texts (told_from beside here seat settling lines texts)
-    told_fits settling (line ∷ lines) (text ∷ texts) front = bool_cases (is_told_here (beside && not settling) here seat line text)
-        (λ (b : Bool). ToldFits settling (line ∷ lines) (text ∷ texts) (cond b (told_from beside here seat false lines texts)
-        (record { seat = seat; lines = line ∷ lines; texts = text ∷ texts; settling = settling })))
-        (λ holds. (let rest = told_fits false lines texts front in let told = told_is (beside && not settling) line text holds in record {
-          forth = λ few own fits. rest.forth few own (tell_forth (beside && not settling) line lines text texts own few told (quiet settling own fits));
-          back = λ own fits. tell_back settling line lines text texts own front told (rest.back own fits);
-          seat_is = rest.seat_is;
-          stops = rest.stops;
-        }))
-        (λ fails. record { forth = λ few own fits. fits; back = λ own fits. fits; seat_is = refl; stops = fails })
-      where
-        quiet : (settling : Bool) (own : List Entry) → StateFits beside history here seat settling (line ∷ lines) (text ∷ texts) own
-            → StateFits beside history here seat false (line ∷ lines) (text ∷ texts) own
-        quiet false own fits = fits
-        quiet true own fits = loosen false (line ∷ lines) (text ∷ texts) own fits
+    told_fits settling (line ∷ lines) (text ∷ texts) front = elim (cases_Bool (is_told_here (beside && not settling) here seat line text)) [
+      | inl holds ↦ (let rest = told_fits false lines texts front in let told = told_is (beside && not settling) line text holds in rw holds (record {
+        forth = λ few own fits. rest.forth few own (tell_forth (beside && not settling) line lines text texts own few told (quiet settling _ _ own fits));
+        back = λ own fits. tell_back settling line lines text texts own front told (rest.back own fits);
+        seat_is = rest.seat_is;
+        stops = rest.stops;
+      }))
+      | inr fails ↦ rw fails (record { forth = λ few own fits. fits; back = λ own fits. fits; seat_is = refl; stops = fails })
+    ]
     told_fits settling lines texts front = record { forth = λ few own fits. fits; back = λ own fits. fits; seat_is = refl; stops = tt }
 
     -- WHAT IS MADE HERE
@@ -283,11 +277,29 @@ module _ (beside : Bool) (history : List Entry) (seat : ℕ) where
         record { more = made; made_is = ap (λ (x : Entry). x ∷ made) same; own = rw same at (first_seat seat f made (made_seated done)) }
 
     -- a line that was done behind all of `here` and no more was done right here
-    done_exactly : {start : List Entry} {line : Line} {made : List Entry} {text : List ℕ} → IsFront here history → length start ≤ length here
+    done_exactly : {start : List Entry} {line : Line} {made : List Entry} {text : List ℕ} → IsPrefix here history → length start ≤ length here
         → length here ≤ length start → DoneBehind history start seat line made text → DoneBehind history here seat line made text
     done_exactly {start} front above below done =
         let begins = front_shorter here start history front (front_trans start _ history (_, refl) done.stands) below in
         rw (sym (front_whole here start begins above)) at done
+
+    -- a section whose next record isn't told here was done right here, or fits behind the next entry and isn't in the middle of a settle
+    here_or_later : (settling : Bool) (line : Line) (lines : List Line) (text : List ℕ) (texts : List (List ℕ)) (e : Entry) (es own : List Entry)
+        → is_told_here (beside && not settling) here seat line text ≡ false → history ≡ here ++ e ∷ es
+        → StateFits beside history here seat settling (line ∷ lines) (text ∷ texts) own
+        → StateFits beside history here seat true (line ∷ lines) (text ∷ texts) own
+        ⊎ ((settling ≡ false) × TextsFit beside history seat (length (here ++ e ∷ [])) (line ∷ lines) (text ∷ texts) own)
+    here_or_later true line lines text texts e es own stops parts fits = inl fits
+    here_or_later false line lines text texts e es own stops parts fits = elim fits.first [
+      | inl late ↦ elim (cases_lt (length here) (length late.start)) [
+        | inl past ↦ inr (refl, first_as fits (inl (done_later late (omega (arith, one_more here e)))))
+        | inr not_past ↦ inl (first_as fits (
+          done_exactly (e ∷ es, parts) not_past late.late late.done,
+          omega (arith, late.between_is, late.late, length-append late.start fits.made, length-append here fits.made),
+        ))
+      ]
+      | inr given ↦ absurd (never_given line text stops given)
+    ]
 
     -- the next entry is another's: the section isn't in the middle of a settle, and fits behind that entry
     pub other_forth : (settling : Bool) (lines : List Line) (texts : List (List ℕ)) (e : Entry) (es own : List Entry)
@@ -295,40 +307,12 @@ module _ (beside : Bool) (history : List Entry) (seat : ℕ) where
         → StateFits beside history here seat settling lines texts own
         → (settling ≡ false) × StateFits beside history (here ++ e ∷ []) seat false lines texts own
     other_forth false [] texts e es own stops parts other fits = (refl, fits)
-    other_forth true (line ∷ lines) (text ∷ texts) e es own stops parts other fits =
-        absurd (other (first_made (beside && false) line text e es fits.made stops parts fits.first.0).own)
-    other_forth false (line ∷ lines) (text ∷ texts) e es own stops parts other fits = (
-      refl,
-      elim fits.first [
-        | inl late ↦ elim (cases_lt (length here) (length late.start)) [
-          | inl past ↦ first_as fits (inl (done_later late (omega (arith, one_more here e))))
-          | inr not_past ↦ absurd (other (first_made (beside && true) line text e es fits.made stops parts
-              (done_exactly (e ∷ es, parts) not_past late.late late.done)).own)
+    other_forth settling (line ∷ lines) (text ∷ texts) e es own stops parts other fits =
+        elim (here_or_later settling line lines text texts e es own stops parts fits) [
+          | inl at ↦ absurd (other (first_made (beside && not settling) line text e es at.made stops parts at.first.0).own)
+          | inr later ↦ later
         ]
-        | inr given ↦ absurd (never_given line text stops given)
-      ],
-    )
     other_forth settling lines texts e es own stops parts other fits = absurd fits
-
-    -- the next entry is the section's own: it was made right here
-    pinned : (settling : Bool) (line : Line) (lines : List Line) (text : List ℕ) (texts : List (List ℕ)) (e : Entry) (es : List Entry)
-        → StopsAt beside here seat settling (line ∷ lines) (text ∷ texts) → history ≡ here ++ e ∷ es → e.seat ≡ seat
-        → StateFits beside history here seat settling (line ∷ lines) (text ∷ texts) (made_by seat (e ∷ es))
-        → StateFits beside history here seat true (line ∷ lines) (text ∷ texts) (made_by seat (e ∷ es))
-    pinned true line lines text texts e es stops parts own fits = fits
-    pinned false line lines text texts e es stops parts own fits = elim fits.first [
-      | inl late ↦ elim (cases_lt (length here) (length late.start)) [
-        | inl past ↦ (let few = few_own (line ∷ lines) (text ∷ texts) (made_by seat (e ∷ es)) (here ++ e ∷ []) (es, parts ∙ sym (append_assoc here (e ∷ []) es))
-            (first_as fits (inl (done_later late (omega (arith, one_more here e))))) in
-            let split = simp (filter-append, length-append) at (rw parts at few) in
-            absurd (omega (arith, ap length (made_by-own seat e [] own))))
-        | inr not_past ↦ first_as fits (
-          done_exactly (e ∷ es, parts) not_past late.late late.done,
-          omega (arith, late.between_is, late.late, length-append late.start fits.made, length-append here fits.made),
-        )
-      ]
-      | inr given ↦ absurd (never_given line text stops given)
-    ]
 
     -- a section that goes on with an entry of its own: what it makes here, and that it fits behind that
     pub record GoesOn (lines : List Line) (texts : List (List ℕ)) (e : Entry) (own : List Entry) : Type 0 where
@@ -374,26 +358,33 @@ module _ (beside : Bool) (history : List Entry) (seat : ℕ) where
           fits = rw none (rw (at, none) at rest);
         }
 
+    -- the next entry is the section's own: it was made right here, and the section goes on with it
     pub own_forth : (settling : Bool) (lines : List Line) (texts : List (List ℕ)) (e : Entry) (es : List Entry)
         → StopsAt beside here seat settling lines texts → history ≡ here ++ e ∷ es → e.seat ≡ seat
         → StateFits beside history here seat settling lines texts (made_by seat (e ∷ es))
         → GoesOn lines texts e (made_by seat es)
+    own_forth false [] texts e es stops parts own fits =
+        let never : [] ≡ e ∷ made_by seat es = sym fits.1 ∙ made_by-own seat e es own in absurd (cc)
     own_forth settling (line ∷ lines) (text ∷ texts) e es stops parts own fits =
-        let at = pinned settling line lines text texts e es stops parts own fits in
+        let at : StateFits beside history here seat true (line ∷ lines) (text ∷ texts) (made_by seat (e ∷ es)) =
+        elim (here_or_later settling line lines text texts e es (made_by seat (e ∷ es)) stops parts fits) [
+          | inl done ↦ done
+          | inr later ↦ (let few = few_own (line ∷ lines) (text ∷ texts) (made_by seat (e ∷ es)) (here ++ e ∷ [])
+              (es, parts ∙ sym (append_assoc here (e ∷ []) es)) later.1 in
+              let split = simp (filter-append, length-append) at (rw parts at few) in
+              absurd (omega (arith, ap length (made_by-own seat e [] own))))
+        ] in
         let first = first_made (beside && not settling) line text e es at.made stops parts at.first.0 in
-        let both : e ∷ made_by seat es ≡ e ∷ first.more ++ at.made_later = sym (made_by-own seat e es own) ∙ at.own_is
-        ∙ ap (λ (xs : List Entry). xs ++ at.made_later) first.made_is in
+        let both : e ∷ made_by seat es ≡ e ∷ first.more ++ at.made_later =
+        ◌∙◌ {c = e ∷ first.more ++ at.made_later} (sym (made_by-own seat e es own)) (rw first.made_is at at.own_is) in
         let owns : made_by seat es ≡ first.more ++ at.made_later = cc in
         rw owns (goes_on_by line lines text texts e first.more at.made_later at.between (is_settle line.command) refl
         (rw first.made_is at at.first.0) (rw first.made_is at at.first.1) at.rest)
-    own_forth false [] texts e es stops parts own fits =
-        let never : [] ≡ e ∷ made_by seat es = sym fits.1 ∙ made_by-own seat e es own in absurd (cc)
-    own_forth true lines texts e es stops parts own fits = absurd fits
-    own_forth false lines texts e es stops parts own fits = absurd fits
+    own_forth settling lines texts e es stops parts own fits = absurd fits
 
     -- what a section that makes an entry here is: it fits where it fits behind that entry
-    pub own_back : (settling : Bool) {lines : List Line} {texts : List (List ℕ)} {m : Made} (own : List Entry) → Makes seat here lines texts m
-        → IsFront (here ++ m.entry ∷ []) history → CursorFits beside history (here ++ m.entry ∷ []) m.cursor own
+    pub own_back : (settling : Bool) {lines : List Line} {texts : List (List ℕ)} {m : NextEntry} (own : List Entry) → Makes seat here lines texts m
+        → IsPrefix (here ++ m.entry ∷ []) history → CursorFits beside history (here ++ m.entry ∷ []) m.cursor own
         → StateFits beside history here seat settling lines texts (m.entry ∷ own)
     own_back settling own (begins {line} {lines} {text} {texts} {e} more settles adds) front fits =
         let whole : (here ++ e ∷ []) ++ fits.made ≡ here ++ e ∷ fits.made = append_assoc here (e ∷ []) fits.made in

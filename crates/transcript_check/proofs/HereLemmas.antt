@@ -12,7 +12,7 @@ use Rattle.script_lang.specs.declared.command.Command.TheVariants as command
 use Rattle.script_lang.specs.declared.line.Line.{Line}
 use Rattle.transcripts.specs.declared.loaded.Loaded.TheVariants.{Nothing}
 use Rattle.transcripts.specs.Serial.{answer_of, step_unless, settle_step, step_of}
-use Rattle.transcript_check.proofs.StepLemmas.{SettleGoes, over, full, goes, settle_goes}
+use Rattle.transcript_check.proofs.StepLemmas.{over, full, goes, settle_goes}
 use Rattle.transcript_check.specs.Section.{line_step, tells}
 use Rattle.transcript_check.specs.Here.{told_by, refused_in, settle_in, answer_in, tells_in}
 
@@ -24,28 +24,26 @@ changes_told world history place entry (Some r) counts = rw counts
 
 pub settle_told : (history : List Entry) (seat line : ℕ)
     → settle_in (fold history) (lowest_unready (fold history)) ≡ told_by (settle_step history seat line)
-settle_told history seat line = by (settle_goes history seat line)
-  where
-    by : SettleGoes history seat line → settle_in (fold history) (lowest_unready (fold history)) ≡ told_by (settle_step history seat line)
-    by (over lowest is) = rw (lowest, is, entries-fold, append-nil)
-    by (full id lowest is_full refused is) = rw (lowest, is, is_full, entries-fold, append-nil)
-    by (goes id lowest few accepted is) = rw (lowest, is, few)
+settle_told history seat line = elim (settle_goes history seat line) [
+  | over lowest is ↦ rw (lowest, is, entries-fold, append-nil)
+  | full id lowest is_full refused is ↦ rw (lowest, is, is_full, entries-fold, append-nil)
+  | goes id lowest few accepted is ↦ rw (lowest, is, few)
+]
 
 -- what a line is answered in a world where it adds nothing
-pub told_by_in : (history : List Entry) (seat : ℕ) (line : Line)
-    → answer_in (fold history) line.command ≡ told_by (line_step history seat line)
-told_by_in history seat line = by line.command
-  where
-    by : (c : Command) → answer_in (fold history) c ≡ told_by (step_of Nothing history seat line.number c)
-    by (command.Change change) =
-        changes_told (fold history) history (λ place. None) _ (list_refusal (fold history) (change ∷ [])) (entries-fold history)
-    by (command.Group changes) = changes_told (fold history) history Some _ (list_refusal (fold history) changes) (entries-fold history)
-    by (command.Load path) = elim (cases_Bool (is_path path)) [ inl lawful ↦ rw lawful | inr unlawful ↦ rw (unlawful, entries-fold) ]
-    by command.Settle = settle_told history seat line.number
-    by (command.Ask query) = ap (λ (n : ℕ). Some (answer_of (fold history) n (reply (fold history) query))) (entries-fold history)
-    by (command.Soft attempts query) = ap (λ (n : ℕ). Some (answer_of (fold history) n (reply (fold history) query))) (entries-fold history)
+told_by_in : (history : List Entry) (seat number : ℕ) (c : Command) → answer_in (fold history) c ≡ told_by (step_of Nothing history seat number c)
+told_by_in history seat number (command.Change change) =
+    changes_told (fold history) history (λ place. None) _ (list_refusal (fold history) (change ∷ [])) (entries-fold history)
+told_by_in history seat number (command.Group changes) =
+    changes_told (fold history) history Some _ (list_refusal (fold history) changes) (entries-fold history)
+told_by_in history seat number (command.Load path) =
+    elim (cases_Bool (is_path path)) [ inl lawful ↦ rw lawful | inr unlawful ↦ rw (unlawful, entries-fold) ]
+told_by_in history seat number command.Settle = settle_told history seat number
+told_by_in history seat number (command.Ask query) = ap (λ (n : ℕ). Some (answer_of (fold history) n (reply (fold history) query))) (entries-fold history)
+told_by_in history seat number (command.Soft attempts query) =
+    ap (λ (n : ℕ). Some (answer_of (fold history) n (reply (fold history) query))) (entries-fold history)
 
 -- whether a line tells this here
 pub tells_so : (history : List Entry) (seat : ℕ) (line : Line) (text : List ℕ)
     → tells_in (fold history) seat line text ≡ tells seat line.number (line_step history seat line) text
-tells_so history seat line text = rw (told_by_in history seat line) (grind arith)
+tells_so history seat line text = rw (told_by_in history seat line.number line.command) (grind arith)

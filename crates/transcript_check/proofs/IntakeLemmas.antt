@@ -1,5 +1,5 @@
 -- The intakes that workers have made, as a set.
-use Rattle.std.proofs.Common.{ℕ, ◌≡◌, ◌≤◌, Bool, true, cond, ◌||◌, eqb, List, [], ◌∷◌, ◌++◌, refl, sym, ◌∙◌, arith, inl, inr}
+use Rattle.std.proofs.Common.{ℕ, ◌≡◌, ◌≤◌, true, ◌||◌, eqb, List, [], ◌∷◌, ◌++◌, refl, sym, ◌∙◌, arith, inl, inr}
 use Rattle.std.specs.List.{list_any}
 use Rattle.std.specs.Ordering.{nat_cmp, is_eq, ordering_then}
 use Rattle.std.specs.declared.cmp.Ordering.{Ordering}
@@ -7,12 +7,10 @@ use Rattle.std.specs.BTreeSet.{BTreeSet, Updates}
 use Rattle.std.proofs.lemmas.Bool.{cases_Bool, ne_eqb}
 use Rattle.std.proofs.lemmas.List.Folds.{list_any-append}
 use Rattle.std.proofs.lemmas.Bool.Decides.{nat_tests}
-use Rattle.list_laws.proofs.FrontLemmas.{filter_more, filter_same}
+use Rattle.list_laws.proofs.PrefixLemmas.{filter_more, filter_same}
 use Rattle.write_history.specs.declared.change.Change.TheVariants.{Intake}
 use Rattle.write_history.specs.declared.entry.Entry.{Entry}
 use Rattle.write_history.specs.Settle.{entry_of}
-use Rattle.transcripts.specs.Fits.{made_by}
-use Rattle.transcript_check.specs.Phase.{is_intake_at, has_taken}
 use Rattle.transcript_check.specs.Intakes.{Taking, is_taking, is_among, AreKept}
 
 -- THE SET
@@ -26,11 +24,7 @@ parts_equal x y = grind (arith, nat_tests)
 
 -- looking an intake up by its parts
 among_is : (s f t : ℕ) (taken : List Taking) → list_any (λ (x : Taking). is_eq (by_parts (s, f, t) x)) taken ≡ is_among s f t taken
-among_is s f t [] = refl
-among_is s f t (x ∷ xs) = rw (parts_equal (s, f, t) x, among_is s f t xs)
-
-taking_swap : (s f t seat file stamp : ℕ) (b : Bool) → cond (is_taking seat file stamp (s, f, t)) true b ≡ (is_taking s f t (seat, file, stamp) || b)
-taking_swap s f t seat file stamp b = grind (arith, nat_tests)
+among_is s f t taken = λ i. list_any (λ (x : Taking). parts_equal (s, f, t) x i) taken
 
 -- one more intake
 pub among_more : (seat file stamp : ℕ) (old new : BTreeSet Taking) → Updates by_parts old new (seat, file, stamp) true
@@ -38,7 +32,7 @@ pub among_more : (seat file stamp : ℕ) (old new : BTreeSet Taking) → Updates
 among_more seat file stamp old new updates s f t =
     sym (among_is s f t new.keys)
     ∙ updates.0 (s, f, t)
-    ∙ rw (parts_equal (seat, file, stamp) (s, f, t), among_is s f t old.keys) (taking_swap s f t seat file stamp (is_among s f t old.keys))
+    ∙ rw (parts_equal (seat, file, stamp) (s, f, t), among_is s f t old.keys) (grind (arith, nat_tests))
 
 -- WHAT WORKERS MADE
 
@@ -54,10 +48,6 @@ kept_beside lanes taken added e below kept = record {
       rw (filter_same (λ (x : Entry). eqb x.seat seat) added e (ne_eqb e.seat seat (λ same. omega arith))) (kept.is seat file stamp past);
 }
 
-taken_push : (file stamp : ℕ) (entries : List Entry) (e : Entry)
-    → has_taken file stamp (entries ++ e ∷ []) ≡ (is_intake_at file stamp e.changes || has_taken file stamp entries)
-taken_push file stamp entries e = rw list_any-append (grind arith)
-
 -- an intake by a worker is kept beside what workers made before
 pub kept_more : (lanes : ℕ) (taken taken' : List Taking) (added : List Entry) (seat line file stamp : ℕ)
     → ((s f t : ℕ) → is_among s f t taken' ≡ (is_taking s f t (seat, file, stamp) || is_among s f t taken)) → AreKept lanes taken added
@@ -65,7 +55,7 @@ pub kept_more : (lanes : ℕ) (taken taken' : List Taking) (added : List Entry) 
 kept_more lanes taken taken' added seat line file stamp among kept = record {
   is = λ s f t past. (let e : Entry = entry_of seat line (Intake file stamp ∷ []) in
       among s f t ∙ elim (cases_Bool (eqb seat s)) [
-        | inl own ↦ rw (own, kept.is s f t past, filter_more (λ (x : Entry). eqb x.seat s) added e own, taken_push f t (made_by s added) e)
+        | inl own ↦ rw (own, kept.is s f t past, filter_more (λ (x : Entry). eqb x.seat s) added e own, list_any-append) (grind (arith, nat_tests))
         | inr other ↦ rw (other, kept.is s f t past, filter_same (λ (x : Entry). eqb x.seat s) added e other)
       ]);
 }

@@ -9,7 +9,8 @@ use Rattle.script_lang.specs.declared.line.Line.{Line}
 use Rattle.script_lang.specs.Parts.{Parts}
 use Rattle.transcripts.specs.declared.loaded.Loaded.{Loaded}
 use Rattle.transcripts.specs.Fits.{run_beside}
-use Rattle.transcript_check.proofs.ChoiceLemmas.{list_from, up_to}
+use Rattle.transcript_check.proofs.ChoiceLemmas.{up_to}
+use Rattle.list_laws.proofs.PartLemmas.{drop_from_slice_get}
 use Rattle.transcript_check.specs.declared.misfit.Misfit.{Misfit}
 use Rattle.transcript_check.specs.declared.stop.LineStop.{LineStop}
 use Rattle.transcript_check.specs.declared.stop.SideStop.{SideStop}
@@ -34,12 +35,11 @@ ends_as entries records world came left is = absurd is
 pub prelude_stops : (loads : List Loaded) (script : Parts) (workers : ℕ) (entries records : List (List ℕ)) (world : World) (stop : LineStop)
     → HasComeAlone 0 script.prelude loads entries records empty_world world (Err stop)
     → Some (line_misfit entries records 0 stop) ≡ misfit_among loads script workers entries records
-prelude_stops loads script workers entries records world stop alone = by (serial_or 0 [] script.prelude loads entries records) (alone.is [] refl)
-  where
-    by : (came : Result Came LineStop) → HasComeAs world came (Err stop)
-        → Some (line_misfit entries records 0 stop) ≡ begins_or script workers entries records came
-    by (Err other) is = λ i. Some (line_misfit entries records 0 (is i))
-    by (Ok came) is = absurd is
+prelude_stops loads script workers entries records world stop alone =
+    let by : (came : Result Came LineStop) → HasComeAs world came (Err stop)
+    → Some (line_misfit entries records 0 stop) ≡ begins_or script workers entries records came =
+    elim [ Err other ↦ λ is i. Some (line_misfit entries records 0 (is i)) | Ok came ↦ λ is. absurd is ] in
+    by _ (alone.is [] refl)
 
 -- The prelude went to a world, with these texts left of entries and of records, and from there lanes and workers to another
 pub record SidesWent (loads : List Loaded) (script : Parts) (workers : ℕ) (entries records made told : List (List ℕ)) (between after : World)
@@ -53,13 +53,13 @@ beside : {loads : List Loaded} {script : Parts} {workers : ℕ} {entries records
     → ((came : Came) → told ≡ came.records → (reached : Result Reached SideStop) → IsReachedAs came.history after reached left
     → misfit ≡ goes_on_or script entries records came.history came.records reached) → misfit ≡ misfit_among loads script workers entries records
 beside {loads} {script} {workers} {entries} {records} {made} {told} {between} {after} {left} went misfit goes_on =
-    by (serial_or 0 [] script.prelude loads entries records) (went.prelude.is [] refl)
-  where
-    by : (came : Result Came LineStop) → HasComeAs between came (Ok (made, told)) → misfit ≡ begins_or script workers entries records came
-    by (Err stop) is = absurd is
-    by (Ok came) is = goes_on came is.1 _ (subst (λ (p : Texts). IsReachedAs came.history after
-        (phase_or (sides_of script workers came.history) [] (cursors_of 1 script.lanes p.1) p.0) left) (λ i. (is.0 i, is.1 i))
-        (went.sides.is came.history (sym is.2)))
+    let by : (came : Result Came LineStop) → HasComeAs between came (Ok (made, told)) → misfit ≡ begins_or script workers entries records came = elim [
+      | Err stop ↦ λ is. absurd is
+      | Ok came ↦ λ is. goes_on came is.1 _ (subst (λ (p : Texts). IsReachedAs came.history after
+          (phase_or (sides_of script workers came.history) [] (cursors_of 1 script.lanes p.1) p.0) left) (λ i. (is.0 i, is.1 i))
+          (went.sides.is came.history (sym is.2)))
+    ] in
+    by _ (went.prelude.is [] refl)
 
 -- where lanes and workers stop, that is the misfit
 pub sides_stop : (loads : List Loaded) (script : Parts) (workers : ℕ) (entries records made told : List (List ℕ)) (between after : World) (stop : SideStop)
@@ -85,7 +85,7 @@ last_decides loads script workers entries records made told between after left l
 -- the lines of the lanes from a place on are those of the lane that stands there, and of the later ones
 pub lines_from : (lanes : List (List Line)) (i : ℕ) (lane : List Line) → slice_get lanes i ≡ Some lane
     → length (flat_map (λ (l : List Line). l) (drop i lanes)) ≡ length lane + length (flat_map (λ (l : List Line). l) (drop (suc i) lanes))
-lines_from lanes i lane found = rw (list_from lanes i lane found) (length-append lane _)
+lines_from lanes i lane found = rw (drop_from_slice_get lanes i lane found) (length-append lane _)
 
 -- what is behind so many more elements of a list, as far as it goes
 pub drop_on : {A : Type 0} (at n k : ℕ) (xs : List A) → k ≡ min n (length (drop at xs)) → drop (at + k) xs ≡ drop n (drop at xs)
@@ -102,7 +102,7 @@ pub after_turn : (lanes : List (List Line)) (i : ℕ) (lane : List Line) (at k :
     → k ≡ min (length lane) (length (drop at texts)) → after_lanes (take i lanes) texts ≡ drop at texts
     → after_lanes (take (i + 1) lanes) texts ≡ drop (at + k) texts
 after_turn lanes i lane at k texts found few so_far =
-    let upto = up_to lanes i lane (drop (suc i) lanes) (list_from lanes i lane found) in
+    let upto = up_to lanes i lane (drop (suc i) lanes) (drop_from_slice_get lanes i lane found) in
     grind (arith, upto.1, after_more (take i lanes) lane texts, so_far, drop_on at (length lane) k texts few)
 
 -- behind all lanes
@@ -118,4 +118,4 @@ pub cursors_turn : (lanes : List (List Line)) (i : ℕ) (lane : List Line) (at k
 cursors_turn lanes i lane at k texts found few =
     let next : i + 1 ≡ suc i = omega arith in
     let own : take k (drop at texts) ≡ take (length lane) (drop at texts) = rw few (take_min (length lane) (drop at texts)) in
-    rw (list_from lanes i lane found, next, own, drop_on at (length lane) k texts few) refl
+    rw (drop_from_slice_get lanes i lane found, next, own, drop_on at (length lane) k texts few) refl

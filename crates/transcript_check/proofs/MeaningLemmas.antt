@@ -1,7 +1,6 @@
 -- What comes before the place where going through a transcript stops fits, and what stands there doesn't.
-use Rattle.std.proofs.Common.{ℕ, ◌≡◌, true, false, List, [], ◌∷◌, ◌++◌, length, refl, sym, ap, append_assoc, Option, Some, None, Ok, Err, inl, inr}
+use Rattle.std.proofs.Common.{ℕ, ◌≡◌, true, false, List, [], ◌∷◌, ◌++◌, length, refl, sym, ap, append_assoc, Option, Some, Err, inl, inr}
 use Rattle.std.specs.List.{find}
-use Rattle.std.specs.Option.{option_map_or}
 use Rattle.std.proofs.lemmas.List.{append-nil}
 use Rattle.std.proofs.lemmas.Option.{none-some}
 use Rattle.write_history.specs.declared.entry.Entry.{Entry}
@@ -14,21 +13,14 @@ use Rattle.transcript_check.specs.declared.stop.SideStop.{SideStop}
 use Rattle.transcript_check.specs.declared.stop.SideStop.TheVariants as side
 use Rattle.transcript_check.specs.Reading.{seat_in}
 use Rattle.transcript_check.specs.Section.{Cursor, told_text}
-use Rattle.transcript_check.specs.Phase.{Sides, Went, Reached, is_seat, next_went, all_told}
+use Rattle.transcript_check.specs.Phase.{Sides, Went, is_seat, next_went, all_told}
 use Rattle.transcript_check.specs.Checked.{line_so}
 use Rattle.transcript_check.specs.Stops.{stops_at, waits, waits_at, serial_or, reached_or, phase_or}
 use Rattle.transcript_check.specs.Meaning.{DiffersFrom, StopsAtLine, goes_on_here, StopsBeside}
-use Rattle.transcript_check.proofs.ChoiceLemmas.{chosen, stopped}
+use Rattle.transcript_check.proofs.ChoiceLemmas.{found_or, chosen, stopped}
 use Rattle.transcript_check.proofs.SerialLemmas.{went_so, goes_so, texts_on}
 
 -- ---- a section alone
-
--- a line that doesn't go differs
-differs_so : (history : List Entry) (seat number : ℕ) (step : CommandStep) (text : List ℕ) (entries records : List (List ℕ))
-    → line_so history seat number step text entries ≡ None → DiffersFrom history seat number step entries (text ∷ records)
-differs_so history seat number step text entries records none left rest told made =
-    let same : text ≡ told_text seat number step.answer = cc in
-    none-some left (rw (same, made, goes_so history seat number step left) at (sym none))
 
 -- the first line doesn't go
 first_stops : (seat : ℕ) (history : List Entry) (line : Line) (lines : List Line) (loads : List Loaded) (entries records : List (List ℕ)) (stop : LineStop)
@@ -51,32 +43,6 @@ first_stops seat history line lines loads entries records stop is differs = reco
   differs = rw append-nil differs;
 }
 
--- the first line goes, and the others stop
-later_stops : (seat : ℕ) (history : List Entry) (line : Line) (lines : List Line) (loads : List Loaded) (entries left : List (List ℕ)) (text : List ℕ)
-    (records : List (List ℕ)) (stop : LineStop)
-    → line_so history seat line.number (step_of (first_load loads) history seat line.number line.command) text entries ≡ Some left
-    → StopsAtLine seat (history ++ (step_of (first_load loads) history seat line.number line.command).added) lines (later_loads loads) left records stop
-    → StopsAtLine seat history (line ∷ lines) loads entries (text ∷ records) stop
-later_stops seat history line lines loads entries left text records stop went rest =
-    let step : CommandStep = step_of (first_load loads) history seat line.number line.command in
-    let reply : Record = record { seat = seat; line = line.number; answer = step.answer } in
-    let parts = went_so history seat line.number step text entries left went in
-    record {
-      before = line ∷ rest.before;
-      line = rest.line;
-      later = rest.later;
-      lines_are = ap (λ (ls : List Line). line ∷ ls) rest.lines_are;
-      own = step.added ++ rest.own;
-      told = reply ∷ rest.told;
-      made = λ earlier. simp append_assoc at (rest.made (earlier ++ reply ∷ []));
-      entries_left = rest.entries_left;
-      records_left = rest.records_left;
-      entries_are = rw texts_on (rw rest.entries_are at parts.1);
-      records_are = λ i. parts.0 i ∷ rest.records_are i;
-      stop_is = rest.stop_is;
-      differs = rw (append_assoc history step.added rest.own) at rest.differs;
-    }
-
 -- where a section stops, that is its first line that differs
 pub stops_at_line : (seat : ℕ) (history : List Entry) (lines : List Line) (loads : List Loaded) (entries records : List (List ℕ)) (stop : LineStop)
     → serial_or seat history lines loads entries records ≡ Err stop → StopsAtLine seat history lines loads entries records stop
@@ -85,11 +51,29 @@ stops_at_line seat history (line ∷ lines) loads entries [] stop is =
     first_stops seat history line lines loads entries [] stop (cc) (λ left rest told made. cc)
 stops_at_line seat history (line ∷ lines) loads entries (text ∷ records) stop is =
     let step : CommandStep = step_of (first_load loads) history seat line.number line.command in
+    let reply : Record = record { seat = seat; line = line.number; answer = step.answer } in
     elim (stopped _ (line_so history seat line.number step text entries) (stops_at seat line entries (text ∷ records)) stop is) [
-      | inl none ↦ first_stops seat history line lines loads entries (text ∷ records) stop (sym none.1)
-          (differs_so history seat line.number step text entries records none.0)
-      | inr went ↦ later_stops seat history line lines loads entries went.0 text records stop went.1
-          (stops_at_line seat (history ++ step.added) lines (later_loads loads) went.0 records stop went.2)
+      | inl none ↦ first_stops seat history line lines loads entries (text ∷ records) stop (sym none.1) (λ left rest told made. (
+          let same : text ≡ told_text seat line.number step.answer = cc in
+          none-some left (rw (same, made, goes_so history seat line.number step left) at (sym none.0))))
+      | inr (left, went, goes) ↦ (
+          let parts = went_so history seat line.number step text entries left went in
+          let rest = stops_at_line seat (history ++ step.added) lines (later_loads loads) left records stop goes in
+          record {
+            before = line ∷ rest.before;
+            line = rest.line;
+            later = rest.later;
+            lines_are = ap (λ (ls : List Line). line ∷ ls) rest.lines_are;
+            own = step.added ++ rest.own;
+            told = reply ∷ rest.told;
+            made = λ earlier. simp append_assoc at (rest.made (earlier ++ reply ∷ []));
+            entries_left = rest.entries_left;
+            records_left = rest.records_left;
+            entries_are = rw texts_on (rw rest.entries_are at parts.1);
+            records_are = λ i. parts.0 i ∷ rest.records_are i;
+            stop_is = rest.stop_is;
+            differs = rw (append_assoc history step.added rest.own) at rest.differs;
+          })
     ]
 
 -- ---- lanes and workers
@@ -122,47 +106,25 @@ one_before sides added cursors text texts w (side.Line stop) here next rest = re
   stop_is = rest.stop_is;
 }
 
--- a lane waits
-waiting : (left : List (List ℕ)) (there : Reached) (stop : SideStop) (o : Option Cursor)
-    → option_map_or (λ (c : Cursor). Err (side.Line (waits_at c left))) o (Ok there) ≡ Err stop
-    → (c : Cursor) × (o ≡ Some c) × (side.Line (waits_at c left) ≡ stop)
-waiting left there stop None is = absurd (cc)
-waiting left there stop (Some c) is = (c, refl, cc)
-
 -- where no text is of a seat here they stop there
 waits_here : (sides : Sides) (added : List Entry) (cursors : List Cursor) (left : List (List ℕ)) (stop : SideStop) → goes_on_here sides left ≡ false
     → reached_or added (all_told sides added cursors) left ≡ Err stop → StopsBeside sides added cursors left stop
-waits_here sides added cursors left stop none is =
-    let lane = waiting left (record { added = added; left = left }) stop (find waits (all_told sides added cursors)) is in
-    rw (sym lane.2) (record {
-      before = [];
-      left = left;
-      entries_are = refl;
-      way = record { added = added; cursors = cursors };
-      go = refl;
-      none_here = none;
-      cursor = lane.0;
-      first = lane.1;
-      stop_is = refl;
-    })
-
--- an entry that names a seat here doesn't go in
-entry_stops : (sides : Sides) (added : List Entry) (cursors : List Cursor) (text : List ℕ) (texts : List (List ℕ)) (stop : SideStop)
-    → is_seat sides (seat_in text) ≡ true → next_went sides added (all_told sides added cursors) text ≡ None
-    → side.Entry (seat_in text) (length (text ∷ texts)) ≡ stop → StopsBeside sides added cursors (text ∷ texts) stop
-entry_stops sides added cursors text texts stop here none is =
-    rw (sym is) (record {
-      before = [];
-      text = text;
-      later = texts;
-      entries_are = refl;
-      way = record { added = added; cursors = cursors };
-      go = refl;
-      names = refl;
-      here = here;
-      left_is = refl;
-      stays = none;
-    })
+waits_here sides added cursors left stop none is = elim (found_or (find waits (all_told sides added cursors))) [
+  | inl over ↦ absurd (cc (rw over at is))
+  | inr (lane, first) ↦ (
+      let same : side.Line (waits_at lane left) ≡ stop = cc (rw first at is) in
+      rw (sym same) (record {
+        before = [];
+        left = left;
+        entries_are = refl;
+        way = record { added = added; cursors = cursors };
+        go = refl;
+        none_here = none;
+        cursor = lane;
+        first = first;
+        stop_is = refl;
+      }))
+]
 
 -- where lanes and workers stop, that is the first entry that doesn't go in, or a lane that waits behind all that go in
 pub stops_beside : (sides : Sides) (added : List Entry) (cursors : List Cursor) (entries : List (List ℕ)) (stop : SideStop)
@@ -172,7 +134,18 @@ stops_beside sides added cursors (text ∷ texts) stop is =
     let next : Option Went = next_went sides added (all_told sides added cursors) text in
     elim (chosen (is_seat sides (seat_in text)) _ _ is) [
       | inl here ↦ elim (stopped _ next (side.Entry (seat_in text) (length (text ∷ texts))) stop here.1) [
-        | inl none ↦ entry_stops sides added cursors text texts stop here.0 none.0 none.1
+        | inl none ↦ rw (sym none.1) (record {
+          before = [];
+          text = text;
+          later = texts;
+          entries_are = refl;
+          way = record { added = added; cursors = cursors };
+          go = refl;
+          names = refl;
+          here = here.0;
+          left_is = refl;
+          stays = none.0;
+        })
         | inr went ↦ one_before sides added cursors text texts went.0 stop here.0 went.1
             (stops_beside sides (added ++ went.0.entry ∷ []) went.0.cursors texts stop went.2)
       ]

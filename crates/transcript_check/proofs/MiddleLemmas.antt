@@ -1,18 +1,17 @@
 -- Lanes and workers as a run's relation says them, and as sections side by side.
-use Rattle.std.proofs.Common.{ℕ, zero, suc, ◌≡◌, ◌+◌, ◌≤◌, ◌<◌, Bool, false, List, [], ◌∷◌, ◌++◌, length, take, drop, take-append-drop, refl, sym, ap, ◌∙◌, subst, append_assoc, arith, inl, inr}
+use Rattle.std.proofs.Common.{ℕ, zero, suc, ◌≡◌, ◌+◌, ◌≤◌, ◌<◌, Bool, true, false, List, [], ◌∷◌, ◌++◌, length, take, drop, take-append-drop, refl, sym, ap, ◌∙◌, subst, append_assoc, arith, inl, inr}
 use Rattle.std.specs.List.{All}
 use Rattle.std.proofs.lemmas.List.{map-append, take_at, drop_at}
-use Rattle.std.proofs.lemmas.List.Elements.{All-nil}
+use Rattle.std.proofs.lemmas.List.Elements.{All-nil, All-from_recursion, recursion_from_All}
 use Rattle.std.proofs.lemmas.Bool.{cases_lt}
 use Rattle.std.proofs.lemmas.Bool.Decides.{nat_tests}
-use Rattle.list_laws.proofs.FrontLemmas.{All-cons}
 use Rattle.write_history.specs.declared.entry.Entry.{Entry}
 use Rattle.script_lang.specs.declared.line.Line.{Line}
 use Rattle.transcripts.specs.End.TheVariants.{Turns}
 use Rattle.transcripts.specs.Worked.{Worked}
 use Rattle.transcripts.specs.Work.{max_turns, IsIntakeBy}
 use Rattle.transcripts.specs.declared.record.Record.{Record}
-use Rattle.transcripts.specs.Fits.{Mark, mark_at, made_by, LanesFit, WorkersFit, IsSeatOf}
+use Rattle.transcripts.specs.Fits.{Progress, progress_at, made_by, LanesFit, WorkersFit, IsSeatOf}
 use Rattle.transcript_check.specs.Phase.{Sides, is_seat, cursors_of, after_lanes}
 use Rattle.transcript_check.specs.Checked.{record_texts}
 use Rattle.transcript_check.proofs.Texts.{TextsFit, texts_of_section, section_of_texts}
@@ -34,13 +33,13 @@ pub record LanesAre (beside : Bool) (history here : List Entry) (seat : ℕ) (la
   pub left : after_lanes lanes texts ≡ rest
 
 pub sides_of_lanes : (beside : Bool) (history here : List Entry) (seat : ℕ) (lanes : List (List Line)) (middle : List Entry) (records : List Record)
-    (rest : List (List ℕ)) → LanesFit beside history (mark_at (length here)) seat lanes middle records
+    (rest : List (List ℕ)) → LanesFit beside history (progress_at (length here)) seat lanes middle records
     → LanesAre beside history here seat lanes middle (record_texts records ++ rest) rest
 sides_of_lanes beside history here seat [] middle records rest fits = record { fits = tt; left = ap (λ (rs : List Record). record_texts rs ++ rest) fits }
 sides_of_lanes beside history here seat (lane ∷ lanes) middle records rest fits =
     let own : List (List ℕ) = record_texts fits.own_records in
     let others : List (List ℕ) = record_texts fits.others ++ rest in
-    let texts = texts_of_section beside history seat (mark_at (length here)) fits.high lane fits.own_records (made_by seat middle) fits.fits in
+    let texts = texts_of_section beside history seat (progress_at (length here)) fits.high lane fits.own_records (made_by seat middle) fits.fits in
     let count = texts_count _ _ _ _ lane own _ texts in
     let later = sides_of_lanes beside history here (suc seat) lanes middle fits.others rest fits.rest in
     let parts : record_texts records ++ rest ≡ own ++ others = rw fits.records_are (simp (map-append, append_assoc)) in
@@ -50,14 +49,14 @@ sides_of_lanes beside history here seat (lane ∷ lanes) middle records rest fit
     })
 
 -- and back
-pub record LanesFitTexts (beside : Bool) (history : List Entry) (low : Mark) (seat : ℕ) (lanes : List (List Line)) (middle : List Entry)
+pub record LanesFitTexts (beside : Bool) (history : List Entry) (low : Progress) (seat : ℕ) (lanes : List (List Line)) (middle : List Entry)
     (texts : List (List ℕ)) : Type 0 where
   pub records : List Record
   pub fits : LanesFit beside history low seat lanes middle records
   pub texts_are : texts ≡ record_texts records ++ after_lanes lanes texts
 
 pub lanes_of_sides : (beside : Bool) (history here : List Entry) (seat : ℕ) (lanes : List (List Line)) (middle : List Entry) (texts : List (List ℕ))
-    → CursorsFit beside history here (cursors_of seat lanes texts) middle → LanesFitTexts beside history (mark_at (length here)) seat lanes middle texts
+    → CursorsFit beside history here (cursors_of seat lanes texts) middle → LanesFitTexts beside history (progress_at (length here)) seat lanes middle texts
 lanes_of_sides beside history here seat [] middle texts fits = record { records = []; fits = refl; texts_are = refl }
 lanes_of_sides beside history here seat (lane ∷ lanes) middle texts fits =
     let own = section_of_texts beside history seat (length here) 0 lane (take (length lane) texts) (made_by seat middle) fits.0 in
@@ -76,17 +75,13 @@ cursors_seated seat past (lane ∷ lanes) texts is = (refl, cursors_seated (suc 
 -- seats
 pub seats_all : (sides : Sides) (count : ℕ) (es : List Entry) → sides.lanes + sides.workers ≡ count → AllSeats sides es
     → All (λ (e : Entry). IsSeatOf count e.seat) es
-seats_all sides count [] is seats = λ k d less. absurd (omega arith)
-seats_all sides count (e ∷ es) is seats =
-    All-cons (λ (x : Entry). IsSeatOf count x.seat) e es
-    (record { from = grind (arith, nat_tests, seats.0); to = grind (arith, nat_tests, seats.0) }) (seats_all sides count es is seats.1)
+seats_all sides count es is seats = λ k d less. (let seat = All-from_recursion (λ (e : Entry). is_seat sides e.seat ≡ true) es seats k d less in
+    record { from = grind (arith, nat_tests, seat); to = grind (arith, nat_tests, seat) })
 
 pub all_seats : (sides : Sides) (count : ℕ) (es : List Entry) → sides.lanes + sides.workers ≡ count → All (λ (e : Entry). IsSeatOf count e.seat) es
     → AllSeats sides es
-all_seats sides count [] is all = tt
-all_seats sides count (e ∷ es) is all =
-    let first : IsSeatOf count e.seat = all 0 e (omega arith) in
-    (grind (arith, nat_tests, first.from, first.to), all_seats sides count es is (λ k d less. all (suc k) d (omega arith)))
+all_seats sides count es is all = recursion_from_All (λ (e : Entry). is_seat sides e.seat ≡ true) es
+    (λ k d less. (let seat = all k d less in grind (arith, nat_tests, seat.from, seat.to)))
 
 -- WORKERS
 

@@ -1,10 +1,12 @@
 -- Sections and workers side by side lead from one history to another exactly where each fits.
 use Rattle.std.proofs.Common.{ℕ, suc, ◌≡◌, ◌+◌, ◌^◌, ◌≤◌, ◌<◌, Bool, true, false, List, [], ◌∷◌, ◌++◌, length, refl, sym, ap, ◌∙◌, append_assoc, length-append, arith, Some, None, inl, inr, leb}
+use Rattle.std.specs.List.{AllByRecursion}
 use Rattle.std.proofs.lemmas.Option.{option_and_then_some, cond_some}
 use Rattle.std.proofs.lemmas.Slice.Eq.{bytes_eq-Decides}
 use Rattle.std.proofs.lemmas.List.{append-nil}
 use Rattle.std.proofs.lemmas.Bool.{and_parts, leb-true, leb-false, le-leb, lt-leb, not-true, cases_lt}
-use Rattle.list_laws.specs.Fronts.{IsFront}
+use Rattle.std.proofs.lemmas.Bool.Decides.{nat_tests}
+use Rattle.list_laws.specs.Prefixes.{IsPrefix}
 use Rattle.transcript_check.proofs.ChoiceLemmas.{is_none-true, chosen}
 use Rattle.write_history.specs.declared.change.Change.TheVariants.{Intake}
 use Rattle.write_history.specs.declared.entry.Entry.{Entry}
@@ -24,12 +26,11 @@ use Rattle.transcript_check.proofs.ReadLemmas.{seat-read, file-read}
 use Rattle.transcript_check.proofs.Texts.{text_is}
 use Rattle.transcript_check.proofs.CursorLemmas.{AreFew}
 use Rattle.transcript_check.proofs.WorkerLemmas.{MayMake, WorkersFrom, taken_anew, not_taken}
-use Rattle.transcript_check.proofs.SideLemmas.{CursorsFit, AreSeated, AllStop, past_all, all_told_fits, others_forth, others_back, section_forth, went_so, went_seat, went_seated, went_lawful, went_back, all_over_back, all_over_forth}
+use Rattle.transcript_check.proofs.SideLemmas.{CursorsFit, AreSeated, AllStop, beside_all, all_told_fits, others_forth, others_back, section_forth, went_so, went_seat, went_seated, went_back, all_over_back, all_over_forth}
 
 -- all entries have seats of the lanes and workers
 abbrev pub AllSeats : Sides → List Entry → Type 0
-AllSeats sides [] = Unit {0}
-AllSeats sides (e ∷ es) = (is_seat sides e.seat ≡ true) × AllSeats sides es
+AllSeats sides es = AllByRecursion (λ (e : Entry). is_seat sides e.seat ≡ true) es
 
 -- What a phase leads to from some entries on: the entries that it made, by the texts that it went through
 pub record PhaseGoes (sides : Sides) (added : List Entry) (cursors : List Cursor) (texts : List (List ℕ)) (r : Reached) : Type 0 where
@@ -47,7 +48,7 @@ record EntryWent (sides : Sides) (added : List Entry) (told : List Cursor) (seat
   seated : AreSeated 1 (suc sides.lanes) w.cursors
   accepted : list_refusal (fold (sides.before ++ added)) w.entry.changes ≡ None
   may : sides.lanes < w.entry.seat → MayMake added w.entry
-  back : (beside : Bool) (history es : List Entry) → IsFront (sides.before ++ added ++ w.entry ∷ []) history
+  back : (beside : Bool) (history es : List Entry) → IsPrefix (sides.before ++ added ++ w.entry ∷ []) history
       → CursorsFit beside history (sides.before ++ added ++ w.entry ∷ []) w.cursors es
       → CursorsFit beside history (sides.before ++ added) told (w.entry ∷ es)
 
@@ -82,7 +83,7 @@ module _ (sides : Sides) where
         accepted = is_none-true _ may.0;
         may = λ _. record { intake = record { file = file; stamp = _; is = refl }; anew = taken_anew file _ _ (not-true _ may.1) };
         back = λ beside history es front fits.
-            others_back beside history here told _ es (past_all seat 1 (suc sides.lanes) told seated past) quiet fits;
+            others_back beside history here told _ es (beside_all seat 1 (suc sides.lanes) told seated (λ from. past)) quiet fits;
       })
 
   seat_is : (added : List Entry) (told : List Cursor) (seat : ℕ) (text : List ℕ) (w : Went) → AreSeated 1 (suc sides.lanes) told
@@ -90,10 +91,10 @@ module _ (sides : Sides) where
   seat_is added told seat text w seated h =
       let here : List Entry = sides.before ++ added in
       elim (chosen (leb seat sides.lanes) _ _ h) [
-        | inl lane ↦ (let went = went_so here seat told w lane.1 in record {
+        | inl lane ↦ (let went = went_so here seat told w lane.1 in let keeps = went_seated here seat 1 (suc sides.lanes) went seated in record {
           seat_is = went_seat here seat went;
-          seated = went_seated here seat 1 (suc sides.lanes) went seated;
-          accepted = went_lawful here seat went;
+          seated = keeps.0;
+          accepted = keeps.1;
           may = λ past. absurd (omega (arith, leb-true seat sides.lanes lane.0, went_seat here seat went));
           back = λ beside history es front fits. went_back here seat beside history es 1 (suc sides.lanes) went seated front fits;
         })
@@ -102,7 +103,7 @@ module _ (sides : Sides) where
 
   -- one entry before those that follow it
   joins : (added : List Entry) (cursors told : List Cursor) (text : List ℕ) (texts : List (List ℕ)) (w : Went) (r : Reached)
-      → ((history es : List Entry) → IsFront (sides.before ++ added) history → CursorsFit sides.beside history (sides.before ++ added) told es
+      → ((history es : List Entry) → IsPrefix (sides.before ++ added) history → CursorsFit sides.beside history (sides.before ++ added) told es
       → CursorsFit sides.beside history (sides.before ++ added) cursors es)
       → is_seat sides (seat_in text) ≡ true → EntryWent sides added told (seat_in text) w → entry_line (length (sides.before ++ added) + 1) w.entry ≡ text
       → PhaseGoes sides (added ++ w.entry ∷ []) w.cursors texts r → PhaseGoes sides added cursors (text ∷ texts) r
@@ -187,7 +188,7 @@ module _ (sides : Sides) (small : sides.lanes + sides.workers < 2 ^ 64) (history
         let reads = ap (λ (x : Entry). file_in (entry_line (length here + 1) x)) may.intake.is
         ∙ file-read (length here + 1) e.seat 0 file may.intake.stamp (live_small here file parts.0 there.0) in
         let made : e ≡ intake_entry here e.seat 0 file = may.intake.is ∙ ap (λ (n : ℕ). entry_of e.seat 0 (Intake file n ∷ [])) there.1 in
-        let others = others_forth sides.beside history here told e es (past_all e.seat 1 (suc sides.lanes) told seated past) stops whole fits in
+        let others = others_forth sides.beside history here told e es (beside_all e.seat 1 (suc sides.lanes) told seated (λ from. past)) stops whole fits in
         let anew = not_taken file (stamp_of (file_of (fold here) file)) (made_by e.seat added) (rw made at may.anew) in
         record {
           behind = told;
@@ -210,9 +211,8 @@ module _ (sides : Sides) (small : sides.lanes + sides.workers < 2 ^ 64) (history
 
     next_goes : is_seat sides e.seat ≡ true → (sides.lanes < e.seat → MayMake added e) → NextGoes sides added told history e es
     next_goes seat may =
-        let range = and_parts _ _ seat in
-        let above = leb-true 1 e.seat range.0 in
-        let within = leb-true e.seat (sides.lanes + sides.workers) range.1 in
+        let above : 1 ≤ e.seat = grind (arith, nat_tests, seat) in
+        let within : e.seat ≤ sides.lanes + sides.workers = grind (arith, nat_tests, seat) in
         elim (cases_lt sides.lanes e.seat) [
           | inl past ↦ worker_goes past (omega arith) (may past)
           | inr lane ↦ section_goes above lane (omega arith)
@@ -223,18 +223,15 @@ module _ (sides : Sides) (small : sides.lanes + sides.workers < 2 ^ 64) (history
       → CursorsFit sides.beside history (sides.before ++ added) cursors behind
       → phase_from sides added cursors (entry_texts (length (sides.before ++ added) + 1) behind ++ left)
       ≡ Some (record { added = added ++ behind; left = left })
-  complete [] added cursors left whole seated stop seats workers fits = rw append-nil (by left stop (over_is added cursors left (rw append-nil at whole) fits))
-    where
-      by : (left : List (List ℕ)) → StopsBefore sides left → reached added (all_told sides added cursors) left ≡ Some (record { added = added; left = left })
-          → phase_from sides added cursors left ≡ Some (record { added = added; left = left })
-      by [] stop over = over
-      by (text ∷ texts) stop over = rw stop over
+  complete [] added cursors [] whole seated stop seats workers fits = rw append-nil (over_is added cursors [] (rw append-nil at whole) fits)
+  complete [] added cursors (text ∷ texts) whole seated stop seats workers fits =
+      rw (append-nil, stop) (over_is added cursors (text ∷ texts) (rw append-nil at whole) fits)
   complete (e ∷ behind) added cursors left whole seated stop seats workers fits =
       let here : List Entry = sides.before ++ added in
       let told = all_told_fits sides.beside history here cursors (e ∷ behind, whole) in
       let next = next_goes added (all_told sides added cursors) e behind whole (told.seated 1 (suc sides.lanes) seated) told.stops
       (told.forth few (e ∷ behind) fits) seats.0 workers.0 in
-      let within = leb-true e.seat (sides.lanes + sides.workers) (and_parts (leb 1 e.seat) _ seats.0).1 in
+      let within : e.seat ≤ sides.lanes + sides.workers = grind (arith, nat_tests, seats.0) in
       let seat : is_seat sides (seat_in (entry_line (length here + 1) e)) ≡ true = rw (seat-read (length here + 1) e (omega arith)) seats.0 in
       let rest = complete behind (added ++ e ∷ []) next.behind left (simp append_assoc (simp append_assoc at whole)) next.seated stop seats.1 workers.1
       (rw append_assoc at next.fits) in

@@ -24,9 +24,10 @@ use Rattle.transcript_check.specs.declared.stop.SideStop.{SideStop}
 use Rattle.transcript_check.specs.declared.stop.SideStop.TheVariants as side
 use Rattle.transcript_check.specs.Stops.{waits, waits_at, left_or, reached_or, phase_or}
 use Rattle.transcript_check.specs.Here.{AreToldAll}
-use Rattle.transcript_check.specs.Going.{IsReachedAs, HasReached}
+use Rattle.transcript_check.specs.Going.{HasReached}
 use Rattle.transcript_check.specs.Intakes.{Taking, AreKept}
 use Rattle.transcript_check.specs.Sides.{IsGoneAs, HasSectionGone, HasWorkerGone, IsNextGone, HasSeatGone}
+use Rattle.transcript_check.proofs.ChoiceLemmas.{found_or}
 use Rattle.transcript_check.proofs.SideLemmas.{went_so, went_seat}
 use Rattle.transcript_check.proofs.IntakeLemmas.{kept_none, kept_beside, kept_more}
 
@@ -50,11 +51,6 @@ section_next lanes seat before added after taken cursors' text went below kept (
       | inr otherwise ↦ rw otherwise (gone.0 ∙ otherwise)
     ]
 
--- the code asks in another order than the definition
-asked_apart : (f : Went → Option Went) (w : Went) (quiet lawful anew printed : Bool) → f w ≡ cond printed (Some w) None
-    → option_and_then f (cond (quiet && (lawful && anew)) (Some w) None) ≡ cond (quiet && (anew && (lawful && printed))) (Some w) None
-asked_apart f w quiet lawful anew printed is = grind arith
-
 -- the entry of a worker
 worker_next : (lanes seat file : ℕ) (before added : List Entry) (after : World) (taken taken' : List Taking) (cursors : List Cursor)
     (text : List ℕ) (went : Bool) → lanes < seat → AreKept lanes taken added
@@ -72,7 +68,7 @@ worker_next lanes seat file before added after taken taken' cursors text went pa
     let goes : went ≡ (not (is_busy cursors) && (anew && (lawful && printed))) =
     (rw (kept.is seat file stamp past) at gone.is)
     ∙ ap (λ (n : ℕ). not (is_busy cursors) && (anew && (lawful && bytes_eq (entry_line (n + 1) e) text))) (entries-fold here) in
-    let next = asked_apart (printed_so here text) w (not (is_busy cursors)) lawful anew printed refl ∙ ap (λ (b : Bool). cond b (Some w) None) (sym goes) in
+    let next : option_and_then (printed_so here text) (worker_went here added seat file cursors) ≡ cond went (Some w) None = grind (arith, goes) in
     elim (cases_Bool went) [
       | inl so ↦ rw (next, so) (
         refl,
@@ -151,50 +147,41 @@ module _ {beside : Bool} {lanes workers : ℕ} {start : List Cursor} {entries : 
       {went : Bool} (stands : left ≡ text ∷ later) (here : (seat ≡ seat_in text) × ((leb 1 (seat_in text) && leb (seat_in text) (lanes + workers)) ≡ true))
       (way : AreOnTheWay beside lanes workers start cursors entries left world now taken)
       (gone : HasSeatGone lanes now after taken taken' seat cursors cursors' text went) where
-    -- how the next entry goes behind a history that leads to the world
-    record NextIs (before added : List Entry) (next : Option Went) : Type 0 where
-      goes : phase_or (sides_behind beside lanes workers before) [] start entries
-          ≡ option_map_or (λ (w : Went). phase_or (sides_behind beside lanes workers before) (added ++ w.entry ∷ []) w.cursors later) next
-          (Err (side.Entry (seat_in text) (length (text ∷ later))))
-      gone_so : IsNextGone next lanes before added after taken' cursors' went
-
-    next_is : (before : List Entry) → fold before ≡ world → (added : List Entry) × (next : Option Went) × NextIs before added next
-    next_is before leads =
-        let sides : Sides = sides_behind beside lanes workers before in
-        let h : HasGoneOn sides start cursors entries (text ∷ later) now taken = rw stands at (way.is before leads) in (
-          h.added,
-          next_went sides h.added cursors text,
-          record {
-            goes = rw here.1 at h.goes;
-            gone_so = gone.is sides h.added refl (sym here.0) (sym h.leads) h.kept;
-          },
-        )
-
     -- one entry more went in
     pub one_on : {told : List Cursor} → went ≡ true → AreToldAll beside after cursors' told
         → AreOnTheWay beside lanes workers start told entries later world after taken'
-    one_on {told} goes all = record { is = λ before leads. (let n = next_is before leads in by before n.0 n.1 n.2) }
-      where
-        by : (before added : List Entry) (next : Option Went) → NextIs before added next
-            → HasGoneOn (sides_behind beside lanes workers before) start told entries later after taken'
-        by before added None n = absurd (cc)
-        by before added (Some w) n = record {
-          added = added ++ w.entry ∷ [];
-          leads = n.gone_so.1;
-          goes = rw (all.is (before ++ (added ++ w.entry ∷ [])) (sym n.gone_so.1), n.gone_so.2)
-              (n.goes ∙ told_is (sides_behind beside lanes workers before) (added ++ w.entry ∷ []) w.cursors later);
-          kept = n.gone_so.3;
-        }
+    one_on goes all = record {
+      is = λ before leads. (
+          let sides : Sides = sides_behind beside lanes workers before in
+          let h : HasGoneOn sides start cursors entries (text ∷ later) now taken = rw stands at (way.is before leads) in
+          let so = gone.is sides h.added refl (sym here.0) (sym h.leads) h.kept in
+          elim (found_or (next_went sides h.added cursors text)) [
+            | inl none ↦ absurd (cc (rw none at so))
+            | inr (w, is) ↦ (
+                let more : List Entry = h.added ++ w.entry ∷ [] in
+                let in_ = rw is at so in
+                record {
+                  added = more;
+                  leads = in_.1;
+                  goes = rw (all.is (before ++ more) (sym in_.1), in_.2) (rw (here.1, is) at h.goes ∙ told_is sides more w.cursors later);
+                  kept = in_.3;
+                })
+          ]);
+    }
 
     -- the next one doesn't
     pub none_on : {count : ℕ} → count ≡ length left → went ≡ false
         → HasReached beside lanes workers start entries world after (Err (side.Entry seat count))
-    none_on {count} counted stays = record { is = λ before leads. (let n = next_is before leads in by before n.0 n.1 n.2) }
-      where
-        by : (before added : List Entry) (next : Option Went) → NextIs before added next
-            → IsReachedAs before after (phase_or (sides_behind beside lanes workers before) [] start entries) (Err (side.Entry seat count))
-        by before added None n = rw n.goes (λ i. side.Entry (here.0 i) ((counted ∙ ap length stands) i))
-        by before added (Some w) n = let never : true ≡ false = sym n.gone_so.0 ∙ stays in absurd (cc)
+    none_on {count} counted stays = record {
+      is = λ before leads. (
+          let sides : Sides = sides_behind beside lanes workers before in
+          let h : HasGoneOn sides start cursors entries (text ∷ later) now taken = rw stands at (way.is before leads) in
+          let so = gone.is sides h.added refl (sym here.0) (sym h.leads) h.kept in
+          elim (found_or (next_went sides h.added cursors text)) [
+            | inl none ↦ rw (rw (here.1, none) at h.goes) (λ i. side.Entry (here.0 i) ((counted ∙ ap length stands) i))
+            | inr (w, is) ↦ absurd (cc (rw is at so).0)
+          ]);
+    }
 
 -- THE FIRST SECTION THAT WAITS
 

@@ -3,10 +3,9 @@ use Rattle.std.proofs.Common.{◌≡◌, ℕ, zero, suc, ◌%◌, ◌/◌, ◌�
 use Rattle.std.specs.Prelude.{All, if◌then◌else◌}
 use Rattle.std.specs.Char.{encode_utf8}
 use Rattle.std.specs.Fmt.{decimal, digits, digits_onto, digit_glyph}
-use Rattle.std.specs.List.{list_all, flat_map, AllByRecursion}
+use Rattle.std.specs.List.{list_all, flat_map}
 use Rattle.std.proofs.lemmas.Bool.{and_parts, cond_both}
 use Rattle.std.proofs.lemmas.Bool.Decides.{nat_tests}
-use Rattle.std.proofs.lemmas.List.Elements.{recursion_from_All}
 use Rattle.std.proofs.lemmas.List.Folds.{fold_stays}
 use Rattle.std.proofs.lemmas.List.Sums.{fold-append}
 use Rattle.transcript_check.specs.Blocks.{line_break, space, EndsOnce, IsBlock}
@@ -103,8 +102,6 @@ pub ruleset scanned = (fold-append, decimal-plain, decimal-first)
 -- a text for each of some things
 pub each-stays : (stand : Stand) {X : Type 0} (text : X → List ℕ) (xs : List X) → All (λ x. scan stand (text x) ≡ stand) xs
     → scan stand (flat_map text xs) ≡ stand
-each-stays stand {X} text xs all = by xs (recursion_from_All (λ x. scan stand (text x) ≡ stand) xs all)
-  where
-    by : (xs : List X) → AllByRecursion (λ x. scan stand (text x) ≡ stand) xs → scan stand (flat_map text xs) ≡ stand
-    by [] all = refl
-    by (x ∷ xs) all = simp (fold-append, all.0, by xs all.1)
+each-stays stand text [] all = refl
+each-stays stand text (x ∷ xs) all =
+    simp (fold-append, all 0 x (omega arith), each-stays stand text xs (λ k d less. all (suc k) d (omega arith)))

@@ -14,7 +14,7 @@ use Rattle.script_lang.specs.declared.line.Line.{Line}
 use Rattle.transcripts.specs.declared.loaded.Loaded.{Loaded}
 use Rattle.transcripts.specs.declared.record.Record.{Record}
 use Rattle.transcripts.specs.Serial.{CommandStep, step_of, done_from, first_load, later_loads}
-use Rattle.transcripts.specs.Fits.{Mark, SectionFits}
+use Rattle.transcripts.specs.Fits.{Progress, SectionFits}
 use Rattle.transcript_check.proofs.StepLemmas.{step_is}
 
 -- texts that begin with others
@@ -60,7 +60,7 @@ texts_on start made own left =
 pub record SerialFits (seat : ℕ) (lines : List Line) (loads : List Loaded) (start : List Entry) : Type 0 where
   pub own : List Entry
   pub records : List Record
-  pub high : Mark
+  pub high : Progress
   pub made : (earlier : List Record) → done_from seat (record { history = start; records = earlier }) lines loads
       ≡ record { history = start ++ own; records = earlier ++ records }
   pub fits : SectionFits false (start ++ own) seat (record { seen = length start; sights = 0 }) lines loads records own high

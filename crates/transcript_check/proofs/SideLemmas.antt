@@ -2,12 +2,12 @@
 use Rattle.std.proofs.Common.{ℕ, suc, ◌≡◌, ◌≤◌, ◌<◌, Bool, true, false, List, [], ◌∷◌, ◌++◌, map, refl, sym, ◌∙◌, subst, arith, Some, None, inl, inr, eqb}
 use Rattle.std.specs.List.{list_all}
 use Rattle.std.proofs.lemmas.Bool.{cases_Bool, eqb-true, eqb-false, or_parts, and_parts}
-use Rattle.list_laws.specs.Fronts.{IsFront}
+use Rattle.list_laws.specs.Prefixes.{IsPrefix}
 use Rattle.transcript_check.proofs.ChoiceLemmas.{chosen, made_of}
 use Rattle.write_history.specs.declared.entry.Entry.{Entry}
 use Rattle.write_history.specs.Fold.{fold, list_refusal}
 use Rattle.transcripts.specs.Fits.{made_by}
-use Rattle.transcript_check.specs.Section.{Cursor, Made, told_here, is_over}
+use Rattle.transcript_check.specs.Section.{Cursor, NextEntry, told_here, is_over}
 use Rattle.transcript_check.specs.Phase.{Went, is_busy, section_went}
 use Rattle.transcript_check.proofs.StepLemmas.{made_by-own, made_by-other}
 use Rattle.transcript_check.proofs.CursorLemmas.{CursorFits, StopsAt, AreFew, Makes, makes_so, made_keeps, told_fits, other_forth, other_back, own_forth, own_back, over_back, over_forth}
@@ -32,18 +32,17 @@ abbrev pub IsBeside : ℕ → List Cursor → Type 0
 IsBeside seat [] = Unit {0}
 IsBeside seat (c ∷ cs) = (seat ≡ c.seat → ⊥) × IsBeside seat cs
 
-before_all : (seat first past : ℕ) (cursors : List Cursor) → AreSeated first past cursors → seat < first → IsBeside seat cursors
-before_all seat first past [] seated below = tt
-before_all seat first past (c ∷ cs) seated below = ((λ same. omega (arith, seated.0)), before_all seat (suc first) past cs seated.1 (omega arith))
-
 seats_rise : (first past : ℕ) (cursors : List Cursor) → AreSeated first past cursors → first ≤ past
 seats_rise first past [] seated = omega arith
 seats_rise first past (c ∷ cs) seated = omega (arith, seats_rise (suc first) past cs seated.1)
 
-pub past_all : (seat first past : ℕ) (cursors : List Cursor) → AreSeated first past cursors → past ≤ seat → IsBeside seat cursors
-past_all seat first past [] seated above = tt
-past_all seat first past (c ∷ cs) seated above =
-    let rise = seats_rise (suc first) past cs seated.1 in ((λ same. omega (arith, seated.0)), past_all seat (suc first) past cs seated.1 above)
+pub beside_all : (seat first past : ℕ) (cursors : List Cursor) → AreSeated first past cursors → (first ≤ seat → past ≤ seat) → IsBeside seat cursors
+beside_all seat first past [] seated apart = tt
+beside_all seat first past (c ∷ cs) seated apart =
+    let rise = seats_rise (suc first) past cs seated.1 in (
+      (λ same. omega (arith, seated.0, apart (omega (arith, seated.0)))),
+      beside_all seat (suc first) past cs seated.1 (λ next. apart (omega arith)),
+    )
 
 -- sections behind all records that are told here
 pub record ToldAll (beside : Bool) (history here : List Entry) (cursors told : List Cursor) : Type 0 where
@@ -53,7 +52,7 @@ pub record ToldAll (beside : Bool) (history here : List Entry) (cursors told : L
   pub stops : AllStop beside here told
 
 module _ (beside : Bool) (history here : List Entry) where
-  pub all_told_fits : (cursors : List Cursor) → IsFront here history → ToldAll beside history here cursors (map (told_here beside here) cursors)
+  pub all_told_fits : (cursors : List Cursor) → IsPrefix here history → ToldAll beside history here cursors (map (told_here beside here) cursors)
   all_told_fits [] front = record { forth = λ few behind fits. tt; back = λ behind fits. tt; seated = λ first past seated. seated; stops = tt }
   all_told_fits (c ∷ cs) front =
       let one = told_fits beside history c.seat here c.settling c.lines c.texts front in
@@ -103,7 +102,7 @@ module _ (beside : Bool) (history here : List Entry) where
   section_forth first past (c ∷ cs) e es seated above below stops parts fits = elim (cases_Bool (eqb c.seat e.seat)) [
     | inl own ↦ (let same = eqb-true c.seat e.seat own in
         let one = own_forth beside history c.seat here c.settling c.lines c.texts e es stops.0 parts (sym same) fits.0 in
-        let rest = others_forth cs e es (before_all e.seat (suc first) past cs seated.1 (omega (arith, seated.0))) stops.1 parts fits.1 in
+        let rest = others_forth cs e es (beside_all e.seat (suc first) past cs seated.1 (λ next. absurd (omega (arith, seated.0)))) stops.1 parts fits.1 in
         record {
           behind = one.cursor ∷ cs;
           goes = rw (own, rest.0, one.makes);
@@ -125,7 +124,7 @@ module _ (beside : Bool) (history here : List Entry) where
 module _ (here : List Entry) (seat : ℕ) where
   -- how the next entry of the section with a seat goes in: it is the first section, or a later one
   pub data SectionWent : List Cursor → Went → Type 0 where
-    first : {c : Cursor} {cs : List Cursor} {m : Made} → c.seat ≡ seat → is_busy cs ≡ false → Makes c.seat here c.lines c.texts m
+    first : {c : Cursor} {cs : List Cursor} {m : NextEntry} → c.seat ≡ seat → is_busy cs ≡ false → Makes c.seat here c.lines c.texts m
         → SectionWent (c ∷ cs) (record { entry = m.entry; cursors = m.cursor ∷ cs })
     later : {c : Cursor} {cs : List Cursor} {w : Went} → (seat ≡ c.seat → ⊥) → c.settling ≡ false → SectionWent cs w
         → SectionWent (c ∷ cs) (record { entry = w.entry; cursors = c ∷ w.cursors })
@@ -133,7 +132,7 @@ module _ (here : List Entry) (seat : ℕ) where
   pub went_so : (cursors : List Cursor) (w : Went) → section_went seat here cursors ≡ Some w → SectionWent cursors w
   went_so [] w goes = absurd (cc)
   went_so (c ∷ cs) w goes = elim (chosen (eqb c.seat seat) _ _ goes) [
-    | inl own ↦ (let made = made_of (λ (m : Made). record { entry = m.entry; cursors = m.cursor ∷ cs }) _ _ w own.1 in
+    | inl own ↦ (let made = made_of (λ (m : NextEntry). record { entry = m.entry; cursors = m.cursor ∷ cs }) _ _ w own.1 in
         rw (sym made.3) (first (eqb-true c.seat seat own.0) made.0 (makes_so c.seat here c.lines c.texts made.1 made.2)))
     | inr other ↦ (let made = made_of (λ (v : Went). record { entry = v.entry; cursors = c ∷ v.cursors }) _ _ w other.1 in
         rw (sym made.3) (later (λ same. eqb-false c.seat seat other.0 (sym same)) made.0 (went_so cs made.1 made.2)))
@@ -144,23 +143,22 @@ module _ (here : List Entry) (seat : ℕ) where
   went_seat (first {c} is quiet makes) = (made_keeps c.seat here makes).1 ∙ is
   went_seat (later other quiet went) = went_seat went
 
-  pub went_seated : {cursors : List Cursor} {w : Went} (low past : ℕ) → SectionWent cursors w → AreSeated low past cursors → AreSeated low past w.cursors
-  went_seated low past (first {c} is quiet makes) seated = ((made_keeps c.seat here makes).0 ∙ seated.0, seated.1)
-  went_seated low past (later other quiet went) seated = (seated.0, went_seated (suc low) past went seated.1)
-
-  pub went_lawful : {cursors : List Cursor} {w : Went} → SectionWent cursors w → list_refusal (fold here) w.entry.changes ≡ None
-  went_lawful (first {c} is quiet makes) = (made_keeps c.seat here makes).2
-  went_lawful (later other quiet went) = went_lawful went
+  pub went_seated : {cursors : List Cursor} {w : Went} (low past : ℕ) → SectionWent cursors w → AreSeated low past cursors
+      → AreSeated low past w.cursors × (list_refusal (fold here) w.entry.changes ≡ None)
+  went_seated low past (first {c} is quiet makes) seated =
+      let keeps = made_keeps c.seat here makes in ((keeps.0 ∙ seated.0, seated.1), keeps.2)
+  went_seated low past (later other quiet went) seated =
+      let rest = went_seated (suc low) past went seated.1 in ((seated.0, rest.0), rest.1)
 
   -- sections that fit behind it fit before it
   pub went_back : (beside : Bool) (history es : List Entry) {cursors : List Cursor} {w : Went} (low past : ℕ) → SectionWent cursors w
-      → AreSeated low past cursors → IsFront (here ++ w.entry ∷ []) history
+      → AreSeated low past cursors → IsPrefix (here ++ w.entry ∷ []) history
       → CursorsFit beside history (here ++ w.entry ∷ []) w.cursors es → CursorsFit beside history here cursors (w.entry ∷ es)
   went_back beside history es low past (first {c} {cs} {m} is quiet makes) seated front fits =
       let keeps = made_keeps c.seat here makes in (
         rw (made_by-own c.seat m.entry es keeps.1) (own_back beside history c.seat here c.settling (made_by c.seat es) makes front
             (subst (λ (n : ℕ). CursorFits beside history (here ++ m.entry ∷ []) m.cursor (made_by n es)) keeps.0 fits.0)),
-        others_back beside history here cs m.entry es (before_all m.entry.seat (suc low) past cs seated.1 (omega (arith, seated.0))) quiet fits.1,
+        others_back beside history here cs m.entry es (beside_all m.entry.seat (suc low) past cs seated.1 (λ next. absurd (omega (arith, seated.0)))) quiet fits.1,
       )
   went_back beside history es low past (later {c} {cs} {w} other quiet went) seated front fits = (
     rw (made_by-other c.seat w.entry es (λ same. other (sym (went_seat went) ∙ same)))

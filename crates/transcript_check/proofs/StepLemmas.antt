@@ -1,5 +1,5 @@
 -- What a step adds and tells, by its command.
-use Rattle.std.proofs.Common.{ℕ, ◌≡◌, Bool, true, false, List, [], ◌∷◌, ◌++◌, length, refl, sym, ap, ◌∙◌, append_assoc, length-append, Some, None, ◌⊎◌, inl, inr}
+use Rattle.std.proofs.Common.{ℕ, ◌≡◌, Bool, true, false, List, [], ◌∷◌, ◌++◌, length, refl, sym, ap, ◌∙◌, append_assoc, length-append, arith, Some, None, ◌⊎◌, inl, inr}
 use Rattle.std.specs.Prelude.{Option, Result, Err, option_map, nat_le}
 use Rattle.std.specs.List.{AllByRecursion}
 use Rattle.std.proofs.lemmas.List.{append-nil}
@@ -21,7 +21,6 @@ use Rattle.script_lang.specs.declared.command.Command.TheVariants as command
 use Rattle.transcripts.specs.declared.loaded.Loaded.{Loaded}
 use Rattle.transcripts.specs.declared.loaded.Loaded.TheVariants as loaded
 use Rattle.transcripts.specs.declared.record.Answer.{Answer}
-use Rattle.transcripts.specs.declared.record.Answer.TheVariants.{Refused, NotText, TooLong}
 use Rattle.transcripts.specs.Serial.{CommandStep, told, step_unless, create_of, settle_answer, settle_step, answer_of, step_of}
 use Rattle.transcripts.specs.Fits.{made_by}
 use Rattle.query_engine.specs.declared.answer.Finding.{Finding}
@@ -108,25 +107,19 @@ module _ (seat : ℕ) where
     nothing = λ h. absurd (cc);
     something = λ e more h. rw length-append;
   }
-  unless_is history settles (Some refusal) told_place entry own refused =
-      told_is history settles (Refused (length history) (told_place refusal.place) refusal.why) (inr refl)
+  unless_is history settles (Some refusal) told_place entry own refused = told_is history settles _ (inr refl)
 
-  -- How a settle begins that adds an entry: it takes in the lowest unready file, and goes on behind that
-  record Begins (line : ℕ) (history : List Entry) (entry : Entry) : Type 0 where
-    lawful : list_refusal (fold history) entry.changes ≡ None
-    goes_on : settled history seat line ≡ with_entry entry (settled (history ++ entry ∷ []) seat line)
-
+  -- a settle that adds an entry takes in the lowest unready file first, and goes on behind that
   settle_begins : (line : ℕ) (history : List Entry) (entry : Entry) (more : List Entry) → (settled history seat line).added ≡ entry ∷ more
-      → Begins line history entry
-  settle_begins line history entry more adds = by (settle_goes history seat line)
-    where
-      by : SettleGoes history seat line → Begins line history entry
-      by (over lowest is) = let never = rw is at adds in absurd (cc)
-      by (full id lowest is_full refused is) = let never = rw is at adds in absurd (cc)
-      by (goes id lowest few accepted is) =
-          let parts = rw is at adds in
-          let same : intake_entry history seat line id ≡ entry = cc in
-          rw (sym same) (record { lawful = accepted; goes_on = is })
+      → (list_refusal (fold history) entry.changes ≡ None)
+      × (settled history seat line ≡ with_entry entry (settled (history ++ entry ∷ []) seat line))
+  settle_begins line history entry more adds = elim (settle_goes history seat line) [
+    | over lowest is ↦ (let never = rw is at adds in absurd (cc))
+    | full id lowest is_full refused is ↦ (let never = rw is at adds in absurd (cc))
+    | goes id lowest few accepted is ↦ (let parts = rw is at adds in
+        let same : intake_entry history seat line id ≡ entry = cc in
+        rw (sym same) (accepted, is))
+  ]
 
   -- a settle that takes a file in goes on as it does behind that
   pub settle_on : (line : ℕ) (history : List Entry) (entry : Entry)
@@ -139,8 +132,7 @@ module _ (seat : ℕ) where
       rw (goes_on, append_assoc history (entry ∷ []) (settled (history ++ entry ∷ []) seat line).added)
 
   settle_told : (at : ℕ) (refusal : Option Refusal) → at_of (settle_answer at refusal) ≡ Some at
-  settle_told at None = refl
-  settle_told at (Some why) = refl
+  settle_told at refusal = grind arith
 
   settle_is : (line : ℕ) (history : List Entry) → IsStep history seat true (settle_step history seat line)
   settle_is line history =
@@ -148,7 +140,7 @@ module _ (seat : ℕ) where
       let at = settle_told (length (history ++ added)) (settled history seat line).refused in
       record {
         own = settled_takes (λ e. e.seat ≡ seat) seat line (λ id stamp. refl) history (unready_ids (fold history));
-        lawful = λ e more adds. (settle_begins line history e more adds).lawful;
+        lawful = λ e more adds. (settle_begins line history e more adds).0;
         one = λ other. absurd (cc);
         legal = settled_legal seat line history (unready_ids (fold history));
         nothing = λ none. inr (at ∙ rw (none, append-nil));
@@ -162,22 +154,17 @@ module _ (seat : ℕ) where
 
   created_is : (line : ℕ) (path : List ℕ) (history : List Entry) (load : Loaded) → IsStep history seat false (create_of history seat line path load)
   created_is line path history (loaded.Text content) = unless_is history false _ (λ place. None) (entry_of seat line (Create path content ∷ [])) refl refl
-  created_is line path history (loaded.NotText at) = told_is history false (NotText at) (inl refl)
-  created_is line path history (loaded.TooLong count) = told_is history false (TooLong count) (inl refl)
-  created_is line path history loaded.Nothing = told_is history false (NotText 0) (inl refl)
-
-  asked_is : (history : List Entry) (answer : Result Finding NoAnswer) → IsStep history seat false (told (answer_of (fold history) (length history) answer))
-  asked_is history answer = told_is history false (answer_of (fold history) (length history) answer) (inr (asked_at history answer))
+  created_is line path history load = told_is history false _ (inl refl)
 
   -- any step is one
   pub step_is : (load : Loaded) (history : List Entry) (line : ℕ) (c : Command) → IsStep history seat (is_settle c) (step_of load history seat line c)
   step_is load history line (command.Change change) = unless_is history false _ (λ place. None) (entry_of seat line (change ∷ [])) refl refl
   step_is load history line (command.Group changes) = unless_is history false _ Some (entry_of seat line changes) refl refl
-  step_is load history line (command.Load path) = cond_both (is_path path) _ _ (IsStep history seat false) (λ _. created_is line path history load)
-      (λ _. told_is history false (Refused (length history) None why.BadPath) (inr refl))
+  step_is load history line (command.Load path) =
+      cond_both (is_path path) _ _ (IsStep history seat false) (λ _. created_is line path history load) (λ _. told_is history false _ (inr refl))
   step_is load history line command.Settle = settle_is line history
-  step_is load history line (command.Ask query) = asked_is history (reply (fold history) query)
-  step_is load history line (command.Soft attempts query) = asked_is history (reply (fold history) query)
+  step_is load history line (command.Ask query) = told_is history false _ (inr (asked_at history (reply (fold history) query)))
+  step_is load history line (command.Soft attempts query) = told_is history false _ (inr (asked_at history (reply (fold history) query)))
 
   -- a settle goes on behind its first entry, answered as it is
   pub settle_later : (line : ℕ) (history : List Entry) (entry : Entry) (more : List Entry) (answer : Answer)
@@ -185,7 +172,7 @@ module _ (seat : ℕ) where
       → settle_step (history ++ entry ∷ []) seat line ≡ record { added = more; answer = answer }
   settle_later line history entry more answer is =
       let begins = settle_begins line history entry more (ap (λ (s : CommandStep). s.added) is) in
-      let both = sym (settle_on line history entry begins.goes_on) ∙ is in
+      let both = sym (settle_on line history entry begins.1) ∙ is in
       let adds : entry ∷ (settle_step (history ++ entry ∷ []) seat line).added ≡ entry ∷ more = ap (λ (s : CommandStep). s.added) both in
       let same : (settle_step (history ++ entry ∷ []) seat line).added ≡ more = cc in
       λ i. record { added = same i; answer = (both i).answer }
@@ -196,7 +183,7 @@ module _ (seat : ℕ) where
       → settle_step (history ++ entry ∷ []) seat line ≡ record { added = more; answer = answer }
       → settle_step history seat line ≡ record { added = entry ∷ more; answer = answer }
   settle_sooner line history entry rest more answer adds is =
-      settle_on line history entry (settle_begins line history entry rest adds).goes_on ∙ λ i. record { added = entry ∷ (is i).added; answer = (is i).answer }
+      settle_on line history entry (settle_begins line history entry rest adds).1 ∙ λ i. record { added = entry ∷ (is i).added; answer = (is i).answer }
 
   -- a settle is one
   pub settle_steps : (load : Loaded) (history : List Entry) (line : ℕ) (c : Command) → is_settle c ≡ true

@@ -50,10 +50,11 @@ use Rattle.transcripts.specs.declared.loaded.Loaded.{Loaded}
 use Rattle.transcripts.specs.declared.record.Answer.{Answer}
 use Rattle.transcripts.specs.declared.record.Record.{Record}
 use Rattle.transcripts.specs.Serial.{RunEnd, answer_of, step_of}
-use Rattle.transcripts.specs.Fits.{Mark, Fits, SectionFits, LanesFit, RunFits}
+use Rattle.transcripts.specs.Fits.{Progress, Fits, SectionFits, LanesFit, RunFits}
 use Rattle.transcript_check.specs.Blocks.{blocks_of, IsBlock}
 use Rattle.transcript_check.specs.Checked.{entry_texts, record_texts}
 use Rattle.transcript_check.specs.Texts.{history_line, texts_of}
+use Rattle.transcript_check.proofs.ChoiceLemmas.{found_or}
 use Rattle.transcript_check.proofs.ScanLemmas.{inside, closed, scan, scanned, IsPlain, IsShown, GoesOn, Ends, shown, each-stays, block}
 use Rattle.transcript_check.proofs.BlockLemmas.{blocks-of-texts}
 
@@ -91,8 +92,7 @@ abbrev pub IsShownFile : Option File → Type 0
 IsShownFile file = IfSome file (λ f. IsShown f.path)
 
 path_or-shown : (file : Option File) → IsShownFile file → IsShown (option_map_or (λ (f : File). f.path) file [])
-path_or-shown None shown = refl
-path_or-shown (Some file) shown = shown
+path_or-shown file shown = grind (arith, shown)
 
 -- what holds of all that each live file gives holds of all that they give
 of_files-all : {X : Type 0} (kind : FileKind) (P : X → Type 0) (rows : ℕ → File → List X) → ((id : ℕ) (file : File) → IsShown file.path → All P (rows id file))
@@ -145,10 +145,6 @@ rows-end : {X : Type 0} (line : X → List ℕ) (rows : List X) → All (λ row.
 rows-end line rows all = simp (scanned, each-stays closed line rows all)
 
 module _ (laws : Laws) (world : World) (live : (id : ℕ) → IsShownFile (file_of world id)) where
-  of_world-all : {X : Type 0} (kind : FileKind) (P : X → Type 0) (rows : ℕ → File → List X)
-      → ((id : ℕ) (file : File) → IsShown file.path → All P (rows id file)) → All P (of_world kind rows world)
-  of_world-all kind P rows each = of_files-all kind P rows each 1 world.files (λ place. live (suc place))
-
   -- the row of a stub
   row-shown : (id : ℕ) (path text : List ℕ) → IsShown path → (stub : Stub) → IsShownStub stub → IsShownRow (row_of id path text stub)
   row-shown id path text shown stub is = record { path = shown; name = is.name; supers = is.supers }
@@ -162,7 +158,8 @@ module _ (laws : Laws) (world : World) (live : (id : ℕ) → IsShownFile (file_
 
   types-shown : All TypeShown (types_of world)
   types-shown =
-      of_world-all Java TypeShown types_in (λ id file shown. All-map TypeShown (λ stub. (id, stub)) _ (All-filter is_type IsShownStub _ (stubs-shown laws _)))
+      of_files-all Java TypeShown types_in (λ id file shown. All-map TypeShown (λ stub. (id, stub)) _ (All-filter is_type IsShownStub _ (stubs-shown laws _)))
+      1 world.files (λ place. live (suc place))
 
   levels-shown : (more level : ℕ) (names : List (List ℕ)) (left : List ListedType) → All TypeShown left → All LevelShown (levels_from more level names left)
   unfolding levels_from
@@ -181,7 +178,8 @@ module _ (laws : Laws) (world : World) (live : (id : ℕ) → IsShownFile (file_
   files-end : {X : Type 0} (kind : FileKind) (line : X → List ℕ) (rows : ℕ → File → List X)
       → ((id : ℕ) (file : File) → IsShown file.path → All (λ row. GoesOn (line row)) (rows id file))
       → Ends (count_line (length (of_world kind rows world)) ++ flat_map line (of_world kind rows world))
-  files-end kind line rows each = rows-end line _ (of_world-all kind (λ row. GoesOn (line row)) rows each)
+  files-end kind line rows each =
+      rows-end line _ (of_files-all kind (λ row. GoesOn (line row)) rows each 1 world.files (λ place. live (suc place)))
 
   found-end : (fits : Stub → Bool) → FoundEnds (unless_unready (lowest_unready world) (Rows (of_world Java (rows_in fits) world)))
   found-end fits = unless-ends _ (files-end Java found_line (rows_in fits) (λ id file shown.
@@ -264,25 +262,21 @@ AnswerEnds answer = scan (scan inside (prefix_text answer)) (answer_text answer)
 abbrev RecordBlock : Record → Type 0
 RecordBlock reply = IsBlock (record_text reply)
 
-record-block : (reply : Record) → AnswerEnds reply.answer → RecordBlock reply
-record-block reply ends = block _ (simp (scanned, ends))
-
 -- the path of a live file of a legal history has no line break
 live-shown : (entries : List Entry) → IsLegal entries → (id : ℕ) → IsShownFile (file_of (fold entries) id)
-live-shown entries legal id = by (file_of (fold entries) id) refl
-  where
-    by : (file : Option File) → file_of (fold entries) id ≡ file → IsShownFile file
-    by None is = tt
-    by (Some file) is = path-shown file.path (live_lawful entries id file legal is)
+live-shown entries legal id = elim (found_or (file_of (fold entries) id)) [
+  | inl none ↦ rw none tt
+  | inr (file, is) ↦ rw is (path-shown file.path (live_lawful entries id file legal is))
+]
 
 module _ (laws : Laws) where
   asked-ends : (start : List Entry) → IsLegal start → (query : Query) → AnswerEnds (answer_of (fold start) (length start) (reply (fold start) query))
-  asked-ends start legal query = by (reply (fold start) query) (reply-ends laws (fold start) (live-shown start legal) query)
-    where
-      by : (result : Result Finding NoAnswer) → FoundEnds result → AnswerEnds (answer_of (fold start) (length start) result)
-      by (Ok finding) ends = simp (scanned, ends)
-      by (Err no_such_file) ends = simp scanned
-      by (Err (not_ready file)) ends = simp (scanned, path_or-shown (file_of (fold start) file) (live-shown start legal file))
+  asked-ends start legal query =
+      elim (reply (fold start) query) as (λ result. FoundEnds result → AnswerEnds (answer_of (fold start) (length start) result)) [
+        | Ok finding ↦ λ ends. simp (scanned, ends)
+        | Err no_such_file ↦ λ ends. simp scanned
+        | Err (not_ready file) ↦ λ ends. simp (scanned, path_or-shown (file_of (fold start) file) (live-shown start legal file))
+      ] (reply-ends laws (fold start) (live-shown start legal) query)
 
   step-ends : (load : Loaded) (start : List Entry) → IsLegal start → (seat line : ℕ) (command : Command)
       → AnswerEnds (step_of load start seat line command).answer
@@ -292,22 +286,22 @@ module _ (laws : Laws) where
 
   -- ---- sections
 
-  fits-end : {beside : Bool} {history : List Entry} {seat : ℕ} {line : Line} {load : Loaded} {low : Mark} {own : List Entry} {answer : Answer} {high : Mark}
+  fits-end : {beside : Bool} {history : List Entry} {seat : ℕ} {line : Line} {load : Loaded} {low : Progress} {own : List Entry} {answer : Answer} {high : Progress}
       → IsLegal history → Fits beside history seat line load low own answer high → AnswerEnds answer
   fits-end {seat = seat} {line = line} {load = load} {own = own} legal (inl done) =
       let start = (IsLegal-split done.start own (IsLegal-split (done.start ++ own) _ (subst IsLegal done.stands.1 legal)).0).0 in
       subst AnswerEnds (ap (λ step. step.answer) done.step) (step-ends load done.start start seat line.number line.command)
   fits-end legal (inr (side, given)) = rw given.told (simp scanned)
 
-  section-blocks : (beside : Bool) (history : List Entry) (seat : ℕ) (low : Mark) (lines : List Line) (loads : List Loaded) (records : List Record)
-      (own : List Entry) (high : Mark) → IsLegal history → SectionFits beside history seat low lines loads records own high → All RecordBlock records
+  section-blocks : (beside : Bool) (history : List Entry) (seat : ℕ) (low : Progress) (lines : List Line) (loads : List Loaded) (records : List Record)
+      (own : List Entry) (high : Progress) → IsLegal history → SectionFits beside history seat low lines loads records own high → All RecordBlock records
   section-blocks beside history seat low [] loads records own high legal fits = All-same RecordBlock _ [] fits.0 (All-nil RecordBlock)
   section-blocks beside history seat low (line ∷ lines) loads records own high legal first =
-      let reply : Record = record { seat = seat; line = line.number; answer = first.answer } in
+      let ends : AnswerEnds first.answer = fits-end legal first.first in
       All-same RecordBlock _ _ first.records_are
-      (All-cons RecordBlock _ _ (record-block reply (fits-end legal first.first)) (section-blocks _ _ _ _ lines _ _ _ _ legal first.rest))
+      (All-cons RecordBlock _ _ (block _ (simp (scanned, ends))) (section-blocks _ _ _ _ lines _ _ _ _ legal first.rest))
 
-  lanes-blocks : (beside : Bool) (history : List Entry) (low : Mark) (seat : ℕ) (lanes : List (List Line)) (entries : List Entry) (records : List Record)
+  lanes-blocks : (beside : Bool) (history : List Entry) (low : Progress) (seat : ℕ) (lanes : List (List Line)) (entries : List Entry) (records : List Record)
       → IsLegal history → LanesFit beside history low seat lanes entries records → All RecordBlock records
   lanes-blocks beside history low seat [] entries records legal none = All-same RecordBlock _ [] none (All-nil RecordBlock)
   lanes-blocks beside history low seat (lane ∷ lanes) entries records legal first =

@@ -2,7 +2,7 @@
 use Rattle.std.proofs.Common.{ℕ, ◌≡◌, ◌+◌, ◌≤◌, Bool, true, List, [], ◌∷◌, ◌++◌, length, map, refl, sym, ap, rules, ◌⊎◌, inl, inr}
 use Rattle.std.specs.Prelude.{bytes_eq}
 use Rattle.std.proofs.lemmas.Slice.Eq.{bytes_eq-Decides}
-use Rattle.list_laws.specs.Fronts.{IsFront}
+use Rattle.list_laws.specs.Prefixes.{IsPrefix}
 use Rattle.write_history.specs.declared.entry.Entry.{Entry}
 use Rattle.queries.specs.declared.query.Query.{Query}
 use Rattle.script_lang.specs.declared.command.Command.{Command}
@@ -12,14 +12,14 @@ use Rattle.transcripts.specs.declared.loaded.Loaded.TheVariants.{Nothing}
 use Rattle.transcripts.specs.declared.record.Answer.{Answer}
 use Rattle.transcripts.specs.declared.record.Answer.TheVariants.{Cancelled}
 use Rattle.transcripts.specs.declared.record.Record.{Record}
-use Rattle.transcripts.specs.Fits.{Mark, IsGivenUp, Fits, SectionFits}
+use Rattle.transcripts.specs.Fits.{Progress, Fits, SectionFits}
 use Rattle.transcripts.specs.Transcript.{record_text}
 use Rattle.transcript_check.specs.Section.{line_step, told_text, given_up, tells_given_up}
 
 -- A line was done behind `start`: what it made stands right behind that, and this is the text of its record
 pub record DoneBehind (history start : List Entry) (seat : ℕ) (line : Line) (made : List Entry) (text : List ℕ) : Type 0 where
   pub answer : Answer
-  pub stands : IsFront (start ++ made) history
+  pub stands : IsPrefix (start ++ made) history
   pub step : line_step start seat line ≡ record { added = made; answer = answer }
   pub told : told_text seat line.number answer ≡ text
 
@@ -73,16 +73,7 @@ pub text_is : (xs ys : List ℕ) → bytes_eq xs ys ≡ true → xs ≡ ys
 text_is xs ys = (bytes_eq-Decides xs ys).0
 
 -- from the records to their texts
-given_text : {seat : ℕ} {line : Line} {low high : Mark} {made : List Entry} {answer : Answer} → IsGivenUp seat line low made answer high
-    → WasGivenUp seat line low.seen made (record_text (record { seat = seat; line = line.number; answer = answer })) high.seen
-given_text {seat} {line} given = record {
-  told = rw (given.soft, given.told)
-      ((bytes_eq-Decides _ _).1 (ap (λ (n : ℕ). told_text seat line.number (given_up seat n)) (sym given.allowed)));
-  nothing = given.nothing;
-  between_is = given.seen;
-}
-
-pub texts_of_section : (beside : Bool) (history : List Entry) (seat : ℕ) (low high : Mark) (lines : List Line) (records : List Record) (own : List Entry)
+pub texts_of_section : (beside : Bool) (history : List Entry) (seat : ℕ) (low high : Progress) (lines : List Line) (records : List Record) (own : List Entry)
     → SectionFits beside history seat low lines [] records own high
     → TextsFit beside history seat low.seen lines (map record_text records) own
 texts_of_section beside history seat low high [] records own fits = (ap (map record_text) fits.0, fits.1)
@@ -93,7 +84,15 @@ texts_of_section beside history seat low high (line ∷ lines) records own fits 
   own_is = fits.own_is;
   first = elim fits.first [
     | inl done ↦ inl (search (rules, done.stands, done.step))
-    | inr given ↦ inr (given.0, given_text given.1)
+    | inr (is, given) ↦ inr (
+      is,
+      record {
+        told = rw (given.soft, given.told)
+            ((bytes_eq-Decides _ _).1 (ap (λ (n : ℕ). told_text seat line.number (given_up seat n)) (sym given.allowed)));
+        nothing = given.nothing;
+        between_is = given.seen;
+      },
+    )
   ];
   rest = texts_of_section beside history seat fits.between high lines fits.later fits.made_later fits.rest;
 })
@@ -102,7 +101,7 @@ texts_of_section beside history seat low high (line ∷ lines) records own fits 
 pub record RecordsFit (beside : Bool) (history : List Entry) (seat len sights : ℕ) (lines : List Line) (texts : List (List ℕ))
     (own : List Entry) : Type 0 where
   pub records : List Record
-  pub high : Mark
+  pub high : Progress
   pub fits : SectionFits beside history seat (record { seen = len; sights = sights }) lines [] records own high
   pub texts_are : map record_text records ≡ texts
 

@@ -1,12 +1,13 @@
 -- What workers may make, entry by entry.
-use Rattle.std.proofs.Common.{ℕ, suc, ◌≡◌, ◌≢◌, ◌<◌, true, false, List, [], ◌∷◌, ◌++◌, length, refl, sym, subst, append_assoc, length-append, arith, eqb, inl, inr}
+use Rattle.std.proofs.Common.{ℕ, ◌≡◌, ◌≢◌, ◌<◌, true, false, List, [], ◌∷◌, ◌++◌, length, refl, sym, subst, append_assoc, length-append, arith, eqb, inl, inr}
 use Rattle.std.specs.List.{All, AllPairs}
 use Rattle.std.proofs.Math.Seq.{get_or-append_seam}
 use Rattle.std.proofs.lemmas.List.{append-nil, get_or_append_left}
 use Rattle.std.proofs.lemmas.List.Elements.{All-push, filter-append}
+use Rattle.std.proofs.lemmas.List.Folds.{list_any_at, list_any_none}
 use Rattle.std.proofs.lemmas.List.Quantifiers.{all_pairs_push}
-use Rattle.std.proofs.lemmas.Bool.{false≢true, cases_Bool, eqb-true, eq-eqb, both_ways, or_parts, and_parts, false_from_ne_true}
-use Rattle.list_laws.proofs.FrontLemmas.{All-cons, filter_more, filter_same}
+use Rattle.std.proofs.lemmas.Bool.{false≢true, cases_Bool, eqb-true, eq-eqb, both_ways, and_parts, false_from_ne_true}
+use Rattle.list_laws.proofs.PrefixLemmas.{filter_more, filter_same}
 use Rattle.write_history.specs.declared.change.Change.{Change}
 use Rattle.write_history.specs.declared.change.Change.TheVariants.{Intake}
 use Rattle.write_history.specs.declared.entry.Entry.{Entry}
@@ -84,18 +85,10 @@ intake_is file stamp changes h = absurd (false≢true h)
 
 pub taken_anew : (file stamp : ℕ) (entries : List Entry) → has_taken file stamp entries ≡ false
     → All (λ (d : Entry). d.changes ≢ Intake file stamp ∷ []) entries
-taken_anew file stamp [] none = λ k d less. absurd (omega arith)
-taken_anew file stamp (e ∷ entries) none =
-    let parts = or_parts _ _ none in
-    All-cons (λ (d : Entry). d.changes ≢ Intake file stamp ∷ []) e entries
-    (λ same. both_ways (is_intake_at file stamp e.changes) parts.0 (rw (same, eq-eqb file file refl, eq-eqb stamp stamp refl)))
-    (taken_anew file stamp entries parts.1)
+taken_anew file stamp entries none = λ k d less same. both_ways (has_taken file stamp entries) none
+    (list_any_at (λ (e : Entry). is_intake_at file stamp e.changes) entries k d less (rw (same, eq-eqb file file refl, eq-eqb stamp stamp refl)))
 
 pub not_taken : (file stamp : ℕ) (entries : List Entry) → All (λ (d : Entry). d.changes ≢ Intake file stamp ∷ []) entries
     → has_taken file stamp entries ≡ false
-not_taken file stamp [] anew = refl
-not_taken file stamp (e ∷ entries) anew =
-    rw (
-      false_from_ne_true _ (λ h. anew 0 e (omega arith) (intake_is file stamp e.changes h)),
-      not_taken file stamp entries (λ k d less. anew (suc k) d (omega arith)),
-    )
+not_taken file stamp entries anew = list_any_none (λ (e : Entry). is_intake_at file stamp e.changes) entries
+    (λ k d less. false_from_ne_true _ (λ h. anew k d less (intake_is file stamp _ h)))

@@ -18,7 +18,7 @@ use Rattle.script_lang.specs.declared.line.Line.{Line}
 use Rattle.transcripts.specs.declared.record.Answer.{Answer}
 use Rattle.transcripts.specs.declared.record.Answer.TheVariants.{Accepted, Refused, NotText, Smart}
 use Rattle.transcripts.specs.Serial.{CommandStep, answer_of}
-use Rattle.transcript_check.specs.Section.{Cursor, Made, is_nil, told_text, told_here, made_here, is_told_here}
+use Rattle.transcript_check.specs.Section.{Cursor, NextEntry, is_nil, told_text, told_here, made_here, is_told_here}
 
 -- the answer of a step that adds nothing
 abbrev pub told_by : CommandStep → Option Answer
@@ -108,7 +108,7 @@ pub record IsToldAll (beside : Bool) (world : World) (cursor cursor' : Cursor) :
   pub is : (history : List Entry) → fold history ≡ world → cursor' ≡ told_here beside history cursor
 
 -- the entry of a section went in where its text is this, and the section stands behind it
-abbrev pub IsMadeAs : Option Made → List Entry → World → Cursor → List ℕ → Bool → Type 0
+abbrev pub IsMadeAs : Option NextEntry → List Entry → World → Cursor → List ℕ → Bool → Type 0
 IsMadeAs None history after cursor' text went = went ≡ false
 IsMadeAs (Some made) history after cursor' text went =
     (went ≡ bytes_eq (entry_line (length history + 1) made.entry) text)

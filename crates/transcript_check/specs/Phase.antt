@@ -13,7 +13,7 @@ use Rattle.write_history.specs.Settle.{intake_entry}
 use Rattle.script_lang.specs.declared.line.Line.{Line}
 use Rattle.transcripts.specs.Fits.{made_by}
 use Rattle.transcript_check.specs.Reading.{seat_in, file_in}
-use Rattle.transcript_check.specs.Section.{Cursor, Made, told_here, is_over, made_here}
+use Rattle.transcript_check.specs.Section.{Cursor, NextEntry, told_here, is_over, made_here}
 
 -- Who runs side by side behind a history: lanes with the seats from 1 on, workers with the seats behind them, and whether a lane has
 -- another lane or a worker beside it
@@ -37,9 +37,9 @@ abbrev pub is_busy : List Cursor → Bool
 is_busy cursors = list_any (λ (c : Cursor). c.settling) cursors
 
 -- a section's next entry goes in beside others, none of which is in the middle of a settle
-abbrev pub went_first : List Cursor → Option Made → Option Went
+abbrev pub went_first : List Cursor → Option NextEntry → Option Went
 went_first others made =
-    if is_busy others then None else option_map (λ (m : Made). record { entry = m.entry; cursors = m.cursor ∷ others }) made
+    if is_busy others then None else option_map (λ (m : NextEntry). record { entry = m.entry; cursors = m.cursor ∷ others }) made
 
 -- an entry of a later section goes in beside this one, which isn't in the middle of a settle
 abbrev pub went_later : Cursor → Option Went → Option Went

@@ -66,7 +66,7 @@ abbrev pub is_over : Cursor → Bool
 is_over cursor = is_nil cursor.lines && is_nil cursor.texts && not cursor.settling
 
 -- the entry that a section makes next, and how it stands behind it
-pub record Made : Type 0 where
+pub record NextEntry : Type 0 where
   pub entry : Entry
   pub cursor : Cursor
 
@@ -76,14 +76,14 @@ is_settle command.Settle = true
 is_settle command = false
 
 -- Of what a line adds here the first entry: behind it a settle is on its way, and any other line is done where its record has this text
-abbrev pub made_by_line : Bool → Bool → (on_the_way done : Cursor) → List Entry → Option Made
+abbrev pub made_by_line : Bool → Bool → (on_the_way done : Cursor) → List Entry → Option NextEntry
 made_by_line settles told on_the_way done [] = None
 made_by_line settles told on_the_way done (entry ∷ added) =
     if settles then Some (record { entry = entry; cursor = on_the_way })
     else if told then Some (record { entry = entry; cursor = done }) else None
 
 -- the next entry of a section with these lines and texts left
-abbrev pub made_from : List Entry → ℕ → List Line → List (List ℕ) → Option Made
+abbrev pub made_from : List Entry → ℕ → List Line → List (List ℕ) → Option NextEntry
 made_from history seat [] texts = None
 made_from history seat (line ∷ lines) [] = None
 made_from history seat (line ∷ lines) (text ∷ texts) =
@@ -93,5 +93,5 @@ made_from history seat (line ∷ lines) (text ∷ texts) =
     (line_step history seat line).added
 
 -- the entry that a section makes next here, behind all records that are told here
-abbrev pub made_here : List Entry → Cursor → Option Made
+abbrev pub made_here : List Entry → Cursor → Option NextEntry
 made_here history cursor = made_from history cursor.seat cursor.lines cursor.texts

@@ -1,6 +1,7 @@
 -- What was read for the lines of a prelude, and which files the tree was asked for.
 use Rattle.std.proofs.Common.{◌≡◌, ℕ, ◌+◌, ◌<◌, ◌≤◌, true, List, [], ◌∷◌, ◌++◌, length, drop, get_or, refl, sym, ap, subst, ◌∙◌, append-nil, append_assoc, arith, Option, if◌then◌else◌}
-use Rattle.std.proofs.lemmas.List.{drop_all, drop_more}
+use Rattle.std.proofs.lemmas.List.{drop_all}
+use Rattle.list_laws.proofs.PartLemmas.{next_left}
 use Rattle.ide_io.specs.Files.{TreeFiles}
 use Rattle.ide_io.specs.Asks.{AsksEach, AsksFront, AsksSome, IsAskedInTurn}
 use Rattle.write_history.specs.Path.{is_path}
@@ -16,10 +17,6 @@ pub loads_end : (files : Option TreeFiles) (lines : List Line) (loads : List Loa
 loads_end files lines loads i past read =
     subst (AreLoadsOf files lines) (append-nil loads) (read [] (subst (λ (left : List Line). AreLoadsOf files left []) (sym (drop_all i lines past)) refl))
 
--- what is left from a place on, with the line there
-pub drop_at : (lines : List Line) (i : ℕ) (line : Line) → i < length lines → line ≡ get_or lines i line → drop i lines ≡ line ∷ drop (i + 1) lines
-drop_at lines i line within is = drop_more lines i line within ∙ ap (λ l. l ∷ drop (i + 1) lines) (sym is)
-
 -- what was read for all lines, with one load more
 pub loads_turn : (files : Option TreeFiles) (lines : List Line) (line : Line) (loads more : List Loaded) (load : Loaded) (i : ℕ) → i < length lines → line ≡ get_or lines i line
     → more ≡ loads ++ load ∷ [] → IsLoadOf files line.command load
@@ -27,7 +24,7 @@ pub loads_turn : (files : Option TreeFiles) (lines : List Line) (line : Line) (l
     → (rest : List Loaded) → AreLoadsOf files (drop (i + 1) lines) rest → AreLoadsOf files lines (more ++ rest)
 loads_turn files lines line loads more load i within is added of read rest later =
     subst (AreLoadsOf files lines) (sym (ap (λ l. l ++ rest) added ∙ append_assoc loads (load ∷ []) rest))
-    (read (load ∷ rest) (subst (λ left. AreLoadsOf files left (load ∷ rest)) (sym (drop_at lines i line within is)) (of, later)))
+    (read (load ∷ rest) (subst (λ left. AreLoadsOf files left (load ∷ rest)) (sym (next_left lines i within is)) (of, later)))
 
 -- a load of a lawful path asks for the file there
 pub load_asks : (command : Command) (path : List ℕ) → command ≡ Load path → is_path path ≡ true → paths_asked command ≡ path ∷ []
@@ -52,7 +49,7 @@ pub has_asked_turn : {T : Type 0} (asks : T → List ℕ → T → Type 0) → I
     → HasAsked asks old lines (i + 1) new
 has_asked_turn asks law old mid new lines line i within is before more = record {
   front = before.front ++ paths_asked line.command;
-  paths_are = before.paths_are ∙ ap (λ l. before.front ++ paths_of l) (drop_at lines i line within is)
+  paths_are = before.paths_are ∙ ap (λ l. before.front ++ paths_of l) (next_left lines i within is)
       ∙ sym (append_assoc before.front (paths_asked line.command) (paths_of (drop (i + 1) lines)));
   asked = law.each old mid new before.front (paths_asked line.command) before.asked more;
 }
@@ -62,7 +59,7 @@ pub has_asked_some : {T : Type 0} (asks : T → List ℕ → T → Type 0) → I
     → i < length lines → line ≡ get_or lines i line → HasAsked asks old lines i mid → AsksSome asks mid (paths_asked line.command) new
     → AsksSome asks old (paths_of lines) new
 has_asked_some asks law old mid new lines line i within is before more =
-    subst (λ paths. AsksSome asks old paths new) (sym (before.paths_are ∙ ap (λ l. before.front ++ paths_of l) (drop_at lines i line within is)))
+    subst (λ paths. AsksSome asks old paths new) (sym (before.paths_are ∙ ap (λ l. before.front ++ paths_of l) (next_left lines i within is)))
     (law.some old mid new before.front (paths_of (line ∷ drop (i + 1) lines)) before.asked
     (law.some_more mid new (paths_asked line.command) (paths_of (drop (i + 1) lines)) more))
 
@@ -71,7 +68,7 @@ pub has_asked_front : {T : Type 0} (asks : T → List ℕ → T → Type 0) → 
     → i < length lines → line ≡ get_or lines i line → HasAsked asks old lines i mid → AsksFront asks mid (paths_asked line.command) new
     → AsksFront asks old (paths_of lines) new
 has_asked_front asks law old mid new lines line i within is before more =
-    subst (λ paths. AsksFront asks old paths new) (sym (before.paths_are ∙ ap (λ l. before.front ++ paths_of l) (drop_at lines i line within is)))
+    subst (λ paths. AsksFront asks old paths new) (sym (before.paths_are ∙ ap (λ l. before.front ++ paths_of l) (next_left lines i within is)))
     (law.front old mid new before.front (paths_of (line ∷ drop (i + 1) lines)) before.asked
     (law.front_more mid new (paths_asked line.command) (paths_of (drop (i + 1) lines)) more))
 

@@ -3,12 +3,8 @@ use Rattle.std.proofs.Common.{ℕ, ◌≡◌, ◌+◌, ◌-◌, List, ◌∷◌,
 use Rattle.write_history.specs.declared.entry.Entry.{Entry}
 use Rattle.write_history.specs.Print.{entry_line}
 use Rattle.transcripts.specs.Transcript.{entry_lines}
-use Rattle.std.proofs.lemmas.List.{drop_more}
+use Rattle.list_laws.proofs.PartLemmas.{next_left}
 use Rattle.std.proofs.lemmas.Option.{slice_get_within, get_or_from_slice_get}
-
--- the rest of a list from a place on begins with what stands there
-drop_at : {X : Type 0} (xs : List X) (i : ℕ) (x : X) → slice_get xs i ≡ Some x → drop i xs ≡ x ∷ drop (i + 1) xs
-drop_at xs i x h = drop_more xs i x (slice_get_within xs i x h) ∙ ap (λ y. y ∷ drop (i + 1) xs) (get_or_from_slice_get xs i x x h)
 
 before_position : (n : ℕ) → n + 1 - 1 ≡ n
 before_position n = omega arith
@@ -17,7 +13,8 @@ before_position n = omega arith
 pub entries_turn : (out new line all : List ℕ) (entries : List Entry) (n : ℕ) (entry : Entry) → slice_get entries (n + 1 - 1) ≡ Some entry → new ≡ out ++ line → line ≡ entry_line (n + 1) entry
     → out ++ entry_lines (n + 1) (drop n entries) ≡ all → new ++ entry_lines (n + 1 + 1) (drop (n + 1) entries) ≡ all
 entries_turn out new line all entries n entry is grown printed rest =
-    let here : drop n entries ≡ entry ∷ drop (n + 1) entries = drop_at entries n entry (subst (λ i. slice_get entries i ≡ Some entry) (before_position n) is) in
+    let here : drop n entries ≡ entry ∷ drop (n + 1) entries = let there : slice_get entries n ≡ Some entry = rw (before_position n) at is in
+    next_left entries n (slice_get_within entries n entry there) (sym (get_or_from_slice_get entries n entry entry there)) in
     ap (λ bs. bs ++ entry_lines (n + 1 + 1) (drop (n + 1) entries)) (grown ∙ ap (λ l. out ++ l) printed)
     ∙ append_assoc out (entry_line (n + 1) entry) (entry_lines (n + 1 + 1) (drop (n + 1) entries))
     ∙ sym (ap (λ es. out ++ entry_lines (n + 1) es) here) ∙ rest

@@ -1,6 +1,6 @@
 -- What the records of a run say of a history that others write too: each command was done behind a prefix of it.
 use Rattle.std.specs.Prelude.{ℕ, suc, ◌≡◌, ◌+◌, ◌≤◌, ◌⊎◌, nat_lt, Bool, true, false, List, [], ◌∷◌, ◌++◌, length, All, None}
-use Rattle.list_laws.specs.Fronts.{IsFront}
+use Rattle.list_laws.specs.Prefixes.{IsPrefix}
 use Rattle.action_lock.specs.Counts.{HasRisenBy}
 use Rattle.action_lock.specs.Rule.{entries_of}
 use Rattle.write_history.specs.declared.entry.Entry.{Entry}
@@ -23,26 +23,26 @@ use Rattle.transcripts.specs.declared.record.Record.{Record}
 use Rattle.transcripts.specs.Serial.{RunEnd, step_of, first_load, later_loads}
 
 -- how far a section has come: how many entries it has seen, and how often it has found that a write waits
-pub record Mark : Type 0 where
+pub record Progress : Type 0 where
   pub seen : ℕ
   pub sights : ℕ
 
 -- so many entries seen, and no write found waiting
-abbrev pub mark_at : ℕ → Mark
-mark_at seen = record { seen = seen; sights = 0 }
+abbrev pub progress_at : ℕ → Progress
+progress_at seen = record { seen = seen; sights = 0 }
 
 -- The command of a line was done behind `start`, a prefix of the history that has all that the section had seen: it was answered what
 -- one thread is answered there, and what it made stands right behind that prefix
-pub record IsDone (history : List Entry) (seat : ℕ) (line : Line) (load : Loaded) (low : Mark) (own : List Entry) (answer : Answer) (high : Mark) : Type 0 where
+pub record IsDone (history : List Entry) (seat : ℕ) (line : Line) (load : Loaded) (low : Progress) (own : List Entry) (answer : Answer) (high : Progress) : Type 0 where
   pub start : List Entry
   pub late : low.seen ≤ length start
-  pub stands : IsFront (start ++ own) history
+  pub stands : IsPrefix (start ++ own) history
   pub step : step_of load start seat line.number line.command ≡ record { added = own; answer = answer }
   pub seen : high.seen ≡ length (start ++ own)
   pub sights : low.sights ≤ high.sights
 
 -- The soft question of a line was given up, having found as often as it was allowed that a write waits; nothing was made
-pub record IsGivenUp (seat : ℕ) (line : Line) (low : Mark) (own : List Entry) (answer : Answer) (high : Mark) : Type 0 where
+pub record IsGivenUp (seat : ℕ) (line : Line) (low : Progress) (own : List Entry) (answer : Answer) (high : Progress) : Type 0 where
   pub attempts : ℕ
   pub query : Query
   pub soft : line.command ≡ Soft attempts query
@@ -57,16 +57,16 @@ pub record IsGivenUp (seat : ℕ) (line : Line) (low : Mark) (own : List Entry) 
   pub sights : high.sights ≡ sighted.after
 
 -- what the answer to a line says: it was done, or, only where another section runs beside, given up
-abbrev pub Fits : Bool → List Entry → ℕ → Line → Loaded → Mark → List Entry → Answer → Mark → Type 0
+abbrev pub Fits : Bool → List Entry → ℕ → Line → Loaded → Progress → List Entry → Answer → Progress → Type 0
 Fits beside history seat line load low own answer high =
     IsDone history seat line load low own answer high ⊎ ((beside ≡ true) × IsGivenUp seat line low own answer high)
 
 -- the first line of a section fits, and `Rest` holds of the later records, of what they made, and of the mark in between
-pub record FitsFirst (beside : Bool) (history : List Entry) (seat : ℕ) (low : Mark) (line : Line) (load : Loaded)
-    (Rest : List Record → List Entry → Mark → Type 0) (records : List Record) (own : List Entry) : Type 0 where
+pub record FitsFirst (beside : Bool) (history : List Entry) (seat : ℕ) (low : Progress) (line : Line) (load : Loaded)
+    (Rest : List Record → List Entry → Progress → Type 0) (records : List Record) (own : List Entry) : Type 0 where
   pub answer : Answer
   pub made : List Entry
-  pub between : Mark
+  pub between : Progress
   pub later : List Record
   pub made_later : List Entry
   pub records_are : records ≡ record { seat = seat; line = line.number; answer = answer } ∷ later
@@ -76,7 +76,7 @@ pub record FitsFirst (beside : Bool) (history : List Entry) (seat : ℕ) (low : 
 
 -- The records of a section fit the history from one mark to another, of which these are its own entries in order: one record for each line,
 -- each behind all that the ones before had seen
-abbrev pub SectionFits : Bool → List Entry → ℕ → Mark → List Line → List Loaded → List Record → List Entry → Mark → Type 0
+abbrev pub SectionFits : Bool → List Entry → ℕ → Progress → List Line → List Loaded → List Record → List Entry → Progress → Type 0
 SectionFits beside history seat low [] loads records own high = (records ≡ []) × (own ≡ []) × (high ≡ low)
 SectionFits beside history seat low (line ∷ lines) loads records own high =
     FitsFirst beside history seat low line (first_load loads)
@@ -87,17 +87,17 @@ abbrev pub made_by : ℕ → List Entry → List Entry
 made_by seat entries = entries_of (λ (e : Entry). e.seat) seat entries
 
 -- a lane's records come first, and fit the history from this mark on, of which the entries with its seat are its own; `Rest` holds of the others
-pub record FitsLane (beside : Bool) (history : List Entry) (seat : ℕ) (low : Mark) (lane : List Line) (entries : List Entry)
+pub record FitsLane (beside : Bool) (history : List Entry) (seat : ℕ) (low : Progress) (lane : List Line) (entries : List Entry)
     (Rest : List Record → Type 0) (records : List Record) : Type 0 where
   pub own_records : List Record
   pub others : List Record
-  pub high : Mark
+  pub high : Progress
   pub records_are : records ≡ own_records ++ others
   pub fits : SectionFits beside history seat low lane [] own_records (made_by seat entries) high
   pub rest : Rest others
 
 -- the records of lanes, one lane after the other; the first has this seat, and all begin at the same mark
-abbrev pub LanesFit : Bool → List Entry → Mark → ℕ → List (List Line) → List Entry → List Record → Type 0
+abbrev pub LanesFit : Bool → List Entry → Progress → ℕ → List (List Line) → List Entry → List Record → Type 0
 LanesFit beside history low seat [] entries records = records ≡ []
 LanesFit beside history low seat (lane ∷ lanes) entries records =
     FitsLane beside history seat low lane entries (LanesFit beside history low (suc seat) lanes entries) records
@@ -105,7 +105,7 @@ LanesFit beside history low seat (lane ∷ lanes) entries records =
 -- a prefix of the history of this length, not shorter than what the worker had seen, after which no file is unready
 pub record IsReadyAt (history : List Entry) (low len : ℕ) : Type 0 where
   pub start : List Entry
-  pub stands : IsFront start history
+  pub stands : IsPrefix start history
   pub whole : length start ≡ len
   pub late : low ≤ len
   pub smart : lowest_unready (fold start) ≡ None
@@ -150,12 +150,12 @@ pub record RunFits (loads : List Loaded) (script : Parts) (workers : List Worked
   pub prelude_records : List Record
   pub lanes_records : List Record
   pub records : ended.records ≡ prelude_records ++ lanes_records
-  pub prelude_end : Mark
-  pub prelude : SectionFits false opening 0 (mark_at 0) script.prelude loads prelude_records opening prelude_end
-  pub lanes : LanesFit (run_beside (length script.lanes) (length workers)) (opening ++ middle) (mark_at (length opening)) 1 script.lanes middle lanes_records
+  pub prelude_end : Progress
+  pub prelude : SectionFits false opening 0 (progress_at 0) script.prelude loads prelude_records opening prelude_end
+  pub lanes : LanesFit (run_beside (length script.lanes) (length workers)) (opening ++ middle) (progress_at (length opening)) 1 script.lanes middle lanes_records
   pub seats : All (λ (e : Entry). IsSeatOf (length script.lanes + length workers) e.seat) middle
   pub worked : WorkersFit (opening ++ middle) (length opening) (1 + length script.lanes) middle workers
-  pub last_begins : Mark
+  pub last_begins : Progress
   pub last_behind : last_begins.seen ≡ length (opening ++ middle)
-  pub last_end : Mark
+  pub last_end : Progress
   pub last : SectionFits false ended.history 0 last_begins script.last [] ended.last closing last_end

@@ -8,7 +8,7 @@ pub mod Transcript
 -- Where a script leads, and which bytes print it
 pub mod Play
 -- What these cite from below: scripts, answers, and the history
-pub use Rattle.list_laws.specs.Fronts
+pub use Rattle.list_laws.specs.Prefixes
 pub use Rattle.script_lang.specs.Grammar
 pub use Rattle.query_engine.specs.Reply
 pub use Rattle.write_history.specs.World

@@ -98,12 +98,12 @@ step_of load history seat line (command.Ask query) = query_step history query
 step_of load history seat line (command.Soft attempts query) = query_step history query
 
 -- a history and the records of the commands so far
-pub record Done : Type 0 where
+pub record RunState : Type 0 where
   pub history : List Entry
   pub records : List Record
 
 -- what stands after a step of a line
-abbrev pub after_step : Done → ℕ → ℕ → CommandStep → Done
+abbrev pub after_step : RunState → ℕ → ℕ → CommandStep → RunState
 after_step done seat line step =
     record { history = done.history ++ step.added; records = done.records ++ record { seat = seat; line = line; answer = step.answer } ∷ [] }
 
@@ -118,13 +118,13 @@ later_loads [] = []
 later_loads (load ∷ loads) = loads
 
 -- going on with the lines of a section, of each of which this was read
-abbrev pub done_from : ℕ → Done → List Line → List Loaded → Done
+abbrev pub done_from : ℕ → RunState → List Line → List Loaded → RunState
 done_from seat done [] loads = done
 done_from seat done (line ∷ lines) loads =
     done_from seat (after_step done seat line.number (step_of (first_load loads) done.history seat line.number line.command)) lines (later_loads loads)
 
 -- going on with lanes one after another, the first of which has this seat
-abbrev pub lanes_from : ℕ → Done → List (List Line) → Done
+abbrev pub lanes_from : ℕ → RunState → List (List Line) → RunState
 lanes_from seat done [] = done
 lanes_from seat done (lane ∷ lanes) = lanes_from (seat + 1) (done_from seat done lane []) lanes
 
@@ -135,15 +135,15 @@ pub record RunEnd : Type 0 where
   pub last : List Record
 
 -- the last section, after all others
-abbrev pub end_of : Done → Done → RunEnd
+abbrev pub end_of : RunState → RunState → RunEnd
 end_of before last = record { history = last.history; records = before.records; last = last.records }
 
 -- prelude and lanes, from the empty history
-abbrev pub before_last : List Loaded → Parts → Done
+abbrev pub before_last : List Loaded → Parts → RunState
 before_last loads script = lanes_from 1 (done_from 0 (record { history = []; records = [] }) script.prelude loads) script.lanes
 
 -- the last section, from a history on
-abbrev pub last_from : List Entry → List Line → Done
+abbrev pub last_from : List Entry → List Line → RunState
 last_from history lines = done_from 0 (record { history = history; records = [] }) lines []
 
 -- a whole script, where this was read for each line of its prelude, and nothing for others

@@ -6,12 +6,12 @@ ghost use Rattle.script_lang.specs.Parts.{Parts};
 ghost use Rattle.transcripts.specs.declared.loaded.Loaded.{Loaded};
 ghost use Rattle.transcripts.specs.declared.record.Record.{Record};
 ghost use Rattle.transcripts.specs.Serial.{RunEnd, done_from, run_of};
-ghost use Rattle.transcripts.specs.Fits.{Mark, SectionFits, RunFits};
+ghost use Rattle.transcripts.specs.Fits.{Progress, SectionFits, RunFits};
 
 /// Where all that a history has behind a place was made by one section that began there, its records are those of going
 /// through its lines on one thread.
 pub fn a_section_alone_is_serial()
-    ensures { (seat : ℕ) (low : Mark) (high : Mark) (lines : List Line) (loads : List Loaded)
+    ensures { (seat : ℕ) (low high : Progress) (lines : List Line) (loads : List Loaded)
         (earlier : List Record) (records : List Record) (start : List Entry) (own : List Entry)
         → low.seen ≡ length start
         → SectionFits false (start ++ own) seat low lines loads records own high

@@ -4,7 +4,7 @@ use Rattle.std.specs.Option.{option_map_or}
 use Rattle.std.specs.Map.{keys_of}
 use Rattle.vfs_core.specs.declared.files.Files.TheInside.{Inside}
 use Rattle.vfs_core.specs.Row.{row_in, has_path, IsStamped}
-use Rattle.vfs_core.specs.Held.{Held}
+use Rattle.vfs_core.specs.FilesView.{FilesView}
 use Rattle.vfs_core.specs.Table.{id_kept}
 
 -- whether it is this id
@@ -12,7 +12,7 @@ abbrev pub is_id : ℕ → Option ℕ → Bool
 is_id id kept = option_map_or (λ k. k == id) kept false
 
 -- what contracts see of files
-abbrev pub held : Inside → Held
+abbrev pub held : Inside → FilesView
 held inside = record { rows = inside.rows.rows; next_stamp = inside.next_stamp; capacity = inside.rows.capacity; places = keys_of inside.paths }
 
 -- the map has an id for a path exactly where the row with that id is live and has the path, and no stamp of a row is

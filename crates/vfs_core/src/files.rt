@@ -3,7 +3,7 @@ ghost use Rattle.std.specs.Prelude.{◌≡◌, ◌≤◌, ◌<◌, ◌-◌, ◌+
 ghost use Rattle.std.specs.Map.{keys_of};
 ghost use Rattle.std.specs.Option.{option_copied};
 ghost use Rattle.vfs_core.specs.Row.{IsStamped, has_path, with_row, new_row, rewritten, renamed, indexed_now};
-ghost use Rattle.vfs_core.specs.Held.{has_name, row_of, id_at, HasRowRoom, HasPathRoom, KeepsRoom, MayHave};
+ghost use Rattle.vfs_core.specs.FilesView.{has_name, row_of, id_at, HasRowRoom, HasPathRoom, KeepsRoom, MayHave};
 ghost use Rattle.vfs_core.specs.Table.{live_count, id_kept, id_after};
 
 use crate::FileRow;
@@ -22,9 +22,9 @@ pub struct Files {
 }
 
 impl Model for Files {
-    ghost use Rattle.vfs_core.specs.Held.{Held};
+    ghost use Rattle.vfs_core.specs.FilesView.{FilesView};
 
-    ghost Value = { Held };
+    ghost Value = { FilesView };
 
     ghost use Rattle.vfs_core.specs.Kept.{held, IsKept};
 

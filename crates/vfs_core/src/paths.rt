@@ -1,7 +1,7 @@
 //! The ids of files by their paths, each found, kept and changed in constant time on average.
 ghost use Rattle.std.specs.Prelude.{◌≡◌, ℕ, [], None, Bool, not, ◌&&◌, ◌||◌, List, IsTrue, OnOk, IfOk, bytes_eq, is_some, if◌then◌else◌};
 ghost use Rattle.std.specs.Map.{keys_of};
-ghost use Rattle.vfs_core.specs.Held.{has_name};
+ghost use Rattle.vfs_core.specs.FilesView.{has_name};
 ghost use Rattle.vfs_core.specs.Table.{id_kept};
 
 use ide_text::Name;

@@ -1,6 +1,6 @@
 //! Edits of a workspace, and questions asked of it.
 ghost use Rattle.std.specs.Prelude.{◌≡◌, ◌∷◌, [], true, IfOk};
-ghost use Rattle.list_laws.specs.Fronts.{IsFront};
+ghost use Rattle.list_laws.specs.Prefixes.{IsPrefix};
 ghost use Rattle.write_history.specs.Fold.{fold};
 ghost use Rattle.write_history.specs.Changes.{is_edit};
 
@@ -30,7 +30,7 @@ pub enum Edit {
 
 /// Makes these edits, one after another, and tells how many were accepted.
 pub fn changed(alloc: Global, home: &mut IdeHome, edits: &[Edit]) -> Result<u32, AllocError>
-    ensures { IsFront home.old home.new }
+    ensures { IsPrefix home.old home.new }
 {
     let mut accepted = 0u32;
     for edit in edits {
@@ -44,7 +44,7 @@ pub fn changed(alloc: Global, home: &mut IdeHome, edits: &[Edit]) -> Result<u32,
 /// Makes one change, and tells whether it was accepted.
 pub fn put(alloc: Global, home: &mut IdeHome, change: Change) -> Result<bool, AllocError>
     requires { is_edit change ≡ true }
-    ensures { IsFront home.old home.new }
+    ensures { IsPrefix home.old home.new }
 {
     let share = share_of(alloc, home)?;
     match prepare(alloc, share.state(), &change) {

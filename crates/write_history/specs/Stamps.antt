@@ -9,7 +9,7 @@ pub record IsAsStamped (old new : File) : Type 0 where
   pub path : new.path ≡ old.path
 
 -- what has an id goes, or is as it was stamped, or has a new stamp
-abbrev pub KeepsOrRenews : (ℕ → Type 0) → Option File → Option File → Type 0
-KeepsOrRenews IsNew old None = Unit {0}
-KeepsOrRenews IsNew None (Some new) = IsNew new.stamp
-KeepsOrRenews IsNew (Some old) (Some new) = IsAsStamped old new ⊎ IsNew new.stamp
+abbrev pub KeepsOrDrawsStamp : (ℕ → Type 0) → Option File → Option File → Type 0
+KeepsOrDrawsStamp IsNew old None = Unit {0}
+KeepsOrDrawsStamp IsNew None (Some new) = IsNew new.stamp
+KeepsOrDrawsStamp IsNew (Some old) (Some new) = IsAsStamped old new ⊎ IsNew new.stamp

@@ -3,7 +3,7 @@ use Rattle.std.proofs.lemmas.List.Elements.{All-append}
 use Rattle.action_lock.specs.declared.slot.Slot.{Slot}
 use Rattle.action_lock.specs.declared.slot.Slot.TheVariants.{Share}
 use Rattle.action_lock.specs.Slots.{HasNoHome, MayKeep}
-use Rattle.list_laws.proofs.FrontLemmas.{All-cons}
+use Rattle.list_laws.proofs.PrefixLemmas.{All-cons}
 use Rattle.action_lock.proofs.lock.shares_of.Goals as goal
 
 module _ {H S : Type 0} where

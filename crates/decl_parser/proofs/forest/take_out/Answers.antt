@@ -1,4 +1,4 @@
-use Rattle.std.proofs.Common.{◌<◌, ◌≤◌, length, ap, ◌∙◌, arith, slice_set}
+use Rattle.std.proofs.Common.{arith}
 use Rattle.decl_parser.specs.declared.role.Role.TheVariants.{Lone}
 use Rattle.decl_parser.specs.Node.{in_role}
 use Rattle.decl_parser.proofs.ForestLemmas.{changed-set, changed-beyond}
@@ -6,11 +6,7 @@ use Rattle.decl_parser.proofs.forest.take_out.Goals as goal
 
 pub returns-then-place-len-clause-role : goal.returns-then-place-len-clause-role
 returns-then-place-len-clause-role c =
-    let inside : c.args.place < length c.args.nodes.now.items = omega arith in
-    ap (slice_set c.args.nodes.now.items c.args.place) c.with_role.ensures
-    ∙ changed-set (in_role Lone) c.args.nodes.now.items c.args.place c.index.result.now c.index.ensures inside
+    rw c.with_role.ensures (changed-set (in_role Lone) c.args.nodes.now.items c.args.place _ c.index.ensures (omega arith))
 
 pub returns-else-place-len-clause-role : goal.returns-else-place-len-clause-role
-returns-else-place-len-clause-role c =
-    let beyond : length c.args.nodes.now.items ≤ c.args.place = omega arith in
-    changed-beyond (in_role Lone) c.args.nodes.now.items c.args.place beyond
+returns-else-place-len-clause-role c = changed-beyond (in_role Lone) c.args.nodes.now.items c.args.place (omega arith)

@@ -1,5 +1,9 @@
-use Rattle.decl_parser.proofs.ListedNames.{listing-named}
+use Rattle.decl_parser.specs.Listing.{IsNamedIn}
+use Rattle.decl_parser.proofs.Levels.{listing-all}
+use Rattle.decl_parser.proofs.Sound.{stub-named}
 use Rattle.decl_parser.proofs.laws.names_are_identifiers.Goals as goal
 
 pub returns : goal.returns
-returns c = λ text. listing-named text (c.tokens_cover_their_text.ensures.follow text) (c.tokens_cover_their_text.ensures.inside text)
+returns c text =
+    let cut = c.tokens_cover_their_text.ensures in
+    listing-all text (IsNamedIn text) (stub-named text) (cut.follow text) (cut.inside text)

@@ -1,12 +1,10 @@
-use Rattle.java_tokens.specs.Tokens.{tokens_of}
-use Rattle.decl_parser.specs.Forest.{forest_of}
-use Rattle.decl_parser.specs.Listing.{listing_of}
-use Rattle.decl_parser.proofs.ForestRising.{forest-rises}
-use Rattle.decl_parser.proofs.ListingLawful.{listing-rises}
+use Rattle.std.specs.Prelude.{None}
+use Rattle.decl_parser.specs.Listing.{IsNamedIn}
+use Rattle.decl_parser.proofs.Levels.{after-rises, listing-after}
+use Rattle.decl_parser.proofs.Sound.{stub-named}
 use Rattle.decl_parser.proofs.laws.offsets_rise.Goals as goal
 
 pub returns : goal.returns
-unfolding listing_of
 returns c text =
-    listing-rises text (forest_of text (tokens_of text)) (forest-rises text (c.tokens_cover_their_text.ensures.follow text)
-    (c.tokens_cover_their_text.ensures.inside text))
+    let cut = c.tokens_cover_their_text.ensures in
+    after-rises _ None _ (listing-after text (IsNamedIn text) (stub-named text) (cut.follow text) (cut.inside text))

@@ -1,5 +1,10 @@
-use Rattle.decl_parser.proofs.ListedNames.{listing-supers}
+use Rattle.std.specs.Prelude.{All}
+use Rattle.decl_parser.specs.Listing.{IsIdentifierOf}
+use Rattle.decl_parser.proofs.Levels.{listing-all}
+use Rattle.decl_parser.proofs.Sound.{stub-supers}
 use Rattle.decl_parser.proofs.laws.supers_are_identifiers.Goals as goal
 
 pub returns : goal.returns
-returns c = λ text. listing-supers text (c.tokens_cover_their_text.ensures.follow text) (c.tokens_cover_their_text.ensures.inside text)
+returns c text =
+    let cut = c.tokens_cover_their_text.ensures in
+    listing-all text (λ s. All (IsIdentifierOf text) s.supers) (stub-supers text) (cut.follow text) (cut.inside text)

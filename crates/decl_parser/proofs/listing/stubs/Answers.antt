@@ -1,47 +1,31 @@
-use Rattle.std.proofs.Common.{◌≡◌, ◌≤◌, ℕ, List, [], ◌++◌, length, ap, ◌∙◌, sym, subst, arith}
-use Rattle.std.specs.Prelude.{None, All}
-use Rattle.ide_text.specs.Text.{max_chars}
-use Rattle.java_tokens.specs.Token.{Token}
-use Rattle.java_tokens.specs.Tokens.{IsInside, tokens_of}
-use Rattle.stub_tree.specs.declared.stub.Stub.{Stub}
-use Rattle.stub_tree.specs.Lawful.{IsLawfulList}
-use Rattle.decl_parser.specs.Node.{Node}
-use Rattle.decl_parser.specs.Forest.{forest_of}
-use Rattle.decl_parser.specs.Unit.{units_of}
-use Rattle.decl_parser.specs.Listing.{stubs_at, listing_of}
-use Rattle.decl_parser.proofs.ForestRising.{forest-rises, tokens_of-few}
-use Rattle.decl_parser.proofs.ListingLawful.{listing-lawful}
+use Rattle.std.proofs.Common.{refl, arith}
+use Rattle.java_tokens.specs.Tokens.{tokens_of}
+use Rattle.decl_parser.specs.Listing.{listing_of}
+use Rattle.decl_parser.proofs.ForestLemmas.{tokens-few}
+use Rattle.decl_parser.proofs.Levels.{listing-lawful}
 use Rattle.decl_parser.proofs.listing.stubs.Goals as goal
-
--- the stubs that were added are those of the forest
-listed : (text : List ℕ) (added start : List Stub) (nodes read : List Node) (tokens : List Token) → added ≡ start ++ stubs_at text 0 None (units_of read)
-    → start ≡ [] → read ≡ nodes → nodes ≡ forest_of text tokens → tokens ≡ tokens_of text
-    → added ≡ stubs_at text 0 None (units_of (forest_of text (tokens_of text)))
-listed text added start nodes read tokens is none reads forest all =
-    is ∙ ap (λ l. l ++ stubs_at text 0 None (units_of read)) none
-    ∙ ap (λ ns. stubs_at text 0 None (units_of ns)) (reads ∙ forest ∙ ap (forest_of text) all)
 
 -- the tokens of a text are inside, and no more than its characters
 pub forest-requires : goal.forest-requires
 forest-requires c =
     let text = c.args.text.now in
-    let tokens = c.deref.ensures.value ∙ c.requires in
-    let short = c.len.ensures.text.few in
+    let cut = c.tokens_cover_their_text.ensures in
+    let few = tokens-few text 0 (tokens_of text) (cut.follow text) (cut.inside text) (omega arith) in
     record {
-      inside = subst (All (IsInside text)) (sym tokens) (c.tokens_cover_their_text.ensures.inside text);
-      few = subst (λ (ts : List Token). length ts ≤ max_chars) (sym tokens) (let few = tokens_of-few text (c.tokens_cover_their_text.ensures.follow text) (c.tokens_cover_their_text.ensures.inside text) in omega arith);
-      short = short;
+      inside = rw (c.deref.ensures.value, c.requires) (cut.inside text);
+      few = rw (c.deref.ensures.value, c.requires) (omega arith);
+      short = c.len.ensures.text.few;
     }
 
 pub from_vec-requires : goal.from_vec-requires
+unfolding listing_of
 from_vec-requires c =
-    let text = c.args.text.now in
-    let is = listed text _ _ _ _ _ c.in_ok-add_level.ensures c.new-stubs.ensures.items c.deref-2.ensures.value c.in_ok-forest.ensures (c.deref.ensures.value ∙ c.requires) in
-    subst IsLawfulList (sym is)
-    (listing-lawful text c.len.ensures.text.few (forest_of text (tokens_of text)) (forest-rises text (c.tokens_cover_their_text.ensures.follow text) (c.tokens_cover_their_text.ensures.inside text)))
+    let cut = c.tokens_cover_their_text.ensures in
+    rw (c.in_ok-add_level.ensures, c.new-stubs.ensures.items, c.deref-2.ensures.value, c.in_ok-forest.ensures, c.deref.ensures.value, c.requires)
+    (listing-lawful c.args.text.now c.len.ensures.text.few (cut.follow _) (cut.inside _))
 
 pub returns : goal.returns
 unfolding listing_of
 returns c =
-    c.from_vec.ensures
-    ∙ listed c.args.text.now _ _ _ _ _ c.in_ok-add_level.ensures c.new-stubs.ensures.items c.deref-2.ensures.value c.in_ok-forest.ensures (c.deref.ensures.value ∙ c.requires)
+    rw (c.from_vec.ensures, c.in_ok-add_level.ensures, c.new-stubs.ensures.items, c.deref-2.ensures.value)
+    (rw (c.in_ok-forest.ensures, c.deref.ensures.value, c.requires) refl)

@@ -1,5 +1,7 @@
-use Rattle.file_index.proofs.IdLemmas.{searched_place}
+use Rattle.std.proofs.lemmas.List.Sorted.{searched}
+use Rattle.std.proofs.lemmas.Map.Keys.{non_decreasing_from_sorted}
 use Rattle.file_index.proofs.ids.place_among.Goals as goal
 
 pub returns : goal.returns
-returns c = searched_place c.args.ids.now c.args.id c.binary_search.result c.requires c.binary_search.ensures.position
+returns c = searched c.args.ids.now c.args.id c.binary_search.result c.binary_search.ensures.position
+    (λ i j. non_decreasing_from_sorted c.args.ids.now c.requires i j 0)

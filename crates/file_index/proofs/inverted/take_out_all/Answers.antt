@@ -1,5 +1,4 @@
-use Rattle.std.proofs.Common.{ap, sym, ◌∙◌, eqb}
-use Rattle.file_index.specs.Places.{is_placed}
+use Rattle.std.proofs.Common.{sym, ◌∙◌, eqb}
 use Rattle.file_index.specs.Rows.{rows_in_file}
 use Rattle.file_index.proofs.PlaceLemmas.{more_taken, more_kept}
 use Rattle.file_index.proofs.inverted.take_out_all.Goals as goal
@@ -11,10 +10,10 @@ loop-key-preserved g c =
     let rows = c.as_slice-key-items.result.now in
     let own = rows_in_file c.args.file c.args.files.now in
     λ k j. elim c.if-not-has_key.branch [
-      | then-not-has_key w ↦ ap (λ places. is_placed eq places k j) w.postings-is ∙ w.take_out.ensures k j
+      | then-not-has_key w ↦ rw w.postings-is (w.take_out.ensures k j
           ∙ more_taken eq g.met.K.Eq.laws rows own c.loop-key-item.result c.loop-key.key-index c.loop-key-test.true c.loop-key-item.is
-          k _ _ (eqb j c.args.file) (c.loop-key.invariant k j) (sym c.has_key.ensures ∙ w.if-not-has_key.true)
-      | else-not-has_key w ↦ ap (λ places. is_placed eq places k j) w.postings-is
-          ∙ more_kept eq g.met.K.Eq.laws rows own c.loop-key-item.result c.loop-key.key-index c.loop-key-test.true c.loop-key-item.is
-          k _ _ (eqb j c.args.file) (c.loop-key.invariant k j) (sym c.has_key.ensures ∙ w.if-not-has_key.false)
+          k _ _ (eqb j c.args.file) (c.loop-key.invariant k j) (sym c.has_key.ensures ∙ w.if-not-has_key.true))
+      | else-not-has_key w ↦ rw w.postings-is
+          (more_kept eq g.met.K.Eq.laws rows own c.loop-key-item.result c.loop-key.key-index c.loop-key-test.true c.loop-key-item.is
+          k _ _ (eqb j c.args.file) (c.loop-key.invariant k j) (sym c.has_key.ensures ∙ w.if-not-has_key.false))
     ]

@@ -9,4 +9,6 @@ use Rattle.file_index.proofs.inverted.take_out_all.Given as goal
 abbrev pub invariant-loop-key : goal.invariant-loop-key
 invariant-loop-key g l =
     (k : g.row.K.Denot) (j : ℕ) → is_placed g.K.PartialEq.eq l.postings k j
-    ≡ (is_placed g.K.PartialEq.eq l.fn.postings k j && not (j == l.fn.file && has_key g.K.PartialEq.eq k (take l.key-index l.key-items) && not (has_key g.K.PartialEq.eq k (rows_in_file l.fn.file l.fn.files))))
+    ≡ (is_placed g.K.PartialEq.eq l.fn.postings k j
+    && not (j == l.fn.file && has_key g.K.PartialEq.eq k (take l.key-index l.key-items)
+    && not (has_key g.K.PartialEq.eq k (rows_in_file l.fn.file l.fn.files))))

@@ -1,26 +1,23 @@
-use Rattle.std.proofs.Common.{◌≡◌, [], ◌∷◌, None, map, refl, sym, ap, ◌∙◌, rules}
-use Rattle.std.specs.Map.{update_all, lookup}
+use Rattle.std.proofs.Common.{◌≡◌, [], ◌∷◌, None, map, refl, ap, ◌∙◌, rules}
+use Rattle.std.specs.Map.{lookup}
 use Rattle.std.specs.Map.Iter.{deref_pair}
 use Rattle.std.specs.Option.{unwrap_or}
 use Rattle.std.proofs.lemmas.List.{map-append}
 use Rattle.std.proofs.lemmas.Map.{update_all_push}
 use Rattle.std.proofs.lemmas.Map.Iter.{iter_end}
 use Rattle.std.proofs.lemmas.Map.Made.{update_all_none}
-use Rattle.file_index.specs.Places.{has_id, is_placed}
+use Rattle.file_index.specs.Places.{has_id}
 use Rattle.file_index.proofs.postings.copy_postings.Goals as goal
 
 pub loop-key-preserved : goal.loop-key-preserved
 loop-key-preserved g c = let eq = g.I.Key.PartialEq.eq in λ q.
-    c.in_ok-copy_entry.ensures q
-    ∙ update_all_push eq (λ _. None) (λ k. lookup (eq k) c.loop-key.files.entries) (map deref_pair c.loop-key.yielded) (c.in-Some.key.now, c.in-Some.ids.now) q (c.loop-key.invariant q)
-    ∙ ap (λ l. update_all eq (λ _. None) l q) (sym (map-append deref_pair c.loop-key.yielded ((c.in-Some.key, c.in-Some.ids) ∷ [])))
+    let so_far = map deref_pair c.loop-key.yielded in
+    rw (map-append deref_pair c.loop-key.yielded ((c.in-Some.key, c.in-Some.ids) ∷ [])) (c.in_ok-copy_entry.ensures q
+    ∙ update_all_push eq (λ _. None) (λ k. lookup (eq k) c.loop-key.files.entries) so_far (c.in-Some.key.now, c.in-Some.ids.now) q (c.loop-key.invariant q))
 
 pub returns : goal.returns
 returns g c = λ k j.
     let eq = g.I.Key.PartialEq.eq in
     let whole : map deref_pair c.loop-key.yielded ≡ c.postings.inside.files.entries = search (rules, iter_end) in
-    ap (λ found. has_id j (unwrap_or found []))
-    (c.loop-key.invariant k
-    ∙ ap (λ l. update_all eq (λ _. None) l k) whole
-    ∙ update_all_none g.met.I.Key.Eq.laws eq (λ x y. refl) c.postings.inside.files.entries k c.len.ensures.unique)
-    ∙ ap (λ places. is_placed eq places k j) c.postings.view_is
+    rw (← c.postings.view_is) (ap (λ found. has_id j (unwrap_or found []))
+    ((rw whole at (c.loop-key.invariant k)) ∙ update_all_none g.met.I.Key.Eq.laws eq (λ x y. refl) c.postings.inside.files.entries k c.len.ensures.unique))

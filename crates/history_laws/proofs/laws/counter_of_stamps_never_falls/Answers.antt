@@ -1,10 +1,12 @@
-use Rattle.history_laws.proofs.StampLemmas.{next_stamp-effect_of, next_stamp-effects_of, next_stamp-fold, later-fold}
+use Rattle.history_laws.proofs.Words.{arith, empty_world}
+use Rattle.history_laws.proofs.ChangeLemmas.{draws}
+use Rattle.history_laws.proofs.StampLemmas.{counters-effects_of, counters-fold_from, later-fold}
 use Rattle.history_laws.proofs.laws.counter_of_stamps_never_falls.Goals as goal
 
 pub returns : goal.returns
 returns c = record {
-  drawn = next_stamp-effect_of;
-  few = λ world changes. next_stamp-effects_of changes world;
+  drawn = λ world change. (draws world change).0;
+  few = λ world changes. (counters-effects_of changes world).1;
   rises = λ earlier later legal. (later-fold earlier later legal).counter;
-  bound = next_stamp-fold;
+  bound = λ entries few. omega (arith, (counters-fold_from entries empty_world).1 few);
 }

@@ -1,6 +1,4 @@
-use Rattle.std.proofs.Common.{ap, refl}
-use Rattle.std.specs.Prelude.{is_some}
-use Rattle.write_history.specs.Fold.{fold}
+use Rattle.history_laws.proofs.Words.{ap, refl, is_some, fold}
 use Rattle.history_laws.proofs.PutLemmas.{none_at_free}
 use Rattle.history_laws.proofs.SoundLemmas.{IsApart-fold, id_at-live, live-id_at}
 use Rattle.history_laws.proofs.laws.live_files_have_paths_of_their_own.Goals as goal

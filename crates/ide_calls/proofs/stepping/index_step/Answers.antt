@@ -9,5 +9,5 @@ pub returns-clause-ok : goal.returns-clause-ok
 returns-clause-ok g c =
     stepped c.number-seat.result c.args.hint c.in_ok-at.field-0 c.in-Some.job c.in_ok-made.made.file c.in_ok-made.made.stamp _ _ _ c.take_in.result
     c.number-seat.ensures c.in_ok-at.ensures.ok c.in-Some.is
-    (advances_on _ _ _ c.first_look.ensures.learned.advances c.take_in.ensures.pass.advances)
+    (advances_on _ _ _ c.first_read.ensures.learned.advances c.take_in.ensures.pass.advances)
     c.in_ok-made.ensures.file c.in_ok-made.ensures.stamp c.take_in.ensures.ok

@@ -1,6 +1,6 @@
 use Rattle.std.proofs.Common.{◌∙◌, ap}
-use Rattle.ide_script.specs.Status.{number_of}
+use Rattle.ide_script.specs.Status.{exit_code}
 use Rattle.ide_script.proofs.entry.run_main.Goals as goal
 
 pub returns-clause-within : goal.returns-clause-within
-returns-clause-within g c = λ other. c.run_given-status.ensures.within (λ same. other (c.finish.ensures.number ∙ ap number_of same))
+returns-clause-within g c = λ other. c.run_given-status.ensures.within (λ same. other (c.finish.ensures.number ∙ ap exit_code same))

@@ -1,5 +1,8 @@
-use Rattle.ide_world.proofs.KindLemmas.{save_from}
+use Rattle.std.proofs.Common.{◌∙◌, sym}
+use Rattle.ide_world.proofs.BuildLemmas.{is_file_at}
+use Rattle.ide_world.proofs.KindLemmas.{save_builds}
 use Rattle.ide_world.proofs.documents.saved.Goals as goal
 
 pub returns : goal.returns
-returns c = save_from _ _ _ c.in-Some.found.row.now _ _ _ _ c.in-Some.ensures.draft.files c.in-Some.ensures.found c.in_ok-copy.ensures c.in_ok-content.ensures c.in-Some-2.is c.next_stamp.ensures
+returns c = rw (c.in_ok-copy.ensures, c.next_stamp.ensures) (save_builds _ _ _ c.in-Some.found.row.now c.in-Some.ensures.draft.files _ _
+    (is_file_at _ _ _ _ c.in-Some.ensures.found) (sym c.in-Some-2.is ∙ c.in_ok-content.ensures))

@@ -1,6 +1,5 @@
-use Rattle.std.proofs.Common.{refl}
-use Rattle.ide_world.proofs.KindLemmas.{create_from}
+use Rattle.ide_world.proofs.KindLemmas.{create_builds}
 use Rattle.ide_world.proofs.files.created.Goals as goal
 
 pub returns : goal.returns
-returns c = create_from _ _ _ _ c.made.result _ _ _ c.requires c.made.ensures.value refl c.next_stamp.ensures c.in_ok-copy.ensures c.in_ok-share.ensures
+returns c = rw (c.in_ok-copy.ensures, c.in_ok-share.ensures, c.next_stamp.ensures, c.made.ensures.value) (create_builds _ _ _ c.requires)

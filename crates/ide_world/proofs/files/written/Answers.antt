@@ -1,9 +1,16 @@
-use Rattle.ide_world.proofs.KindLemmas.{write_open_from, write_closed_from}
+use Rattle.std.proofs.Common.{◌∙◌, sym, refl, Some, None}
+use Rattle.document_buf.specs.Document.{opened}
+use Rattle.ide_world.proofs.BuildLemmas.{is_file_at}
+use Rattle.ide_world.proofs.KindLemmas.{write_builds}
 use Rattle.ide_world.proofs.files.written.Goals as goal
 use Rattle.ide_world.proofs.files.written.Goals.{in-Some-summary+in_ok-open-in-Some-summary, in-None}
 
 pub returns : goal.returns
-returns c = elim c.match-summary.branch [
-  | in-Some-summary+in_ok-open-in-Some-summary w ↦ write_open_from _ _ _ c.in-Some.found.row.now _ _ _ _ _ _ _ _ c.in-Some.ensures.draft.files c.in-Some.ensures.found c.in_ok-copy.ensures c.in_ok-share.ensures c.next_stamp.ensures c.summary.ensures.value w.in-Some-summary.is w.in_ok-open-in-Some-summary.ensures.document w.doc-is
-  | in-None w ↦ write_closed_from _ _ _ c.in-Some.found.row.now _ _ _ _ _ _ c.in-Some.ensures.draft.files c.in-Some.ensures.found c.in_ok-copy.ensures c.in_ok-share.ensures c.next_stamp.ensures c.summary.ensures.value w.in-None.is w.doc-is
-]
+returns c =
+    let at_path = is_file_at _ _ _ c.in-Some.found.row.now c.in-Some.ensures.found in
+    rw (c.in_ok-copy.ensures, c.in_ok-share.ensures, c.next_stamp.ensures) (elim c.match-summary.branch [
+      | in-Some-summary+in_ok-open-in-Some-summary w ↦ rw w.doc-is (write_builds _ _ _ _ c.in-Some.ensures.draft.files _ _ _ (Some _) at_path
+          (sym w.in-Some-summary.is ∙ c.summary.ensures.value) w.in_ok-open-in-Some-summary.ensures.document)
+      | in-None w ↦ rw w.doc-is (write_builds _ _ _ _ c.in-Some.ensures.draft.files _ _
+          (record { document = opened c.args.text.now; spare = 0 }) None at_path (sym w.in-None.is ∙ c.summary.ensures.value) refl)
+    ])

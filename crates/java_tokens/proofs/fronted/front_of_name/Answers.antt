@@ -1,5 +1,5 @@
-use Rattle.std.proofs.Common.{ap, ◌∙◌}
-use Rattle.java_tokens.specs.Front.{front_of, weights}
+use Rattle.std.proofs.Common.{◌∙◌}
+use Rattle.java_tokens.specs.Front.{weights}
 use Rattle.java_tokens.proofs.FrontLemmas.{front_fits, front-encodes}
 use Rattle.java_tokens.proofs.fronted.front_of_name.Goals as goal
 
@@ -10,7 +10,4 @@ front_of-requires c = front_fits c.as_bytes.result.now
 -- the front of its UTF-8
 pub returns : goal.returns
 unfolding weights
-returns c =
-    c.front_of.ensures
-    ∙ ap (front_of weights) (c.as_bytes.ensures.value ∙ c.as_str.ensures.utf8)
-    ∙ front-encodes weights c.args.name.now
+returns c = c.front_of.ensures ∙ rw (c.as_bytes.ensures.value, c.as_str.ensures.utf8) (front-encodes weights c.args.name.now)

@@ -1,21 +1,16 @@
-use Rattle.std.proofs.Common.{drop, sym, ap, ◌∙◌, arith, length-drop}
-use Rattle.std.specs.Prelude.{fold}
+use Rattle.std.proofs.Common.{drop, sym, ◌∙◌, arith, length-drop}
 use Rattle.std.proofs.lemmas.List.Sums.{prefix_len-le-length}
 use Rattle.java_tokens.specs.Chars.{begins_word, continues_word}
-use Rattle.java_tokens.specs.Words.{with_occurrence}
 use Rattle.java_tokens.proofs.WordLemmas.{first_passes-inside, added_run}
 use Rattle.java_tokens.proofs.gather.add_run.Goals as goal
 
 pub add-requires-clause-inside : goal.add-requires-clause-inside
 add-requires-clause-inside c =
-    let begins = sym c.begins_word_at.ensures ∙ c.if-begins_word_at.true in
-    let inside = first_passes-inside begins_word c.args.at c.args.piece.now begins in
-    omega (arith, inside, c.requires, prefix_len-le-length continues_word (drop c.args.at c.args.piece.now), length-drop c.args.at c.args.piece.now)
+    let piece = c.args.piece.now in
+    let inside = first_passes-inside begins_word c.args.at piece (sym c.begins_word_at.ensures ∙ c.if-begins_word_at.true) in
+    omega (arith, inside, c.requires, prefix_len-le-length continues_word (drop c.args.at piece), length-drop c.args.at piece)
 
 -- the run that was added
 pub returns-in_ok-add : goal.returns-in_ok-add
 returns-in_ok-add c =
-    let ws = c.args.masks.now in
-    let run = added_run c.args.place c.args.at c.args.end c.args.piece.now c.requires (sym c.begins_word_at.ensures ∙ c.if-begins_word_at.true) in
-    c.in_ok-add.ensures
-    ∙ ap (fold with_occurrence ws) (sym run)
+    rw (added_run c.args.place c.args.at c.args.end c.args.piece.now c.requires (sym c.begins_word_at.ensures ∙ c.if-begins_word_at.true)) c.in_ok-add.ensures

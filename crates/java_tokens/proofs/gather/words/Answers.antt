@@ -1,17 +1,15 @@
-use Rattle.std.proofs.Common.{◌≡◌, sym, ◌∙◌, subst}
+use Rattle.std.proofs.Common.{◌≡◌}
 use Rattle.std.proofs.lemmas.Result.{IfOk-weaker}
-use Rattle.java_tokens.specs.Words.{AreInOrder, HasMasksOf, occurrences_of}
+use Rattle.java_tokens.specs.Words.{HasMasksOf, occurrences_of}
 use Rattle.java_tokens.proofs.MaskLemmas.{has_masks-words_of, in_order-words_of}
 use Rattle.java_tokens.proofs.gather.words.Goals as goal
 
 -- the words of the text are in order
 pub from_masks-requires : goal.from_masks-requires
-from_masks-requires c = subst AreInOrder (sym c.in_ok-masks_of.ensures) (in_order-words_of c.args.text.now)
+from_masks-requires c = rw c.in_ok-masks_of.ensures (in_order-words_of c.args.text.now)
 
 -- the words of the text have its masks
 pub returns-clause-masks : goal.returns-clause-masks
 returns-clause-masks c =
-    let text = c.args.text.now in
-    IfOk-weaker c.from_masks.result (λ list. list ≡ c.in_ok-masks_of.field-0) (λ list. HasMasksOf list (occurrences_of text))
-    (λ list same. subst (λ ws. HasMasksOf ws (occurrences_of text)) (sym (same ∙ c.in_ok-masks_of.ensures)) (has_masks-words_of text))
-    c.from_masks.ensures
+    IfOk-weaker c.from_masks.result (λ list. list ≡ c.in_ok-masks_of.field-0) (λ list. HasMasksOf list (occurrences_of c.args.text.now))
+    (λ list same. rw (same, c.in_ok-masks_of.ensures) (has_masks-words_of c.args.text.now)) c.from_masks.ensures

@@ -1,4 +1,4 @@
-use Rattle.java_tokens.proofs.WholeWords.{identifier-is_word, place-is_word, word-in_line}
+use Rattle.java_tokens.proofs.PlaceLemmas.{identifier-is_word, place-is_word, word-in_line}
 use Rattle.java_tokens.proofs.laws.identifiers_are_words.Goals as goal
 
 pub returns : goal.returns

@@ -8,7 +8,7 @@ use Rattle.std.proofs.lemmas.List.MinMax.{ranks_by}
 use Rattle.std.proofs.lemmas.List.Sorted.{IsPermutation-map}
 use Rattle.indexmap.proofs.MapLemmas.{distinct_permutation, lookup_permutation, sorted_keys}
 use Rattle.java_tokens.specs.Words.{name_cmp}
-use Rattle.java_tokens.proofs.GatherLemmas.{gathered_sorted}
+use Rattle.java_tokens.proofs.MaskLemmas.{gathered_sorted}
 use Rattle.java_tokens.proofs.masks.put_in_order.Goals as goal
 
 -- sorted, the rows are the ordered list

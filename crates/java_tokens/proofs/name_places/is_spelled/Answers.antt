@@ -1,4 +1,4 @@
-use Rattle.std.proofs.Common.{◌≡◌, ℕ, suc, ◌<◌, ◌∙◌, Option, Some, OnSome, IfSome, ◌∷◌, length, drop, subst, arith, rules}
+use Rattle.std.proofs.Common.{◌≡◌, ◌∙◌, Some, arith, rules}
 use Rattle.std.specs.Prelude.{is_none}
 use Rattle.std.proofs.lemmas.Str.{IsUtf8-past_char, chars_past_char}
 use Rattle.std.proofs.StrCases.{chars_of_empty}
@@ -9,16 +9,13 @@ use Rattle.java_tokens.proofs.name_places.is_spelled.Goals as goal
 pub loop-c-preserved : goal.loop-c-preserved
 loop-c-preserved c =
     let held = c.loop-c.invariant in
-    let piece = c.args.piece.now in
-    let at = c.loop-c.at in
     let parts = c.in-Some.ensures.steps.0 in
     let same : c.get.result ≡ Some c.in-Some.c = search rules in
-    let stands = subst (λ (o : Option ℕ). IfSome o (λ x. drop at piece ≡ x ∷ drop (suc at) piece)) same c.get.ensures.some in
-    let inside = subst (λ (o : Option ℕ). OnSome o (at < length piece)) same c.get.ensures.inside in
+    let inside = rw same at c.get.ensures.inside in
     record {
       utf8 = IsUtf8-past_char _ _ c.in-Some.c held.utf8 parts;
       inside = omega (arith, inside);
-      rest = spelled-next _ _ piece at c.in-Some.c (chars_past_char _ _ c.in-Some.c held.utf8 parts) stands ∙ held.rest;
+      rest = spelled-next _ _ c.args.piece.now c.loop-c.at c.in-Some.c (chars_past_char _ _ c.in-Some.c held.utf8 parts) (rw same at c.get.ensures.some) ∙ held.rest;
     }
 
 -- the name has no more characters

@@ -1,5 +1,5 @@
 use Rattle.std.proofs.Common.{◌≡◌, ◌+◌, length, drop, ◌-◌}
-use Rattle.java_tokens.specs.Kind.{text_block_rest}
+use Rattle.java_tokens.specs.TokenKind.{text_block_rest}
 use Rattle.java_tokens.proofs.scan.text_block_end.Given as goal
 
 abbrev pub invariant-loop-c : goal.invariant-loop-c

@@ -1,6 +1,10 @@
-use Rattle.std.proofs.Common.{sym, ◌∙◌}
-use Rattle.java_tokens.proofs.KindLemmas.{kind_at-slash}
+use Rattle.std.proofs.Common.{lit<, refl}
+use Rattle.unicode_ident.proofs.IdentLemmas.{is_xid_start-ascii}
+use Rattle.java_tokens.specs.Chars.{slash}
+use Rattle.java_tokens.specs.TokenKind.{kind_at}
 use Rattle.java_tokens.proofs.tokenizer.kind_from_slash.Goals as goal
 
+-- a slash with neither a slash nor an asterisk behind it
 pub returns-else-has-2 : goal.returns-else-has-2
-returns-else-has-2 c = sym (kind_at-slash _ (sym c.has.ensures ∙ c.if-has.false) (sym c.has-else-has.ensures ∙ c.if-has-2.false))
+unfolding kind_at
+returns-else-has-2 c = rw (← c.has.ensures, c.if-has.false, ← c.has-else-has.ensures, c.if-has-2.false, is_xid_start-ascii slash (lit< tt)) refl

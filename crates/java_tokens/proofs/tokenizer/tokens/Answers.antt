@@ -1,15 +1,10 @@
-use Rattle.std.proofs.Common.{◌≡◌, ◌++◌, List, [], append-nil, sym, ap, ◌∙◌, subst}
-use Rattle.std.specs.Prelude.{All}
-use Rattle.java_tokens.specs.Tokens.{AreTokensFrom, IsInside, tokens_of}
+use Rattle.std.proofs.Common.{◌≡◌, append-nil, sym, ◌∙◌}
+use Rattle.java_tokens.specs.Tokens.{tokens_of}
 use Rattle.java_tokens.proofs.TokenLemmas.{are_tokens_of, inside_tokens_of}
 use Rattle.java_tokens.proofs.tokenizer.tokens.Goals as goal
 
--- where none is left, those in the list are all
-all_are_listed : {X : Type 0} (list rest all : List X) → list ++ rest ≡ all → rest ≡ [] → all ≡ list
-all_are_listed list rest all so_far none = sym so_far ∙ ap (λ r. list ++ r) none ∙ append-nil list
-
-pub returns-clause-cut : goal.returns-clause-cut
-returns-clause-cut c = subst (AreTokensFrom 0 c.args.text.now) (all_are_listed c.loop-token.list.items _ _ c.loop-token.invariant.so_far c.in_default.ensures.none) (are_tokens_of c.args.text.now)
-
-pub returns-clause-inside : goal.returns-clause-inside
-returns-clause-inside c = subst (All (IsInside c.args.text.now)) (all_are_listed c.loop-token.list.items _ _ c.loop-token.invariant.so_far c.in_default.ensures.none) (inside_tokens_of c.args.text.now)
+-- no token is left, so those in the list are all
+pub returns : goal.returns
+returns c =
+    let all : tokens_of c.args.text.now ≡ c.loop-token.list.items = sym c.loop-token.invariant.so_far ∙ rw c.in_default.ensures.none (append-nil _) in
+    record { value = sym all; cut = rw (← all) (are_tokens_of c.args.text.now); inside = rw (← all) (inside_tokens_of c.args.text.now) }

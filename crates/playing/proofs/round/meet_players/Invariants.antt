@@ -2,7 +2,7 @@ use Rattle.std.proofs.Common.{◌≡◌, true, List, ◌++◌}
 use Rattle.index_workers.specs.Passes.{ide_view, IsSameIdePass}
 use Rattle.shared_ide.specs.Passes.{IsIdePassOf}
 use Rattle.playing.specs.declared.player.Player.{Player}
-use Rattle.playing.specs.Players.{HasMet, HaveTaken}
+use Rattle.playing.specs.Players.{HasMet, HaveGathered}
 use Rattle.playing.proofs.round.meet_players.Given as goal
 
 -- the first players were met, and what they did is among the answers
@@ -13,7 +13,7 @@ invariant-loop-left l = record {
   met : List Player;
   are : l.fn.players.items ≡ met ++ l.left.items;
   learned : HasMet met (ide_view l.fn.pass) (ide_view l.pass);
-  taken : l.whole ≡ true → HaveTaken met l.fn.answers l.answers;
+  taken : l.whole ≡ true → HaveGathered met l.fn.answers l.answers;
 }
 
 abbrev pub decreases-loop-left : goal.decreases-loop-left

@@ -1,15 +1,23 @@
-use Rattle.std.proofs.Common.{ap, ◌∙◌, arith, eq-eqb, ne_eqb}
-use Rattle.property_index.proofs.ScanLemmas.{behind-char, behind-break, behind-end}
+use Rattle.std.proofs.Common.{◌∙◌, arith, eq-eqb, ne_eqb}
+use Rattle.property_index.specs.Lines.{logical_lines}
+use Rattle.property_index.specs.Rest.{lines_left, inside_from}
+use Rattle.property_index.proofs.ScanLemmas.{left_on, behind-char, behind-break}
 use Rattle.property_index.proofs.line_scan.past_logical_line.Goals as goal
 
 pub returns-then-c-eq10-clause-left : goal.returns-then-c-eq10-clause-left
-returns-then-c-eq10-clause-left c = behind-break _ _ _ c.in-Some.ensures.some (eq-eqb c.in-Some.c 10 c.if-c-eq10.true) ∙ c.loop-c.invariant.behind
+returns-then-c-eq10-clause-left c =
+    let held = rw c.in-Some.ensures.some at c.loop-c.invariant.behind in
+    rw (left_on c.args.text.now c.loop-c.at 1, c.in-Some.ensures.some) (behind-break _ _ (eq-eqb c.in-Some.c 10 c.if-c-eq10.true) ∙ held)
 
 pub loop-c-preserved : goal.loop-c-preserved
-loop-c-preserved c = record {
-  behind = behind-char c.args.text.now c.loop-c.at c.in-Some.c c.in-Some.ensures.some (ne_eqb c.in-Some.c 10 c.if-c-eq10.false) c.width-at.result c.width-at.ensures ∙ c.loop-c.invariant.behind;
-  forward = omega (arith, c.loop-c.invariant.forward);
-}
+loop-c-preserved c =
+    let held = rw c.in-Some.ensures.some at c.loop-c.invariant.behind in
+    record {
+      behind = rw (left_on c.args.text.now c.loop-c.at c.width-at.result, c.in-Some.ensures.some, c.width-at.ensures)
+          (behind-char _ _ (ne_eqb c.in-Some.c 10 c.if-c-eq10.false) ∙ held);
+      forward = omega arith;
+    }
 
 pub returns-clause-left : goal.returns-clause-left
-returns-clause-left c = behind-end _ c.in_default.ensures.none ∙ c.loop-c.invariant.behind
+unfolding lines_left logical_lines inside_from
+returns-clause-left c = rw c.in_default.ensures.none (rw c.in_default.ensures.none at c.loop-c.invariant.behind)

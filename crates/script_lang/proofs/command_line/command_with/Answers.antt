@@ -1,5 +1,5 @@
 use Rattle.std.specs.Str.{chars}
-use Rattle.script_lang.proofs.WordLemmas.{command_with-chars}
+use Rattle.script_lang.proofs.GrammarContents.{command_with-chars}
 use Rattle.script_lang.proofs.command_line.command_with.Goals as goal
 
 pub returns : goal.returns

@@ -1,12 +1,12 @@
-use Rattle.std.proofs.Common.{◌∙◌, sym}
-use Rattle.script_lang.proofs.GrammarContents.{content_of-bad, content_of-result}
+use Rattle.std.proofs.Common.{arith}
+use Rattle.std.proofs.lemmas.Str.{is_utf8-from_IsUtf8, IsUtf8-from_is_utf8}
+use Rattle.script_lang.specs.Contents.{content_of}
 use Rattle.script_lang.proofs.content.content_of.Goals as goal
 
 pub returns-in_default : goal.returns-in_default
-returns-in_default c =
-    content_of-bad _ _ c.without_return-line.ensures (sym c.is_passed_by.ensures ∙ c.if-is_passed_by.false) c.in_default.ensures.cases.0
+unfolding content_of
+returns-in_default c = grind (arith, IsUtf8-from_is_utf8)
 
 pub returns : goal.returns
-returns c =
-    content_of-result _ _ _ _ c.in-Ok.ensures.cases.0 c.without_return-line.ensures (sym c.is_passed_by.ensures ∙ c.if-is_passed_by.false)
-    c.in-Ok.ensures.cases.1 c.content_of_text.ensures
+unfolding content_of
+returns c = grind (arith, is_utf8-from_IsUtf8)

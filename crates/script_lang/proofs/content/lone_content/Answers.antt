@@ -1,5 +1,5 @@
 use Rattle.std.proofs.Common.{◌∙◌, sym}
-use Rattle.script_lang.proofs.WordLemmas.{lone_content-chars}
+use Rattle.script_lang.proofs.GrammarContents.{lone_content-chars}
 use Rattle.script_lang.proofs.content.lone_content.Goals as goal
 
 pub returns : goal.returns

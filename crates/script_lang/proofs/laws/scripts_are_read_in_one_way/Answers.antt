@@ -1,4 +1,4 @@
-use Rattle.script_lang.proofs.OnceLemmas.{one_script}
+use Rattle.script_lang.proofs.GrammarScript.{one_script}
 use Rattle.script_lang.proofs.laws.scripts_are_read_in_one_way.Goals as goal
 
 pub returns : goal.returns

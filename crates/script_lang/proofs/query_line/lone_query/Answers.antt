@@ -1,5 +1,5 @@
 use Rattle.std.proofs.Common.{◌∙◌, sym}
-use Rattle.script_lang.proofs.WordLemmas.{lone_query-chars}
+use Rattle.script_lang.proofs.GrammarContents.{lone_query-chars}
 use Rattle.script_lang.proofs.query_line.lone_query.Goals as goal
 
 pub returns : goal.returns

@@ -1,5 +1,5 @@
 use Rattle.std.specs.Str.{chars}
-use Rattle.script_lang.proofs.WordLemmas.{query_with-chars}
+use Rattle.script_lang.proofs.GrammarContents.{query_with-chars}
 use Rattle.script_lang.proofs.query_line.query_with.Goals as goal
 
 pub returns : goal.returns

@@ -1,5 +1,6 @@
-use Rattle.std.proofs.lemmas.Str.{IsCharBoundary-start}
-use Rattle.script_lang.proofs.QuoteLemmas.{unquoted_from-start, unquoted_from-found}
+use Rattle.std.proofs.Common.{arith}
+use Rattle.std.proofs.lemmas.Str.{IsCharBoundary-start, chars-nil}
+use Rattle.script_lang.proofs.QuoteLemmas.{unquoted_from-found}
 use Rattle.script_lang.proofs.quoted.plain_len.Goals as goal
 
 pub returns-in-Inside-clause-cut : goal.returns-in-Inside-clause-cut
@@ -8,7 +9,4 @@ returns-in-Inside-clause-cut c =
     (unquoted_from-found c.args.text.now c.memchr2.result c.utf8.text (rw c.as_bytes.ensures.value at c.memchr2.ensures))
 
 pub returns-in_default : goal.returns-in_default
-returns-in_default c = record {
-  boundary = IsCharBoundary-start c.args.text.now c.utf8.text;
-  cut = unquoted_from-start c.args.place c.args.text.now;
-}
+returns-in_default c = record { boundary = IsCharBoundary-start c.args.text.now c.utf8.text; cut = grind (arith, chars-nil) }

@@ -2,7 +2,7 @@ use Rattle.std.proofs.Common.{◌≡◌, ◌∙◌, ◌++◌, sym, rules, Some, 
 use Rattle.std.specs.Str.{chars}
 use Rattle.std.proofs.lemmas.List.{append-nil}
 use Rattle.std.proofs.lemmas.Str.{IsUtf8-string_bytes}
-use Rattle.script_lang.specs.Quotes.{step_of}
+use Rattle.script_lang.specs.Quotes.{quote_step}
 use Rattle.script_lang.proofs.CharLemmas.{chars-push}
 use Rattle.script_lang.proofs.QuoteLemmas.{read_then-nil, unquoted_from-turn, unquoted_from-breaks, unquoted_from-whole, unquoted_from-cut}
 use Rattle.script_lang.proofs.quoted.unquoted.Goals as goal
@@ -23,7 +23,7 @@ loop-c-preserved c =
           (chars-push _ _ _ (IsUtf8-string_bytes c.loop-c.text) (IsUtf8-string_bytes w.push.new.self) w.in_ok-push.ensures.bytes)
       | in_default-meant w ↦ rw (w.text-is, w.in_default-meant.is) (sym (append-nil old))
     ] in
-    let step : step_of c.loop-c.place c.in-Some.c ≡ Some (c.in-Some-step.next, c.in-Some-step.meant) = sym c.step.ensures ∙ c.in-Some-step.is in
+    let step : quote_step c.loop-c.place c.in-Some.c ≡ Some (c.in-Some-step.next, c.in-Some-step.meant) = sym c.step.ensures ∙ c.in-Some-step.is in
     (search rules, unquoted_from-turn _ _ _ _ _ _ _ _ _ step one c.in_ok-rest.ensures.same (rw c.in-Some.ensures.cut at c.loop-c.invariant.1))
 
 pub returns : goal.returns

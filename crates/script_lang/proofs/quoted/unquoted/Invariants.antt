@@ -3,7 +3,7 @@ use Rattle.std.specs.Str.{chars}
 use denote.Text.{Utf8}
 use denote.Shadow.{shadow}
 use Rattle.script_lang.specs.Quotes.{unquoted_from}
-use Rattle.script_lang.specs.declared.quoted.Place.TheVariants.{Outside}
+use Rattle.script_lang.specs.declared.quoted.QuoteState.TheVariants.{Outside}
 use Rattle.script_lang.proofs.QuoteLemmas.{read_then}
 use Rattle.script_lang.proofs.quoted.unquoted.Given as goal
 

@@ -1,4 +1,4 @@
-use Rattle.script_lang.proofs.GrammarAnswers.{answer_is_script, answer_is_only, answer_is_refused}
+use Rattle.script_lang.proofs.GrammarScript.{answer_is_script, answer_is_only, answer_is_refused}
 use Rattle.script_lang.proofs.script.parse.Goals as goal
 
 pub returns-clause-script : goal.returns-clause-script

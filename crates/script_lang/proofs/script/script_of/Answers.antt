@@ -1,16 +1,17 @@
 use Rattle.std.proofs.Common.{◌∙◌, sym, arith}
-use Rattle.script_lang.proofs.GrammarAnswers.{refusal_passed, AreOfScript-script_of}
-use Rattle.script_lang.proofs.GrammarReading.{reads_more, reads_bad, reads_end}
+use Rattle.script_lang.proofs.GrammarScript.{refusal_passed}
+use Rattle.script_lang.proofs.HeldLemmas.{AreOfScript-script_of}
+use Rattle.script_lang.proofs.GrammarReading.{reads_line, reads_end}
 use Rattle.script_lang.proofs.script.script_of.Goals as goal
 
 pub returns-in_default-2-clause-err : goal.returns-in_default-2-clause-err
 returns-in_default-2-clause-err c =
-    reads_bad _ _ _ _ _ _ _ c.in-Some.ensures.cut c.in_ok-content.ensures (sym c.in_default-2.is ∙ c.in_ok-next.ensures) c.loop-line.invariant.read
+    reads_line _ _ _ _ _ _ _ _ c.in-Some.ensures.cut c.in_ok-content.ensures (sym c.in_default-2.is ∙ c.in_ok-next.ensures) c.loop-line.invariant.read
 
 pub loop-line-preserved : goal.loop-line-preserved
 loop-line-preserved c = record {
   counted = (let h = c.in-Some.ensures.shorter in omega arith);
-  read = reads_more _ _ _ _ _ _ _ _ c.in-Some.ensures.cut c.in_ok-content.ensures (sym c.in-Some-2.is ∙ c.in_ok-next.ensures) c.loop-line.invariant.read;
+  read = reads_line _ _ _ _ _ _ _ _ c.in-Some.ensures.cut c.in_ok-content.ensures (sym c.in-Some-2.is ∙ c.in_ok-next.ensures) c.loop-line.invariant.read;
 }
 
 pub returns-in_err-finished-clause-err : goal.returns-in_err-finished-clause-err

@@ -1,6 +1,6 @@
 use Rattle.std.proofs.Common.{◌≡◌, ap, ◌∙◌, refl, arith}
 use Rattle.std.proofs.lemmas.List.{take_all}
-use Rattle.document_buf.specs.Held.{document_of}
+use Rattle.document_buf.specs.DocsView.{document_of}
 use Rattle.document_buf.proofs.PlaceLemmas.{documents, count, IsHeld-copied, same_document, same_count}
 use Rattle.document_buf.proofs.docs.Docs.copy.Goals as goal
 

@@ -1,14 +1,8 @@
-use Rattle.std.proofs.Common.{ap, ◌∙◌}
-use Rattle.document_buf.proofs.PlaceLemmas.{IsHeld-kept, count, count_kept, found}
+use Rattle.document_buf.proofs.PlaceLemmas.{edited}
 use Rattle.document_buf.proofs.docs.Docs.erase.Goals as goal
 
 pub invariant_of-self : goal.invariant_of-self
-invariant_of-self c =
-    IsHeld-kept c.self.inside c.args.id c.in-Some.doc c.erase.new.self c.self.invariant
-    (found c.self.inside c.args.self.now c.args.id c.index_mut.result.now c.in-Some.doc c.self.view_is c.requires.is_open c.index_mut.ensures.value c.in-Some.is)
+invariant_of-self c = (edited _ _ _ _ c.in-Some.doc c.erase.new.self c.self.invariant c.self.view_is c.requires.is_open c.index_mut.ensures.value c.in-Some.is).0
 
 pub returns-clause-count : goal.returns-clause-count
-returns-clause-count c =
-    count_kept c.self.inside.docs.items c.args.id c.in-Some.doc c.erase.new.self
-    (found c.self.inside c.args.self.now c.args.id c.index_mut.result.now c.in-Some.doc c.self.view_is c.requires.is_open c.index_mut.ensures.value c.in-Some.is)
-    ∙ ap (λ held. count held.places) c.self.view_is
+returns-clause-count c = (edited _ _ _ _ c.in-Some.doc c.erase.new.self c.self.invariant c.self.view_is c.requires.is_open c.index_mut.ensures.value c.in-Some.is).1

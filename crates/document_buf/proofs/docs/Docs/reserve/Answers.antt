@@ -1,6 +1,6 @@
 use Rattle.std.proofs.Common.{ap, sym, subst, ◌∙◌}
 use Rattle.document_buf.specs.Places.{IsHeld, held_of}
-use Rattle.document_buf.specs.Held.{open_of}
+use Rattle.document_buf.specs.DocsView.{open_of}
 use Rattle.document_buf.proofs.PlaceLemmas.{IsHeld-kept, IsHeld-read, set_read, count, count_kept, made_at, read_at}
 use Rattle.document_buf.proofs.docs.Docs.reserve.Goals as goal
 use Rattle.document_buf.proofs.docs.Docs.reserve.Goals.{in-Some, in-None}

@@ -1,7 +1,5 @@
-use Rattle.std.proofs.Common.{[], ap, ◌∙◌}
+use Rattle.std.proofs.Common.{[]}
 use Rattle.std.proofs.lemmas.Bool.{false≢true}
-use Rattle.file_index.specs.Rows.{rows, is_known, without_file}
-use Rattle.file_index.specs.Places.{is_placed}
 use Rattle.file_index.proofs.PlaceLemmas.{swapped_placed, removed_placed, kept_placed}
 use Rattle.file_index.proofs.inverted.Inverted.remove.Goals as goal
 
@@ -15,18 +13,17 @@ invariant_of-self-in_default g c = swapped_placed g.I.Key.PartialEq.eq c.args.fi
     c.take.ensures.each c.self.invariant (λ key has. absurd (false≢true has))
 
 pub returns-in-Some-clause-removed : goal.returns-in-Some-clause-removed
-returns-in-Some-clause-removed g c = c.take.ensures.rows ∙ ap (λ table. without_file c.args.file (rows table)) c.self.view_is
+returns-in-Some-clause-removed g c = rw (← c.self.view_is) c.take.ensures.rows
 
 pub returns-in-Some-clause-keeps_room : goal.returns-in-Some-clause-keeps_room
-returns-in-Some-clause-keeps_room g c = λ file given other has. record {
-  known = c.take.ensures.stays file other (ap (λ table. is_known file table.files) c.self.view_is ∙ has.known);
-  placed = λ key there. kept_placed g.I.Key.PartialEq.eq
-      c.args.file c.self.inside.files c.take.new.self c.self.inside.postings c.take_out_all.new.postings _ _ key file
-      (c.take_out_all.ensures key file) other (ap (λ table. is_placed g.I.Key.PartialEq.eq table.room key file) c.self.view_is ∙ has.placed key there);
-}
+returns-in-Some-clause-keeps_room g c = rw (← c.self.view_is) (λ file given other has. record {
+  known = c.take.ensures.stays file other has.known;
+  placed = λ key there. kept_placed g.I.Key.PartialEq.eq c.args.file c.self.inside.files c.take.new.self c.self.inside.postings
+      c.take_out_all.new.postings _ _ key file (c.take_out_all.ensures key file) other (has.placed key there);
+})
 
 pub returns-in_default-clause-keeps_room : goal.returns-in_default-clause-keeps_room
-returns-in_default-clause-keeps_room g c = λ file given other has. record {
-  known = c.take.ensures.stays file other (ap (λ table. is_known file table.files) c.self.view_is ∙ has.known);
-  placed = λ key there. ap (λ table. is_placed g.I.Key.PartialEq.eq table.room key file) c.self.view_is ∙ has.placed key there;
-}
+returns-in_default-clause-keeps_room g c = rw (← c.self.view_is) (λ file given other has. record {
+  known = c.take.ensures.stays file other has.known;
+  placed = has.placed;
+})

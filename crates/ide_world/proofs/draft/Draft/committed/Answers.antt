@@ -1,9 +1,13 @@
 use Rattle.ide_world.specs.Drafted.{drafted}
 use Rattle.ide_world.specs.Walk.{edited_committed}
 use Rattle.ide_world.proofs.EditLemmas.{committed_of, committed-edited}
-use Rattle.ide_world.proofs.WalkLemmas.{part_now, read_by}
+use Rattle.ide_world.proofs.WalkLemmas.{part_now}
 use Rattle.ide_world.proofs.draft.Draft.committed.Goals as goal
 
 pub returns : goal.returns
-returns c = rw (← c.self.view_is) (read_by _ _ _ _ _ _ _ c.committed.ensures c.committed_of-first.ensures c.as_slice.ensures
-    (part_now edited_committed c.args.id committed_of committed-edited (drafted c.self.inside) c.self.invariant.draft))
+returns c = rw (
+  ← c.self.view_is,
+  part_now edited_committed c.args.id committed_of committed-edited (drafted c.self.inside) c.self.invariant.draft,
+  ← c.committed_of-first.ensures,
+  ← c.as_slice.ensures,
+) c.committed.ensures

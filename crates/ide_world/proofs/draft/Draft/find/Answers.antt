@@ -1,8 +1,9 @@
 use Rattle.std.proofs.Common.{◌∙◌, sym, ap}
 use Rattle.std.specs.Option.{option_copied}
-use Rattle.ide_world.specs.Drafted.{world_now}
+use Rattle.ide_world.specs.Drafted.{drafted_world}
 use Rattle.ide_world.proofs.PathLemmas.{row_at_path}
 use Rattle.ide_world.proofs.draft.Draft.find.Goals as goal
 
 pub unreachable-requires : goal.unreachable-requires
-unreachable-requires c = row_at_path (world_now c.args.self.now) c.args.path.now c.in_ok-id.id (sym c.id_of.ensures ∙ c.in_ok-id.was) (sym c.row.ensures.value ∙ ap option_copied c.in_default.is)
+unreachable-requires c = row_at_path (drafted_world c.args.self.now) c.args.path.now c.in_ok-id.id
+    (sym c.id_of.ensures ∙ c.in_ok-id.was) (sym c.row.ensures.value ∙ ap option_copied c.in_default.is)

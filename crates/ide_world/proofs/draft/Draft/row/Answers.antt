@@ -1,6 +1,7 @@
 use Rattle.ide_world.specs.Drafted.{drafted}
-use Rattle.ide_world.proofs.WalkLemmas.{row_now, read_by}
+use Rattle.ide_world.proofs.WalkLemmas.{row_now}
 use Rattle.ide_world.proofs.draft.Draft.row.Goals as goal
 
 pub returns-clause-value : goal.returns-clause-value
-returns-clause-value c = rw (← c.self.view_is) (read_by _ _ _ _ _ _ _ c.row-2.ensures c.row.ensures c.as_slice.ensures (row_now (drafted c.self.inside) c.args.id c.self.invariant.draft))
+returns-clause-value c =
+    rw (← c.self.view_is, row_now (drafted c.self.inside) c.args.id c.self.invariant.draft, ← c.row.ensures, ← c.as_slice.ensures) c.row-2.ensures

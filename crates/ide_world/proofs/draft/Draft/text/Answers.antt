@@ -1,12 +1,16 @@
 use Rattle.ide_world.specs.Drafted.{drafted}
 use Rattle.ide_world.specs.Walk.{edited_text}
 use Rattle.ide_world.proofs.EditLemmas.{text_of_document, text-edited}
-use Rattle.ide_world.proofs.WalkLemmas.{part_now, texts_fit, fits_as, read_ok}
+use Rattle.ide_world.proofs.WalkLemmas.{part_now, texts_fit}
 use Rattle.ide_world.proofs.draft.Draft.text.Goals as goal
 
 pub text-requires : goal.text-requires
-text-requires c = fits_as _ _ _ _ _ c.in_ok-first.ensures c.as_slice.ensures (texts_fit (drafted c.self.inside) c.args.id c.self.invariant.draft)
+text-requires c = rw (c.in_ok-first.ensures, c.as_slice.ensures) (texts_fit (drafted c.self.inside) c.args.id c.self.invariant.draft)
 
 pub returns : goal.returns
-returns c = rw (← c.self.view_is) (read_ok _ _ _ _ _ _ _ c.text.ensures c.in_ok-first.ensures c.as_slice.ensures
-    (part_now edited_text c.args.id text_of_document text-edited (drafted c.self.inside) c.self.invariant.draft))
+returns c = rw (
+  ← c.self.view_is,
+  part_now edited_text c.args.id text_of_document text-edited (drafted c.self.inside) c.self.invariant.draft,
+  ← c.in_ok-first.ensures,
+  ← c.as_slice.ensures,
+) c.text.ensures

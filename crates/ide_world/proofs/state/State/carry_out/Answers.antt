@@ -1,70 +1,64 @@
-use Rattle.std.proofs.Common.{◌≤◌, length, sym, ap, subst, ◌∙◌, arith}
-use Rattle.std.specs.Prelude.{IsSome}
-use Rattle.document_buf.specs.Held.{document_of, room_of}
-use Rattle.ide_world.specs.DocEdits.{IsDocEditFit}
-use Rattle.ide_world.specs.Step.{after_step}
-use Rattle.ide_world.specs.Room.{Room, KeepsRoom, room_before_step}
-use Rattle.ide_world.specs.Lawful.{IsLawfulStep}
+use Rattle.std.proofs.Common.{length, ap, ◌∙◌, arith}
 use Rattle.ide_world.proofs.WorldLemmas.{rows_known, document_here, new_row_room, may_have, marks_some, marks_few, rows_left, world_after, kept_after}
 use Rattle.ide_world.proofs.RoomLemmas.{chars_left}
 use Rattle.ide_world.proofs.state.State.carry_out.Goals as goal
 
 pub apply_row-row-requires-clause-within : goal.apply_row-row-requires-clause-within
 apply_row-row-requires-clause-within c =
-    let known = rows_known c.self.inside c.args.self.now c.args.step c.self.view_is c.self.invariant c.requires.lawful in
+    let known = rows_known c.self.inside c.args.step c.self.invariant (rw (← c.self.view_is) at c.requires.lawful) in
     omega (arith, known, ap (λ rows. length rows) c.draw_if.ensures.rows)
 
 pub apply_row-row-requires-clause-made : goal.apply_row-row-requires-clause-made
 apply_row-row-requires-clause-made c =
-    new_row_room c.self.inside c.args.self.now c.args.step c.self.view_is c.self.invariant c.requires.lawful
-    c.draw_if.new.files c.draw_if.ensures.rows c.draw_if.ensures.keeps.rows c.requires.rows
+    new_row_room c.self.inside c.args.step c.self.invariant (rw (← c.self.view_is) at c.requires.lawful)
+    c.draw_if.new.files c.draw_if.ensures.rows c.draw_if.ensures.keeps.rows (rw (← c.self.view_is) at c.requires.rows)
 
 pub apply_row-row-requires-clause-path : goal.apply_row-row-requires-clause-path
 apply_row-row-requires-clause-path c =
-    may_have c.self.inside c.args.self.now c.args.step c.self.view_is c.self.invariant c.requires.lawful
-    c.draw_if.new.files c.draw_if.ensures.rows c.draw_if.ensures.keeps.paths c.requires.room.path
+    may_have c.self.inside c.args.step c.self.invariant (rw (← c.self.view_is) at c.requires.lawful)
+    c.draw_if.new.files c.draw_if.ensures.rows c.draw_if.ensures.keeps.paths (rw (← c.self.view_is) at c.requires.room.path)
 
 pub apply_document-requires-clause-fit : goal.apply_document-requires-clause-fit
 apply_document-requires-clause-fit c =
-    subst (IsDocEditFit c.args.step.doc)
-    (document_here c.self.inside c.args.self.now c.args.step c.self.view_is c.self.invariant c.requires.lawful)
-    (subst (λ s. IsLawfulStep s.world c.args.step) (sym c.self.view_is) c.requires.lawful).doc
+    let lawful = rw (← c.self.view_is) at c.requires.lawful in
+    rw (document_here c.self.inside c.args.step c.self.invariant lawful) at lawful.doc
 
 pub set-requires-clause-some : goal.set-requires-clause-some
-set-requires-clause-some c = marks_some c.self.inside c.args.self.now c.args.step c.self.view_is c.self.invariant c.requires.lawful
+set-requires-clause-some c = marks_some c.self.inside c.args.step c.self.invariant (rw (← c.self.view_is) at c.requires.lawful)
 
 pub set-requires-clause-few : goal.set-requires-clause-few
-set-requires-clause-few c = omega (arith, marks_few c.self.inside c.args.self.now c.args.step c.self.view_is c.self.invariant c.requires.lawful)
+set-requires-clause-few c = omega (arith, marks_few c.self.inside c.args.step c.self.invariant (rw (← c.self.view_is) at c.requires.lawful))
 
 pub invariant_of-self : goal.invariant_of-self
 invariant_of-self c =
-    kept_after c.self.inside c.args.self.now c.args.step c.self.view_is c.self.invariant c.requires.lawful
-    c.draw_if.new.files c.apply_row-row.new.files c.apply_document.new.docs c.apply_index-index.new.layers c.set.new.self c.is_unready_file-is_unready.result
-    (assumption c) c.requires.stamps
+    kept_after c.self.inside c.args.step c.self.invariant (rw (← c.self.view_is) at c.requires.lawful)
+    _ c.draw_if.new.files c.is_unready_file-is_unready.result (assumption c) (rw (← c.self.view_is) at c.requires.stamps)
 
 pub returns-clause-world : goal.returns-clause-world
-returns-clause-world c =
-    world_after c.self.inside c.args.self.now c.args.step c.self.view_is c.self.invariant c.requires.lawful
-    c.draw_if.new.files c.apply_row-row.new.files c.apply_document.new.docs c.apply_index-index.new.layers c.set.new.self c.is_unready_file-is_unready.result
-    (assumption c)
+returns-clause-world c = rw (← c.self.view_is)
+    (world_after c.self.inside c.args.step c.self.invariant (rw (← c.self.view_is) at c.requires.lawful) record {
+      files = c.apply_row-row.new.files;
+      docs = c.apply_document.new.docs;
+      layers = c.apply_index-index.new.layers;
+      unready = c.set.new.self;
+      entries = c.self.inside.entries;
+    } c.draw_if.new.files c.is_unready_file-is_unready.result (assumption c))
 
 pub returns-clause-rows : goal.returns-clause-rows
-returns-clause-rows c =
-    rows_left c.self.inside c.args.self.now c.args.step c.self.view_is c.self.invariant c.requires.lawful c.draw_if.new.files c.apply_row-row.new.files
-    c.draw_if.ensures.rows c.apply_row-row.ensures.made (omega (arith, c.draw_if.ensures.keeps.rows, c.apply_row-row.ensures.keeps.rows))
+returns-clause-rows c = rw (← c.self.view_is)
+    (rows_left c.self.inside c.args.step c.self.invariant (rw (← c.self.view_is) at c.requires.lawful) c.draw_if.new.files c.apply_row-row.new.files
+    c.draw_if.ensures.rows c.apply_row-row.ensures.made (omega (arith, c.draw_if.ensures.keeps.rows, c.apply_row-row.ensures.keeps.rows)))
 
 pub returns-clause-chars : goal.returns-clause-chars
-returns-clause-chars c = λ id n wide room open'.
-    chars_left c.self.inside.docs c.apply_document.new.docs c.args.step c.apply_document.ensures.documents c.apply_document.ensures.others c.apply_document.ensures.room
-    id n wide (subst (λ s. IsSome (document_of s.room.docs id) → room_before_step id c.args.step n ≤ room_of s.room.docs id) (sym c.self.view_is) room) open'
+returns-clause-chars c = rw (← c.self.view_is)
+    (chars_left c.self.inside.docs c.apply_document.new.docs c.args.step c.apply_document.ensures.documents c.apply_document.ensures.others
+    c.apply_document.ensures.room)
 
 pub returns-clause-keeps : goal.returns-clause-keeps
-returns-clause-keeps c =
-    let new : Room = record { files = c.apply_row-row.new.files; docs = c.apply_document.new.docs; layers = c.apply_index-index.new.layers; marks = c.set.new.self } in
-    subst (λ s. KeepsRoom s.room new) c.self.view_is record {
-      paths = λ path had. c.apply_row-row.ensures.keeps.paths path (c.draw_if.ensures.keeps.paths path had);
-      places = c.apply_document.ensures.places;
-      parts = c.apply_index-index.ensures.keeps;
-      layers = c.apply_index-index.ensures.keeps_place;
-      marks = λ id had. c.set.ensures.keeps id ∙ had;
-    }
+returns-clause-keeps c = rw (← c.self.view_is) record {
+  paths = λ path had. c.apply_row-row.ensures.keeps.paths path (c.draw_if.ensures.keeps.paths path had);
+  places = c.apply_document.ensures.places;
+  parts = c.apply_index-index.ensures.keeps;
+  layers = c.apply_index-index.ensures.keeps_place;
+  marks = λ id had. c.set.ensures.keeps id ∙ had;
+}

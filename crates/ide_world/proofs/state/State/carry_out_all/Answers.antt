@@ -3,7 +3,7 @@ use Rattle.std.proofs.lemmas.List.{map-append}
 use Rattle.std.specs.Prelude.{vec_len}
 use Rattle.std.specs.Vec.Iter.{into_iter_items}
 use Rattle.ide_world.specs.Step.{after_steps}
-use Rattle.ide_world.specs.declared.apply.Gone.{Gone}
+use Rattle.ide_world.specs.declared.apply.Removed.{Removed}
 use Rattle.ide_world.specs.Ready.{ids_of}
 use Rattle.ide_world.specs.StepsReady.{IsReady, ids_of_gone}
 use Rattle.ide_world.proofs.RoomLemmas.{ready_after}
@@ -24,7 +24,7 @@ loop-step-preserved c =
       world = ap (λ w. after_steps w rest) c.carry_out-taken.ensures.world ∙ ap (after_steps old.world) (sym taken) ∙ held.world;
       place = omega (arith, held.place, pushed, ap length taken, c.push.ensures.capacity);
       ids = ap (λ items. ids_of_gone items ++ ids_of rest) c.in-Ok.ensures.items
-          ∙ ap (λ ids. ids ++ ids_of rest) (map-append (λ (g : Gone). g.id) c.loop-step.gone.items (c.carry_out-taken.result ∷ []))
+          ∙ ap (λ ids. ids ++ ids_of rest) (map-append (λ (g : Removed). g.id) c.loop-step.gone.items (c.carry_out-taken.result ∷ []))
           ∙ append_assoc (ids_of_gone c.loop-step.gone.items) (c.carry_out-taken.result.id ∷ []) (ids_of rest)
           ∙ ap (λ id. ids_of_gone c.loop-step.gone.items ++ id ∷ ids_of rest) c.carry_out-taken.ensures.id
           ∙ ap (λ left. ids_of_gone c.loop-step.gone.items ++ ids_of left) (sym taken)

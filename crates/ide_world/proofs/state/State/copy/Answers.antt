@@ -1,18 +1,25 @@
-use Rattle.std.proofs.Common.{ap, ◌∙◌}
-use Rattle.ide_world.specs.Marks.{is_on}
-use Rattle.ide_world.proofs.WorldLemmas.{kept_same, world_same}
+use Rattle.std.proofs.Common.{ap, refl}
+use Rattle.ide_world.specs.IdSet.{is_on}
+use Rattle.ide_world.specs.State.{files_from}
+use Rattle.ide_world.proofs.WorldLemmas.{kept_same}
 use Rattle.ide_world.proofs.state.State.copy.Goals as goal
 
 pub invariant_of-result : goal.invariant_of-result
-invariant_of-result c =
-    let i = c.self.inside in
-    kept_same i.files c.in_ok-copy.field-0 i.docs c.in_ok-copy-2.field-0 i.layers c.in_ok-copy-3.field-0 i.unready c.in_ok-copy-4.field-0 i.entries c.self.invariant
-    c.in_ok-copy.ensures.rows c.in_ok-copy.ensures.stamp c.in_ok-copy-2.ensures.same c.in_ok-copy-2.ensures.count
-    c.in_ok-copy-3.ensures.base c.in_ok-copy-3.ensures.overlay
-    (λ other. ap (λ m. is_on m other) c.in_ok-copy-4.ensures) (ap (λ m. m.count) c.in_ok-copy-4.ensures)
+invariant_of-result c = kept_same c.self.inside _ c.self.invariant record {
+  rows = c.in_ok-copy.ensures.rows;
+  next = c.in_ok-copy.ensures.stamp;
+  documents = c.in_ok-copy-2.ensures.same;
+  open_count = c.in_ok-copy-2.ensures.count;
+  base = c.in_ok-copy-3.ensures.base;
+  overlay = c.in_ok-copy-3.ensures.overlay;
+  marks = λ other. ap (λ m. is_on m other) c.in_ok-copy-4.ensures;
+  count = ap (λ m. m.count) c.in_ok-copy-4.ensures;
+  entries = refl;
+}
 
 pub returns : goal.returns
-returns c =
-    let i = c.self.inside in
-    world_same i.files c.in_ok-copy.field-0 i.docs c.in_ok-copy-2.field-0 i.entries c.in_ok-copy.ensures.rows c.in_ok-copy.ensures.stamp c.in_ok-copy-2.ensures.same
-    ∙ ap (λ s. s.world) c.self.view_is
+returns c = rw (← c.self.view_is) (λ i. record {
+  files = files_from (λ id. c.in_ok-copy-2.ensures.same id i) 1 (c.in_ok-copy.ensures.rows i);
+  next_stamp = c.in_ok-copy.ensures.stamp i;
+  entries = c.self.inside.entries;
+})

@@ -1,5 +1,5 @@
 use Rattle.std.proofs.Common.{◌≡◌, length, take}
-use Rattle.vfs_core.specs.Held.{HasRowRoom}
+use Rattle.vfs_core.specs.FilesView.{HasRowRoom}
 use Rattle.ide_world.specs.Room.{HasEachRoom}
 use Rattle.ide_world.proofs.RoomLemmas.{HasEachChars}
 use Rattle.ide_world.proofs.state.State.reserve_all.Given as goal

@@ -1,4 +1,4 @@
-use Rattle.std.proofs.Common.{◌≡◌, ℕ, ◌-◌, ◌≤◌, IfSome, length, take, drop, List, ap, ◌∙◌, subst, arith, length-take}
+use Rattle.std.proofs.Common.{◌≤◌, length, drop, ap, arith, length-take}
 use Rattle.list_laws.proofs.PartLemmas.{part-part}
 use Rattle.java_tokens.proofs.piece.Piece.spelt.Goals as goal
 
@@ -7,7 +7,4 @@ pub returns : goal.returns
 returns c =
     let p = c.self.inside in
     let inside : c.args.to ≤ p.len = omega (arith, ap length c.self.view_is, length-take p.len (drop p.from p.text.now)) in
-    subst (λ (cs : List ℕ). IfSome c.spelt.result (λ spelt. spelt ≡ cs))
-    (part-part p.text.now p.from p.len c.args.from c.args.to c.requires.ordered inside
-    ∙ ap (λ cs. take (c.args.to - c.args.from) (drop c.args.from cs)) c.self.view_is)
-    c.spelt.ensures
+    rw (← c.self.view_is, ← part-part p.text.now p.from p.len c.args.from c.args.to c.requires.ordered inside) c.spelt.ensures

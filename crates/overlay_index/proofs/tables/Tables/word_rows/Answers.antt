@@ -1,11 +1,9 @@
-use Rattle.std.proofs.Common.{◌≡◌, ℕ, ap, ◌∙◌, subst}
+use Rattle.std.proofs.Common.{ap, ◌∙◌}
 use Rattle.overlay_index.specs.Parts.{Parts}
-use Rattle.overlay_index.specs.Layers.{Shown, IsFilledTo, parts_in}
-use Rattle.overlay_index.specs.Found.{values_of, found_to}
 use Rattle.overlay_index.proofs.FoundLemmas.{walk_finds}
 use Rattle.overlay_index.proofs.tables.Tables.word_rows.Goals as goal
 
 pub returns : goal.returns
-returns c =
-    subst (λ (shown : Shown). (last : ℕ) → IsFilledTo shown last → c.of.result ≡ found_to (λ id. values_of c.args.name.now (parts_in shown id).words) last) c.self.view_is
-    (λ last filled. c.of.ensures ∙ walk_finds c.args.name.now c.self.inside.words.files c.rows.result c.rows.ensures.by_files last (ap (λ (parts : Parts). parts.words) filled.0) (λ file past. ap (λ (parts : Parts). parts.words) (filled.1 file past)))
+returns c = rw (← c.self.view_is) (λ last full.
+    let none = λ (parts : Parts). parts.words in
+    c.of.ensures ∙ walk_finds c.args.name.now c.self.inside.words.files _ c.rows.ensures.by_files last (ap none full.0) (λ f past. ap none (full.1 f past)))

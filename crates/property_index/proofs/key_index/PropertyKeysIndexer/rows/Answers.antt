@@ -1,10 +1,10 @@
-use Rattle.std.proofs.Common.{◌≡◌, ℕ, List, sym, ap, ◌∙◌, subst}
+use Rattle.std.proofs.Common.{◌≡◌, ℕ, sym, ap, ◌∙◌, subst}
 use Rattle.std.specs.Ordering.{nat_cmp}
 use Rattle.std.specs.Cmp.Lexicographic.{slice_cmp}
 use Rattle.std.specs.Str.{bytes_eq}
 use Rattle.std.proofs.lemmas.Result.{IfOk-weaker}
 use Rattle.file_index.specs.KeyRows.{AreInOrder, rows_with, by_keys}
-use Rattle.property_index.specs.Keys.{keys_of, key_rows}
+use Rattle.property_index.specs.Keys.{key_rows}
 use Rattle.property_index.proofs.RiseLemmas.{keys_of-in_order}
 use Rattle.property_index.proofs.key_index.PropertyKeysIndexer.rows.Goals as goal
 

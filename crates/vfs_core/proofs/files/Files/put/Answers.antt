@@ -3,7 +3,7 @@ use Rattle.std.specs.Prelude.{IfSome, Some}
 use Rattle.std.specs.Option.{option_copied}
 use Rattle.std.proofs.lemmas.Bool.{eq-eqb}
 use Rattle.vfs_core.specs.Row.{row_in, has_path, IsStamped}
-use Rattle.vfs_core.specs.Held.{HasPathRoom, id_at, row_of}
+use Rattle.vfs_core.specs.FilesView.{HasPathRoom, id_at, row_of}
 use Rattle.vfs_core.specs.Table.{id_after, id_kept}
 use Rattle.vfs_core.proofs.KeptLemmas.{put_found, free_path, put_stamped, row_stamped}
 use Rattle.vfs_core.proofs.files.Files.put.Goals as goal

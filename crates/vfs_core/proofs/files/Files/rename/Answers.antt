@@ -1,9 +1,8 @@
-use Rattle.std.proofs.Common.{◌≡◌, ◌-◌, Some, None, ap, sym, subst, ◌∙◌, set, arith, cond, ℕ}
-use Rattle.vfs_core.specs.declared.row.FileRow.{FileRow}
-use Rattle.std.specs.Prelude.{option_map, is_some, bytes_eq}
+use Rattle.std.proofs.Common.{◌≡◌, Some, None, ap, sym, subst, ◌∙◌, arith, cond}
+use Rattle.std.specs.Prelude.{bytes_eq}
 use Rattle.std.specs.Cmp.Lexicographic.{same_text}
-use Rattle.vfs_core.specs.Row.{row_in, renamed, has_path, indexed_of}
-use Rattle.vfs_core.specs.Held.{id_at}
+use Rattle.vfs_core.specs.Row.{renamed, has_path, indexed_of}
+use Rattle.vfs_core.specs.FilesView.{id_at}
 use Rattle.vfs_core.specs.Table.{id_after, id_kept}
 use Rattle.vfs_core.proofs.KeptLemmas.{set_twice, each_twice, put_found, put_stamped, is_id-Some}
 use Rattle.vfs_core.proofs.PathLemmas.{place_kept, same_path}
@@ -34,7 +33,9 @@ invariant_of-self c =
           c.set-2.ensures.ids path
           ∙ ap (λ o. cond (bytes_eq c.args.to path) (Some id) o) (c.set.ensures.ids path)
           ∙ ap (λ o. id_after id o (Some new) path (id_kept path ids)) (sym was))
-          (λ path has lacks. ap (λ rs. id_at (record c.args.self.now { rows = rs }) path) same ∙ subst (λ p. id_at c.args.self.now p ≡ None) (same_text c.args.to path (sym has)) c.requires.free);
+          (λ path has lacks.
+          ap (λ rs. id_at (record c.args.self.now { rows = rs }) path) same
+          ∙ subst (λ p. id_at c.args.self.now p ≡ None) (same_text c.args.to path (sym has)) c.requires.free);
       stamped = put_stamped rows rows' id c.self.inside.next_stamp (Some new) each
           (record {
             stamp = omega (arith, next, c.draw-stamp.ensures.value, c.draw-stamp.ensures.stamp);
@@ -45,12 +46,7 @@ invariant_of-self c =
 
 pub returns-clause-rows : goal.returns-clause-rows
 returns-clause-rows c =
-    let id = c.args.id in
-    let new : ℕ → FileRow = λ stamp. renamed c.args.to stamp c.in-Some.row in
-    let same = ap (λ h. h.rows) c.self.view_is ∙ c.draw-stamp.ensures.rows in
-    let was = ap (λ rs. row_in rs id) (sym same) ∙ sym c.put.ensures.old ∙ c.in-Some.is in
-    set_twice c.self.inside.rows.rows c.put.new.self.rows c.put-2.new.self.rows id (Some (new c.draw-stamp.result))
-    (ap (λ rs. is_some (row_in rs id)) same ∙ c.requires.live) c.put.ensures.kept c.put.ensures.made c.put-2.ensures.kept
-    ∙ ap (λ rs. set rs (id - 1) (Some (new c.draw-stamp.result))) same
-    ∙ ap (λ stamp. set c.args.self.now.rows (id - 1) (Some (new stamp))) c.draw-stamp.ensures.value
-    ∙ ap (λ o. set c.args.self.now.rows (id - 1) (option_map (renamed c.args.to c.args.self.now.next_stamp) o)) (sym was)
+    set_twice c.args.self.now.rows c.self.inside.rows.rows c.put.new.self.rows c.put-2.new.self.rows c.args.id
+    (renamed c.args.to c.args.self.now.next_stamp) c.in-Some.row (renamed c.args.to c.draw-stamp.result c.in-Some.row)
+    (ap (λ h. h.rows) c.self.view_is ∙ c.draw-stamp.ensures.rows) (sym c.put.ensures.old ∙ c.in-Some.is)
+    (ap (λ stamp. renamed c.args.to stamp c.in-Some.row) c.draw-stamp.ensures.value) c.put.ensures.kept c.put.ensures.made c.put-2.ensures.kept

@@ -2,7 +2,7 @@ use Rattle.std.proofs.Common.{ap, sym, ◌∙◌}
 use Rattle.std.specs.Prelude.{bytes_eq}
 use Rattle.std.specs.Map.{keys_of}
 use Rattle.std.proofs.lemmas.Bool.{false≢true}
-use Rattle.vfs_core.specs.Held.{has_name, id_at}
+use Rattle.vfs_core.specs.FilesView.{has_name, id_at}
 use Rattle.vfs_core.specs.Table.{id_kept}
 use Rattle.vfs_core.proofs.KeptLemmas.{kept_first}
 use Rattle.vfs_core.proofs.PathLemmas.{swept_gone, same_path}

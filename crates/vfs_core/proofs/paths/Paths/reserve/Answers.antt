@@ -1,7 +1,7 @@
 use Rattle.std.proofs.Common.{ap, sym, ◌∙◌, None}
 use Rattle.std.specs.Map.{keys_of}
 use Rattle.std.specs.Prelude.{is_some}
-use Rattle.vfs_core.specs.Held.{has_name}
+use Rattle.vfs_core.specs.FilesView.{has_name}
 use Rattle.vfs_core.specs.Table.{id_kept}
 use Rattle.vfs_core.proofs.PathLemmas.{has_name-keys, places-updated, id_kept-reserved}
 use Rattle.vfs_core.proofs.paths.Paths.reserve.Goals as goal

@@ -2,7 +2,7 @@ use Rattle.std.proofs.Common.{ap, ◌∙◌, cond, bytes_eq}
 use Rattle.std.specs.Map.{keys_of}
 use Rattle.std.proofs.lemmas.Bool.{false≢true}
 use Rattle.std.specs.Prelude.{is_some}
-use Rattle.vfs_core.specs.Held.{has_name}
+use Rattle.vfs_core.specs.FilesView.{has_name}
 use Rattle.vfs_core.specs.Table.{id_kept}
 use Rattle.vfs_core.proofs.PathLemmas.{has_name-keys, id_kept-updated}
 use Rattle.vfs_core.proofs.paths.Paths.set.Goals as goal

@@ -2,7 +2,7 @@ use Rattle.std.proofs.Common.{ap, sym, ◌∙◌, ◌≡◌, ℕ, false, not, �
 use Rattle.std.specs.Map.{keys_of}
 use Rattle.std.specs.Prelude.{Option, is_some}
 use Rattle.std.proofs.lemmas.Bool.{false≢true}
-use Rattle.vfs_core.specs.Held.{has_name}
+use Rattle.vfs_core.specs.FilesView.{has_name}
 use Rattle.vfs_core.specs.Table.{id_kept}
 use Rattle.vfs_core.proofs.PathLemmas.{id_kept-swept, places-swept}
 use Rattle.vfs_core.proofs.paths.Paths.sweep.Goals as goal
