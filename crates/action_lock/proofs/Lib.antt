@@ -1,11 +1,7 @@
-pub mod WordLemmas
-pub mod Tallies
+pub mod Common
 pub mod Placing
 pub mod Sound
-pub mod ReaderSteps
 pub mod Hands
-pub mod WriterSteps
 pub mod Numbers
-pub mod Ends
-pub mod PassLemmas
+pub mod StepLemmas
 pub mod ReadLemmas

@@ -1,149 +1,145 @@
 -- Steps on numbers keep the rule: a load that tells a seat what a join left, and that it knows its own lists, splitting off a pass with the next number,
--- and taking in the view of a pass that was met.
-use Rattle.std.proofs.Common.{◌≡◌, ◌≢◌, ℕ, ◌+◌, ◌<◌, Bool, false, List, [], ◌∷◌, ◌++◌, length, filter, set, refl, ap, ◌∙◌, sym, subst, arith, Some, None}
-use Rattle.std.proofs.Common.{Option, All}
-use Rattle.std.proofs.Common.{nat_lt, eqb, lt-ltb, ne_eqb, length-append}
-use mathlib.Core.Option.{none, some}
-use lib.ListN.{get_elem?}
-use Rattle.std.proofs.lemmas.Bool.Decides.{nat_tests}
-use Rattle.std.proofs.lemmas.List.Elements.{All-append, All-cons, All-nil}
-use Rattle.atomic_table.specs.Table.{Me, step, keeps, Allows, Splits, Joins}
-use Rattle.atomic_table.proofs.Lists.{set_else}
-use Rattle.action_lock.specs.declared.slot.Slot.{Slot}
-use Rattle.action_lock.specs.declared.view.Phase.TheVariants.{Out}
-use Rattle.action_lock.specs.declared.view.Ended.{Ended}
-use Rattle.action_lock.specs.declared.view.View.{View}
-use Rattle.action_lock.specs.Words.{count}
-use Rattle.action_lock.specs.Views.{weight, weight_in, here, tally, number_count, number_is, leading, numbers, times, spent_view}
-use Rattle.action_lock.specs.Rule.{entries_of, IsSound, IsRecorded, IsKept, KnowsPlaces, SeesAll}
-use Rattle.action_lock.specs.Steps.{told, Tells, KnowsItsLists, splitting, split_off, joined, end_of}
-use Rattle.action_lock.proofs.Tallies.{tally_is}
-use Rattle.action_lock.proofs.Placing.{placed_same, spread_set, quiet}
-use Rattle.action_lock.proofs.Sound.{told_all, fresh_sound}
-use Rattle.list_laws.specs.Totals.{total}
-use Rattle.list_laws.specs.Prefixes.{IsPrefix, longer}
-use Rattle.list_laws.proofs.TotalLemmas.{total-set, total-same, total-at, total-two, total-only, total-append}
-use Rattle.list_laws.proofs.PrefixLemmas.{front_all, front_trans, front_filter, front_between, front_whole, longer_is, longer_front, front_longer_left}
-use Rattle.list_laws.proofs.PrefixLemmas.{front_longer_right, filter_none, All-weaken}
-use Rattle.list_laws.proofs.EachLemmas.{each_set, each_snoc}
-use Rattle.list_laws.specs.Rows.{one_if}
+-- and taking in the view of a pass that was met. With them the rule at the beginning, and what it says where number 0 has met all others.
+use Rattle.action_lock.proofs.Common.{◌≡◌, ℕ, ◌+◌, ◌<◌, ◌≤◌, false, List, [], ◌∷◌, ◌++◌, length, map, replicate, set, get_or, refl, ap, ◌∙◌, sym, subst}
+use Rattle.action_lock.proofs.Common.{arith, Option, Some, None, All, nat_lt, eqb, eqb-true, lt-ltb, ne_eqb, length-append, suc, none, some, some-ne-none}
+use Rattle.action_lock.proofs.Common.{get_elem?, nat_tests, get_or-replicate, get_or_default, length-replicate, All-append, All-cons, All-nil, Me, step}
+use Rattle.action_lock.proofs.Common.{keeps, Allows, Splits, Joins, opening, Final, Seen, set_else, at_index, at_longer, at_last, at_map, Slot, Home, Empty}
+use Rattle.action_lock.proofs.Common.{Out, Ended, View, HasNoHome, MayKeep, count, word_at, weight, weight_in, here, number_count, number_is, leading}
+use Rattle.action_lock.proofs.Common.{numbers, times, first_view, spent_view, entries_of, IsSound, IsRecorded, IsKept, KnowsPlaces, SeesAll, told, Tells}
+use Rattle.action_lock.proofs.Common.{KnowsItsLists, splitting, split_off, joined, end_of, total, IsPrefix, longer, one_if, bool_cases, Each, each_set}
+use Rattle.action_lock.proofs.Common.{each_snoc, front_all, front_trans, front_whole, front_same_filter, longer_is, longer_front, front_longer_left}
+use Rattle.action_lock.proofs.Common.{front_longer_right, filter_none, All-weaken, total-set, total-same, total-at, total-two, total-only, total-append, true}
+use Rattle.action_lock.proofs.Placing.{tally_is, placed_same, spread_set, quiet}
+use Rattle.action_lock.proofs.Sound.{Keeps, keeps_between, told_all, fresh_sound, sound_more}
+
+-- what a slot that may be kept by a place holds is no home value
+pub no_home : {H S E : Type 0} (share_stands : S → List E → Type 0) (entries : List E) (kept : Slot H S) → MayKeep share_stands entries kept → HasNoHome kept
+no_home share_stands entries (Home home) may = absurd may
+no_home share_stands entries kept may = tt
 
 module _ {E : Type 0} where
-  -- a view with no number has no number at all
-  pub no_times : (k : ℕ) (v : View E) → numbers v ≡ 0 → times k v ≡ 0
-  no_times k v e = by_parts v.number v.ended e
-    where
-      by_parts : (number : Option ℕ) (ended : List (Ended E)) → number_count number + length ended ≡ 0
-          → number_is k number + total (λ (x : Ended E). one_if (eqb x.number k)) ended ≡ 0
-      by_parts None [] e = refl
-      by_parts None (x ∷ xs) e = absurd (omega arith)
-      by_parts (Some n) xs e = absurd (omega arith)
+  end_count : (k : ℕ) (number : Option ℕ) (w : View E) → total (λ (x : Ended E). one_if (eqb x.number k)) (end_of number w) ≡ number_is k number
+  end_count k None w = refl
+  end_count k (Some n) w = omega arith
 
-  module _ (number_of : E → ℕ) (history : List E) (drawn : ℕ) (vs : List (View E)) (r : IsRecorded number_of history drawn vs) (id : ℕ) (v : View E)
-      (at : get_elem? vs id ≡ some v) where
-    -- number 0, where it has met every other number, has each number once
-    pub has_all : v.number ≡ Some 0 → v.drawn ≡ length v.ended + 1 → (k : ℕ) → k < drawn → times k v ≡ 1
-    has_all leads full k below =
-        let few : total numbers vs ≡ numbers v = omega (arith, ap number_count leads, (r.each id v at).counts leads, r.in_all) in
-        sym (total-only numbers (times k) vs id v at few (λ j w _ e. no_times k w e)) ∙ (r.once k ∙ ap one_if (lt-ltb k drawn below))
+  -- what holds of what is left of a pass, if it has a number
+  ends_known : (P : Ended E → Type 0) (w : View E) (number : Option ℕ)
+      → ((n : ℕ) → number ≡ Some n → P record { number = n; entries = w.mine; sights = w.sights }) → All P (end_of number w)
+  ends_known P w None each = All-nil P
+  ends_known P w (Some n) each = All-cons P record { number = n; entries = w.mine; sights = w.sights } [] (each n refl) (All-nil P)
 
-    all_known : All (λ e. number_of e < drawn) v.seen
-    all_known = front_all (λ e. number_of e < drawn) v.seen history (r.each id v at).seen r.known
+  -- a number that stands among those of passes that were met: the entries with it have been seen
+  ended_seen : (number_of : E → ℕ) (history seen : List E) (k : ℕ) (ended : List (Ended E)) → 0 < total (λ (e : Ended E). one_if (eqb e.number k)) ended
+      → All (Keeps number_of history seen) ended → entries_of number_of k seen ≡ entries_of number_of k history
+  ended_seen number_of history seen k [] some_there all = absurd (omega arith)
+  ended_seen number_of history seen k (x ∷ xs) some_there all = bool_cases (eqb x.number k) (λ _. entries_of number_of k seen ≡ entries_of number_of k history)
+      (λ e. let both = all 0 x (omega arith) in
+      subst (λ (j : ℕ). entries_of number_of j seen ≡ entries_of number_of j history) (eqb-true x.number k e) (sym both.1 ∙ both.0))
+      (λ e. ended_seen number_of history seen k xs (omega (arith, ap one_if e)) (λ j d l. all (suc j) d (omega arith)))
 
-    pub knows : KnowsItsLists number_of v
-    knows = let sound = r.each id v at in record {
-      few = omega (arith, total-at numbers vs id v at, r.in_all, r.limit);
-      mine = λ n e. (sound.mine n e).1;
-      ended = λ k d l. (sound.ended k d l).1;
-      known = λ leads. subst (λ (d : ℕ). All (λ e. number_of e < d) v.seen) (sym (sound.counts leads)) all_known;
-      no_others = λ leads full. All-weaken (λ e. number_of e < drawn) (λ e. times (number_of e) v ≡ 1) v.seen
-          (λ e below. has_all leads full (number_of e) below) all_known;
-    }
+  module _ {number_of : E → ℕ} {history : List E} {drawn : ℕ} where
+    -- a view without a number weighs nothing
+    no_weight : (f : View E → ℕ) → f (spent_view {E = E}) ≡ 0 → (v : View E) (number : Option ℕ) → v.number ≡ number → IsSound number_of history drawn v
+        → numbers v ≡ 0 → f v ≡ 0
+    no_weight f none_spent v None is sound none_left = ap f (sound.spent is) ∙ none_spent
+    no_weight f none_spent v (Some n) is sound none_left = absurd (omega (arith, ap number_count is))
+
+    module _ {vs : List (View E)} (r : IsRecorded number_of history drawn vs) (id : ℕ) (v : View E) (at : get_elem? vs id ≡ some v) where
+      all_known : All (λ e. number_of e < drawn) v.seen
+      all_known = front_all (λ e. number_of e < drawn) v.seen history (r.each id v at).seen r.known
+
+      module _ (leads : v.number ≡ Some 0) (full : v.drawn ≡ length v.ended + 1) where
+        -- number 0, where it has met every other number, weighs as much as all
+        alone : (f : View E → ℕ) → f (spent_view {E = E}) ≡ 0 → total f vs ≡ f v
+        alone f none_spent = total-only numbers f vs id v at (omega (arith, ap number_count leads, (r.each id v at).counts leads, r.in_all))
+            (λ j w there none_left. no_weight f none_spent w w.number refl (r.each j w there) none_left)
+
+        has_all : (k : ℕ) → k < drawn → times k v ≡ 1
+        has_all k below = sym (alone (times k) refl) ∙ (r.once k ∙ ap one_if (lt-ltb k drawn below))
+
+        -- and has seen the whole history
+        seen_whole : v.seen ≡ history
+        seen_whole = let sound = r.each id v at in front_same_filter number_of v.seen history sound.seen (λ d j l. let k : ℕ = number_of (get_or history j d) in
+            let f : Ended E → ℕ = λ e. one_if (eqb e.number k) in let Known : Ended E → Type 0 = Keeps number_of history v.seen in
+            ended_seen number_of history v.seen k (end_of v.number v ++ v.ended)
+            (omega (arith, has_all k (r.known j d l), end_count k v.number v, total-append f (end_of v.number v) v.ended))
+            (All-append Known (end_of v.number v) v.ended (ends_known Known v v.number sound.mine) sound.ended))
+
+      -- whatever is left to be told
+      knows : (olds : List (List E)) → KnowsItsLists number_of (record v { olds = olds })
+      knows olds = let sound = r.each id v at in record {
+        few = omega (arith, total-at numbers vs id v at, r.in_all, r.limit);
+        mine = λ n e. (sound.mine n e).1;
+        ended = λ k d l. (sound.ended k d l).1;
+        known = λ leads. subst (λ (d : ℕ). All (λ e. number_of e < d) v.seen) (sym (sound.counts leads)) all_known;
+        no_others = λ leads full k d l. has_all leads full (number_of (get_or v.seen k d)) (all_known k d l);
+      }
 
 module _ {H S E : Type 0} {number_of : E → ℕ} {stands : H → List E → Type 0} {share_stands : S → List E → Type 0} {places n : ℕ} where
   pub tells : (slots id : ℕ) (me : Me (Slot H S) (View E)) → me.0.number ≡ Some n
       → Allows (IsKept number_of stands share_stands places) slots id me count (λ x. x) (Tells number_of (step slots count 0 0 none) me)
-  tells slots id me has s r _ at _ =
-      let sound = r.recorded.each id me.0 at in let known = knows number_of r.history r.drawn s.views r.recorded id me.0 at in
-      let rule = quiet r id at (told me.0) refl count refl refl (told_all sound has) in let lists : KnowsItsLists number_of (told me.0) =
-      record { few = known.few; mine = known.mine; ended = known.ended; known = known.known; no_others = known.no_others } in
-      (told me.0, keeps, tt, rule, (refl, sound.olds, lists))
+  tells slots id me has s r _ at _ = let sound = r.recorded.each id me.0 at in
+      let rule = quiet r id at (told me.0) refl count refl refl (told_all sound has) in
+      (told me.0, keeps, tt, rule, (refl, sound.olds, knows r.recorded id me.0 at []))
 
 one_more : (n d : ℕ) → one_if (nat_lt n d) + one_if (eqb d n) ≡ one_if (nat_lt n (d + 1))
 one_more n d = grind (arith, nat_tests)
 
-module _ {E : Type 0} where
+-- a pass with the next number has no entry yet
+no_entries : {E : Type 0} (number_of : E → ℕ) (drawn : ℕ) (xs : List E) → All (λ e. number_of e < drawn) xs → [] ≡ entries_of number_of drawn xs
+no_entries number_of drawn xs below = sym (filter_none (λ e. eqb (number_of e) drawn) xs (λ k d l. ne_eqb _ drawn (λ same. omega (arith, below k d l))))
+
+module _ {E : Type 0} (vs : List (View E)) (id : ℕ) (v : View E) (at : get_elem? vs id ≡ some v) where
+  -- the views where the view is split
+  abbrev Split : List (View E)
+  Split = set vs id (splitting v) ++ split_off v ∷ []
+
   -- a total to which the new view adds
-  added : (f : View E → ℕ) (views : List (View E)) (id : ℕ) (v left right : View E) → get_elem? views id ≡ some v → f left ≡ f v
-      → total f (set views id left ++ right ∷ []) ≡ total f views + f right
-  added f views id v left right at same = omega (arith, total-append f (set views id left) (right ∷ []), total-same f views id v left at same)
+  added : (f : View E → ℕ) → f (splitting v) ≡ f v → total f Split ≡ total f vs + f (split_off v)
+  added f same = omega (arith, total-append f (set vs id (splitting v)) (split_off v ∷ []), total-same f vs id v (splitting v) at same)
 
   -- one that neither half of the view changes
-  unchanged : (f : View E → ℕ) (views : List (View E)) (id : ℕ) (v left right : View E) → get_elem? views id ≡ some v → f left ≡ f v → f right ≡ 0
-      → total f (set views id left ++ right ∷ []) ≡ total f views
-  unchanged f views id v left right at same none_more = omega (arith, added f views id v left right at same)
+  unchanged : (f : View E → ℕ) → f (splitting v) ≡ f v → f (split_off v) ≡ 0 → total f Split ≡ total f vs
+  unchanged f same none_more = omega (arith, added f same)
 
-  -- nothing that is weighed changes
-  split_tally : (p : ℕ) (views : List (View E)) (id : ℕ) (v : View E) → get_elem? views id ≡ some v
-      → tally p (set views id (splitting v) ++ split_off v ∷ []) ≡ tally p views
-  split_tally p views id v at = λ k. record {
-    visitors = unchanged (λ (u : View E). (weight p u).visitors) views id v (splitting v) (split_off v) at refl refl k;
-    writers = unchanged (λ (u : View E). (weight p u).writers) views id v (splitting v) (split_off v) at refl refl k;
-    pendings = unchanged (λ (u : View E). (weight p u).pendings) views id v (splitting v) (split_off v) at refl refl k;
-    readers = unchanged (λ (u : View E). (weight p u).readers) views id v (splitting v) (split_off v) at refl refl k;
-    holders = unchanged (λ (u : View E). (weight p u).holders) views id v (splitting v) (split_off v) at refl refl k;
-  }
+  module _ {number_of : E → ℕ} {history : List E} {drawn : ℕ} where
+    -- a view knows of the new number, or hasn't number 0
+    given_more : (u : View E) (given : ℕ) → IsSound number_of history drawn u → (u.number ≡ None → record u { drawn = given } ≡ spent_view)
+        → (u.number ≡ Some 0 → given ≡ drawn + 1)
+        → IsSound number_of history (drawn + 1) (record u { drawn = given })
+    given_more u given sound spent counts = record {
+      spent = spent;
+      counts = counts;
+      asks = sound.asks;
+      current_intends = sound.current_intends;
+      seen = sound.seen;
+      olds = sound.olds;
+      entered = sound.entered;
+      current = sound.current;
+      mine = sound.mine;
+      ended = sound.ended;
+    }
 
-  module _ (number_of : E → ℕ) where
-    -- a pass with the next number has no entry yet
-    no_entries : (d : ℕ) (xs : List E) → All (λ e. number_of e < d) xs → entries_of number_of d xs ≡ []
-    no_entries d xs below = filter_none (λ e. eqb (number_of e) d) xs
-        (All-weaken (λ e. number_of e < d) (λ e. eqb (number_of e) d ≡ false) xs (λ e less. ne_eqb (number_of e) d (λ same. omega arith)) below)
-
-    module _ (history : List E) (drawn : ℕ) (vs : List (View E)) (r : IsRecorded number_of history drawn vs) (id : ℕ) (v : View E) (leads : v.number ≡ Some 0)
-        (at : get_elem? vs id ≡ some v) where
-      -- a view knows of the new number, or hasn't number 0
-      given_more : (u : View E) (given : ℕ) → IsSound number_of history drawn u → (u.number ≡ None → record u { drawn = given } ≡ spent_view)
-          → (u.number ≡ Some 0 → given ≡ drawn + 1)
-          → IsSound number_of history (drawn + 1) (record u { drawn = given })
-      given_more u given sound spent counts = record {
-        spent = spent;
-        counts = counts;
-        asks = sound.asks;
-        current_intends = sound.current_intends;
-        seen = sound.seen;
-        olds = sound.olds;
-        entered = sound.entered;
-        current = sound.current;
-        mine = sound.mine;
-        ended = sound.ended;
-      }
-
-      -- no other view has number 0
-      other : (j : ℕ) (u : View E) → j ≢ id → get_elem? vs j ≡ some u → IsSound number_of history (drawn + 1) u
-      other j u apart there = let sound = r.each j u there in given_more u u.drawn sound sound.spent
-          (λ e. absurd (omega (arith, total-two leading vs id j v u apart at there, ap (number_is 0) leads, ap (number_is 0) e, r.one_leads)))
-
-      split_recorded : v.drawn < 65536 → IsRecorded number_of history (drawn + 1) (set vs id (splitting v) ++ split_off v ∷ [])
-      split_recorded room =
-          let sound = r.each id v at in let is_drawn : v.drawn ≡ drawn = sound.counts leads in
-          let some_there : 0 < v.drawn = omega (arith, ap number_count leads, total-at numbers vs id v at, r.in_all) in
-          let none_made = no_entries drawn history r.known in
-          let none_seen = no_entries drawn v.seen (front_all (λ e. number_of e < drawn) v.seen history sound.seen r.known) in
-          record {
-            one_leads = unchanged leading vs id v (splitting v) (split_off v) at refl (ap one_if (ne_eqb v.drawn 0 (λ e. omega arith))) ∙ r.one_leads;
-            once = λ n. added (times n) vs id v (splitting v) (split_off v) at refl ∙ omega
-                (arith, r.once n, ap (λ (d : ℕ). one_if (eqb d n)) is_drawn, one_more n drawn);
-            in_all = added numbers vs id v (splitting v) (split_off v) at refl ∙ omega (arith, r.in_all);
-            limit = omega arith;
-            known = All-weaken (λ e. number_of e < drawn) (λ e. number_of e < drawn + 1) history (λ e less. omega arith) r.known;
-            each = each_snoc (IsSound number_of history (drawn + 1)) (set vs id (splitting v)) (split_off v)
-                (each_set (IsSound number_of history (drawn + 1)) vs id (splitting v)
-                (given_more v (v.drawn + 1) sound (λ none_there. absurd (cc)) (λ e. ap (λ (d : ℕ). d + 1) (sound.counts e))) other)
-                (fresh_sound v.places (Some v.drawn) 0 v.seen (λ e. absurd (cc)) (λ e. absurd (let z : v.drawn ≡ 0 = cc in omega arith)) sound.seen
-                (λ n e. let same : drawn ≡ n = cc in
-                subst (λ (m : ℕ). ([] ≡ entries_of number_of m history) × ([] ≡ entries_of number_of m v.seen)) same (sym none_made, sym none_seen)));
-          }
+    split_recorded : IsRecorded number_of history drawn vs → v.number ≡ Some 0 → v.drawn < 65536 → IsRecorded number_of history (drawn + 1) Split
+    split_recorded r leads room =
+        let sound = r.each id v at in let is_drawn : v.drawn ≡ drawn = sound.counts leads in
+        let some_there : 0 < v.drawn = omega (arith, ap number_count leads, total-at numbers vs id v at, r.in_all) in
+        record {
+          one_leads = unchanged leading refl (ap one_if (ne_eqb v.drawn 0 (λ e. omega arith))) ∙ r.one_leads;
+          once = λ n. omega (arith, added (times n) refl, r.once n, ap (λ (d : ℕ). one_if (eqb d n)) is_drawn, one_more n drawn);
+          in_all = omega (arith, added numbers refl, r.in_all);
+          limit = omega arith;
+          known = All-weaken (λ e. number_of e < drawn) (λ e. number_of e < drawn + 1) history (λ e less. omega arith) r.known;
+          each = each_snoc (IsSound number_of history (drawn + 1)) (set vs id (splitting v)) (split_off v)
+              (each_set (IsSound number_of history (drawn + 1)) vs id (splitting v)
+              (given_more v (v.drawn + 1) sound (λ none_there. absurd (cc)) (λ e. ap (λ (d : ℕ). d + 1) (sound.counts e)))
+              (λ j u apart there. let sound' = r.each j u there in given_more u u.drawn sound' sound'.spent
+              (λ e. absurd (omega (arith, total-two leading vs id j v u apart at there, ap (number_is 0) leads, ap (number_is 0) e, r.one_leads)))))
+              (fresh_sound v.places (Some v.drawn) 0 v.seen (λ e. absurd (cc)) (λ e. absurd (let z : v.drawn ≡ 0 = cc in omega arith)) sound.seen
+              (λ n e. let same : drawn ≡ n = cc in
+              subst (λ (m : ℕ). ([] ≡ entries_of number_of m history) × ([] ≡ entries_of number_of m v.seen)) same
+              (no_entries number_of drawn history r.known, no_entries number_of drawn v.seen (all_known r id v at))));
+        }
 
 module _ {H S E : Type 0} (number_of : E → ℕ) (stands : H → List E → Type 0) (share_stands : S → List E → Type 0) (places : ℕ) where
   pub splits : (id : ℕ) (v : View E) → v.number ≡ Some 0 → v.drawn < 65536
@@ -151,24 +147,15 @@ module _ {H S E : Type 0} (number_of : E → ℕ) (stands : H → List E → Typ
   splits id v leads room s r at = record {
     history = r.history;
     drawn = r.drawn + 1;
-    recorded = split_recorded number_of r.history r.drawn s.views r.recorded id v leads at room;
-    placed = placed_same r.placed (set s.views id (splitting v) ++ split_off v ∷ [])
+    recorded = split_recorded s.views id v at r.recorded leads room;
+    placed = placed_same r.placed (Split s.views id v at)
         (each_snoc (KnowsPlaces places) (set s.views id (splitting v)) (split_off v) (spread_set s.views id at (splitting v) refl places r.placed.spread)
         (λ n has. r.placed.spread id v at 0 leads))
-        (λ p. split_tally p s.views id v at) (unchanged (λ (u : View E). one_if u.intent) s.views id v (splitting v) (split_off v) at refl refl);
+        (λ p. tally_is p (Split s.views id v at) s.views (λ f none_more. unchanged s.views id v at (λ (u : View E). f (weight p u)) refl none_more))
+        (unchanged s.views id v at (λ (u : View E). one_if u.intent) refl refl);
   }
 
 module _ {E : Type 0} where
-  -- a total after two views have changed, where together they weigh the same
-  both_same : (f : View E → ℕ) (views : List (View E)) (id other : ℕ) (v w both spent : View E) → get_elem? views id ≡ some v
-      → get_elem? (set views id both) other ≡ some w
-      → f both + f spent ≡ f v + f w → total f (set (set views id both) other spent) ≡ total f views
-  both_same f views id other v w both spent at there same = omega (arith, total-set f views id v both at, total-set f (set views id both) other w spent there)
-
-  end_count : (k : ℕ) (number : Option ℕ) (w : View E) → total (λ (x : Ended E). one_if (eqb x.number k)) (end_of number w) ≡ number_is k number
-  end_count k None w = refl
-  end_count k (Some n) w = omega arith
-
   end_length : (number : Option ℕ) (w : View E) → length (end_of number w) ≡ number_count number
   end_length None w = refl
   end_length (Some n) w = refl
@@ -181,50 +168,24 @@ module _ {E : Type 0} where
   numbers_joined : (v w : View E) → numbers (joined v w) ≡ numbers v + numbers w
   numbers_joined v w = omega (arith, length-append v.ended (end_of w.number w ++ w.ended), length-append (end_of w.number w) w.ended, end_length w.number w)
 
-module _ {E : Type 0} (number_of : E → ℕ) where
-  -- these are the entries with the number, in the history and in what was seen
-  abbrev Keeps : List E → List E → Ended E → Type 0
-  Keeps history seen e = (e.entries ≡ entries_of number_of e.number history) × (e.entries ≡ entries_of number_of e.number seen)
-
-  -- what is kept of a number is the same in what lies between what was seen and the history
-  keeps_between : (history seen longer : List E) → IsPrefix seen longer → IsPrefix longer history → (e : Ended E) → Keeps history seen e → Keeps history longer e
-  keeps_between history seen longer lower upper e both = let test : E → Bool = λ x. eqb (number_of x) e.number in
-      let between = front_between (filter test seen) (filter test longer) (filter test history) (front_filter test seen longer lower)
-      (front_filter test longer history upper) in
-      (both.0, both.0 ∙ sym (between (sym both.1 ∙ both.0)))
-
-  module _ (history : List E) (drawn : ℕ) (v w : View E) (n : ℕ) (has : v.number ≡ Some n) (sound : IsSound number_of history drawn v)
-      (sound' : IsSound number_of history drawn w) where
-    joined_sound : v.phase ≡ Out → IsSound number_of history drawn (joined v w)
-    joined_sound is =
-        let seen : List E = longer v.seen w.seen in let Front : List E → Type 0 = λ old. IsPrefix old seen in
-        let left : IsPrefix v.seen seen = front_longer_left v.seen w.seen history sound.seen sound'.seen in
-        let right : IsPrefix w.seen seen = front_longer_right v.seen w.seen history sound.seen sound'.seen in
-        let whole : IsPrefix seen history = longer_front v.seen w.seen history sound.seen sound'.seen in
-        let kept = keeps_between history v.seen seen left whole in let kept' = keeps_between history w.seen seen right whole in
-        record {
-          spent = λ none_there. absurd (cc);
-          counts = sound.counts;
-          asks = sound.asks;
-          current_intends = sound.current_intends;
-          seen = whole;
-          olds = All-cons Front v.seen (w.seen ∷ (v.olds ++ w.olds)) left (All-cons Front w.seen (v.olds ++ w.olds) right (All-append Front v.olds w.olds
-              (λ k d l. front_trans _ v.seen seen (sound.olds k d l) left) (λ k d l. front_trans _ w.seen seen (sound'.olds k d l) right)));
-          entered = subst (λ p. SeesAll p (seen ≡ history)) (sym is) tt;
-          current = λ e. longer_is v.seen w.seen (λ l. l ≡ history) (λ _. sound.current e)
-              (λ more. front_whole w.seen history sound'.seen (omega (arith, ap length (sound.current e))));
-          mine = λ k e. kept record { number = k; entries = v.mine; sights = 0 } (sound.mine k e);
-          ended = All-append (Keeps history seen) v.ended (end_of w.number w ++ w.ended)
-              (All-weaken (Keeps history v.seen) (Keeps history seen) v.ended kept sound.ended)
-              (All-append (Keeps history seen) (end_of w.number w) w.ended (ends_known w.number refl kept')
-              (All-weaken (Keeps history w.seen) (Keeps history seen) w.ended kept' sound'.ended));
-        }
-      where
-        ends_known : (number : Option ℕ) → w.number ≡ number → ((e : Ended E) → Keeps history w.seen e → Keeps history (longer v.seen w.seen) e)
-            → All (Keeps history (longer v.seen w.seen)) (end_of number w)
-        ends_known None e kept = All-nil (Keeps history (longer v.seen w.seen))
-        ends_known (Some k) e kept = let one : Ended E = record { number = k; entries = w.mine; sights = w.sights } in
-            All-cons (Keeps history (longer v.seen w.seen)) one [] (kept one (sound'.mine k e)) (All-nil (Keeps history (longer v.seen w.seen)))
+  joined_sound : {number_of : E → ℕ} {history : List E} {drawn n : ℕ} {v w : View E} → v.number ≡ Some n → IsSound number_of history drawn v
+      → IsSound number_of history drawn w → v.phase ≡ Out → IsSound number_of history drawn (joined v w)
+  joined_sound {number_of} {history} {v = v} {w = w} has sound sound' is =
+      let seen : List E = longer v.seen w.seen in let Known : Ended E → Type 0 = Keeps number_of history seen in
+      let Front : List E → Type 0 = λ old. IsPrefix old seen in
+      let left : IsPrefix v.seen seen = front_longer_left v.seen w.seen history sound.seen sound'.seen in
+      let right : IsPrefix w.seen seen = front_longer_right v.seen w.seen history sound.seen sound'.seen in
+      let whole : IsPrefix seen history = longer_front v.seen w.seen history sound.seen sound'.seen in
+      let current = λ (e : v.current ≡ true). longer_is v.seen w.seen (λ l. l ≡ history) (λ _. sound.current e)
+      (λ more. front_whole w.seen history sound'.seen (omega (arith, ap length (sound.current e)))) in
+      sound_more sound has sound.asks (λ e. (sound.current_intends e, current e))
+      (subst (λ p. SeesAll p (seen ≡ history)) (sym is) tt) left whole
+      (All-cons Front v.seen (w.seen ∷ (v.olds ++ w.olds)) left (All-cons Front w.seen (v.olds ++ w.olds) right (All-append Front v.olds w.olds
+      (λ k d l. front_trans _ v.seen seen (sound.olds k d l) left) (λ k d l. front_trans _ w.seen seen (sound'.olds k d l) right))))
+      (All-append Known v.ended (end_of w.number w ++ w.ended) (λ k d l. keeps_between number_of v.seen left whole (get_or v.ended k d) (sound.ended k d l))
+      (All-append Known (end_of w.number w) w.ended (ends_known Known w w.number
+      (λ n e. keeps_between number_of w.seen right whole record { number = n; entries = w.mine; sights = w.sights } (sound'.mine n e)))
+      (λ k d l. keeps_between number_of w.seen right whole (get_or w.ended k d) (sound'.ended k d l))))
 
 module _ {H S E : Type 0} (number_of : E → ℕ) (stands : H → List E → Type 0) (share_stands : S → List E → Type 0) (places : ℕ) where
   pub joins : (id : ℕ) (v : View E) (other : ℕ) (w : View E) (n m : ℕ) → v.number ≡ Some n → v.phase ≡ Out → w.number ≡ Some m → 0 < m → w.phase ≡ Out
@@ -233,7 +194,8 @@ module _ {H S E : Type 0} (number_of : E → ℕ) (stands : H → List E → Typ
   joins id v other w n m has is has' follows is' free s r at apart there =
       let both : View E = joined v w in let each = r.recorded.each in
       let there' : get_elem? s.views other ≡ some w = sym (set_else s.views id other both apart) ∙ there in
-      let kept = (λ (f : View E → ℕ) (same : f both + f (spent_view {E = E}) ≡ f v + f w). both_same f s.views id other v w both spent_view at there same) in
+      let kept : (f : View E → ℕ) → f both + f (spent_view {E = E}) ≡ f v + f w → total f (set (set s.views id both) other spent_view) ≡ total f s.views =
+      λ f same. omega (arith, total-set f s.views id v both at, total-set f (set s.views id both) other w spent_view there) in
       record {
         history = r.history;
         drawn = r.drawn;
@@ -246,13 +208,99 @@ module _ {H S E : Type 0} (number_of : E → ℕ) (stands : H → List E → Typ
           each = each_set (IsSound number_of r.history r.drawn) (set s.views id both) other spent_view
               (fresh_sound 0 None 0 [] (λ _. refl) (λ e. absurd (cc)) (r.history, refl) (λ k e. absurd (cc)))
               (λ j u _. each_set (IsSound number_of r.history r.drawn) s.views id both
-              (joined_sound number_of r.history r.drawn v w n has (each id v at) (each other w there') is) (λ i x _. each i x) j u);
+              (joined_sound has (each id v at) (each other w there') is) (λ i x _. each i x) j u);
         };
         placed = placed_same r.placed (set (set s.views id both) other spent_view)
             (each_set (KnowsPlaces places) (set s.views id both) other spent_view (λ k none_there. absurd (cc))
             (λ j u _. each_set (KnowsPlaces places) s.views id both (r.placed.spread id v at) (λ i x _. r.placed.spread i x) j u))
             (λ p. let none_there = ap (weight_in (here p w) p) is' in
             tally_is p (set (set s.views id both) other spent_view) s.views
-            (λ f. kept (λ (u : View E). f (weight p u)) (ap (λ t. f (weight p v) + f t) (sym none_there))))
+            (λ f _. kept (λ (u : View E). f (weight p u)) (ap (λ t. f (weight p v) + f t) (sym none_there))))
             (kept (λ (u : View E). one_if u.intent) (λ k. one_if v.intent + one_if (sym free k)));
       }
+
+module _ {A : Type 0} where
+  -- something stands at each place
+  there_or : (l : List A) (i : ℕ) (d : A) → i < length l → get_elem? l i ≡ some (get_or l i d)
+  there_or l i d less = at_index l i (get_or l i d) less (get_or_default l i d (get_or l i d) less)
+
+  -- what holds of an element holds of each in the list of it alone
+  only : (P : A → Type 0) (x : A) → P x → Each P (x ∷ [])
+  only P x = each_snoc P [] x (λ i y e. absurd (some-ne-none y (sym e)))
+
+-- each word is 0 at first
+zero_at : (i : ℕ) → i < 544 → get_elem? {A = ℕ} (replicate 544 0) i ≡ some 0
+zero_at i less = at_index (replicate 544 0) i 0 (omega (arith, length-replicate {A = ℕ} 544 0)) (sym (get_or-replicate {A = ℕ} 544 i 0 0 less))
+
+module _ {H S : Type 0} where
+  -- what each slot has when the lock is closed: the places no home value, and the last slot the home value, which stands for these entries
+  pub record IsClosed {E : Type 0} (stands : H → List E → Type 0) (places : ℕ) (slots : List (Slot H S)) (entries : List E) : Type 0 where
+    pub home : H
+    pub home_there : get_elem? slots places ≡ some (Home home)
+    pub home_stands : stands home entries
+    pub others : (p : ℕ) → p < places → (kept : Slot H S) × (get_elem? slots p ≡ some kept) × HasNoHome kept
+
+  -- what the place keeps is among the shares
+  kept_at : (May : Slot H S → Type 0) (shares more : List (Slot H S)) (p : ℕ) → p < length shares → All May shares
+      → (kept : Slot H S) × (get_elem? (map some (shares ++ more)) p ≡ some (some kept)) × May kept
+  kept_at May shares more p l may = let kept : Slot H S = get_or shares p Empty in
+      (kept, at_map some (shares ++ more) p kept (at_longer shares more p kept (there_or shares p Empty l)), may p Empty l)
+
+  module _ {E : Type 0} (number_of : E → ℕ) (stands : H → List E → Type 0) (share_stands : S → List E → Type 0) (places : ℕ) where
+    -- a home value that stands for no entry opens the lock, behind shares of it
+    pub opens : (home : H) (shares : List (Slot H S)) → stands home [] → 0 < places → places ≤ 32 → length shares ≡ places
+        → All (MayKeep share_stands []) shares
+        → IsKept number_of stands share_stands places (opening (replicate 544 0) (shares ++ Home home ∷ []) (first_view places))
+    opens home shares empty some_place few many may = record {
+      history = [];
+      drawn = 1;
+      recorded = record {
+        one_leads = refl;
+        once = λ n. grind (arith, nat_tests);
+        in_all = refl;
+        limit = omega arith;
+        known = All-nil (λ e. number_of e < 1);
+        each = only (IsSound number_of [] 1) (first_view places) (fresh_sound places (Some 0) 1 [] (λ e. absurd (cc)) (λ _. refl) ([], refl)
+            (λ n e. (refl, refl)));
+      };
+      placed = record {
+        some_place = some_place;
+        spread = only (KnowsPlaces places) (first_view places) (λ n has. refl);
+        each = λ p l. record {
+          word_is = zero_at (word_at p) (omega arith);
+          one_turn = omega arith;
+          write_alone = λ some_write. absurd (omega arith);
+          at_home = λ _. kept_at (MayKeep share_stands []) shares (Home home ∷ []) p (omega arith) may;
+          away = λ some_holds. absurd (omega arith);
+        };
+        home = record {
+          at_home = λ _. (home, at_map some (shares ++ Home home ∷ []) places (Home home) (at_last shares (Home home) places many), empty);
+          away = λ some_write. absurd (omega arith);
+        };
+        intents_are = zero_at 16 (omega arith);
+        one_intent = omega arith;
+        count_is = zero_at 0 (omega arith);
+      };
+    }
+
+  module _ {E : Type 0} {number_of : E → ℕ} {stands : H → List E → Type 0} {share_stands : S → List E → Type 0} {places : ℕ} where
+    -- where number 0 has met all others, all is at home, and the home value stands for all that it has seen
+    pub closes : (id found : ℕ) (v : View E) (words : List ℕ) (slots : List (Slot H S)) → v.places ≡ found → v.number ≡ Some 0
+        → v.drawn ≡ length v.ended + 1 → v.phase ≡ Out
+        → Final (Seen (IsKept number_of stands share_stands places) id v) words slots
+        → IsClosed stands found slots v.seen × KnowsItsLists number_of v × (found ≡ places)
+    closes id found v words slots own leads full is (s, (r, at), words_are, as_long, there) =
+        let known : found ≡ places = sym own ∙ r.placed.spread id v at 0 leads in
+        let weighs = alone r.recorded id v at leads full in
+        let home = r.placed.home.at_home (weighs (λ (u : View E). (weight 0 u).writers) refl ∙ ap (λ P. (weight_in (here 0 v) 0 P).writers) is) in (
+          subst (λ p. IsClosed stands p slots v.seen) (sym known) record {
+            home = home.0;
+            home_there = there places (Home home.0) home.1;
+            home_stands = subst (stands home.0) (sym (seen_whole r.recorded id v at leads full)) home.2;
+            others = λ p l. let kept = (r.placed.each p l).at_home
+                (weighs (λ (u : View E). (weight p u).holders) refl ∙ ap (λ P. (weight_in (here p v) p P).holders) is) in
+                (kept.0, there p kept.0 kept.1, no_home share_stands r.history kept.0 kept.2);
+          },
+          knows r.recorded id v at v.olds,
+          known,
+        )

@@ -1,62 +1,141 @@
--- What placing a view at a seat leaves of the rule: a step at one place leaves all the others as they are.
-use Rattle.std.proofs.Common.{◌≡◌, ◌≢◌, ℕ, zero, suc, Some, ◌+◌, ◌*◌, ◌<◌, ◌≤◌, Bool, true, false, List, [], ◌∷◌, ◌++◌, length, get_or, set, refl}
-use Rattle.std.proofs.Common.{sym, ap, ◌∙◌, subst, ⊎_elim, arith, All, eqb, eqb-true}
-use mathlib.Core.Option.{some, none, some-injective, some-ne-none}
+-- What views weigh at each place, and what placing a view at a seat leaves of the rule: a step at one place leaves all the others as they are.
+use Rattle.action_lock.proofs.Common.{◌≡◌, ◌≢◌, ℕ, zero, suc, ◌+◌, ◌*◌, ◌%◌, ◌^◌, ◌<◌, ◌≤◌, Bool, true, false, if◌then◌else◌, List, [], ◌∷◌, length, get_or}
+use Rattle.action_lock.proofs.Common.{set, Option, Some, None, refl, sym, ap, ◌∙◌, subst, arith, All, eqb, nat_lt, ne_eqb, eqb-true, lt-ltb, mod-lt, some}
+use Rattle.action_lock.proofs.Common.{none, some-injective, some-ne-none, get_elem?, eq-eqb, eqb-false, le-ltb, nat_tests, Me, State, Act, Valid, Allows}
+use Rattle.action_lock.proofs.Common.{keeps, takes, gives, put_back, rest, stepped, carried_after, set_else, Slot, Phase, Out, Reading, Marking, Shutting}
+use Rattle.action_lock.proofs.Common.{Opening, Ended, View, MayKeep, word_at, count, intents, own_place, Tally, Writing, weight_in, weight, tally, here}
+use Rattle.action_lock.proofs.Common.{below, writes, intending, number_count, number_is, leading, numbers, times, turns, gate_word, KnowsPlaces, IsSound}
+use Rattle.action_lock.proofs.Common.{IsRecorded, IsGuarded, IsHoused, IsPlaced, IsKept, marked, opened, total, one_if, bool_cases, Each, each_set, total-set}
+use Rattle.action_lock.proofs.Common.{total-same, total-below, total-plus}
 use mathlib.Core.Option as maybe
-use lib.ListN.{get_elem?}
 use lib.Seq.{set-get_or}
-use Rattle.std.proofs.lemmas.Bool.{eqb-false}
-use Rattle.atomic_table.specs.Table.{Me, State, Act, Valid, Allows, stepped, carried_after}
-use Rattle.atomic_table.proofs.Lists.{at_set, at_snoc, set_else}
-use Rattle.action_lock.specs.declared.slot.Slot.{Slot}
-use Rattle.action_lock.specs.declared.view.Ended.{Ended}
-use Rattle.action_lock.specs.declared.view.Phase.{Phase}
-use Rattle.action_lock.specs.declared.view.View.{View}
-use Rattle.action_lock.specs.Slots.{MayKeep}
-use Rattle.action_lock.specs.Words.{word_at, count, intents, own_place}
-use Rattle.action_lock.specs.Views.{Tally, here, weight, weight_in, tally, intending, number_count, number_is, leading, numbers, times}
-use Rattle.action_lock.specs.Rule.{turns, gate_word, KnowsPlaces, IsSound, IsRecorded, IsGuarded, IsHoused, IsPlaced, IsKept}
-use Rattle.action_lock.proofs.Tallies.{named, own_within, weighs_own, weighs_else, weighs_same, same_tally, same_intents, bounds}
-use Rattle.list_laws.specs.Totals.{total}
-use Rattle.list_laws.proofs.EachLemmas.{Each, each_set}
-use Rattle.list_laws.proofs.BoolLemmas.{bool_cases}
-use Rattle.list_laws.proofs.TotalLemmas.{total-set, total-same}
-use Rattle.list_laws.specs.Rows.{one_if}
 
 module _ {A : Type 0} where
   -- what was set stands there
-  pub there_set : (l : List A) (i : ℕ) (a b : A) → get_elem? l i ≡ some a → get_elem? (set l i b) i ≡ some b
-  there_set [] i a b e = absurd (some-ne-none a (sym e))
-  there_set (x ∷ xs) zero a b e = refl
-  there_set (x ∷ xs) (suc i) a b e = there_set xs i a b e
+  pub there_set : (l : List A) (i : ℕ) {a : A} (b : A) → get_elem? l i ≡ some a → get_elem? (set l i b) i ≡ some b
+  there_set [] i {a} b e = absurd (some-ne-none a (sym e))
+  there_set (x ∷ xs) zero b e = refl
+  there_set (x ∷ xs) (suc i) b e = there_set xs i b e
 
   -- the default doesn't count where something stands
-  pub read_there : (l : List A) (i : ℕ) (a d : A) → get_elem? l i ≡ some a → get_or l i d ≡ a
-  read_there [] i a d e = absurd (some-ne-none a (sym e))
-  read_there (x ∷ xs) zero a d e = some-injective x a e
-  read_there (x ∷ xs) (suc i) a d e = read_there xs i a d e
+  pub read_there : (l : List A) (i : ℕ) {a : A} (d : A) → get_elem? l i ≡ some a → get_or l i d ≡ a
+  read_there [] i {a} d e = absurd (some-ne-none a (sym e))
+  read_there (x ∷ xs) zero {a} d e = some-injective x a e
+  read_there (x ∷ xs) (suc i) d e = read_there xs i d e
 
-module _ {E : Type 0} (vs : List (View E)) (id : ℕ) {v : View E} (at : get_elem? vs id ≡ some v) (w : View E) (same : named w ≡ named v) where
-  module _ {number_of : E → ℕ} {history : List E} {drawn : ℕ} (r : IsRecorded number_of history drawn vs) where
-    -- a view that keeps its numbers takes the place of another, beside the same history or a later one
-    pub recorded_as : (later : List E) → All (λ e. number_of e < drawn) later → Each (IsSound number_of later drawn) (set vs id w)
-        → IsRecorded number_of later drawn (set vs id w)
-    recorded_as later known each = record {
-      one_leads = total-same leading vs id v w at (λ k. number_is 0 (same k).1) ∙ r.one_leads;
-      once = λ n. total-same (times n) vs id v w at (λ k. number_is n (same k).1 + total (λ (e : Ended E). one_if (eqb e.number n)) (same k).2) ∙ r.once n;
-      in_all = total-same numbers vs id v w at (λ k. number_count (same k).1 + length (same k).2) ∙ r.in_all;
-      limit = r.limit;
-      known = known;
-      each = each;
-    }
+pub bit_below : (b : Bool) → one_if b ≤ 1
+bit_below b = grind (arith, nat_tests)
 
-    pub recorded_set : IsSound number_of history drawn w → IsRecorded number_of history drawn (set vs id w)
-    recorded_set sound = recorded_as history r.known (each_set (IsSound number_of history drawn) vs id w sound (λ j u _. r.each j u))
+pub below_yes : (p k : ℕ) → p < k → below p k ≡ 1
+below_yes p k l = ap one_if (lt-ltb p k l)
 
-  -- it knows as many places
-  pub spread_set : (places : ℕ) → Each (KnowsPlaces places) vs → Each (KnowsPlaces places) (set vs id w)
-  spread_set places all =
-      each_set (KnowsPlaces places) vs id w (λ n has. (λ k. (same k).0) ∙ all id v at n ((λ k. (sym same k).1) ∙ has)) (λ j u _. all j u)
+pub below_no : (p k : ℕ) → k ≤ p → below p k ≡ 0
+below_no p k l = ap one_if (le-ltb p k l)
+
+-- one place more is that place alone
+pub below_other : (p k : ℕ) → p ≢ k → below p (k + 1) ≡ below p k
+below_other p k apart = grind (arith, nat_tests, apart)
+
+-- with no place marked a view weighs what it does when it is out
+pub marked_weighs : (h p k : ℕ) → weight_in h p (marked k) ≡ weight_in h p (Marking k)
+marked_weighs h p k = bool_cases (eqb k 0) (λ b. weight_in h p (if b then Out else Marking k) ≡ weight_in h p (Marking k))
+    (λ e. λ i. record { visitors = 0; writers = 0; pendings = sym (below_no p k (omega (arith, eqb-true k 0 e))) i; readers = 0; holders = 0 })
+    (λ e. refl)
+
+-- with all places shut it weighs what it does before the first is opened
+pub opened_weighs : (places h p k : ℕ) → p < places → weight_in h p (opened places k) ≡ weight_in h p (Opening k)
+opened_weighs places h p k within = bool_cases (eqb k places) (λ b. weight_in h p (if b then Writing places else Opening k) ≡ weight_in h p (Opening k))
+    (λ e. let same = ap (below p) (sym (eqb-true k places e)) in
+    λ i. record { visitors = 0; writers = same i; pendings = (sym (below_yes p places within) ∙ same) i; readers = 0; holders = same i })
+    (λ e. refl)
+
+-- who holds what a place keeps has its turn
+holding_has_turn : (h p : ℕ) (phase : Phase) → (weight_in h p phase).holders ≤ turns (weight_in h p phase)
+holding_has_turn h p Out = omega arith
+holding_has_turn h p phase = omega arith
+
+reads_once : (h p : ℕ) (phase : Phase) → h ≤ 1 → (weight_in h p phase).readers ≤ 1
+reads_once h p Reading l = l
+reads_once h p phase l = omega arith
+
+pends_with_intent : (h p : ℕ) (phase : Phase) (b : Bool) → (0 < writes phase → b ≡ true) → (weight_in h p phase).pendings ≤ one_if b
+pends_with_intent h p (Marking k) b has = omega (arith, ap one_if (has (omega arith)), bit_below (nat_lt p k))
+pends_with_intent h p (Shutting k) b has = omega (arith, ap one_if (has (omega arith)))
+pends_with_intent h p (Opening k) b has = omega (arith, ap one_if (has (omega arith)), bit_below (nat_lt p k))
+pends_with_intent h p phase b has = omega arith
+
+-- each view has one of the places
+pub own_within : (given places : ℕ) (number : Option ℕ) → 0 < places → ((n : ℕ) → number ≡ Some n → given ≡ places) → own_place given number < places
+own_within given places None some_place known = some_place
+own_within given places (Some n) some_place known = subst (λ p. n % p < places) (sym (known n refl)) (mod-lt n some_place)
+
+module _ {E : Type 0} where
+  -- how many places a view knows of, its number, and what it keeps of the passes that it met
+  abbrev pub named : View E → ℕ × Option ℕ × List (Ended E)
+  named v = (v.places, v.number, v.ended)
+
+  -- a view of the same number weighs by its own phase
+  pub weighs_as : (p : ℕ) (v w : View E) {P : Phase} → named w ≡ named v → w.phase ≡ P → weight p w ≡ weight_in (here p v) p P
+  weighs_as p v w same is = λ i. weight_in (one_if (eqb (own_place (same i).0 (same i).1) p)) p (is i)
+
+  -- tallies whose fields are the same totals are the same
+  pub tally_is : (p : ℕ) (us vs : List (View E)) → ((f : Tally → ℕ) → f (weight_in 0 0 Out) ≡ 0
+      → total (λ (u : View E). f (weight p u)) us ≡ total (λ (u : View E). f (weight p u)) vs) → tally p us ≡ tally p vs
+  tally_is p us vs each = λ k. record {
+    visitors = each (λ t. t.visitors) refl k;
+    writers = each (λ t. t.writers) refl k;
+    pendings = each (λ t. t.pendings) refl k;
+    readers = each (λ t. t.readers) refl k;
+    holders = each (λ t. t.holders) refl k;
+  }
+
+  reads_by_number : {number_of : E → ℕ} {history : List E} {drawn : ℕ} (p : ℕ) (v : View E) (number : Option ℕ) → v.number ≡ number
+      → IsSound number_of history drawn v → (weight p v).readers ≤ numbers v
+  reads_by_number p v None is sound = omega (arith, ap (λ (u : View E). (weight p u).readers) (sound.spent is))
+  reads_by_number p v (Some n) is sound = omega (arith, ap number_count is, reads_once (here p v) p v.phase (bit_below _))
+
+  module _ (vs : List (View E)) {number_of : E → ℕ} {history : List E} {drawn : ℕ} (r : IsRecorded number_of history drawn vs) where
+    bounds : (p : ℕ) → ((tally p vs).holders ≤ turns (tally p vs)) × ((tally p vs).pendings ≤ intending vs) × ((tally p vs).readers ≤ 65536)
+    bounds p = (
+      (let less = total-below (λ (u : View E). (weight p u).holders) (λ (u : View E). turns (weight p u)) vs
+          (λ i v _. holding_has_turn (here p v) p v.phase) in
+          omega (arith, less, total-plus (λ (u : View E). (weight p u).visitors) (λ (u : View E). (weight p u).writers) vs)),
+      total-below (λ (u : View E). (weight p u).pendings) (λ (u : View E). one_if u.intent) vs
+          (λ i v at. pends_with_intent (here p v) p v.phase v.intent (r.each i v at).asks),
+      (let few = total-below (λ (u : View E). (weight p u).readers) numbers vs (λ i v at. reads_by_number p v v.number refl (r.each i v at)) in
+          omega (arith, few, r.in_all, r.limit)),
+    )
+
+  module _ (vs : List (View E)) (id : ℕ) {v : View E} (at : get_elem? vs id ≡ some v) (w : View E) where
+    -- a view that weighs as much in the place of another
+    pub same_tally : (p : ℕ) → weight p w ≡ weight p v → tally p (set vs id w) ≡ tally p vs
+    same_tally p same = tally_is p (set vs id w) vs (λ f _. total-same (λ (u : View E). f (weight p u)) vs id v w at (ap f same))
+
+    -- the intents, where a view keeps its own
+    pub same_intents : w.intent ≡ v.intent → intending (set vs id w) ≡ intending vs
+    same_intents same = total-same (λ (u : View E). one_if u.intent) vs id v w at (ap one_if same)
+
+    module _ (same : named w ≡ named v) where
+      module _ {number_of : E → ℕ} {history : List E} {drawn : ℕ} (r : IsRecorded number_of history drawn vs) where
+        -- a view that keeps its numbers takes the place of another, beside the same history or a later one
+        pub recorded_as : (later : List E) → All (λ e. number_of e < drawn) later → Each (IsSound number_of later drawn) (set vs id w)
+            → IsRecorded number_of later drawn (set vs id w)
+        recorded_as later known each = record {
+          one_leads = total-same leading vs id v w at (λ k. number_is 0 (same k).1) ∙ r.one_leads;
+          once = λ n. total-same (times n) vs id v w at (λ k. number_is n (same k).1 + total (λ (e : Ended E). one_if (eqb e.number n)) (same k).2) ∙ r.once n;
+          in_all = total-same numbers vs id v w at (λ k. number_count (same k).1 + length (same k).2) ∙ r.in_all;
+          limit = r.limit;
+          known = known;
+          each = each;
+        }
+
+        pub recorded_set : IsSound number_of history drawn w → IsRecorded number_of history drawn (set vs id w)
+        recorded_set sound = recorded_as history r.known (each_set (IsSound number_of history drawn) vs id w sound (λ j u _. r.each j u))
+
+      -- it knows as many places
+      pub spread_set : (places : ℕ) → Each (KnowsPlaces places) vs → Each (KnowsPlaces places) (set vs id w)
+      spread_set places all =
+          each_set (KnowsPlaces places) vs id w (λ n has. (λ k. (same k).0) ∙ all id v at n ((λ k. (sym same k).1) ∙ has)) (λ j u _. all j u)
 
 -- What is known at a place where the word was `found`: a step there, which leaves other views, takes the weight of its view from `a` to `b`
 pub record IsMoving {E : Type 0} (q : ℕ) (views after : List (View E)) (a b : Tally) (found : ℕ) : Type 0 where
@@ -78,8 +157,7 @@ IsLeft t n = (n ≡ gate_word t) × (turns t ≤ 1) × (t.readers + 65537 * t.wr
 
 -- while one writes no other reads
 none_beside : (readers writers : ℕ) → readers ≤ 65536 → writers ≤ 1 → (0 < writers → readers ≡ 0) → readers + 65536 * writers ≤ 65536
-none_beside readers zero few one alone = omega arith
-none_beside readers (suc n) few one alone = omega (arith, alone (omega arith))
+none_beside readers writers few one alone = grind (arith, alone)
 
 -- a step at a place: what its view weighs there before it and after, and that it weighs the same elsewhere
 pub record IsStep {E : Type 0} (places q : ℕ) (v w : View E) (a b : Tally) : Type 0 where
@@ -88,44 +166,41 @@ pub record IsStep {E : Type 0} (places q : ℕ) (v w : View E) (a b : Tally) : T
   pub to : weight q w ≡ b
   pub elsewhere : (p : ℕ) → p < places → p ≢ q → weight p w ≡ weight p v
 
--- a step of a writer at a place: `P` is a phase that weighs as its own does, and the phases weigh the same elsewhere
-pub write_step : {E : Type 0} (places q : ℕ) (v w : View E) (P : Phase) → q < places → ((p : ℕ) → p < places → weight p v ≡ weight_in (here p v) p P)
-    → named w ≡ named v
-    → ((h p : ℕ) → p < places → p ≢ q → weight_in h p w.phase ≡ weight_in h p P)
-    → IsStep places q v w (weight_in (here q v) q P) (weight_in (here q v) q w.phase)
-write_step places q v w P within before same else_same = record {
+-- a step at a place where its view has the weight of `P`, with `h` 1 where that is its own, and then that of `Q`: the phases weigh the same elsewhere
+pub step_at : {E : Type 0} {places : ℕ} (q h : ℕ) {v w : View E} (P Q : Phase) → q < places → here q v ≡ h
+    → ((p : ℕ) → p < places → weight p v ≡ weight_in (here p v) p P) → named w ≡ named v → w.phase ≡ Q
+    → ((p : ℕ) → p < places → p ≢ q → weight_in (here p v) p Q ≡ weight_in (here p v) p P) → IsStep places q v w (weight_in h q P) (weight_in h q Q)
+step_at q h {v} {w} P Q within own before same is else_same = record {
   within = within;
-  from = before q within;
-  to = λ i. weight_in (one_if (eqb (own_place (same i).0 (same i).1) q)) q w.phase;
-  elsewhere = λ p l apart. (λ i. weight_in (one_if (eqb (own_place (same i).0 (same i).1) p)) p w.phase) ∙ (else_same (here p v) p l apart ∙ sym (before p l));
+  from = before q within ∙ (λ i. weight_in (own i) q P);
+  to = weighs_as q v w same is ∙ (λ i. weight_in (own i) q Q);
+  elsewhere = λ p l apart. weighs_as p v w same is ∙ (else_same p l apart ∙ sym (before p l));
 }
 
 module _ {H S E : Type 0} {stands : H → List E → Type 0} {share_stands : S → List E → Type 0} {places : ℕ} {history : List E} {s : State (Slot H S) (View E)}
     (placed : IsPlaced stands share_stands places history s) where
-  -- the places where views changed that weigh the same
-  pub placed_same : (views : List (View E)) → Each (KnowsPlaces places) views → ((p : ℕ) → tally p views ≡ tally p s.views)
-      → intending views ≡ intending s.views
-      → IsPlaced stands share_stands places history record { words = s.words; homes = s.homes; views = views }
-  placed_same views spread same intents_same = record {
+  -- the places where views changed that weigh the same, and words that are no place's
+  pub placed_as : (words : List ℕ) (views : List (View E)) → Each (KnowsPlaces places) views → ((p : ℕ) → tally p views ≡ tally p s.views)
+      → ((p : ℕ) → get_elem? words (word_at p) ≡ get_elem? s.words (word_at p)) → get_elem? words intents ≡ some (intending views) → intending views ≤ 1
+      → get_elem? words count ≡ some (length history % 2 ^ 64)
+      → IsPlaced stands share_stands places history record { words = words; homes = s.homes; views = views }
+  placed_as words views spread same there intents_are one_intent count_is = record {
     some_place = placed.some_place;
     spread = spread;
-    each = λ p l. subst (λ t. IsGuarded share_stands history t (get_elem? s.words (word_at p)) (get_elem? s.homes p)) (sym (same p)) (placed.each p l);
+    each = λ p l. subst (λ (t : Type 0). t) (λ k. IsGuarded share_stands history (sym (same p) k) (sym (there p) k) (get_elem? s.homes p)) (placed.each p l);
     home = subst (λ (t : Tally). IsHoused stands history t.writers (get_elem? s.homes places)) (sym (same 0)) placed.home;
-    intents_are = placed.intents_are ∙ ap some (sym intents_same);
-    one_intent = subst (λ n. n ≤ 1) (sym intents_same) placed.one_intent;
-    count_is = placed.count_is;
+    intents_are = intents_are;
+    one_intent = one_intent;
+    count_is = count_is;
   }
+
+  pub placed_same : (views : List (View E)) → Each (KnowsPlaces places) views → ((p : ℕ) → tally p views ≡ tally p s.views)
+      → intending views ≡ intending s.views → IsPlaced stands share_stands places history record { words = s.words; homes = s.homes; views = views }
+  placed_same views spread same intents_same = placed_as s.words views spread same (λ p. refl) (placed.intents_are ∙ ap some (sym intents_same))
+      (omega (arith, placed.one_intent)) placed.count_is
 
 module _ {H S E : Type 0} {number_of : E → ℕ} {stands : H → List E → Type 0} {share_stands : S → List E → Type 0} {places : ℕ} {s : State (Slot H S) (View E)}
     (r : IsKept number_of stands share_stands places s) where
-  -- the word of a place of a state that keeps the rule
-  pub gate_is : (q word : ℕ) → word ≡ word_at q → q < places → get_or s.words word 0 ≡ gate_word (tally q s.views)
-  gate_is q word is_at within = ap (λ i. get_or s.words i 0) is_at ∙ read_there s.words (word_at q) (gate_word (tally q s.views)) 0
-      (r.placed.each q within).word_is
-
-  pub intents_are : get_or s.words intents 0 ≡ intending s.views
-  intents_are = read_there s.words intents (intending s.views) 0 r.placed.intents_are
-
   module _ (id : ℕ) {v : View E} (at : get_elem? s.views id ≡ some v) (w : View E) (same : named w ≡ named v) where
     -- a step that changes no word, no phase and no intent
     pub quiet : (i : ℕ) → w.phase ≡ v.phase → w.intent ≡ v.intent → IsSound number_of r.history r.drawn w
@@ -137,28 +212,34 @@ module _ {H S E : Type 0} {number_of : E → ℕ} {stands : H → List E → Typ
       placed = subst (λ (z : List ℕ). IsPlaced stands share_stands places r.history record { words = z; homes = s.homes; views = set s.views id w })
           (sym (set-get_or s.words i 0))
           (placed_same r.placed (set s.views id w) (spread_set s.views id at w same places r.placed.spread)
-          (λ p. same_tally s.views id v w at p (weighs_same p v w same phase)) (same_intents s.views id v w at intent));
+          (λ p. same_tally s.views id at w p (weighs_as p v w same phase)) (same_intents s.views id at w intent));
     }
 
     -- a step at the view's own place, from a phase of a reader to another
     pub own_step : (P Q : Phase) → v.phase ≡ P → w.phase ≡ Q → ((p : ℕ) → weight_in 0 p Q ≡ weight_in 0 p P)
         → IsStep places (own_place v.places v.number) v w (weight_in 1 (own_place v.places v.number) P) (weight_in 1 (own_place v.places v.number) Q)
-    own_step P Q is is' else_same = let own : own_place w.places w.number ≡ own_place v.places v.number = λ k. own_place (same k).0 (same k).1 in record {
-      within = own_within v.places places v.number r.placed.some_place (r.placed.spread id v at);
-      from = weighs_own v (own_place v.places v.number) P is refl;
-      to = weighs_own w (own_place v.places v.number) Q is' own;
-      elsewhere = λ p l apart. weighs_else w p Q is' (λ e. apart (sym e ∙ own)) ∙ (else_same p ∙ sym (weighs_else v p P is (λ e. apart (sym e))));
-    }
+    own_step P Q is is' else_same = let own = own_place v.places v.number in
+        step_at own 1 P Q (own_within v.places places v.number r.placed.some_place (r.placed.spread id v at)) (ap one_if (eq-eqb own own refl))
+        (λ p _. weighs_as p v v refl is) same is'
+        (λ p _ apart. subst (λ h. weight_in h p Q ≡ weight_in h p P) (sym (ap one_if (ne_eqb own p (λ e. apart (sym e))))) (else_same p))
 
     module _ (intent : w.intent ≡ v.intent) (sound : IsSound number_of r.history r.drawn w) {q word : ℕ} (is_at : word ≡ word_at q) {a b : Tally}
         (step : IsStep places q v w a b) where
-      pub moving : IsMoving q s.views (set s.views id w) a b (get_or s.words word 0)
+      abbrev After : List (View E)
+      After = set s.views id w
+
+      abbrev Moves : Type 0
+      Moves = IsMoving q s.views After a b (get_or s.words word 0)
+
+      abbrev KeptWith : ℕ → List (maybe.Option (Slot H S)) → Type 0
+      KeptWith n homes = IsKept number_of stands share_stands places record { words = set s.words word n; homes = homes; views = After }
+
+      pub moving : Moves
       moving =
           let each = λ (f : Tally → ℕ). total-set (λ (u : View E). f (weight q u)) s.views id v w at in
-          let few = bounds q s.views r.recorded in let guarded = r.placed.each q step.within in
-          subst (λ (z : Tally × Tally). IsMoving q s.views (set s.views id w) z.0 z.1 (get_or s.words word 0)) (λ k. (step.from k, step.to k))
-          record {
-            word = gate_is q word is_at step.within;
+          let few = bounds s.views r.recorded q in let guarded = r.placed.each q step.within in
+          subst (λ (t : Type 0). t) (λ k. IsMoving q s.views After (step.from k) (step.to k) (get_or s.words word 0)) record {
+            word = ap (λ i. get_or s.words i 0) is_at ∙ read_there s.words (word_at q) 0 guarded.word_is;
             visitors = each (λ t. t.visitors);
             writers = each (λ t. t.writers);
             pendings = each (λ t. t.pendings);
@@ -171,13 +252,15 @@ module _ {H S E : Type 0} {number_of : E → ℕ} {stands : H → List E → Typ
             one_intent = r.placed.one_intent;
           }
 
-      module _ (n : ℕ) (left : IsMoving q s.views (set s.views id w) a b (get_or s.words word 0) → IsLeft (tally q (set s.views id w)) n) where
+      module _ {n : ℕ} (left : Moves → IsLeft (tally q After) n) where
+        abbrev GuardedWith : List (maybe.Option (Slot H S)) → ℕ → Type 0
+        GuardedWith homes p = IsGuarded share_stands r.history (tally p After) (get_elem? (set s.words word n) (word_at p)) (get_elem? homes p)
+
         -- the others are as they were
         pub moved_at : (homes : List (maybe.Option (Slot H S))) → ((j : ℕ) → j < places → j ≢ q → get_elem? homes j ≡ get_elem? s.homes j)
-            → ((tally q (set s.views id w)).holders ≡ 0 → (kept : Slot H S) × (get_elem? homes q ≡ some (some kept)) × MayKeep share_stands r.history kept)
-            → (0 < (tally q (set s.views id w)).holders → get_elem? homes q ≡ some none)
-            → IsHoused stands r.history (tally 0 (set s.views id w)).writers (get_elem? homes places)
-            → IsKept number_of stands share_stands places record { words = set s.words word n; homes = homes; views = set s.views id w }
+            → ((tally q After).holders ≡ 0 → (kept : Slot H S) × (get_elem? homes q ≡ some (some kept)) × MayKeep share_stands r.history kept)
+            → (0 < (tally q After).holders → get_elem? homes q ≡ some none)
+            → IsHoused stands r.history (tally 0 After).writers (get_elem? homes places) → KeptWith n homes
         moved_at homes kept at_home away housed = record {
           history = r.history;
           drawn = r.drawn;
@@ -188,81 +271,78 @@ module _ {H S E : Type 0} {number_of : E → ℕ} {stands : H → List E → Typ
             each = λ p l. by_place p l (eqb p q) refl;
             home = housed;
             intents_are = set_else s.words word intents n (λ e. omega (arith, is_at)) ∙ (r.placed.intents_are ∙ ap some (sym intents_same));
-            one_intent = subst (λ x. x ≤ 1) (sym intents_same) r.placed.one_intent;
+            one_intent = omega (arith, intents_same, r.placed.one_intent);
             count_is = set_else s.words word count n (λ e. omega (arith, is_at)) ∙ r.placed.count_is;
           };
         }
           where
-            intents_same : intending (set s.views id w) ≡ intending s.views
-            intents_same = same_intents s.views id v w at intent
+            intents_same : intending After ≡ intending s.views
+            intents_same = same_intents s.views id at w intent
 
-            by_place : (p : ℕ) → p < places → (b : Bool) → eqb p q ≡ b
-                → IsGuarded share_stands r.history (tally p (set s.views id w)) (get_elem? (set s.words word n) (word_at p)) (get_elem? homes p)
-            by_place p l true e =
-                subst (λ x. IsGuarded share_stands r.history (tally x (set s.views id w)) (get_elem? (set s.words word n) (word_at x)) (get_elem? homes x))
-                (sym (eqb-true p q e))
+            by_place : (p : ℕ) → p < places → (b : Bool) → eqb p q ≡ b → GuardedWith homes p
+            by_place p l true e = subst (GuardedWith homes) (sym (eqb-true p q e))
                 record {
                   word_is = subst (λ i. get_elem? (set s.words i n) (word_at q) ≡ some n) (sym is_at)
-                      (there_set s.words (word_at q) (gate_word (tally q s.views)) n (r.placed.each q step.within).word_is) ∙ ap some (left moving).0;
+                      (there_set s.words (word_at q) n (r.placed.each q step.within).word_is) ∙ ap some (left moving).0;
                   one_turn = (left moving).1;
                   write_alone = λ some_write. omega (arith, (left moving).2);
                   at_home = at_home;
                   away = away;
                 }
             by_place p l false e = let apart : p ≢ q = eqb-false p q e in
+                let weighed = same_tally s.views id at w p (step.elsewhere p l apart) in
                 let word_there = set_else s.words word (word_at p) n (λ e. apart (omega (arith, is_at))) in
-                subst (λ (z : Tally × maybe.Option ℕ × maybe.Option (maybe.Option (Slot H S))). IsGuarded share_stands r.history z.0 z.1 z.2)
-                (λ k. (sym (same_tally s.views id v w at p (step.elsewhere p l apart)) k, sym word_there k, sym (kept p l apart) k))
-                (r.placed.each p l)
+                let there = kept p l apart in
+                subst (λ (t : Type 0). t) (λ k. IsGuarded share_stands r.history (sym weighed k) (sym word_there k) (sym there k)) (r.placed.each p l)
 
-        module _ (same_writers : q ≡ 0 → b.writers ≡ a.writers) where
-          -- the home value where it was
-          home_same : (homes : List (maybe.Option (Slot H S))) → get_elem? homes places ≡ get_elem? s.homes places
-              → IsHoused stands r.history (tally 0 (set s.views id w)).writers (get_elem? homes places)
-          home_same homes there = subst (λ (z : ℕ × maybe.Option (maybe.Option (Slot H S))). IsHoused stands r.history z.0 z.1)
-              (sym (λ k. (total-same (λ (u : View E). (weight 0 u).writers) s.views id v w at by_first k, there k))) r.placed.home
-            where
-              by_first : (weight 0 w).writers ≡ (weight 0 v).writers
-              by_first = bool_cases (eqb 0 q) (λ _. (weight 0 w).writers ≡ (weight 0 v).writers)
-                  (λ e. let zero_there : 0 ≡ q = eqb-true 0 q e in subst (λ p. (weight p w).writers ≡ (weight p v).writers) (sym zero_there)
-                  (ap (λ (t : Tally). t.writers) step.to ∙ (same_writers (sym zero_there) ∙ sym (ap (λ (t : Tally). t.writers) step.from))))
-                  (λ e. ap (λ (t : Tally). t.writers) (step.elsewhere 0 r.placed.some_place (eqb-false 0 q e)))
+        -- the home value is where it was, and so are all slots but that of the place
+        moved : (q ≡ 0 → b.writers ≡ a.writers) → (homes : List (maybe.Option (Slot H S))) → ((j : ℕ) → j ≢ q → get_elem? homes j ≡ get_elem? s.homes j)
+            → ((tally q After).holders ≡ 0 → (kept : Slot H S) × (get_elem? homes q ≡ some (some kept)) × MayKeep share_stands r.history kept)
+            → (0 < (tally q After).holders → get_elem? homes q ≡ some none) → KeptWith n homes
+        moved same_writers homes others at_home away = let there = others places (λ e. omega (arith, step.within)) in
+            moved_at homes (λ j _. others j) at_home away
+            (subst (λ (t : Type 0). t) (λ k. IsHoused stands r.history (sym writers_same k) (sym there k)) r.placed.home)
+          where
+            writers_same : (tally 0 After).writers ≡ (tally 0 s.views).writers
+            writers_same = bool_cases (eqb 0 q) (λ _. (tally 0 After).writers ≡ (tally 0 s.views).writers)
+                (λ e. let first = eqb-true 0 q e in
+                subst (λ p. (tally p After).writers ≡ (tally p s.views).writers) (sym first) (omega (arith, moving, same_writers (sym first))))
+                (λ e. ap (λ (t : Tally). t.writers) (same_tally s.views id at w 0 (step.elsewhere 0 r.placed.some_place (eqb-false 0 q e))))
+
+        -- The step by a seat with this hand, which tells this of the seat after
+        module _ (hand : List (ℕ × Slot H S)) (told : Me (Slot H S) (View E) → Type 0) (same_writers : q ≡ 0 → b.writers ≡ a.writers) where
+          abbrev Leaves : Type 0
+          Leaves = (u : View E) × (act : Act (Slot H S)) × Valid s.homes hand act
+              × IsKept number_of stands share_stands places (stepped s word n id hand u act) × told (u, carried_after hand act)
 
           -- what the place keeps stays
-          pub moved_still : (IsMoving q s.views (set s.views id w) a b (get_or s.words word 0)
-              → (tally q (set s.views id w)).holders ≡ (tally q s.views).holders)
-              → IsKept number_of stands share_stands places record { words = set s.words word n; homes = s.homes; views = set s.views id w }
-          moved_still held = let guarded = r.placed.each q step.within in
-              moved_at s.homes (λ j l apart. refl) (λ free. guarded.at_home (omega (arith, held moving)))
-              (λ some_holds. guarded.away (omega (arith, held moving))) (home_same s.homes refl)
+          pub moved_still : (Moves → (tally q After).holders ≡ (tally q s.views).holders) → told (w, hand) → Leaves
+          moved_still held tells = let guarded = r.placed.each q step.within in
+              let rule = moved same_writers s.homes (λ j apart. refl) (λ free. guarded.at_home (omega (arith, held moving)))
+              (λ some_holds. guarded.away (omega (arith, held moving))) in
+              (w, keeps, tt, rule, tells)
 
           -- what it keeps goes out
-          pub moved_out : (kept : Slot H S) → get_elem? s.homes q ≡ some (some kept)
-              → (IsMoving q s.views (set s.views id w) a b (get_or s.words word 0) → 0 < (tally q (set s.views id w)).holders)
-              → IsKept number_of stands share_stands places record { words = set s.words word n; homes = set s.homes q none; views = set s.views id w }
-          moved_out kept there held = moved_at (set s.homes q none) (λ j l apart. set_else s.homes q j none apart)
-              (λ free. absurd (omega (arith, held moving))) (λ _. there_set s.homes q (some kept) none there)
-              (home_same (set s.homes q none) (set_else s.homes q places none (λ e. omega (arith, step.within))))
+          pub moved_out : {kept : Slot H S} → get_elem? s.homes q ≡ some (some kept) → (Moves → 0 < (tally q After).holders)
+              → told (w, (q, kept) ∷ hand) → Leaves
+          moved_out {kept} there held tells =
+              let rule = moved same_writers (set s.homes q none) (λ j. set_else s.homes q j none) (λ free. absurd (omega (arith, held moving)))
+              (λ _. there_set s.homes q none there) in
+              (w, takes q kept, there, rule, tells)
 
           -- it comes home
-          pub moved_home : (homes : List (maybe.Option (Slot H S))) (kept : Slot H S) → homes ≡ set s.homes q (some kept) → MayKeep share_stands r.history kept
-              → (IsMoving q s.views (set s.views id w) a b (get_or s.words word 0)
-              → (0 < (tally q s.views).holders) × ((tally q (set s.views id w)).holders ≡ 0))
-              → IsKept number_of stands share_stands places record { words = set s.words word n; homes = homes; views = set s.views id w }
-          moved_home homes kept is stood held =
-              subst (λ hs. IsKept number_of stands share_stands places record { words = set s.words word n; homes = hs; views = set s.views id w }) (sym is)
-              (moved_at (set s.homes q (some kept)) (λ j l apart. set_else s.homes q j (some kept) apart)
-              (λ _. (kept, there_set s.homes q none (some kept) ((r.placed.each q step.within).away (held moving).0), stood))
-              (λ some_holds. absurd (omega (arith, (held moving).1)))
-              (home_same (set s.homes q (some kept)) (set_else s.homes q places (some kept) (λ e. omega (arith, step.within)))))
+          pub moved_home : {kept : Slot H S} {more : List (ℕ × Slot H S)} → hand ≡ (q, kept) ∷ more → MayKeep share_stands r.history kept
+              → (Moves → (0 < (tally q s.views).holders) × ((tally q After).holders ≡ 0)) → told (w, more) → Leaves
+          moved_home {kept} carries stood held tells =
+              let rule = moved same_writers (set s.homes q (some kept)) (λ j. set_else s.homes q j (some kept))
+              (λ _. (kept, there_set s.homes q (some kept) ((r.placed.each q step.within).away (held moving).0), stood))
+              (λ some_holds. absurd (omega (arith, (held moving).1))) in
+              (w, gives, tt, subst (KeptWith n) (λ k. put_back s.homes (sym carries k)) rule, subst told (λ k. (w, rest (sym carries k))) tells)
 
 module _ {H S E : Type 0} {number_of : E → ℕ} {stands : H → List E → Type 0} {share_stands : S → List E → Type 0} {places : ℕ} where
   -- a step that the rule allows where the lock has as many places as the seat knows of: it has
-  pub as_known : (slots id n word : ℕ) (f : ℕ → ℕ) (then : ℕ → Me (Slot H S) (View E) → Type 0) (me : Me (Slot H S) (View E)) → me.0.number ≡ Some n
-      → Allows (IsKept number_of stands share_stands me.0.places) slots id me word f then
-      → Allows (IsKept number_of stands share_stands places) slots id me word f then
-  as_known slots id n word f then me has allowed s r many at small =
-      subst (λ (p : ℕ). IsKept number_of stands share_stands p s → (w : View E) × (a : Act (Slot H S)) × Valid s.homes me.1 a
-      × IsKept number_of stands share_stands p (stepped s word (f (get_or s.words word 0)) id me.1 w a) × then (get_or s.words word 0)
-      (w, carried_after me.1 a))
-      (r.placed.spread id me.0 at n has) (λ kept. allowed s kept many at small) r
+  pub as_known : (slots id n word : ℕ) (f : ℕ → ℕ) (told : ℕ → Me (Slot H S) (View E) → Type 0) (me : Me (Slot H S) (View E)) → me.0.number ≡ Some n
+      → Allows (IsKept number_of stands share_stands me.0.places) slots id me word f told
+      → Allows (IsKept number_of stands share_stands places) slots id me word f told
+  as_known slots id n word f told me has allowed s r many at small = let known = r.placed.spread id me.0 at n has in
+      rw (← known) (allowed s (rw (← known) at r) many at small)

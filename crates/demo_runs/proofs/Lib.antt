@@ -1,9 +1,4 @@
-pub mod Words
-pub mod LineLemmas
-pub mod StepLemmas
+pub mod ScriptLemmas
 pub mod LaneLemmas
-pub mod PreludeLemmas
-pub mod OfferLemmas
 pub mod LastLemmas
-pub mod AgreeLemmas
-pub mod ApartLemmas
+pub mod RunLemmas

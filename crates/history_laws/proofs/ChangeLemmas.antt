@@ -2,10 +2,11 @@
 use Rattle.history_laws.proofs.Words.{rules, ℕ, ◌≡◌, ◌≢◌, inl, inr, ◌+◌, ◌<◌, ◌≤◌, Bool, true, false, not, List, [], ◌∷◌, ◌++◌, length, take, drop, refl, ap}
 use Rattle.history_laws.proofs.Words.{arith, Some, None, length-append, ltb-false, Option, IfSome, nat_lt, is_none, option_map, option_map_or, list_all}
 use Rattle.history_laws.proofs.Words.{leb-false, eqb-true, not-false, or_parts, length-take, length-drop, max_chars, Document, with_piece, without_part}
-use Rattle.history_laws.proofs.Words.{inserted, erased, committed, marked_saved, replaced, Change, Create, Write, Delete, Insert, Erase, Commit, Save, Intake}
-use Rattle.history_laws.proofs.Words.{Move, is_path, World, File, file_of, id_at, document_at, NamesPaths, GivesContent, stamps_drawn, files_made, Reason}
+use Rattle.history_laws.proofs.Words.{inserted, erased, committed, marked_saved, replaced, Change, is_path, World}
+use Rattle.history_laws.proofs.Words.{File, file_of, id_at, document_at, NamesPaths, GivesContent, stamps_drawn, files_made, Reason}
 use Rattle.history_laws.proofs.Words.{reasons, history_full, refusal_of, is_want_of_memory, max_files, edit_at, edited, put_of, document_len, taken_in}
 use Rattle.history_laws.proofs.Words.{effect_of}
+use Rattle.write_history.specs.declared.change.Change.TheVariants.{Create, Write, Delete, Insert, Erase, Commit, Save, Intake, Move}
 use Rattle.history_laws.proofs.PutLemmas.{Found, found, accepted_reasons, is_place, by_place, IsAccepted, makes, ends, edits, some_of}
 
 -- ---- why it is refused

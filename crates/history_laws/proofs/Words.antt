@@ -32,7 +32,7 @@ pub use Rattle.write_history.specs.Stamps.{IsAsStamped, KeepsOrDrawsStamp}
 pub use Rattle.write_history.specs.World.{World, File, file_of, id_at, document_at, next_id, empty_world, has_path, unready_ids, lowest_unready, ids_from}
 pub use Rattle.write_history.specs.World.{is_unready, count_of}
 pub use Rattle.write_history.specs.declared.change.Change.{Change}
-pub use Rattle.write_history.specs.declared.change.Change.TheVariants.{Create, Write, Delete, Insert, Erase, Commit, Save, Intake, Move}
+pub use Rattle.write_history.specs.declared.change.Change.TheVariants.{Intake}
 pub use Rattle.write_history.specs.declared.entry.Entry.{Entry}
 pub use Rattle.write_history.specs.declared.refusal.Refusal.{Refusal}
 pub use Rattle.write_history.specs.declared.refusal.Refusal.TheVariants.{HistoryFull}

@@ -1,16 +1,16 @@
 -- Index data that are made ahead: what is taken out and added, and that it stays of the world.
-use Rattle.std.proofs.Common.{◌≡◌, List, [], ◌∷◌, ◌++◌, refl, sym, ap, ◌∙◌, subst, append_assoc, Some, None, Option, Result, Ok, Err, IfSome}
+use Rattle.std.proofs.Common.{◌≡◌, List, [], ◌∷◌, ◌++◌, length, refl, sym, append_assoc, Some, None, Option, Result, Ok, Err, IfSome}
 use Rattle.std.specs.Prelude.{OnOk}
 use Rattle.std.specs.List.{All, flat_map}
 use Rattle.std.specs.Option.{option_map_or}
 use Rattle.std.specs.declared.alloc.AllocError.{AllocError}
-use Rattle.std.proofs.lemmas.List.{append-nil}
-use Rattle.std.proofs.lemmas.List.Elements.{All-nil, All-append, All-weaker, All-tail, All-same}
+use Rattle.std.proofs.lemmas.List.{append-nil, drop_at}
+use Rattle.std.proofs.lemmas.List.Elements.{All-nil, All-append, All-weaker, All-drop}
 use Rattle.std.proofs.lemmas.List.Concat.{flat_map-append}
 use Rattle.list_laws.specs.Prefixes.{IsPrefix}
 use Rattle.write_history.specs.declared.entry.Entry.{Entry}
 use Rattle.write_history.specs.World.{World}
-use Rattle.write_history.specs.Fold.{fold, IsLegal}
+use Rattle.write_history.specs.Fold.{fold}
 use Rattle.ide_world.specs.Task.{Task, IsOfWorld}
 use Rattle.ide_world.specs.declared.data.Job.{Job}
 use Rattle.ide_world.specs.declared.data.Made.{Made}
@@ -34,37 +34,20 @@ goes_not world old = record {
 -- the first of the threads was waited for
 pub joined : {Q : Type 0} (f : Q → List Task) (old new : List Making) (making : Making) (done : Option Q) → old ≡ making ∷ new
     → IfSome done (λ q. f q ≡ tasks_of making) → HasJoined old new (option_map_or f done [])
-joined f old new making None is so = record {
-  lost = tasks_of making;
-  before = ap (flat_map tasks_of) is ∙ ap (λ (l : List Task). l ++ flat_map tasks_of new) (sym (append-nil (tasks_of making)));
-}
-joined f old new making (Some q) is so = record {
-  lost = [];
-  before = ap (flat_map tasks_of) is ∙ ap (λ (l : List Task). l ++ flat_map tasks_of new) (sym so);
-}
+joined f old new making None is so = record { lost = tasks_of making; before = rw (is, append-nil) refl }
+joined f old new making (Some q) is so = record { lost = []; before = rw (is, so) refl }
 
 -- one thread more was started
 pub begun : (world : World) (made : List Task) (old new : List Making) (making : Making) → new ≡ old ++ making ∷ []
     → All (IsTask world) (tasks_of making) → HasBegun world (made ++ flat_map tasks_of old) (made ++ flat_map tasks_of new)
-begun world made old new making is unready = record {
-  more = tasks_of making;
-  unready = unready;
-  after = ap (λ (l : List Making). made ++ flat_map tasks_of l) is
-      ∙ ap (λ (l : List Task). made ++ l) (flat_map-append tasks_of old (making ∷ []) ∙ ap (λ (l : List Task). flat_map tasks_of old ++ l) (append-nil (tasks_of making)))
-      ∙ sym (append_assoc made (flat_map tasks_of old) (tasks_of making));
-}
-
--- what is left of such a list has it
-pub rest_has : (P : Task → Type 0) (gone kept : List Task) → All P (gone ++ kept) → All P kept
-rest_has P [] kept all = all
-rest_has P (t ∷ gone) kept all = rest_has P gone kept (All-tail P t (gone ++ kept) all)
+begun world made old new making is unready =
+    record { more = tasks_of making; unready = unready; after = rw is (simp (flat_map-append, append_assoc, append-nil)) }
 
 -- what stays of the world stays so as the history grows
 pub stays_later : (seen whole : List Entry) (tasks : List Task) → IsPrefix seen whole → All (StaysOfWorld seen) tasks → All (StaysOfWorld whole) tasks
 stays_later seen whole tasks front = All-weaker (StaysOfWorld seen) (StaysOfWorld whole) (λ task stays later legal.
-    let same : whole ++ later ≡ seen ++ front.0 ++ later = ap (λ (l : List Entry). l ++ later) front.1 in
-    subst (λ (l : List Entry). IsOfWorld (fold l) task) (sym (same ∙ append_assoc seen front.0 later))
-    (stays (front.0 ++ later) (subst IsLegal (same ∙ append_assoc seen front.0 later) legal))) tasks
+    let longer : whole ++ later ≡ seen ++ (front.0 ++ later) = rw front.1 (append_assoc seen front.0 later) in
+    rw longer (stays (front.0 ++ later) (rw longer at legal))) tasks
 
 -- the work of an unready file stays of the world
 task_stays : WorkStays → (seen : List Entry) (tasks : List Task) → All (IsTask (fold seen)) tasks → All (StaysOfWorld seen) tasks
@@ -75,9 +58,8 @@ pub ahead_stays : WorkStays → (seen : List Entry) (world : World) (old new : L
     → GoesOnAhead world old new → All (StaysOfWorld seen) new
 ahead_stays law seen world old new is all goes =
     let P : Task → Type 0 = StaysOfWorld seen in
-    let left = rest_has P goes.gone goes.kept (All-same P (goes.gone ++ goes.kept) old (sym goes.before) all) in
-    let added = task_stays law seen goes.more (subst (λ (w : World). All (IsTask w) goes.more) is goes.unready) in
-    All-same P new (goes.kept ++ goes.more) goes.after (All-append P goes.kept goes.more left added)
+    let left : All P goes.kept = rw (goes.before, drop_at goes.gone goes.kept (length goes.gone) refl) at (All-drop P (length goes.gone) old all) in
+    rw goes.after (All-append P goes.kept goes.more left (task_stays law seen goes.more (rw is at goes.unready)))
 
 -- the same after a read that found the history `read` and has ended
 pub still_ahead : WorkStays → {V : Type 0} (seen read now : List Entry) (old new : List Task) (world : World) (result : Result V AllocError)
@@ -85,12 +67,10 @@ pub still_ahead : WorkStays → {V : Type 0} (seen read now : List Entry) (old n
     → OnOk result (All (StaysOfWorld now) new)
 still_ahead law seen read now old new world (Err refused) front same is all goes = tt
 still_ahead law seen read now old new world (Ok value) front same is all goes =
-    subst (λ (l : List Entry). All (StaysOfWorld l) new) (sym same)
-    (ahead_stays law read world old new is (stays_later seen read old front all) goes)
+    rw same (ahead_stays law read world old new is (stays_later seen read old front all) goes)
 
 -- data with all that their job has are of the world where the job is
 pub made_of_job : (world : World) (job : Job) (made : Made) → made.file ≡ job.file → made.kind ≡ job.kind → made.stamp ≡ job.stamp → made.text ≡ job.text
     → IsOfWorld world (task_of_job job) → IsOfWorld world (task_of_made made)
 made_of_job world job made file kind stamp text is =
-    let same : task_of_made made ≡ task_of_job job = cc in
-    subst (IsOfWorld world) (sym same) is
+    let same : task_of_made made ≡ task_of_job job = cc in rw same is

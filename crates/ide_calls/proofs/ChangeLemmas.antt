@@ -1,8 +1,9 @@
 -- Changes that went in behind what a read found, or are refused by it.
-use Rattle.std.proofs.Common.{◌≡◌, ℕ, ◌+◌, ◌≤◌, ◌<◌, Bool, true, false, List, [], ◌∷◌, Option, Some, None, Result, Ok, Err, IfOk, IfErr, rules}
+use Rattle.std.proofs.Common.{◌≡◌, ℕ, ◌+◌, ◌≤◌, ◌<◌, List, [], ◌∷◌, Option, Some, None, Result, Ok, Err, IfOk, IfErr, rules}
 use Rattle.std.proofs.Common.{length, refl, sym, ap, subst, arith, ◌∙◌}
-use Rattle.std.specs.Prelude.{filter, ◌==◌, if◌then◌else◌, option_map}
+use Rattle.std.specs.Prelude.{◌==◌, option_map}
 use Rattle.std.proofs.lemmas.List.{length-append}
+use Rattle.list_laws.proofs.RowLemmas.{count_le}
 use Rattle.action_lock.specs.declared.view.View.{View}
 use Rattle.action_lock.specs.Advances.{Advances}
 use Rattle.action_lock.specs.Rule.{entries_of}
@@ -57,27 +58,13 @@ has_left u w seat line changes unready is first = record {
   is_first = first;
 }
 
-one_more : {A : Type 0} (b : Bool) (x : A) (kept xs : List A) → length kept ≤ length xs → length (if b then x ∷ kept else kept) ≤ length (x ∷ xs)
-one_more true x kept xs h = omega arith
-one_more false x kept xs h = omega arith
-
-filter_few : {A : Type 0} (p : A → Bool) (xs : List A) → length (filter p xs) ≤ length xs
-filter_few p [] = omega arith
-filter_few p (x ∷ xs) = one_more (p x) x (filter p xs) xs (filter_few p xs)
-
--- a pass has made no more entries than there are
-own_few : (seat : ℕ) (mine seen : List Entry) → mine ≡ entries_of (λ (e : Entry). e.seat) seat seen → length mine ≤ length seen
-own_few seat mine seen is = subst (λ (l : List Entry). length l ≤ length seen) (sym is) (filter_few (λ (e : Entry). e.seat == seat) seen)
-
--- so where the history has room for one entry more, it has made no more than a history may have, with that one
+-- a pass has made no more entries than there are: where the history has room for one more, no more than it may have, with that one
 pub few_own : (v w : View Entry) (entry : Entry) (seen : List Entry) → v.mine ≡ entries_of (λ (e : Entry). e.seat) entry.seat seen
     → seen ≡ v.seen → (fold v.seen).entries < max_entries → w ≡ finished entry v → length w.mine ≤ max_entries
 few_own v w entry seen mine same room is =
-    let own = own_few entry.seat v.mine seen mine in
-    let long = ap length same in
-    let all = entries-fold v.seen in
-    let more = ap (λ (x : View Entry). length x.mine) is ∙ length-append v.mine (entry ∷ []) in
-    omega arith
+    let own : length v.mine ≤ length seen = rw mine (count_le (λ (e : Entry). e.seat == entry.seat) seen) in
+    let more : length w.mine ≡ length v.mine + 1 = rw is (length-append v.mine (entry ∷ [])) in
+    omega (arith, own, more, ap length same, entries-fold v.seen, room)
 
 -- ---- changes that are refused
 

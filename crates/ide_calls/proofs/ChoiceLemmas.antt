@@ -1,16 +1,12 @@
 -- The file that is chosen to be indexed, and its work.
-use Rattle.std.proofs.Common.{◌≡◌, ℕ, true, false, refl, sym, ap, ◌∙◌, Some, None, Option}
-use Rattle.std.specs.Prelude.{Bool, IfSome, IfNone, option_map, if◌then◌else◌, is_some, not, ◌&&◌}
+use Rattle.std.proofs.Common.{◌≡◌, ℕ, true, false, refl, sym, ap, ◌∙◌, Some, None, Option, arith}
+use Rattle.std.specs.Prelude.{IfSome, IfNone, option_map, if◌then◌else◌}
 use Rattle.std.specs.Option.{option_and_then}
 use Rattle.std.proofs.lemmas.Bool.{false≢true}
-use Rattle.list_laws.proofs.BoolLemmas.{bool_cases}
-use Rattle.dumb_mode.specs.declared.kind.FileKind.{FileKind}
-use Rattle.dumb_mode.specs.Unready.{is_indexed_at}
-use Rattle.dumb_mode.specs.Filter.{kind_of}
 use Rattle.write_history.specs.World.{World, File, file_of, is_unready, lowest_unready}
 use Rattle.write_history.specs.Effect.{stamp_of}
 use Rattle.ide_world.specs.declared.data.Job.{Job}
-use Rattle.ide_world.specs.Task.{Task, task_of, work_of, task_with_id}
+use Rattle.ide_world.specs.Task.{Task, work_of, task_with_id}
 use Rattle.ide_world.specs.Unready.{first_unready_from}
 use Rattle.ide_calls.specs.Choice.{file_to_index, probe_in, IsWork, IsChoice, task_of_job}
 
@@ -20,35 +16,18 @@ pub record HasTask (id : ℕ) (file : Option File) (task : Task) : Type 0 where
   pub named : task.file ≡ id
   pub stamped : stamp_of file ≡ task.stamp
 
-has_work : (id : ℕ) (file : File) (k : Option FileKind) (task : Task) → is_unready (Some file) ≡ true → Some task ≡ option_map (task_of id file) k
-    → HasTask id (Some file) task
-has_work id file None task ready is = absurd (cc)
-has_work id file (Some kind) task ready is =
-    let same : task ≡ task_of id file kind = cc in
-    record { unready = ready; named = ap (λ (t : Task). t.file) same; stamped = sym (ap (λ (t : Task). t.stamp) same) }
-
 pub has_task : (world : World) (id : ℕ) (task : Task) → Some task ≡ task_with_id world id → HasTask id (file_of world id) task
 has_task world id task = by (file_of world id)
   where
     by : (file : Option File) → Some task ≡ (if is_unready file then option_and_then (work_of id) file else None) → HasTask id file task
-    by None is = absurd (cc)
-    by (Some file) is = bool_cases (is_unready (Some file)) (λ b. Some task ≡ (if b then work_of id file else None) → HasTask id (Some file) task)
-        (λ ready found. has_work id file (kind_of file.path) task ready found)
-        (λ ready found. absurd (cc))
-        is
+    by file is = record { unready = grind arith; named = grind arith; stamped = grind arith }
 
 -- a file without work isn't unready
-no_work : (id : ℕ) (f : File) (k : Option FileKind) → kind_of f.path ≡ k → option_map (task_of id f) k ≡ None → is_unready (Some f) ≡ false
-no_work id f None is none = ap (λ j. is_some j && not (is_some f.document) && not (is_indexed_at f.stamp f.indexed)) is
-no_work id f (Some kind) is none = absurd (cc)
-
-ready_file : (id : ℕ) (file : Option File) (b : Bool) → is_unready file ≡ b → (if b then option_and_then (work_of id) file else None) ≡ None → b ≡ false
-ready_file id file false is none = refl
-ready_file id None true is none = sym is
-ready_file id (Some f) true is none = sym is ∙ no_work id f (kind_of f.path) refl none
-
 pub no_task : (world : World) (id : ℕ) → task_with_id world id ≡ None → is_unready (file_of world id) ≡ false
-no_task world id none = ready_file id (file_of world id) (is_unready (file_of world id)) refl none
+no_task world id = by (file_of world id)
+  where
+    by : (file : Option File) → (if is_unready file then option_and_then (work_of id) file else None) ≡ None → is_unready file ≡ false
+    by file none = grind arith
 
 module _ (world : World) (seat : ℕ) where
   -- the hinted file has work

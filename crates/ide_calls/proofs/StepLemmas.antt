@@ -11,7 +11,6 @@ use Rattle.ide_world.specs.declared.step.Step.{Step}
 use Rattle.write_history.specs.declared.change.Change.{Change}
 use Rattle.write_history.specs.declared.change.Change.TheVariants.{Intake}
 use Rattle.write_history.specs.declared.entry.Entry.{Entry}
-use Rattle.write_history.specs.World.{World}
 use Rattle.write_history.specs.Fold.{fold, IsLegal}
 use Rattle.ide_world.specs.declared.data.Job.{Job}
 use Rattle.ide_world.specs.Task.{Task}
@@ -20,7 +19,7 @@ use Rattle.ide_calls.specs.declared.step.Stepped.{Stepped}
 use Rattle.ide_calls.specs.declared.step.Stepped.TheVariants.{Idle, Taken}
 use Rattle.ide_calls.specs.declared.judge.Judged.TheVariants.{Prepared}
 use Rattle.ide_calls.specs.declared.first_read.FirstRead.{FirstRead}
-use Rattle.ide_calls.specs.Choice.{file_to_index, IsWork, IsChoice, task_of_job}
+use Rattle.ide_calls.specs.Choice.{file_to_index, IsWork, task_of_job}
 use Rattle.ide_calls.specs.Step.{IsIdle, IsAnswer, HasTried, HasStepped}
 use Rattle.ide_calls.specs.Reads.{HasReadOnce}
 use Rattle.ide_calls.specs.Intake.{HasReadFirst, HasJudged, HasAnswered, IsAnsweredBy}
@@ -102,18 +101,11 @@ stepped_by : (hint : Option ℕ) (v w : View Entry) (step : Stepped) → HasTrie
 stepped_by hint v w (Idle len) by = absurd by.answer
 stepped_by hint v w step by = by
 
--- the work of the job that was chosen
-chosen_work : (world : World) (seat : ℕ) (hint : Option ℕ) (choice : Option Job) (job : Job) → choice ≡ Some job
-    → IsChoice world seat hint choice → IsWork world seat hint (task_of_job job)
-chosen_work world seat hint choice job is chosen = subst (IsChoice world seat hint) is chosen
-
 -- a step that took a file up
 pub stepped : (seat : ℕ) (hint : Option ℕ) (look : FirstRead) (job : Job) (file stamp : ℕ) (v u w : View Entry) (answer : Result Stepped AllocError)
     → v.number ≡ Some seat → HasReadFirst seat hint v u look → look.job ≡ Some job → Advances v w → file ≡ job.file → stamp ≡ job.stamp
     → IfOk answer (IsAnsweredBy file stamp u w) → IfOk answer (HasStepped hint v w)
 stepped seat hint look job file stamp v u w answer number looked is advances same_file same_stamp =
     IfOk-weaker answer (IsAnsweredBy file stamp u w) (HasStepped hint v w) (λ step by.
-    let work = chosen_work (fold u.seen) seat hint look.job job is looked.choice in
-    let of_stamp = subst (λ s. IsAnsweredBy file s u w step) same_stamp by in
-    let of_file = subst (λ f. IsAnsweredBy f job.stamp u w step) same_file of_stamp in
-    stepped_by hint v w step (tried seat hint (task_of_job job) v u w step number looked.read work advances of_file))
+    let of_job : IsAnsweredBy job.file job.stamp u w step = rw (same_file, same_stamp) at by in
+    stepped_by hint v w step (tried seat hint (task_of_job job) v u w step number looked.read (rw is at looked.choice) advances of_job))

@@ -3,36 +3,26 @@ use Rattle.std.proofs.Common.{ℕ, ◌≡◌, ◌-◌, ◌<◌, List, [], ◌∷
 use Rattle.std.proofs.Math.ListN.{set}
 use Rattle.std.proofs.Math.Seq.{map-set_same}
 use Rattle.std.proofs.lemmas.List.{length-map, length-set, take_rest, get_or_default, drop-set}
-use Rattle.std.specs.Prelude.{Option}
-use Rattle.document_buf.specs.Document.{Document}
-use Rattle.write_history.specs.World.{World, file_of}
+use Rattle.write_history.specs.World.{World}
 use Rattle.ide_world.specs.declared.step.DocEdit.{DocEdit}
 use Rattle.ide_world.specs.declared.step.DocEdit.TheVariants.{Keep}
 use Rattle.ide_world.specs.declared.step.Step.{Step}
-use Rattle.ide_world.specs.DocEdits.{edited_document, IsWide}
+use Rattle.ide_world.specs.DocEdits.{IsWide}
 use Rattle.ide_world.specs.Room.{room_needed}
-use Rattle.ide_world.specs.Step.{document_part, after_step, after_steps}
+use Rattle.ide_world.specs.Step.{after_step, after_steps}
 use Rattle.ide_world.specs.Ready.{ids_of}
 use Rattle.ide_world.specs.Lawful.{IsLawfulStep, AreLawfulFrom, AreWide}
 use Rattle.ide_world.specs.Alike.{bare_edit, bare_step, AreAlike}
 
-bare_edited : (edit : DocEdit) (document : Option Document) → edited_document (bare_edit edit) document ≡ edited_document edit document
-bare_edited Keep document = refl
-bare_edited edit document = refl
-
--- a step does the same with its room and without it
-bare_after : (w : World) (step : Step) → after_step w (bare_step step) ≡ after_step w step
-bare_after w step = rw (bare_edited step.doc (document_part (file_of w step.id)))
-
 abbrev with_edit : DocEdit → Step → Step
 with_edit edit step = record { id = step.id; row = step.row; doc = edit; index = step.index; draws = step.draws }
 
--- and is lawful with it and without it
-bare_lawful : (w : World) (edit : DocEdit) (step : Step)
-    → (IsLawfulStep w (with_edit edit step) → IsLawfulStep w (with_edit (bare_edit edit) step))
+-- a step does the same with its room and without it, and is lawful with it and without it
+bare_same : (w : World) (edit : DocEdit) (step : Step) → (after_step w (with_edit (bare_edit edit) step) ≡ after_step w (with_edit edit step))
+    × (IsLawfulStep w (with_edit edit step) → IsLawfulStep w (with_edit (bare_edit edit) step))
     × (IsLawfulStep w (with_edit (bare_edit edit) step) → IsLawfulStep w (with_edit edit step))
-bare_lawful w Keep step = ((λ h. h), λ h. h)
-bare_lawful w edit step = ((λ h. search rules), λ h. search rules)
+bare_same w Keep step = (refl, (λ h. h), λ h. h)
+bare_same w edit step = (refl, (λ h. search rules), λ h. search rules)
 
 -- what steps that are alike have in common
 pub record AreSame (w : World) (steps others : List Step) : Type 0 where
@@ -46,13 +36,11 @@ same_alike w [] (other ∷ others) alike = absurd (cc)
 same_alike w (step ∷ steps) [] alike = absurd (cc)
 same_alike w (step ∷ steps) (other ∷ others) alike =
     let bare : bare_step other ≡ bare_step step = cc in
-    let one : after_step w other ≡ after_step w step = sym (bare_after w other) ∙ ap (after_step w) bare ∙ bare_after w step in
+    let mine = bare_same w step.doc step in
+    let its = bare_same w other.doc other in
+    let one : after_step w other ≡ after_step w step = sym its.0 ∙ ap (after_step w) bare ∙ mine.0 in
     let rest = same_alike (after_step w step) steps others (cc) in
-    record {
-      after = rw one rest.after;
-      lawful = λ h. ((bare_lawful w other.doc other).1 (rw bare ((bare_lawful w step.doc step).0 h.0)), rw one (rest.lawful h.1));
-      ids = λ i. (bare i).id ∷ rest.ids i;
-    }
+    record { after = rw one rest.after; lawful = λ h. (its.2 (rw bare (mine.1 h.0)), rw one (rest.lawful h.1)); ids = λ i. (bare i).id ∷ rest.ids i }
 
 pub length_alike : (steps others : List Step) → AreAlike steps others → length others ≡ length steps
 length_alike steps others alike = omega (arith, ap length alike, length-map others bare_step, length-map steps bare_step)
@@ -73,8 +61,7 @@ widened_at old steps seen at count new was first some h is first_is same_steps c
     let next : i + 1 ≡ at = omega arith in
     let within : i < length steps = omega (arith, h.within) in
     let one : first ≡ was = first_is ∙ get_or_default steps i first was within ∙ sym is in
-    let count_is : count ≡ room_needed new.id (drop at steps) =
-    counted ∙ rw (take_rest seen at, same_steps, one) (ap (λ (s : Step). room_needed s.id (drop at steps)) (sym same)) in
+    let count_is : count ≡ room_needed new.id (drop at steps) = grind (arith, counted, take_rest seen at, same_steps, one, same) in
     record {
       alike = map-set_same bare_step steps i new was (same ∙ ap bare_step is) ∙ h.alike;
       wide = rw (drop-set steps i new within, next) ((rw count_is at wide), h.wide);

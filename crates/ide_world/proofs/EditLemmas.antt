@@ -1,10 +1,10 @@
 -- What edits of a document make of what readers see of it.
-use Rattle.std.proofs.Common.{ℕ, ◌≡◌, ◌+◌, ◌-◌, ◌≤◌, true, List, length, refl, ap, sym, arith, Some, None, length-append, length-drop}
+use Rattle.std.proofs.Common.{ℕ, ◌≡◌, ◌+◌, ◌-◌, ◌≤◌, true, List, length, arith, Some, length-append, length-drop}
 use Rattle.std.proofs.lemmas.List.{length-take-le}
 use Rattle.std.specs.Prelude.{Option, option_map, is_some}
 use Rattle.document_buf.specs.Document.{Document, with_piece, without_part}
 use Rattle.ide_world.specs.declared.step.DocEdit.{DocEdit}
-use Rattle.ide_world.specs.declared.step.DocEdit.TheVariants.{Keep, Insert, Erase, Commit, MarkSaved}
+use Rattle.ide_world.specs.declared.step.DocEdit.TheVariants.{Insert, Erase}
 use Rattle.ide_world.specs.DocEdits.{edited_document, IsDocEditFit}
 use Rattle.ide_world.specs.Walk.{summary_of, edited_summary, edited_committed, edited_text, IsTextEditFit, keeps_texts, is_open_after}
 
@@ -19,50 +19,34 @@ length-with_piece at piece text inside = simp (length-append, length-take-le at 
 
 length-without_part : (from to : ℕ) (text : List ℕ) → from ≤ to → to ≤ length text → length (without_part from to text) ≡ length text - (to - from)
 length-without_part from to text ordered inside =
-    let first : from ≤ length text = omega arith in
-    simp (length-append, length-take-le from text first, length-drop) (omega arith)
+    simp (length-append, length-take-le from text (omega arith), length-drop) (omega arith)
 
 -- what readers see of the document after an edit is made of what they saw before it
 pub summary-edited : (edit : DocEdit) (d : Option Document) → IsDocEditFit edit d
     → option_map summary_of (edited_document edit d) ≡ edited_summary edit (option_map summary_of d)
 summary-edited (Insert at text) (Some d) fit = rw (length-with_piece at text d.text fit.inside)
 summary-edited (Erase from to) (Some d) fit = rw (length-without_part from to d.text fit.ordered fit.inside)
-summary-edited Keep d fit = refl
-summary-edited edit None fit = refl
-summary-edited edit (Some d) fit = refl
+summary-edited edit d fit = grind arith
 
 pub committed-edited : (edit : DocEdit) (d : Option Document) → IsDocEditFit edit d
     → committed_of (edited_document edit d) ≡ edited_committed edit (committed_of d)
-committed-edited (Commit text) (Some d) fit = ap Some (sym fit)
-committed-edited Keep d fit = refl
-committed-edited edit None fit = refl
-committed-edited edit (Some d) fit = refl
+committed-edited edit d fit = grind (arith, fit)
 
 pub text-edited : (edit : DocEdit) (d : Option Document) → IsDocEditFit edit d
     → text_of_document (edited_document edit d) ≡ edited_text edit (text_of_document d)
-text-edited Keep d fit = refl
-text-edited edit None fit = refl
-text-edited edit (Some d) fit = refl
+text-edited edit d fit = grind arith
 
 pub text_edit_fits : (edit : DocEdit) (d : Option Document) → IsDocEditFit edit d → IsTextEditFit edit (text_of_document d)
 text_edit_fits (Insert at text) (Some d) fit = (fit.inside, fit.fits)
 text_edit_fits (Erase from to) (Some d) fit = (fit.ordered, fit.inside)
-text_edit_fits Keep d fit = tt
-text_edit_fits edit None fit = tt
-text_edit_fits edit (Some d) fit = tt
+text_edit_fits edit d fit = tt
 
 pub is_some-edited : (edit : DocEdit) (d : Option Document) → IsDocEditFit edit d → is_some (edited_document edit d) ≡ is_open_after edit (is_some d)
-is_some-edited Keep d fit = refl
-is_some-edited edit None fit = refl
-is_some-edited edit (Some d) fit = refl
+is_some-edited edit d fit = grind arith
 
 -- an edit that keeps the texts
 pub kept_text : (edit : DocEdit) (text : Option (List ℕ)) → keeps_texts edit ≡ true → edited_text edit text ≡ text
-kept_text Keep text k = refl
-kept_text MarkSaved text k = refl
-kept_text edit text k = absurd (cc)
+kept_text edit text k = grind (arith, k)
 
 pub kept_committed : (edit : DocEdit) (text : Option (List ℕ)) → keeps_texts edit ≡ true → edited_committed edit text ≡ text
-kept_committed Keep text k = refl
-kept_committed MarkSaved text k = refl
-kept_committed edit text k = absurd (cc)
+kept_committed edit text k = grind (arith, k)

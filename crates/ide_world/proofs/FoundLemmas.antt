@@ -1,13 +1,8 @@
 -- What a name finds, and what it finds where no file is unready.
-use Rattle.std.proofs.Common.{◌≡◌, ℕ, zero, suc, ◌+◌, ◌<◌, ◌≤◌, Bool, true, false, cond, ltb, List, [], ◌∷◌, ◌++◌, length, get_or, Some, None, refl, sym, ap, subst, ◌∙◌, arith, ltb-true, ltb-false}
-use Rattle.std.specs.Prelude.{Option, is_some, option_map, unwrap_or, position, not, ◌&&◌}
-use Rattle.std.specs.Option.{option_map_or}
-use Rattle.std.proofs.lemmas.Bool.{eqb-true}
+use Rattle.std.proofs.Common.{◌≡◌, ℕ, suc, ◌+◌, ◌≤◌, true, cond, List, [], ◌∷◌, length, get_or, Some, None, refl, ◌∙◌, arith}
+use Rattle.std.specs.Prelude.{Option, is_some, unwrap_or, not, ◌&&◌}
 use Rattle.std.proofs.lemmas.Bool.Decides.{nat_tests}
 use Rattle.std.specs.List.{position_or_len}
-use Rattle.std.proofs.lemmas.Option.{none-some}
-use Rattle.list_laws.proofs.BoolLemmas.{bool_cases}
-use Rattle.list_laws.proofs.PositionLemmas.{position-None}
 use Rattle.list_laws.proofs.RowLemmas.{past_all}
 use Rattle.document_buf.specs.Document.{Document}
 use Rattle.dumb_mode.specs.declared.kind.FileKind.{FileKind}
@@ -18,29 +13,22 @@ use Rattle.overlay_index.specs.Parts.{Parts, no_parts, parts_of}
 use Rattle.overlay_index.specs.Layers as layers
 use Rattle.overlay_index.specs.Found as walk
 use Rattle.list_laws.specs.Rows.{row_in}
-use Rattle.write_history.specs.World.{World, File, is_unready, shown_text, lowest_unready}
-use Rattle.write_history.specs.Effect.{with_document}
+use Rattle.write_history.specs.World.{File, is_unready, shown_text, lowest_unready}
 use Rattle.ide_world.specs.IndexEdits.{Indexed}
 use Rattle.ide_world.specs.Sound.{HoldsLive, HoldsIndex}
-use Rattle.ide_world.specs.StateView.{StateView}
 use Rattle.ide_world.specs.Found.{found_at, found_from, shown_from, shown, found, kept_of}
-use Rattle.ide_world.specs.State.{files_from, indexed_in, held, IsSound}
+use Rattle.ide_world.specs.State.{world_of, indexed_in, held, IsSound}
 use Rattle.ide_world.specs.declared.state.State.TheInside.{Inside}
-use Rattle.document_buf.specs.DocsView as docs
 
 pub indexed_at : (present : ℕ) (indexed : Option ℕ) → is_indexed_at present indexed ≡ true → indexed ≡ Some present
-indexed_at present None h = absurd (cc)
-indexed_at present (Some stamp) h = ap Some (eqb-true stamp present h)
-
-bare_parts : (held : Indexed) → HoldsIndex None held → unwrap_or held.overlay held.base ≡ no_parts
-bare_parts held none = rw none.1 none.0
+indexed_at present indexed h = grind (arith, nat_tests, h)
 
 -- only files that were made show rows
 shown_to : (kept : layers.LayersView) (files : List (Option File))
     → ((id : ℕ) → HoldsIndex (row_in files id) (indexed_in kept id)) → layers.IsShownTo kept (length files)
 shown_to kept files holds = record {
-  first = bare_parts (indexed_in kept 0) (holds 0);
-  rest = λ file past. bare_parts (indexed_in kept file) (rw (past_all (None ∷ files) file (omega (arith, past))) at (holds file));
+  first = rw (holds 0).1 (holds 0).0;
+  rest = λ file past. let none = rw (past_all (None ∷ files) file (omega (arith, past))) at (holds file) in rw none.1 none.0;
 }
 
 -- where no file is unready, each gives what its shown text gives
@@ -48,9 +36,7 @@ ready_from : {X : Type 0} (own : FileKind) (kept : ℕ → List X) (read : List 
     → length files ≤ position_or_len is_unready files → shown_from own kept read first files ≡ found_from own read first files
 ready_from own kept read first [] ready = refl
 ready_from own kept read first (file ∷ files) ready =
-    let here : is_unready file ≡ false = grind (arith, ready) in
-    let rest = ready_from own kept read (first + 1) files (grind (arith, ready)) in
-    rw (here, rest) refl
+    let rest = λ (r : length files ≤ position_or_len is_unready files). ready_from own kept read (first + 1) files r in grind (arith, ready, rest)
 
 module _ {V : Type 0} (own : FileKind) (part : Parts → List (List ℕ × V)) (name : List ℕ) (read : List ℕ → List V)
     (own_kind : (path : List ℕ) → has_kind own path ≡ is_same_kind (kind_of path) (Some own))
@@ -67,20 +53,18 @@ module _ {V : Type 0} (own : FileKind) (part : Parts → List (List ℕ × V)) (
   law Properties text = properties text
 
   -- what the shown parts of a live file have under the name: what its text has, or where it is unready what is kept of it
-  live : (k : Option FileKind) (document : Option Document) (file : File) (held : Indexed) (indexed : Bool) → HoldsLive k (with_document document file) held
-      → is_indexed_at file.stamp file.indexed ≡ indexed
-      → has (unwrap_or held.overlay held.base) ≡ cond (is_some k && not (is_some document) && not indexed) (has held.base)
-      (cond (is_same_kind k (Some own)) (read (shown_text (with_document document file))) [])
-  live None document file held indexed holds e = rw (holds.1, holds.0) nothing
-  live (Some kind) (Some d) file held indexed holds e = rw holds.0 (law kind d.committed)
-  live (Some kind) None file held true holds e = rw (holds.0, holds.1 refl (indexed_at file.stamp file.indexed e)) (law kind file.content)
-  live (Some kind) None file held false holds e = rw holds.0 refl
+  live : (k : Option FileKind) (document : Option Document) (file : File) (held : Indexed) → HoldsLive k file held → file.document ≡ document
+      → has (unwrap_or held.overlay held.base) ≡ cond (is_some k && not (is_some file.document) && not (is_indexed_at file.stamp file.indexed)) (has held.base)
+      (cond (is_same_kind k (Some own)) (read (shown_text file)) [])
+  live None document file held holds e = rw (holds.1, holds.0) nothing
+  live (Some kind) (Some d) file held holds e = rw (holds.0, e) (law kind d.committed)
+  live (Some kind) None file held holds e = grind (arith, e, holds.0, holds.1, indexed_at file.stamp file.indexed, law kind file.content)
 
   -- the same of any file
   either : (file : Option File) (held : Indexed) → HoldsIndex file held
       → has (unwrap_or held.overlay held.base) ≡ cond (is_unready file) (has held.base) (found_at own read file)
   either None held holds = rw (holds.1, holds.0) nothing
-  either (Some file) held holds = rw (own_kind file.path) (live (kind_of file.path) file.document file held (is_indexed_at file.stamp file.indexed) holds refl)
+  either (Some file) held holds = rw (own_kind file.path) (live (kind_of file.path) file.document file held holds refl)
 
   -- the walk gives what the world shows
   walk_shown : (kept : layers.LayersView) (first : ℕ) (files : List (Option File))
@@ -88,18 +72,15 @@ module _ {V : Type 0} (own : FileKind) (part : Parts → List (List ℕ × V)) (
       → walk.found_from (λ id. has (layers.shown_of kept id)) first (length files) ≡ shown_from own (λ id. has (layers.base_of kept id)) read first files
   walk_shown kept first [] holds = refl
   walk_shown kept first (file ∷ files) holds =
-      let here = either file (indexed_in kept first) (holds 0 first (omega arith)) in
       let rest = walk_shown kept (first + 1) files (λ place id e. holds (suc place) id (omega (arith, e))) in
-      let next : suc first ≡ first + 1 = omega arith in
-      rw (here, next, rest) refl
+      grind (arith, either file (indexed_in kept first) (holds 0 first (omega arith)), rest)
 
   -- so a walk of a state gives what its world shows, and where no file is unready what it has
-  pub walked : (inside : Inside) (seen : StateView) → held inside ≡ seen → IsSound inside → (result : List (ℕ × V))
-      → ((count : ℕ) → layers.IsShownTo inside.layers count → result ≡ walk.found_to (λ id. has (layers.shown_of inside.layers id)) count)
-      → (result ≡ shown own (λ id. has (kept_of seen id)) read seen.world) × (lowest_unready seen.world ≡ None → result ≡ found own read seen.world)
-  walked inside seen view_is sound result walks =
-      let files = files_from (docs.document_of inside.docs) 1 inside.files.rows in
-      let shows : result ≡ shown own (λ id. has (kept_of seen id)) read seen.world = walks (length files) (shown_to inside.layers files sound.index)
-      ∙ walk_shown inside.layers 1 files (λ place id e. let same : id ≡ suc place = omega (arith, e) in rw same (sound.index (suc place)))
-      ∙ ap (λ s. shown own (λ id. has (kept_of s id)) read s.world) view_is in
-      (shows, λ none. shows ∙ ready_from own (λ id. has (kept_of seen id)) read 1 seen.world.files (grind (arith, nat_tests, none)))
+  pub walked : (i : Inside) → IsSound i → (result : List (ℕ × V))
+      → ((count : ℕ) → layers.IsShownTo i.layers count → result ≡ walk.found_to (λ id. has (layers.shown_of i.layers id)) count)
+      → (result ≡ shown own (λ id. has (kept_of (held i) id)) read (world_of i)) × (lowest_unready (world_of i) ≡ None → result ≡ found own read (world_of i))
+  walked i sound result walks =
+      let files = (world_of i).files in
+      let shows : result ≡ shown own (λ id. has (kept_of (held i) id)) read (world_of i) = walks (length files) (shown_to i.layers files sound.index)
+      ∙ walk_shown i.layers 1 files (λ place id e. let same : id ≡ suc place = omega (arith, e) in rw same (sound.index (suc place))) in
+      (shows, λ none. shows ∙ ready_from own (λ id. has (kept_of (held i) id)) read 1 files (grind (arith, nat_tests, none)))

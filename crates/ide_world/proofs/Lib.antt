@@ -1,9 +1,7 @@
-pub mod MarkLemmas
 pub mod StepLemmas
 pub mod WorldLemmas
 pub mod RoomLemmas
 pub mod ReaderLemmas
-pub mod UnreadyLemmas
 pub mod FoundLemmas
 pub mod EditLemmas
 pub mod PathLemmas
@@ -12,6 +10,5 @@ pub mod BuildLemmas
 pub mod KindLemmas
 pub mod AlikeLemmas
 pub mod GroupLemmas
-pub mod TaskLemmas
 pub mod FirstLemmas
 pub mod SweepLemmas

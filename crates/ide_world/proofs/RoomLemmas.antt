@@ -1,27 +1,24 @@
 -- What room is left after a step.
-use Rattle.std.proofs.Common.{◌≡◌, ℕ, zero, suc, ◌+◌, ◌*◌, ◌<◌, ◌≤◌, false, cond, eqb, List, [], ◌∷◌, ◌++◌, length, get_or, take, refl, sym, ap, ◌∙◌, subst, arith}
+use Rattle.std.proofs.Common.{◌≡◌, ℕ, ◌+◌, ◌*◌, ◌<◌, ◌≤◌, false, eqb, List, [], ◌∷◌, length, get_or, take, refl, sym, ap, ◌∙◌, subst, arith}
 use Rattle.std.specs.Prelude.{is_some, IsSome}
-use Rattle.std.proofs.lemmas.List.{take_more}
-use Rattle.std.proofs.lemmas.Bool.{eqb-true}
+use Rattle.std.specs.List.{AllByRecursion}
+use Rattle.std.proofs.lemmas.List.Elements.{All-weaker, All-more, All-from_recursion, recursion_from_All}
 use Rattle.std.proofs.lemmas.Bool.Decides.{nat_tests}
 use Rattle.std.proofs.lemmas.Option.{IfSome_then}
 use Rattle.vfs_core.specs.FilesView as files
 use Rattle.document_buf.specs.DocsView as docs
-use Rattle.overlay_index.specs.Layers as layers
 use Rattle.write_history.specs.World.{World}
 use Rattle.write_history.specs.Fold.{counted}
 use Rattle.ide_world.specs.declared.step.DocEdit.{DocEdit}
-use Rattle.ide_world.specs.declared.step.DocEdit.TheVariants.{Keep}
 use Rattle.ide_world.specs.declared.step.Step.{Step}
 use Rattle.ide_world.specs.RowEdits.{put_row}
 use Rattle.ide_world.specs.DocEdits.{edited_document, IsWide, inserted_by}
 use Rattle.ide_world.specs.Step.{after_step, after_steps}
-use Rattle.ide_world.specs.Lawful.{IsLawfulStep, AreLawfulFrom, AreLawful}
+use Rattle.ide_world.specs.Lawful.{AreLawfulFrom, AreLawful}
 use Rattle.list_laws.specs.Rows.{one_if}
 use Rattle.ide_world.specs.Room.{Room, HasStepRoom, HasEachRoom, HasRoomIn, KeepsRoom, KeepsCounts, room_before, room_before_step, room_needed, rows_of, brought}
 use Rattle.ide_world.specs.StateView.{StateView, HasRoom}
 use Rattle.ide_world.specs.StepsReady.{IsReady}
-use Rattle.list_laws.proofs.BoolLemmas.{bool_cases}
 use Rattle.list_laws.proofs.RowLemmas.{one_if_le}
 
 -- the room for characters that is left after the document of a file was edited
@@ -58,15 +55,14 @@ pub ready_after : (old new : StateView) (step : Step) (steps : List Step) → Is
     → IsSome (docs.document_of new.room.docs id) → n ≤ docs.room_of new.room.docs id)
     → IsReady new steps
 ready_after old new step steps ready world keeps rows chars = record {
-  lawful = subst (λ w. AreLawfulFrom w steps) (sym world) ready.lawful.1;
+  lawful = rw world ready.lawful.1;
   room = record {
     rows = rows (rows_of steps) ready.room.rows;
     each = each_room_kept old.room new.room steps keeps ready.room.each.1;
-    chars = λ id open'. chars id (room_needed id steps) (λ same. subst (λ i. IsWide (room_needed i steps) step.doc) same ready.wide.0)
-        (ready.room.chars id) open';
+    chars = λ id open'. chars id (room_needed id steps) (λ same. rw (← same) ready.wide.0) (ready.room.chars id) open';
   };
   wide = ready.wide.1;
-  stamps = omega (arith, ready.stamps, ap (λ (w : World). w.next_stamp) world, ap (λ (w : World). w.entries) world, one_if_le step.draws);
+  stamps = rw world (omega (arith, ready.stamps, one_if_le step.draws));
 }
 
 -- only an insert needs room where none is needed behind it
@@ -79,13 +75,13 @@ all_lawful_counted world [] lawful = tt
 all_lawful_counted world (step ∷ steps) lawful = (assumption lawful.0, all_lawful_counted (after_step world step) steps lawful.1)
 
 -- steps of an entry are ready when the entry is counted
-pub ready_counted : (old new : StateView) (steps : List Step) → AreLawful old.world steps → HasRoom old steps → old.world.next_stamp ≤ 64 * old.world.entries + 1
-    → new.world ≡ counted old.world → new.room ≡ old.room → IsReady new steps
+pub ready_counted : (old new : StateView) (steps : List Step) → AreLawful old.world steps → HasRoom old steps
+    → old.world.next_stamp ≤ 64 * old.world.entries + 1 → new.world ≡ counted old.world → new.room ≡ old.room → IsReady new steps
 ready_counted old new steps lawful room stamps world same = record {
-  lawful = subst (λ w. AreLawfulFrom w steps) (sym world) (all_lawful_counted old.world steps lawful.each);
-  room = subst (λ r. HasRoomIn r steps) (sym same) room.all;
+  lawful = rw world (all_lawful_counted old.world steps lawful.each);
+  room = rw same room.all;
   wide = lawful.wide;
-  stamps = omega (arith, stamps, lawful.few, ap (λ (w : World). w.next_stamp) world, ap (λ (w : World). w.entries) world);
+  stamps = rw world (omega (arith, stamps, lawful.few));
 }
 
 -- counting an entry before the steps or behind them is the same
@@ -93,47 +89,40 @@ pub after_steps-counted : (world : World) (steps : List Step) → after_steps (c
 after_steps-counted world [] = refl
 after_steps-counted world (step ∷ steps) = after_steps-counted (after_step world step) steps
 
--- there is room for what a step inserts with all of some steps
-abbrev HasChars : Room → List Step → Step → Type 0
-HasChars room all step = 0 < inserted_by step.doc → IsSome (docs.document_of room.docs step.id) → room_needed step.id all ≤ docs.room_of room.docs step.id
-
--- the same for each of some steps
-abbrev pub HasEachChars : Room → List Step → List Step → Type 0
-HasEachChars room all [] = Unit {0}
-HasEachChars room all (step ∷ steps) = HasChars room all step × HasEachChars room all steps
-
-each_push : (old new : Room) (all steps : List Step) (step : Step) → KeepsRoom old new → KeepsCounts old new → HasStepRoom new step → HasChars new all step
-    → HasEachRoom old steps × HasEachChars old all steps → HasEachRoom new (steps ++ step ∷ []) × HasEachChars new all (steps ++ step ∷ [])
-each_push old new all [] step keeps counts room chars each = ((room, tt), (chars, tt))
-each_push old new all (first ∷ steps) step keeps counts room chars each =
-    let rest = each_push old new all steps step keeps counts room chars (each.0.1, each.1.1) in
-    let here : HasChars new all first = λ some open'.
-    omega (arith, each.1.0 some (ap is_some (sym (counts.documents first.id)) ∙ open'), counts.chars first.id) in
-    ((step_room_kept old new first keeps each.0.0, rest.0), (here, rest.1))
+-- there is room for what a step brings, and for what it inserts with all of some steps
+abbrev pub HasRoomFor : Room → List Step → Step → Type 0
+HasRoomFor room all step = HasStepRoom room step
+    × (0 < inserted_by step.doc → IsSome (docs.document_of room.docs step.id) → room_needed step.id all ≤ docs.room_of room.docs step.id)
 
 -- room was made for one step more
 pub each_more : (old new : Room) (all : List Step) (i : ℕ) (step : Step) → i < length all → step ≡ get_or all i step
-    → KeepsRoom old new → KeepsCounts old new → HasStepRoom new step → HasChars new all step
-    → HasEachRoom old (take i all) × HasEachChars old all (take i all) → HasEachRoom new (take (i + 1) all) × HasEachChars new all (take (i + 1) all)
-each_more old new all i step within at_i keeps counts room chars each =
-    rw (take_more all i step within, ← at_i) (each_push old new all (take i all) step keeps counts room chars each)
+    → KeepsRoom old new → KeepsCounts old new → HasRoomFor new all step
+    → AllByRecursion (HasRoomFor old all) (take i all) → AllByRecursion (HasRoomFor new all) (take (i + 1) all)
+each_more old new all i step within at_i keeps counts here each =
+    recursion_from_All _ _ (All-more (HasRoomFor new all) all i step within
+    (All-weaker (HasRoomFor old all) (HasRoomFor new all) (λ s had. (
+      step_room_kept old new s keeps had.0,
+      λ some open'. omega (arith, had.1 some (ap is_some (sym (counts.documents s.id)) ∙ open'), counts.chars s.id),
+    )) _ (All-from_recursion _ _ each))
+    (subst (HasRoomFor new all) at_i here))
 
 rows_le : (steps : List Step) → rows_of steps ≤ length steps
 rows_le [] = omega arith
 rows_le (step ∷ steps) = omega (arith, rows_le steps, one_if_le (is_some (put_row step.row)))
 
--- where steps need room for characters, there is room for what all need
-chars_held : (room : Room) (all steps : List Step) (id : ℕ) → HasEachChars room all steps → IsSome (docs.document_of room.docs id)
-    → 0 < room_needed id steps → room_needed id all ≤ docs.room_of room.docs id
-chars_held room all [] id each open' some = absurd (omega (arith, some))
-chars_held room all (step ∷ steps) id each open' some =
-    grind (arith, nat_tests, chars_held room all steps id each.1 open', each.0, some_inserted step.doc, some, open')
+-- what each step has room for is there: where steps need room for characters, it is there for what all need
+each_held : (room : Room) (all steps : List Step) → AllByRecursion (HasRoomFor room all) steps → HasEachRoom room steps
+    × ((id : ℕ) → IsSome (docs.document_of room.docs id) → 0 < room_needed id steps → room_needed id all ≤ docs.room_of room.docs id)
+each_held room all [] each = (tt, λ id open' some. absurd (omega (arith, some)))
+each_held room all (step ∷ steps) each =
+    let rest = each_held room all steps each.1 in
+    ((each.0.0, rest.0), λ id open' some. grind (arith, nat_tests, rest.1 id open', each.0.1, some_inserted step.doc, some, open'))
 
 -- room was made for all of them
-pub room_made : (room : Room) (all : List Step) → files.HasRowRoom room.files (length all)
-    → HasEachRoom room all × HasEachChars room all all → HasRoomIn room all
-room_made room all rows each = record {
-  rows = omega (arith, rows, rows_le all);
-  each = each.0;
-  chars = λ id open'. grind (arith, nat_tests, chars_held room all all id each.1 open');
-}
+pub room_made : (room : Room) (all : List Step) → files.HasRowRoom room.files (length all) → AllByRecursion (HasRoomFor room all) all → HasRoomIn room all
+room_made room all rows each =
+    let held = each_held room all all each in record {
+      rows = omega (arith, rows, rows_le all);
+      each = held.0;
+      chars = λ id open'. grind (arith, nat_tests, held.1 id open');
+    }

@@ -1,27 +1,23 @@
 -- What a lawful step makes of each file, and that the files stay sound.
-use Rattle.std.proofs.Common.{ℕ, ◌≡◌, ◌+◌, List, [], ◌∷◌, refl, ap, sym, ◌∙◌, arith, Some, None}
+use Rattle.std.proofs.Common.{ℕ, ◌≡◌, ◌+◌, List, [], ◌∷◌, refl, ap, ◌∙◌, arith, Some, None}
 use Rattle.std.specs.Prelude.{Option, IfSome, is_some, if◌then◌else◌, ◌==◌}
 use Rattle.list_laws.specs.Rows.{one_if}
 use Rattle.std.specs.List.{fold}
 use Rattle.std.proofs.lemmas.Bool.Decides.{nat_tests}
-use Rattle.std.proofs.lemmas.Option.{IfSome_then}
+use Rattle.std.proofs.lemmas.Option.{IfSome_then, same_Some}
 use Rattle.list_laws.proofs.RowLemmas.{row_in-here, row_in-with_row, count-with_row}
 use Rattle.vfs_core.specs.declared.row.FileRow.{FileRow}
 use Rattle.document_buf.specs.Document.{Document}
 use Rattle.write_history.specs.World.{World, File, file_of, is_open, count_of}
-use Rattle.write_history.specs.Effect.{Put}
 use Rattle.history_laws.proofs.PutLemmas.{by_place}
 use Rattle.ide_world.specs.declared.step.Step.{Step}
 use Rattle.ide_world.specs.declared.step.RowEdit.{RowEdit}
-use Rattle.ide_world.specs.declared.step.RowEdit.TheVariants.{Keep, Put as PutRow, Remove}
+use Rattle.ide_world.specs.declared.step.RowEdit.TheVariants.{Keep, Put as PutRow}
 use Rattle.ide_world.specs.RowEdits.{edited_row, put_row}
 use Rattle.ide_world.specs.DocEdits.{edited_document}
 use Rattle.ide_world.specs.Step.{joined, row_part, document_part, stepped, drawn_by, after_step, after_steps}
 use Rattle.ide_world.specs.Sound.{IsSoundFile, AreSoundFiles}
 use Rattle.ide_world.specs.Lawful.{IsPathFree, IsLawfulStep, AreLawfulFrom}
-
-abbrev pub put_by : World → Step → Put
-put_by w s = record { id = s.id; file = stepped s (file_of w s.id); drawn = drawn_by s }
 
 -- a step changes what has its id
 pub file_here : (w : World) (s : Step) → IsLawfulStep w s → file_of (after_step w s) s.id ≡ stepped s (file_of w s.id)
@@ -38,12 +34,10 @@ pub part-after_step : {A : Type 0} (part : Option File → A) (edit : A → A) (
 part-after_step part edit w s id l e = grind (arith, nat_tests, file_after w s id l)
 
 pub row_part-joined : (row : Option FileRow) (doc : Option Document) → row_part (joined row doc) ≡ row
-row_part-joined None doc = refl
-row_part-joined (Some row) doc = refl
+row_part-joined row doc = grind arith
 
 pub document_part-joined : (row : Option FileRow) (doc : Option Document) → (row ≡ None → doc ≡ None) → document_part (joined row doc) ≡ doc
-document_part-joined None doc whole = sym (whole refl)
-document_part-joined (Some row) doc whole = refl
+document_part-joined row doc whole = grind (arith, whole)
 
 pub row_part-stepped : (s : Step) (file : Option File) → row_part (stepped s file) ≡ edited_row s.row (row_part file)
 row_part-stepped s file = row_part-joined (edited_row s.row (row_part file)) (edited_document s.doc (document_part file))
@@ -61,56 +55,38 @@ sound_later next more file h = IfSome_then file h (λ f live. record {
   saved = live.saved;
 })
 
--- what holds of the row that an edit puts in and of the one that was there holds of the row that it leaves
-left_row : (P : FileRow → Type 0) (edit : RowEdit) (row : Option FileRow) → IfSome (put_row edit) P → IfSome row P → IfSome (edited_row edit row) P
-left_row P Keep row new old = old
-left_row P (PutRow row) was new old = new
-left_row P Remove row new old = tt
-
--- the path of a live file is free for its id
-old_is_free : (w : World) (id : ℕ) (o : Option File) → AreSoundFiles w → file_of w id ≡ o → IfSome (row_part o) (λ r. IsPathFree w id r.path)
-old_is_free w id None sound e = tt
-old_is_free w id (Some g) sound e = λ other file live same. sound.apart other id file g live e same
-
--- so is the path of the file that a step leaves
-free_after : (w : World) (s : Step) (f : File) → AreSoundFiles w → IsLawfulStep w s → stepped s (file_of w s.id) ≡ Some f → IsPathFree w s.id f.path
-free_after w s f sound l e = rw (← row_part-stepped s (file_of w s.id), e) at
-    (left_row (λ r. IsPathFree w s.id r.path) s.row (row_part (file_of w s.id)) l.path (old_is_free w s.id (file_of w s.id) sound refl))
+-- the path of the file that an edit leaves is free for its id
+free_after : (w : World) (id : ℕ) (edit : RowEdit) (file : Option File) (doc : Option Document) → AreSoundFiles w → file_of w id ≡ file
+    → IfSome (put_row edit) (λ r. IsPathFree w id r.path) → (f : File) → joined (edited_row edit (row_part file)) doc ≡ Some f → IsPathFree w id f.path
+free_after w id (PutRow row) file doc sound e free f is = rw (← same_Some _ f is) free
+free_after w id Keep (Some g) doc sound e free f is = rw (← same_Some _ f is) (λ other file live same. sound.apart other id file g live e same)
+free_after w id edit file doc sound e free f is = absurd (cc)
 
 apart_after : (w : World) (s : Step) → AreSoundFiles w → IsLawfulStep w s → (a b : ℕ) (f g : File)
     → file_of (after_step w s) a ≡ Some f → file_of (after_step w s) b ≡ Some g → f.path ≡ g.path → a ≡ b
-apart_after w s sound l a b f g live_a live_b same = grind (
-  arith,
-  nat_tests,
-  file_after w s a l,
-  file_after w s b l,
-  sound.apart a b f g,
-  free_after w s f sound l,
-  free_after w s g sound l,
-)
+apart_after w s sound l a b f g live_a live_b same =
+    let free = free_after w s.id s.row (file_of w s.id) (edited_document s.doc (document_part (file_of w s.id))) sound refl l.path in
+    grind (arith, nat_tests, file_after w s a l, file_after w s b l, sound.apart a b f g, free f, free g)
 
 pub sound_after_step : (w : World) (s : Step) → AreSoundFiles w → IsLawfulStep w s → AreSoundFiles (after_step w s)
 sound_after_step w s sound l = record {
-  sound = λ id. by_place w (put_by w s) id (IsSoundFile (w.next_stamp + drawn_by s)) l.some l.within
-      (λ e. l.sound) (λ n. sound_later w.next_stamp (drawn_by s) (file_of w id) (sound.sound id));
+  sound = λ id. by_place w (record { id = s.id; file = stepped s (file_of w s.id); drawn = drawn_by s }) id
+      (IsSoundFile (w.next_stamp + drawn_by s)) l.some l.within (λ e. l.sound) (λ n. sound_later w.next_stamp (drawn_by s) (file_of w id) (sound.sound id));
   apart = apart_after w s sound l;
 }
 
 -- ---- how many are open
 
 pub is_open-part : (file : Option File) → is_open file ≡ is_some (document_part file)
-is_open-part None = refl
-is_open-part (Some file) = refl
+is_open-part file = grind arith
 
 pub open_count-step : (w : World) (s : Step) → IsLawfulStep w s
     → count_of is_open (after_step w s) + one_if (is_some (document_part (file_of w s.id)))
     ≡ count_of is_open w + one_if (is_some (edited_document s.doc (document_part (file_of w s.id))))
-open_count-step w s l = omega (
-  arith,
-  count-with_row is_open refl s.id (stepped s (file_of w s.id)) w.files l.some l.within,
-  ap one_if (is_open-part (file_of w s.id)),
-  ap one_if (is_open-part (stepped s (file_of w s.id)) ∙ ap is_some (document_part-stepped w s l)),
-)
+open_count-step w s l =
+    let counted = count-with_row is_open refl s.id (stepped s (file_of w s.id)) w.files l.some l.within in
+    let after = is_open-part (stepped s (file_of w s.id)) ∙ ap is_some (document_part-stepped w s l) in
+    omega (arith, counted, ap one_if (is_open-part (file_of w s.id)), ap one_if after)
 
 -- what is read of the world, and edited by each step, is folded over steps
 pub reads_steps : {A : Type 0} (of : World → A) (edit : A → Step → A)

@@ -1,25 +1,25 @@
 -- What the readers of a draft see, as folds over its steps; and a draft with one step more.
-use Rattle.std.proofs.Common.{ℕ, ◌≡◌, ◌+◌, ◌<◌, ◌≤◌, Bool, true, false, List, [], ◌∷◌, ◌++◌, length, refl, ap, sym, ◌∙◌, subst, arith, Some, None, length-append}
-use Rattle.std.specs.Prelude.{Result, Ok, Err, IfOk, Option, option_map, is_some, if◌then◌else◌, ◌==◌, not, ◌&&◌, ◌||◌}
+use Rattle.std.proofs.Common.{ℕ, ◌≡◌, ◌+◌, ◌<◌, ◌≤◌, Bool, true, false, List, [], ◌∷◌, ◌++◌, length, refl, ap, sym, ◌∙◌, subst, arith, length-append}
+use Rattle.std.specs.Prelude.{Option, option_map, is_some, if◌then◌else◌, ◌==◌}
 use Rattle.std.specs.List.{fold, list_any}
 use Rattle.std.proofs.lemmas.Bool.{eqb-true}
 use Rattle.std.proofs.lemmas.Bool.Decides.{nat_tests}
 use Rattle.list_laws.specs.Rows.{one_if}
-use Rattle.list_laws.proofs.RowLemmas.{length-within, length-next, counted_in, one_if_le}
+use Rattle.list_laws.proofs.RowLemmas.{counted_in, one_if_le}
 use Rattle.document_buf.specs.Document.{Document}
-use Rattle.write_history.specs.World.{World, File, file_of, id_at, is_open, count_of}
+use Rattle.write_history.specs.World.{World, file_of, id_at, is_open, count_of}
 use Rattle.write_history.specs.Effect.{is_uncommitted}
 use Rattle.ide_world.specs.declared.step.Step.{Step}
 use Rattle.ide_world.specs.declared.step.DocEdit.{DocEdit}
 use Rattle.ide_world.specs.RowEdits.{edited_row}
 use Rattle.ide_world.specs.DocEdits.{edited_document, IsDocEditFit}
-use Rattle.ide_world.specs.Step.{row_part, document_part, stepped, after_step, after_steps}
+use Rattle.ide_world.specs.Step.{row_part, document_part, after_step, after_steps}
 use Rattle.ide_world.specs.Sound.{AreSoundFiles}
 use Rattle.ide_world.specs.Lawful.{IsLawfulStep, AreLawfulFrom}
 use Rattle.ide_world.specs.declared.summary.Summary.{Summary}
 use Rattle.ide_world.specs.Drafted.{Drafted, IsDraft, drafted_world, drafted, IsKept}
 use Rattle.ide_world.specs.declared.draft.Draft.TheInside.{Inside}
-use Rattle.ide_world.specs.Walk.{row_after, summary_of, edited_committed, edited_text, id_after, edits_texts, keeps_texts, IsTextEditFit, AreTextEditsFit, is_open_after}
+use Rattle.ide_world.specs.Walk.{row_after, summary_of, edited_committed, edited_text, id_after, edits_texts, keeps_texts, AreTextEditsFit, is_open_after}
 use Rattle.ide_world.proofs.StepLemmas.{is_open-part, open_count-step, part-after_step, row_part-stepped, document_part-stepped, reads_steps, sound_after_step}
 use Rattle.ide_world.proofs.EditLemmas.{text_of_document, committed_of, committed-edited, text-edited, text_edit_fits, is_some-edited, kept_text, kept_committed}
 use Rattle.ide_world.proofs.PathLemmas.{id_at-after_step}
@@ -39,9 +39,7 @@ module _ {A : Type 0} (edit : DocEdit → A → A) (id : ℕ) where
   pub part_stays : ((e : DocEdit) (a : A) → keeps_texts e ≡ true → edit e a ≡ a) → (a : A) (ss : List Step)
       → list_any (edits_texts id) ss ≡ false → fold part_after a ss ≡ a
   part_stays keeps a [] f = refl
-  part_stays keeps a (s ∷ ss) f =
-      let here : part_after a s ≡ a = grind (arith, nat_tests, keeps s.doc a) in
-      rw here (part_stays keeps a ss (grind (arith, nat_tests)))
+  part_stays keeps a (s ∷ ss) f = grind (arith, nat_tests, f, keeps s.doc a, part_stays keeps a ss (grind (arith, nat_tests, f)))
 
   module _ (part : Option Document → A) (edited : (e : DocEdit) (d : Option Document) → IsDocEditFit e d → part (edited_document e d) ≡ edit e (part d)) where
     pub part-step : (w : World) (s : Step) → IsLawfulStep w s
@@ -61,29 +59,24 @@ pub entries_after_steps : (w : World) (ss : List Step) → (after_steps w ss).en
 entries_after_steps w [] = refl
 entries_after_steps w (s ∷ ss) = entries_after_steps (after_step w s) ss
 
-texts_fit_from : (id : ℕ) (w : World) (ss : List Step) → AreSoundFiles w → AreLawfulFrom w ss
-    → AreTextEditsFit id (text_of_document (document_part (file_of w id))) ss
-texts_fit_from id w [] sound l = tt
-texts_fit_from id w (s ∷ ss) sound l = (
+texts_fit_from : (id : ℕ) (w : World) (ss : List Step) → AreLawfulFrom w ss → AreTextEditsFit id (text_of_document (document_part (file_of w id))) ss
+texts_fit_from id w [] l = tt
+texts_fit_from id w (s ∷ ss) l = (
   (λ t. rw (← eqb-true s.id id t) (text_edit_fits s.doc (document_part (file_of w s.id)) l.0.doc)),
-  rw (← part-step edited_text id text_of_document text-edited w s l.0) (texts_fit_from id (after_step w s) ss (sound_after_step w s sound l.0) l.1),
+  rw (← part-step edited_text id text_of_document text-edited w s l.0) (texts_fit_from id (after_step w s) ss l.1),
 )
 
 pub texts_fit : (d : Drafted) (id : ℕ) → IsDraft d → AreTextEditsFit id (text_of_document (document_part (file_of d.base id))) d.steps
-texts_fit d id h = texts_fit_from id d.base d.steps h.base.files h.lawful
+texts_fit d id h = texts_fit_from id d.base d.steps h.lawful
 
 -- ---- a document that no step changes
 
-same_uncommitted : (d e : Option Document) → text_of_document d ≡ text_of_document e → committed_of d ≡ committed_of e → is_uncommitted d ≡ is_uncommitted e
-same_uncommitted d e t c = grind arith
-
 pub uncommitted_as_before : (d : Drafted) (id : ℕ) → IsDraft d → list_any (edits_texts id) d.steps ≡ false
     → is_uncommitted (document_part (file_of (drafted_world d) id)) ≡ is_uncommitted (document_part (file_of d.base id))
-uncommitted_as_before d id h f = same_uncommitted (document_part (file_of (drafted_world d) id)) (document_part (file_of d.base id))
-    (part_now edited_text id text_of_document text-edited d h
-    ∙ part_stays edited_text id kept_text (text_of_document (document_part (file_of d.base id))) d.steps f)
-    (part_now edited_committed id committed_of committed-edited d h
-    ∙ part_stays edited_committed id kept_committed (committed_of (document_part (file_of d.base id))) d.steps f)
+uncommitted_as_before d id h f =
+    let text = part_now edited_text id text_of_document text-edited d h ∙ part_stays edited_text id kept_text _ d.steps f in
+    let committed = part_now edited_committed id committed_of committed-edited d h ∙ part_stays edited_committed id kept_committed _ d.steps f in
+    grind (arith, text, committed)
 
 -- ---- one step more
 
@@ -106,24 +99,16 @@ pushed d s h l few = record {
 
 -- ---- how many files were made, and how many are open
 
-is_some-looked : (doc : Option Document) → is_some (option_map summary_of doc) ≡ is_some doc
-is_some-looked doc = grind arith
-
 pub open_count-after : (w : World) (s : Step) (opened result : ℕ) (was is : Bool) (summary : Option Summary) → opened ≡ count_of is_open w
     → IsLawfulStep w s → summary ≡ option_map summary_of (document_part (file_of w s.id)) → was ≡ is_some summary
     → is ≡ is_open_after s.doc was → result + one_if was ≡ opened + one_if is → result ≡ count_of is_open (after_step w s)
 open_count-after w s opened result was is summary kept l looked w' i e =
-    let doc = document_part (file_of w s.id) in
-    let before : was ≡ is_some doc = w' ∙ ap is_some looked ∙ is_some-looked doc in
-    let after : is ≡ is_some (edited_document s.doc doc) = i ∙ ap (is_open_after s.doc) before ∙ sym (is_some-edited s.doc doc l.doc) in
-    omega (arith, e, kept, open_count-step w s l, ap one_if before, ap one_if after)
+    grind (arith, e, kept, open_count-step w s l, looked, w', i, is_some-edited s.doc (document_part (file_of w s.id)) l.doc)
 
 pub some_open : (w : World) (id opened : ℕ) (was : Bool) (summary : Option Summary) → opened ≡ count_of is_open w
     → summary ≡ option_map summary_of (document_part (file_of w id)) → was ≡ is_some summary → one_if was ≤ opened
 some_open w id opened was summary kept looked w' =
-    let file = file_of w id in
-    let is : was ≡ is_open file = w' ∙ ap is_some looked ∙ is_some-looked (document_part file) ∙ sym (is_open-part file) in
-    omega (arith, kept, counted_in is_open refl id w.files, ap one_if is)
+    grind (arith, kept, looked, w', counted_in is_open refl id w.files, is_open-part (file_of w id))
 
 -- the fields after a step
 pub kept_after : (inside new : Inside) (s : Step) → IsKept inside → IsLawfulStep (drafted_world (drafted inside)) s → length inside.steps < 64

@@ -1,5 +1,2 @@
-pub mod AnsweredLemmas
 pub mod SectionLemmas
-pub mod ViewLemmas
 pub mod RoundLemmas
-pub mod SliceLemmas

@@ -1,18 +1,25 @@
 -- A round: its players, what number 0 learns of them and keeps, and how what they tell fits the history. And what number 0 does while it is alone.
-use Rattle.std.proofs.Common.{rules, ◌≡◌, ℕ, suc, ◌+◌, ◌<◌, ◌≤◌, Bool, List, [], ◌∷◌, ◌++◌, length, get_or, All, Some, refl, ap, ◌∙◌, subst, arith, append-nil}
-use Rattle.std.proofs.Common.{append_assoc, length-append, zero, ◌⊎◌, inl, inr, false, drop, slice_get, sym}
-use Rattle.std.specs.List.{flat_map}
+use Rattle.std.proofs.Common.{◌≡◌, ℕ, ◌+◌, ◌<◌, ◌≤◌, Bool, true, false, cond, eqb, ◌⊎◌, List, [], ◌∷◌, ◌++◌, length, get_or, filter, All, sym, refl, ap, ◌∙◌}
+use Rattle.std.proofs.Common.{subst, inl, inr, ⊎_elim, arith, rules, append-nil, length-append, ◌-◌, take, drop, reverse, Result, Ok, Err, OnOk, suc, Some}
+use Rattle.std.proofs.Common.{append_assoc}
+use Rattle.std.proofs.lemmas.Bool.{cases_Bool, eqb-true, eq-eqb, ne_eqb}
+use Rattle.std.proofs.lemmas.List.{append_cancel_left, get_or-append-add, drop_all, drop_more, take_all, get_or-reverse, length-reverse}
+use Rattle.std.proofs.lemmas.List.Elements.{All-append, All-cons, All-nil, All-tail, All-weaker, filter-append, All-head, All-push}
+use Rattle.std.specs.List.{remove, flat_map}
+use Rattle.std.specs.Result.{IsOk, is_ok}
 use Rattle.std.proofs.lemmas.List.Concat.{flat_map-append}
-use Rattle.std.proofs.lemmas.List.Elements.{All-cons, All-nil, All-push, All-weaker}
-use Rattle.std.proofs.lemmas.List.{drop_all}
+use Rattle.list_laws.specs.Totals.{total}
 use Rattle.list_laws.specs.Prefixes.{IsPrefix}
+use Rattle.list_laws.proofs.PrefixLemmas.{filter_none, front_all, front_trans, front_length, front_self}
+use Rattle.list_laws.specs.Rows.{one_if}
 use Rattle.list_laws.proofs.PartLemmas.{drop_from_slice_get}
-use Rattle.list_laws.proofs.PrefixLemmas.{front_trans, front_length, front_self}
 use Rattle.action_lock.specs.declared.view.Ended.{Ended}
 use Rattle.action_lock.specs.declared.view.View.{View}
 use Rattle.action_lock.specs.Advances.{Advances}
-use Rattle.action_lock.specs.Steps.{end_of, splitting, split_off, joined, told, KnowsItsLists}
-use Rattle.action_lock.specs.Views.{fresh}
+use Rattle.action_lock.specs.Passes.{IsLast}
+use Rattle.action_lock.specs.Rule.{entries_of}
+use Rattle.action_lock.specs.Steps.{KnowsItsLists, end_of, splitting, split_off, joined, told}
+use Rattle.action_lock.specs.Views.{times, number_is, fresh}
 use Rattle.write_history.specs.declared.entry.Entry.{Entry}
 use Rattle.write_history.specs.Effect.{max_entries}
 use Rattle.script_lang.specs.declared.line.Line.{Line}
@@ -24,20 +31,158 @@ use Rattle.index_workers.specs.declared.worked.Worked.{Worked}
 use Rattle.index_workers.specs.Work.{WorkStep, any_answer, EndsBy, IsAtEnd}
 use Rattle.shared_ide.specs.declared.shared.SharedIde.{SharedIde}
 use Rattle.shared_ide.specs.Passes.{IsIdePassOf}
-use Rattle.transcripts.specs.Fits.{run_beside, Progress, progress_at, made_by, SectionFits, LanesFit, EndFits, WorkerFits, WorkersFit}
+use Rattle.transcripts.specs.Fits.{run_beside, progress_at, made_by, SectionFits, LanesFit, EndFits, WorkersFit}
 use Rattle.transcripts.specs.declared.loaded.Loaded.{Loaded}
 use Rattle.transcripts.specs.declared.record.Record.{Record}
 use Rattle.playing.specs.declared.outcomes.Outcomes.{Outcomes}
 use Rattle.playing.specs.declared.player.Player.{Player}
 use Rattle.playing.specs.declared.player.Duty.{Duty}
 use Rattle.playing.specs.declared.player.Duty.TheVariants.{Lane, Worker}
-use Rattle.playing.specs.Players.{AllFrom, IsDutyOf, IsDutyAt, CanRun, CanMeet, IsBegun, HasBegun, HasDoneDuty, HasRun, HasMet, HasGathered, HaveGathered, IsWhole}
-use Rattle.playing.specs.Players.{kept_of, records_of, worked_of}
+use Rattle.playing.specs.Players.{AllFrom, IsDutyOf, IsDutyAt, CanRun, CanMeet, IsBegun, HasBegun, HasDoneDuty, HasRun, HasMet, HasGathered, HaveGathered}
+use Rattle.playing.specs.Players.{IsWhole, kept_of, records_of, worked_of}
 use Rattle.playing.specs.Rounds.{IsSeatFrom, IsAlone, HasDoneAlone, HasPlayed}
 use Rattle.playing.specs.Done.{HasAdded}
 use Rattle.playing.specs.declared.player.Outcome.{Outcome}
 use Rattle.playing.specs.declared.player.Outcome.TheVariants.{Nothing, Answered, Indexed}
-use Rattle.playing.proofs.ViewLemmas.{HasMetAll, alone_adds, alone_again, kept_since, seats_since}
+
+-- ==== Whose entries a view has seen since another: those of the numbers that it has, and of no other
+
+-- ---- lists
+
+module _ {A : Type 0} where
+  -- a filter that all elements pass leaves all
+  filter_all : (test : A → Bool) (xs : List A) → All (λ x. test x ≡ true) xs → filter test xs ≡ xs
+  filter_all test [] all = refl
+  filter_all test (x ∷ xs) all = rw (all 0 x (omega arith)) (ap (λ (l : List A). x ∷ l) (filter_all test xs (All-tail (λ y. test y ≡ true) x xs all)))
+
+  -- one that leaves nothing was passed by none
+  filter_gone : (test : A → Bool) (xs : List A) → filter test xs ≡ [] → All (λ x. test x ≡ false) xs
+  filter_gone test [] none = All-nil (λ x. test x ≡ false)
+  filter_gone test (x ∷ xs) none = All-cons (λ y. test y ≡ false) x xs (grind (arith, none)) (filter_gone test xs (grind (arith, none)))
+
+  -- what holds of all holds of those behind the first
+  pub all_behind : (P : A → Type 0) (xs ys zs : List A) → zs ≡ xs ++ ys → All P zs → All P ys
+  all_behind P xs ys zs are all = λ k d less.
+      subst P (get_or-append-add xs ys k d) (subst (All P) are all (length xs + k) d (omega (arith, length-append xs ys)))
+
+module _ {E : Type 0} where
+  -- a number that is among those of kept lists has what all of these have
+  among : (P : ℕ → Type 0) (n : ℕ) (es : List (Ended E)) → All (λ (e : Ended E). P e.number) es → 0 < total (λ (e : Ended E). one_if (eqb e.number n)) es → P n
+  among P n [] all some = absurd (omega arith)
+  among P n (e ∷ es) all some = elim (cases_Bool (eqb e.number n)) [
+    | inl is ↦ rw (← eqb-true e.number n is) (all 0 e (omega arith))
+    | inr not ↦ among P n es (All-tail (λ (e : Ended E). P e.number) e es all) (omega (arith, rw not at some))
+  ]
+
+  -- what number 0 learns, which met passes of which these lists are kept
+  pub record HasMetAll (v w : View E) (kept : List (Ended E)) : Type 0 where
+    pub number : w.number ≡ v.number
+    pub drawn : w.drawn ≡ v.drawn + length kept
+    pub ended : w.ended ≡ v.ended ++ kept
+    pub seen : IsPrefix v.seen w.seen
+
+  -- number 0 is alone again
+  pub alone_again : {v w : View E} {kept : List (Ended E)} → IsLast v → HasMetAll v w kept → IsLast w
+  alone_again {v} {w} {kept} last met =
+      let all : w.drawn ≡ length w.ended + 1 = omega (arith, met.drawn, last.all_met, ap length met.ended, length-append v.ended kept) in
+      search (rules, all, met, last)
+
+module _ {E : Type 0} {number_of : E → ℕ} {v w : View E} {kept : List (Ended E)} (last : IsLast v) (knows : KnowsItsLists number_of v)
+    (met : HasMetAll v w kept) (knows' : KnowsItsLists number_of w) where
+  -- the entries of a number in what was seen first and in what was seen since
+  split : (n : ℕ) → entries_of number_of n w.seen ≡ entries_of number_of n v.seen ++ entries_of number_of n met.seen.0
+  split n = ap (entries_of number_of n) met.seen.1 ∙ filter-append (λ x. eqb (number_of x) n) v.seen met.seen.0
+
+  -- where the entries of a number stayed the same, none was seen since
+  none_since : (n : ℕ) (es : List E) → es ≡ entries_of number_of n v.seen → es ≡ entries_of number_of n w.seen → entries_of number_of n met.seen.0 ≡ []
+  none_since n es before after =
+      append_cancel_left es (entries_of number_of n met.seen.0) [] (cc (split n, append-nil es))
+
+  -- the entries that were seen since have numbers of a kind, where those that were met since have, and number 0 if it made any
+  since : (S : ℕ → Type 0) → (entries_of number_of 0 met.seen.0 ≡ []) ⊎ S 0 → All (λ (e : Ended E). S e.number) kept → All (λ e. S (number_of e)) met.seen.0
+  since S own later = λ k d less.
+      let alone = alone_again last met in
+      let n : ℕ = number_of (get_or met.seen.0 k d) in
+      let P : ℕ → Type 0 = λ (m : ℕ). (entries_of number_of m met.seen.0 ≡ []) ⊎ S m in
+      let Of : Ended E → Type 0 = λ (e : Ended E). P e.number in
+      let once = all_behind (λ e. times (number_of e) w ≡ 1) v.seen met.seen.0 w.seen met.seen.1 (knows'.no_others alone.leads alone.all_met) k d less in
+      let same : All (λ (e : Ended E). e.entries ≡ entries_of number_of e.number w.seen) v.ended =
+      front_all (λ (e : Ended E). e.entries ≡ entries_of number_of e.number w.seen) v.ended w.ended (kept, met.ended) knows'.ended in
+      let earlier : All Of v.ended = λ j f inside. inl (none_since (get_or v.ended j f).number (get_or v.ended j f).entries
+      (knows.ended j f inside) (same j f inside)) in
+      let all : All Of w.ended = rw met.ended (All-append Of v.ended kept earlier (All-weaker (λ (e : Ended E). S e.number) Of (λ e s. inr s) kept later)) in
+      ⊎_elim (λ none. absurd (let not = filter_gone (λ e. eqb (number_of e) n) met.seen.0 none k d less in let is = eq-eqb n n refl in cc)) (λ s. s)
+      (among P n (record { number = 0; entries = w.mine; sights = 0 } ∷ w.ended)
+      (All-cons Of (record { number = 0; entries = w.mine; sights = 0 }) w.ended own all)
+      (let own_is = ap (number_is n) alone.leads in omega arith))
+
+  -- what is kept of each are its entries among those that were seen since, where its number was drawn since
+  pub kept_since : All (λ (e : Ended E). v.drawn ≤ e.number) kept → All (λ (e : Ended E). e.entries ≡ entries_of number_of e.number met.seen.0) kept
+  kept_since drawn = λ k d less.
+      let n : ℕ = (get_or kept k d).number in
+      let before : entries_of number_of n v.seen ≡ [] = filter_none (λ e. eqb (number_of e) n) v.seen
+      (λ j f inside. ne_eqb (number_of (get_or v.seen j f)) n (λ same. absurd (omega (arith, knows.known last.leads j f inside, drawn k d less)))) in
+      all_behind (λ (e : Ended E). e.entries ≡ entries_of number_of e.number w.seen) v.ended kept w.ended met.ended knows'.ended k d less
+      ∙ split n ∙ ap (λ (l : List E). l ++ entries_of number_of n met.seen.0) before
+
+  -- each entry that was seen since has a number of this kind, where each that was met since has
+  pub seats_since : (S : ℕ → Type 0) → w.mine ≡ v.mine → All (λ (e : Ended E). S e.number) kept → All (λ e. S (number_of e)) met.seen.0
+  seats_since S mine later = since S
+      (inl (none_since 0 v.mine (knows.mine 0 last.leads) (sym mine ∙ knows'.mine 0 (met.number ∙ last.leads)))) later
+
+-- number 0, alone before and after, has seen nothing but what it made itself
+pub alone_adds : {E : Type 0} {number_of : E → ℕ} {v w : View E} (own : List E) → IsLast v → KnowsItsLists number_of v → Advances v w
+    → KnowsItsLists number_of w → w.mine ≡ v.mine ++ own → w.seen ≡ v.seen ++ own
+alone_adds {E} {number_of} {v} {w} own last knows on knows' mine =
+    let drawn : w.drawn ≡ v.drawn + 0 = omega (arith, on.drawn) in
+    let met : HasMetAll v w [] = search (rules, on, drawn) in
+    let zeros = since last knows met knows' (λ n. n ≡ 0) (inr refl) (All-nil (λ (e : Ended E). e.number ≡ 0)) in
+    let all : entries_of number_of 0 on.seen.0 ≡ on.seen.0 = filter_all (λ e. eqb (number_of e) 0) on.seen.0 (λ k d less. eq-eqb _ 0 (zeros k d less)) in
+    let made : entries_of number_of 0 on.seen.0 ≡ own = append_cancel_left v.mine (entries_of number_of 0 on.seen.0) own
+    (cc (split last knows met knows' 0, knows.mine 0 last.leads, knows'.mine 0 (on.number ∙ last.leads), mine)) in
+    on.seen.1 ∙ ap (λ (l : List E). v.seen ++ l) (sym all ∙ made)
+
+-- ==== Slices that are turned round, or lent by a vector
+
+module _ {A : Type 0} where
+  -- what holds of the elements of two lists, pair by pair, holds of them where both are turned round
+  pub turned_round : (R : A → A → Type 0) (xs ys zs ws : List A) → ys ≡ reverse xs → length zs ≡ length ys
+      → ((k : ℕ) (d : A) → k < length ys → R (get_or ys k d) (get_or zs k d)) → ws ≡ reverse zs → (k : ℕ) (d : A) → k < length xs
+      → R (get_or xs k d) (get_or ws k d)
+  turned_round R xs ys zs ws turned same related back k d less =
+      let long : length ys ≡ length xs = ap length turned ∙ length-reverse xs in
+      let at : ℕ = length xs - 1 - k in
+      let again : length xs - 1 - at ≡ k = omega arith in
+      let place : length zs - 1 - k ≡ at = omega arith in
+      let old : get_or ys at d ≡ get_or xs k d = rw (turned, get_or-reverse xs at d (omega arith), again) refl in
+      let new : get_or ws k d ≡ get_or zs at d = rw (back, get_or-reverse zs k d (omega arith), place) refl in
+      rw (← old, new) (related at d (omega arith))
+
+  -- what a slice of a whole vector was when it was given back
+  pub given_back : (len : ℕ) (new old : List A) → length new ≡ length old → len ≡ length old → take len (new ++ drop (length new) old) ≡ new
+  given_back len new old same whole = rw (drop_all (length new) old (omega arith), append-nil new) (take_all len new (omega arith))
+
+  -- the first element, and what is left without it
+  pub first_removed : (xs rest : List A) (x : A) → 0 < length xs → x ≡ get_or xs 0 x → rest ≡ remove xs 0 → xs ≡ x ∷ rest
+  first_removed xs rest x some first left = cc (drop_more xs 0 x some)
+
+  -- what holds of all elements holds of the first of those that are left, when it is removed
+  pub holds_of_removed : (P : A → Type 0) (all before left rest : List A) (x : A) → All P all → all ≡ before ++ left → 0 < length left
+      → x ≡ get_or left 0 x → rest ≡ remove left 0 → P x
+  holds_of_removed P all before left rest x each are some first others =
+      All-head P x rest (rw (first_removed left rest x some first others) at (all_behind P before left all are each))
+
+-- what is told of a result that is `Ok`
+pub where_ok : {T E P : Type 0} (r : Result T E) → is_ok r ≡ true → OnOk r P → P
+where_ok (Ok x) is told = told
+where_ok (Err e) is told = absurd (cc)
+
+-- what a push left that had room
+pub pushed : {A T E : Type 0} (r : Result T E) (more less all : List A) → IsOk r → all ≡ cond (is_ok r) more less → all ≡ more
+pushed (Ok x) more less all ok is = is
+pushed (Err e) more less all ok is = absurd (cc)
+
+-- ==== Players
 
 -- ---- one player more is begun
 
@@ -112,14 +257,13 @@ pub round_run : {ide : SharedIde} (script : Parts) {beside : Bool} {n workers : 
 round_run {ide} script {beside} {n} {workers} {v} {x} {ps} {qs} lanes begun_so count runs same run =
     let begun = rw lanes at begun_so in
     let is : beside ≡ run_beside (length script.lanes) workers = rw lanes at runs in
-    let all : length qs ≡ length script.lanes + workers = omega (arith, same, count, lanes) in
-    search (
-      rules,
-      begun,
-      same,
-      all,
-      all_run ide script (run_beside (length script.lanes) workers) v 0 v.drawn ps qs (omega arith) same begun.each (rw is at run),
-    )
+    rw (← is) (record {
+      first = ps;
+      begun = begun;
+      same = same;
+      count = omega (arith, same, count, lanes);
+      run = all_run ide script beside v 0 v.drawn ps qs (omega arith) same begun.each run;
+    })
 
 -- ---- all are met
 
@@ -148,36 +292,23 @@ taken_more {old} {now} {new} {players} p taken takes = record {
 
 -- ---- what is kept of players that have run
 
--- what is kept of a player with this number
-abbrev pub end_by : ℕ → Player → Ended Entry
-end_by seat p = record { number = seat; entries = (ide_view p.pass).mine; sights = (ide_view p.pass).sights }
-
--- what is kept of players, the first of which has this number
-abbrev pub ends : ℕ → List Player → List (Ended Entry)
-ends seat [] = []
-ends seat (p ∷ ps) = end_by seat p ∷ ends (suc seat) ps
-
--- one for each
-length-ends : (seat : ℕ) (players : List Player) → length (ends seat players) ≡ length players
-length-ends seat [] = refl
-length-ends seat (p ∷ ps) = ap suc (length-ends (suc seat) ps)
-
--- their numbers are in order
-ends_from : (first count seat : ℕ) (players : List Player) → first ≤ seat → seat + length players ≤ first + count
-    → All (λ (e : Ended Entry). IsSeatFrom first count e.number) (ends seat players)
-ends_from first count seat [] from to = All-nil (λ (e : Ended Entry). IsSeatFrom first count e.number)
-ends_from first count seat (p ∷ ps) from to = All-cons (λ (e : Ended Entry). IsSeatFrom first count e.number) (end_by seat p) (ends (suc seat) ps)
-    (record { from = from; to = omega arith }) (ends_from first count (suc seat) ps (omega arith) (omega arith))
+-- what is kept of players
+abbrev pub kept : List Player → List (Ended Entry)
+kept players = flat_map (λ (p : Player). kept_of (ide_view p.pass)) players
 
 kept_one : (v : View Entry) (seat : ℕ) → v.number ≡ Some seat → v.ended ≡ []
     → kept_of v ≡ record { number = seat; entries = v.mine; sights = v.sights } ∷ []
 kept_one v seat number ended = λ k. end_of (number k) v ++ ended k
 
-kept_are : (ide : SharedIde) (lanes : List (List Line)) (beside : Bool) (v : View Entry) (seat : ℕ) (players : List Player)
-    → AllFrom (IsRun ide lanes beside v) seat players → flat_map (λ (q : Player). kept_of (ide_view q.pass)) players ≡ ends seat players
-kept_are ide lanes beside v seat [] run = refl
-kept_are ide lanes beside v seat (p ∷ ps) run = λ k.
-    kept_one (ide_view p.pass) seat run.0.advances.number run.0.advances.ended k ++ kept_are ide lanes beside v (suc seat) ps run.1 k
+-- one for each, and their numbers are in order
+kept_are : (ide : SharedIde) (lanes : List (List Line)) (beside : Bool) (v : View Entry) (first count seat : ℕ) (players : List Player)
+    → AllFrom (IsRun ide lanes beside v) seat players → first ≤ seat → seat + length players ≤ first + count
+    → (length (kept players) ≡ length players) × All (λ (e : Ended Entry). IsSeatFrom first count e.number) (kept players)
+kept_are ide lanes beside v first count seat [] run from to = (refl, All-nil (λ (e : Ended Entry). IsSeatFrom first count e.number))
+kept_are ide lanes beside v first count seat (p ∷ ps) run from to =
+    let rest = kept_are ide lanes beside v first count (suc seat) ps run.1 (omega arith) (omega arith) in
+    rw (kept_one (ide_view p.pass) seat run.0.advances.number run.0.advances.ended)
+    (ap suc rest.0, All-cons (λ (e : Ended Entry). IsSeatFrom first count e.number) _ (kept ps) (record { from = from; to = omega arith }) rest.1)
 
 module _ {ide : SharedIde} {lanes : List (List Line)} {beside : Bool} {v : View Entry} {workers : ℕ} {x : View Entry} {players : List Player}
     (round : IsRound ide lanes beside v workers x players) where
@@ -188,43 +319,19 @@ module _ {ide : SharedIde} {lanes : List (List Line)} {beside : Bool} {v : View 
     follows = λ same. let zero : seat ≡ 0 = cc (run.advances.number, same) in omega (arith, run.seat_is, one);
   }) v.drawn players round.run
 
-  -- number 0 has met all that were split off it since it had this view
-  pub met_all : (w : View Entry) → HasMet players x w → HasMetAll v w (ends v.drawn players)
-  met_all w met =
-      let drawn : w.drawn ≡ v.drawn + length (ends v.drawn players) = omega (arith, met.drawn, round.begun.drawn, round.same, length-ends v.drawn players) in
-      let kept = kept_are ide lanes beside v v.drawn players round.run in let seen = rw round.begun.seen at met.seen in search rules
+  -- what is kept of them is one for each number that was drawn since
+  pub kept_so : (length (kept players) ≡ length players) × All (λ (e : Ended Entry). IsSeatFrom v.drawn (length lanes + workers) e.number) (kept players)
+  kept_so = kept_are ide lanes beside v v.drawn (length lanes + workers) v.drawn players round.run (omega arith) (omega (arith, round.count))
 
-  -- their numbers are those that were drawn since
-  pub ends_since : All (λ (e : Ended Entry). IsSeatFrom v.drawn (length lanes + workers) e.number) (ends v.drawn players)
-  ends_since = ends_from v.drawn (length lanes + workers) v.drawn players (omega arith) (omega (arith, round.count))
+  -- number 0 has met all that were split off it since it had this view
+  pub met_all : (w : View Entry) → HasMet players x w → HasMetAll v w (kept players)
+  met_all w met =
+      let drawn : w.drawn ≡ v.drawn + length (kept players) = omega (arith, met.drawn, round.begun.drawn, round.same, kept_so.0) in
+      let ended = rw round.begun.ended at met.ended in let seen = rw round.begun.seen at met.seen in search rules
 
 -- ---- what each player tells
 
 module _ (ide : SharedIde) (lanes : List (List Line)) (beside : Bool) (v : View Entry) (history middle : List Entry) where
-  -- a lane's records fit, from where the round began
-  record LaneTells (seat : ℕ) (o : Outcome) : Type 0 where
-    place : ℕ
-    seat_is : seat ≡ v.drawn + place
-    lane : List Line
-    front : drop place lanes ≡ lane ∷ drop (suc place) lanes
-    high : Progress
-    fits : SectionFits beside history seat (progress_at (length v.seen)) lane [] (records_of o) (made_by seat middle) high
-    no_worker : worked_of o ≡ []
-
-  -- what a worker tells fits, where the history isn't longer than may be
-  record WorkerTells (seat : ℕ) (o : Outcome) : Type 0 where
-    place : ℕ
-    seat_is : seat ≡ v.drawn + place
-    behind : length lanes ≤ place
-    worked : Worked
-    tells : worked_of o ≡ worked ∷ []
-    no_record : records_of o ≡ []
-    fits : length history ≤ max_entries → WorkerFits history (length v.seen) seat middle worked
-
-  -- a player is a lane's or a worker's
-  abbrev Tells : ℕ → Player → Type 0
-  Tells seat p = LaneTells seat p.outcome ⊎ WorkerTells seat p.outcome
-
   end_fits : (w : View Entry) (seat turns : ℕ) (end : End) (steps : List WorkStep) → length steps ≡ turns → EndsBy any_answer seat end steps → IsAtEnd end w
       → IsPrefix v.seen w.seen → IsPrefix w.seen history → length history ≤ max_entries → EndFits history (length v.seen) turns end
   end_fits w seat turns (Idle len) steps count ends at_end before front bounded = record {
@@ -238,80 +345,66 @@ module _ (ide : SharedIde) (lanes : List (List Line)) (beside : Bool) (v : View 
       (at_end.1, omega (arith, front_length w.seen history front, at_end.0, at_end.1))
   end_fits w seat turns Turns steps count ends at_end before front bounded = sym count ∙ ends.0
 
-  tells : (place seat : ℕ) (w : View Entry) (duty : Duty) (o : Outcome) → seat ≡ v.drawn + place → IsDutyAt (length lanes) place duty
-      → HasDoneDuty lanes beside duty (fresh v.places (Some seat) 0 v.seen) w o → IsWhole o → w.mine ≡ made_by seat middle → IsPrefix w.seen history
-      → LaneTells seat o ⊎ WorkerTells seat o
-  tells place seat w (Lane index) (Answered records) is at told whole mine front =
+  -- lanes, of which these are left, tell these records, and workers, who come behind them, one thing each
+  record PartsTell (seat : ℕ) (left : List (List Line)) (records : List Record) (worked : List Worked) (players : ℕ) : Type 0 where
+    lanes_fit : LanesFit beside history (progress_at (length v.seen)) seat left middle records
+    count : length worked + length left ≡ players
+    workers_fit : (first : ℕ) → first ≡ seat + length left → length history ≤ max_entries → WorkersFit history (length v.seen) first middle worked
+
+  -- one player tells before the others
+  tells : (place seat : ℕ) (w : View Entry) (duty : Duty) (o : Outcome) (records : List Record) (worked : List Worked) (players : ℕ)
+      → IsDutyAt (length lanes) place duty → HasDoneDuty lanes beside duty (fresh v.places (Some seat) 0 v.seen) w o → IsWhole o
+      → w.mine ≡ made_by seat middle → IsPrefix w.seen history → PartsTell (suc seat) (drop (suc place) lanes) records worked players
+      → PartsTell seat (drop place lanes) (records_of o ++ records) (worked_of o ++ worked) (suc players)
+  tells place seat w (Lane index) (Answered own) records worked players at told whole mine front rest =
       let done = told.done in
       let seat_is : told.seat ≡ seat = cc told.number in
-      let fits : SectionFits beside history seat (progress_at (length v.seen)) told.lane [] records (made_by seat middle) done.high =
+      let fits : SectionFits beside history seat (progress_at (length v.seen)) told.lane [] own (made_by seat middle) done.high =
       rw (← mine, done.mine, ← seat_is) (done.fits history front) in
-      inl (search (rules, is, drop_from_slice_get lanes place told.lane (rw at.0 at told.is), fits))
-  tells place seat w Worker (Indexed worked) is past so whole mine front =
+      rw (drop_from_slice_get lanes place told.lane (rw at.0 at told.is)) (record {
+        lanes_fit = search (rules, fits, rest.lanes_fit);
+        count = omega (arith, rest.count);
+        workers_fit = λ first is bounded. rest.workers_fit first (omega arith) bounded;
+      })
+  tells place seat w Worker (Indexed one) records worked players past so whole mine front rest =
       let done = so.done in
-      let seat_is : worked.seat ≡ seat = cc done.gone.number in
+      let seat_is : one.seat ≡ seat = cc done.gone.number in
       let own_is : done.own ≡ made_by seat middle = sym done.gone.mine ∙ mine in
-      inr record {
-        place = place;
-        seat_is = is;
-        behind = past;
-        worked = worked;
-        tells = refl;
-        no_record = refl;
-        fits = λ bounded. record {
-          seat_is = seat_is;
-          taken = sym (ap length own_is) ∙ done.taken;
-          intakes = rw (← own_is, ← seat_is) done.gone.intakes;
-          apart = rw (← own_is) done.gone.apart;
-          ends = end_fits w worked.seat worked.turns worked.end done.steps done.turns done.ends done.at_end done.gone.advances.seen front bounded;
-        };
-      }
-  tells place seat w duty Nothing is at done whole mine front = absurd whole
-  tells place seat w (Lane index) (Indexed worked) is at done whole mine front = absurd done.done
-  tells place seat w Worker (Answered records) is at done whole mine front = absurd done
+      let others = rw (drop_all (suc place) lanes (omega (arith, past))) at rest in
+      rw (drop_all place lanes past) (record {
+        lanes_fit = others.lanes_fit;
+        count = omega (arith, others.count);
+        workers_fit = λ first is bounded. let here : first ≡ seat = omega arith in
+            rw here (
+              record {
+                seat_is = seat_is;
+                taken = sym (ap length own_is) ∙ done.taken;
+                intakes = rw (← own_is, ← seat_is) done.gone.intakes;
+                apart = rw (← own_is) done.gone.apart;
+                ends = end_fits w one.seat one.turns one.end done.steps done.turns done.ends done.at_end done.gone.advances.seen front bounded;
+              },
+              others.workers_fit (suc seat) (omega arith) bounded,
+            );
+      })
+  tells place seat w duty Nothing records worked players at done whole mine front rest = absurd whole
+  tells place seat w (Lane index) (Indexed one) records worked players at done whole mine front rest = absurd done.done
+  tells place seat w Worker (Answered own) records worked players at done whole mine front rest = absurd done
 
   -- all players tell, whose entries are those with their seats, and which have seen a front of the history
-  all_tell : (seat : ℕ) (players : List Player) → AllFrom (IsRun ide lanes beside v) seat players
-      → All (λ (e : Ended Entry). e.entries ≡ made_by e.number middle) (ends seat players)
-      → All (λ (q : Player). IsPrefix (ide_view q.pass).seen history) players → All (λ (q : Player). IsWhole q.outcome) players → AllFrom Tells seat players
-  all_tell seat [] run mine learned whole = tt
-  all_tell seat (p ∷ ps) run mine learned whole = (
-    tells run.0.place seat (ide_view p.pass) run.0.duty p.outcome run.0.seat_is run.0.is_duty run.0.done (whole 0 p (omega arith))
-        (mine 0 (end_by seat p) (omega arith)) (learned 0 p (omega arith)),
-    all_tell (suc seat) ps run.1 (λ k d less. mine (suc k) d (omega arith)) (λ k d less. learned (suc k) d (omega arith))
-        (λ k d less. whole (suc k) d (omega arith)),
-  )
-
-  -- lanes, of which these are left, tell their records, and workers, who come behind them, one thing each
-  record PartsTell (seat : ℕ) (left : List (List Line)) (players : List Player) : Type 0 where
-    lanes_fit : LanesFit beside history (progress_at (length v.seen)) seat left middle (flat_map (λ (q : Player). records_of q.outcome) players)
-    count : length (flat_map (λ (q : Player). worked_of q.outcome) players) + length left ≡ length players
-    workers_fit : (first : ℕ) → first ≡ seat + length left → length history ≤ max_entries
-        → WorkersFit history (length v.seen) first middle (flat_map (λ (q : Player). worked_of q.outcome) players)
-
-  parts_tell : (seat : ℕ) (left : List (List Line)) (players : List Player) → ((place : ℕ) → seat ≡ v.drawn + place → drop place lanes ≡ left)
-      → length left ≤ length players → AllFrom Tells seat players → PartsTell seat left players
-  parts_tell seat [] [] are some all = record { lanes_fit = refl; count = refl; workers_fit = λ first is bounded. tt }
-  parts_tell seat [] (p ∷ ps) are some (inr w, others) =
-      let rest = parts_tell (suc seat) [] ps (λ place is. drop_all place lanes (omega (arith, w.seat_is, w.behind))) (omega arith) others in
-      record {
-        lanes_fit = cc (w.no_record, rest.lanes_fit);
-        count = rw w.tells (omega (arith, rest.count));
-        workers_fit = λ first is bounded. let here : first ≡ seat = omega arith in
-            rw (w.tells, here) (w.fits bounded, rest.workers_fit (suc seat) (omega arith) bounded);
-      }
-  parts_tell seat (lane ∷ left) (p ∷ ps) are some (inl t, others) =
-      let both : lane ∷ left ≡ t.lane ∷ drop (suc t.place) lanes = cc (are t.place t.seat_is, t.front) in
-      let same : t.lane ≡ lane = cc in
-      let rest = parts_tell (suc seat) left ps (λ place is. let next : place ≡ suc t.place = omega (arith, t.seat_is) in rw next (cc)) (omega arith) others in
-      record {
-        lanes_fit = let fits = rw same at t.fits in search (rules, fits, rest.lanes_fit);
-        count = rw t.no_worker (omega (arith, rest.count));
-        workers_fit = λ first is bounded. rw t.no_worker (rest.workers_fit first (omega arith) bounded);
-      }
-  parts_tell seat [] (p ∷ ps) are some (inl t, others) = absurd (let none = are t.place t.seat_is in let one = t.front in cc)
-  parts_tell seat (lane ∷ left) (p ∷ ps) are some (inr w, others) = absurd (let one = are w.place w.seat_is in let none = drop_all w.place lanes w.behind in cc)
-  parts_tell seat (lane ∷ left) [] are some all = absurd (omega arith)
+  parts_tell : (place seat : ℕ) (players : List Player) → seat ≡ v.drawn + place → length lanes ≤ place + length players
+      → AllFrom (IsRun ide lanes beside v) seat players → All (λ (e : Ended Entry). e.entries ≡ made_by e.number middle) (kept players)
+      → All (λ (q : Player). IsPrefix (ide_view q.pass).seen history) players → All (λ (q : Player). IsWhole q.outcome) players
+      → PartsTell seat (drop place lanes) (flat_map (λ (q : Player). records_of q.outcome) players) (flat_map (λ (q : Player). worked_of q.outcome) players)
+      (length players)
+  parts_tell place seat [] is some run mine learned whole =
+      rw (drop_all place lanes (omega (arith, some))) (record { lanes_fit = refl; count = refl; workers_fit = λ first is bounded. tt })
+  parts_tell place seat (p ∷ ps) is some run mine learned whole =
+      let same : run.0.place ≡ place = omega (arith, run.0.seat_is, is) in
+      let own = rw (kept_one (ide_view p.pass) seat run.0.advances.number run.0.advances.ended) at mine in
+      let rest = parts_tell (suc place) (suc seat) ps (omega (arith, is)) (omega (arith, some)) run.1 (λ k d less. own (suc k) d (omega arith))
+      (λ k d less. learned (suc k) d (omega arith)) (λ k d less. whole (suc k) d (omega arith)) in
+      tells place seat (ide_view p.pass) run.0.duty p.outcome _ _ (length ps) (rw same at run.0.is_duty) run.0.done (whole 0 p (omega arith))
+      (own 0 (record { number = seat; entries = []; sights = 0 }) (omega arith)) (learned 0 p (omega arith)) rest
 
 -- ---- the round
 
@@ -327,11 +420,10 @@ module _ {ide : SharedIde} {lanes : List (List Line)} {v : View Entry} {workers 
   played old new taken =
       let all = met_all round w met in
       let middle : List Entry = all.seen.0 in
-      let since = ends_since round in
+      let since = (kept_so round).1 in
       let own = kept_since alone.last alone.knows all knows (λ k d less. (since k d less).from) in
-      let tell = parts_tell ide lanes (run_beside (length lanes) workers) v w.seen middle v.drawn lanes players
-      (λ place is. let first : place ≡ 0 = omega arith in rw first refl) (omega (arith, round.count))
-      (all_tell ide lanes (run_beside (length lanes) workers) v w.seen middle v.drawn players round.run own met.learned taken.whole) in
+      let tell = parts_tell ide lanes (run_beside (length lanes) workers) v w.seen middle 0 v.drawn players (omega arith) (omega (arith, round.count))
+      round.run own met.learned taken.whole in
       record {
         middle = middle;
         records = flat_map (λ (q : Player). records_of q.outcome) players;

@@ -1,23 +1,83 @@
--- One turn of a section's loop.
-use Rattle.std.proofs.Common.{ℕ, ◌≡◌, ◌+◌, ◌<◌, ◌≤◌, ◌⊎◌, inl, inr, Bool, true, false, ◌&&◌, arith, List, [], ◌∷◌, ◌++◌, length}
-use Rattle.std.proofs.Common.{refl, ap, sym, ◌∙◌, rules, le_refl, le_trans, append_assoc, append-nil, Some, drop, get_or}
+-- From what a call leaves of a pass's view to how a line is answered, and the turns of a section's loop.
+use Rattle.std.proofs.Common.{ℕ, ◌≡◌, inl, inr, Bool, true, false, ◌&&◌, List, refl, ap, subst, append-nil, Some, rules, Result, Ok, Err, IfOk, ◌+◌, ◌<◌, ◌≤◌}
+use Rattle.std.proofs.Common.{◌⊎◌, arith, [], ◌∷◌, ◌++◌, length, ⊎_elim, sym, ◌∙◌, le_refl, le_trans, append_assoc, drop, get_or}
 use Rattle.std.proofs.lemmas.List.{drop_more, drop_all}
+use Rattle.list_laws.proofs.PrefixLemmas.{front_self, front_length, front_trans}
 use Rattle.list_laws.specs.Prefixes.{IsPrefix}
 use Rattle.list_laws.specs.Rows.{one_if}
-use Rattle.list_laws.proofs.PrefixLemmas.{front_length, front_trans}
 use Rattle.action_lock.specs.declared.view.View.{View}
 use Rattle.action_lock.specs.Advances.{Advances}
 use Rattle.action_lock.specs.Counts.{HasRisenBy}
 use Rattle.action_lock.specs.Views.{all_checks}
 use Rattle.write_history.specs.declared.entry.Entry.{Entry}
+use Rattle.write_history.specs.World.{World}
+use Rattle.write_history.specs.Fold.{fold}
+use Rattle.queries.specs.declared.query.Query.{Query}
+use Rattle.script_lang.specs.declared.command.Command.{Command}
+use Rattle.script_lang.specs.declared.command.Command.TheVariants.{Soft}
 use Rattle.script_lang.specs.declared.line.Line.{Line}
+use Rattle.ide_calls.specs.Replied.{HasReplied, Tells}
+use Rattle.ide_calls.specs.declared.replied.Replied.{Replied}
+use Rattle.ide_calls.specs.declared.reply.Reply.{Reply}
+use Rattle.ide_calls.specs.Made.{IsAnswered}
+use Rattle.transcripts.specs.Finding.{Finding}
+use Rattle.transcripts.specs.Reply.{NoAnswer}
 use Rattle.transcripts.specs.declared.loaded.Loaded.{Loaded}
 use Rattle.transcripts.specs.declared.record.Answer.{Answer}
+use Rattle.transcripts.specs.Serial.{CommandStep, told, retold, step_of, answer_of, query_step, first_load, later_loads}
 use Rattle.transcripts.specs.declared.record.Record.{Record}
-use Rattle.transcripts.specs.Serial.{first_load, later_loads}
 use Rattle.transcripts.specs.Fits.{Progress, Fits, SectionFits}
-use Rattle.playing.specs.Answered.{IsLineAnswered, HasCheckedIf, HasAnsweredLine, is_soft}
+use Rattle.playing.specs.Answered.{IsSoftlyAnswered, IsLineAnswered, is_soft, reply_answer, HasCheckedIf, HasAnsweredLine}
 use Rattle.playing.specs.Done.{progress_of, is_reply, looks_owed, HasAdded}
+use Rattle.ide_calls.specs.declared.reply.Reply.TheVariants as reply
+use Rattle.transcripts.specs.Reply as engine
+use Rattle.write_history.specs.Serial as serial
+
+-- ==== The command of a line
+
+-- what a call of the workspace is answered, as it is told: `tell` says it of the history behind which the call was done
+pub told_so : {A : Type 0} (step : List Entry → ℕ → serial.SerialStep (ℕ × A)) (tell : List Entry → ℕ → A → Answer) (v w : View Entry) (at : ℕ) (answer : A)
+    → (h : IsAnswered step v w (at, answer)) → IsAnswered (λ start seat. retold (tell start) (step start seat)) v w (tell h.start at answer)
+told_so step tell v w at answer h =
+    let is = λ (seat : ℕ) (number : v.number ≡ Some seat). ap (retold (tell h.start)) (h.is seat number) in search (rules, h, is)
+
+-- nothing was called
+pub not_called : (step : List Entry → ℕ → CommandStep) (v : View Entry) (answer : Answer)
+    → ((start : List Entry) (seat : ℕ) → step start seat ≡ told answer) → IsAnswered step v v answer
+not_called step v answer is = let at = λ (seat : ℕ) (number : v.number ≡ Some seat). is v.seen seat in
+    search (rules, at, front_self v.seen, append-nil v.seen, append-nil v.mine)
+
+-- ---- questions
+
+tells_answer : (world : World) (at : ℕ) (expected : Result Finding NoAnswer) (reply : Reply) → Tells world expected reply
+    → answer_of world at expected ≡ reply_answer at reply
+tells_answer world at expected (reply.NotReady file path) h = rw (h.0, h.1) refl
+tells_answer world at expected found h = rw h refl
+
+-- a question that was replied to
+pub replies : (v w : View Entry) (query : Query) (replied : Replied) → HasReplied v w query replied
+    → IsAnswered (λ start seat. query_step start query) v w (reply_answer replied.at replied.reply)
+replies v w query replied h =
+    subst (IsAnswered (λ start seat. query_step start query) v w) (tells_answer (fold h.answered.answered.start) replied.at h.answer replied.reply h.tells)
+    (told_so (λ start seat. engine.query_step start query) (λ start. answer_of (fold start)) v w replied.at h.answer h.answered.answered)
+
+-- ---- lines
+
+module _ (beside : Bool) (line : Line) (load : Loaded) (v w : View Entry) where
+  -- the command of a line was done, and no soft question beside others
+  pub line_done : (command : Command) {E : Type 0} (result : Result Answer E) → line.command ≡ command → (is_soft command && beside) ≡ false
+      → IfOk result (IsAnswered (λ start seat. step_of load start seat line.number command) v w) → IfOk result (IsLineAnswered beside line load v w)
+  line_done command (Ok answer) is hard h = inl (rw is h, rw (is, hard) tt)
+  line_done command (Err e) is hard h = tt
+
+  -- the soft question of a line was answered, or given up
+  pub line_softly : (attempts : ℕ) (query : Query) {E : Type 0} (result : Result Answer E) → beside ≡ true → line.command ≡ Soft attempts query
+      → IfOk result (IsSoftlyAnswered attempts query v w) → IfOk result (IsLineAnswered beside line load v w)
+  line_softly attempts query (Ok answer) runs is (inl (done, checked)) = inl (rw is done, rw (is, runs) checked)
+  line_softly attempts query (Ok answer) runs is (inr cancelled) = inr (runs, record { attempts = attempts; query = query; soft = is; cancelled = cancelled })
+  line_softly attempts query (Err e) runs is h = tt
+
+-- ==== The lines of a section
 
 -- ---- one line
 
@@ -63,15 +123,7 @@ look_owed : (soft reply : Bool) (v w : View Entry) → Advances v w → HasCheck
     → all_checks v + one_if (soft && reply) ≤ all_checks w
 look_owed true true v w advances (inl checked) = omega (arith, checked.earlier, checked.some)
 look_owed true true v w advances (inr none) = absurd (cc)
-look_owed true false v w advances h = omega (arith, advances.checks)
-look_owed false reply v w advances h = omega (arith, advances.checks)
-
--- the looks for the answer to a line
-line_looked : (beside : Bool) (line : Line) (load : Loaded) (v w : View Entry) (answer : Answer) → Advances v w → IsLineAnswered beside line load v w answer
-    → all_checks v + one_if ((is_soft line.command && beside) && is_reply answer) ≤ all_checks w
-line_looked beside line load v w answer advances (inl (done, checked)) = look_owed (is_soft line.command && beside) (is_reply answer) v w advances (inl checked)
-line_looked beside line load v w answer advances (inr (runs, given_up)) =
-    look_owed (is_soft line.command && beside) (is_reply answer) v w advances (inr (ap is_reply given_up.cancelled.told))
+look_owed soft reply v w advances h = omega (arith, advances.checks)
 
 -- ---- the loop
 
@@ -105,45 +157,41 @@ module _ (beside : Bool) (seat : ℕ) (lines : List Line) (loads : List Loaded) 
     fits = λ history front later own_later high h. h;
   }
 
-  -- after one line more
-  goes_on : (w u : View Entry) (new newer : List Record) (line : Line) (lines_left : List Line) (loads_left : List Loaded) → w.number ≡ Some seat
-      → Advances w u → IsUnderWay w new (line ∷ lines_left) loads_left → HasAnsweredLine beside seat line (first_load loads_left) w u new newer
-      → IsUnderWay u newer lines_left (later_loads loads_left)
-  goes_on w u new newer line lines_left loads_left number advances h a =
-      let m = moved beside seat line (first_load loads_left) w u h.mark a.answer number advances h.seen h.sights a.answered in
-      let first : Record = record { seat = seat; line = line.number; answer = a.answer } in
-      record {
-        records = h.records ++ first ∷ [];
-        own = h.own ++ m.own;
-        mark = m.high;
-        added = cc (a.added, h.added, append_assoc old h.records (first ∷ []));
-        mine = cc (m.mine, h.mine, append_assoc v.mine h.own m.own);
-        seen = m.seen;
-        sights = m.sights;
-        looked = λ later. rw append_assoc
-            (omega (arith, h.looked (first ∷ later), line_looked beside line (first_load loads_left) w u a.answer advances a.answered));
-        fits = λ history front later own_later high rest. simp append_assoc
-            (h.fits history (front_trans w.seen u.seen history advances.seen front) (first ∷ later) (m.own ++ own_later) high record {
-              answer = a.answer;
-              made = m.own;
-              between = m.high;
-              later = later;
-              made_later = own_later;
-              records_are = refl;
-              own_is = refl;
-              first = m.fits history front;
-              rest = rest;
-            });
-      }
-
   -- after the line at a place
   pub section_turn : (w u : View Entry) (new newer : List Record) (i : ℕ) (line : Line) (load : Loaded) (loads_left later : List Loaded)
       → v.number ≡ Some seat → i < length lines → line ≡ get_or lines i line → load ≡ first_load loads_left → later ≡ later_loads loads_left
       → Advances v w → Advances w u → IsUnderWay w new (drop i lines) loads_left → HasAnsweredLine beside seat line load w u new newer
       → IsUnderWay u newer (drop (i + 1) lines) later
-  section_turn w u new newer i line load loads_left later number within is first others before advances h a =
+  section_turn w u new newer i line load loads_left later number within is first others before advances under_way answers =
       let here : drop i lines ≡ line ∷ drop (i + 1) lines = cc (drop_more lines i line within) in
-      rw others (goes_on w u new newer line (drop (i + 1) lines) loads_left (before.number ∙ number) advances (rw here at h) (rw first at a))
+      let h = rw here at under_way in
+      let a = rw first at answers in
+      let m = moved beside seat line (first_load loads_left) w u h.mark a.answer (before.number ∙ number) advances h.seen h.sights a.answered in
+      let look = look_owed (is_soft line.command && beside) (is_reply a.answer) w u advances
+      (⊎_elim (λ done. inl done.1) (λ given_up. inr (ap is_reply given_up.1.cancelled.told)) a.answered) in
+      let one : Record = record { seat = seat; line = line.number; answer = a.answer } in
+      rw others (record {
+        records = h.records ++ one ∷ [];
+        own = h.own ++ m.own;
+        mark = m.high;
+        added = cc (a.added, h.added, append_assoc old h.records (one ∷ []));
+        mine = cc (m.mine, h.mine, append_assoc v.mine h.own m.own);
+        seen = m.seen;
+        sights = m.sights;
+        looked = λ more. rw append_assoc (omega (arith, h.looked (one ∷ more), look));
+        fits = λ history front more own_more high rest. simp append_assoc
+            (h.fits history (front_trans w.seen u.seen history advances.seen front) (one ∷ more) (m.own ++ own_more) high record {
+              answer = a.answer;
+              made = m.own;
+              between = m.high;
+              later = more;
+              made_later = own_more;
+              records_are = refl;
+              own_is = refl;
+              first = m.fits history front;
+              rest = rest;
+            });
+      })
 
   -- after all lines
   pub section_over : (w : View Entry) (new : List Record) (i : ℕ) (loads_left : List Loaded) → length lines ≤ i

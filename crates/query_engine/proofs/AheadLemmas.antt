@@ -1,53 +1,22 @@
 -- Where what is found stands in its files.
-use Rattle.std.proofs.Common.{◌≢◌, ◌⊎◌, inl, inr, ℕ, suc, ◌≡◌, ◌≤◌, ◌<◌, ◌+◌, true, Bool, List, [], ◌∷◌, map, filter, length, drop, take, get_or, Option, Some, None, IsSome, option_map, unwrap_or, position, All, refl, ap, sym, ◌∙◌, le_refl, le_trans, arith}
+use Rattle.std.proofs.Common.{◌≢◌, ℕ, suc, ◌≡◌, ◌≤◌, ◌<◌, ◌+◌, true, Bool, List, [], ◌∷◌, map, filter, length, drop, get_or, Option, Some, None, IsSome, option_map, unwrap_or, position, All, refl, ap, sym, ◌∙◌, le_refl, le_trans, arith}
 use Rattle.std.specs.Option.{option_map_or}
 use Rattle.std.specs.List.{AllPairs}
 use Rattle.std.proofs.Math.ListN.{drop_of_length-le}
 use Rattle.std.proofs.Math.Seq.{take-nil}
 use Rattle.std.specs.Str.{bytes_eq}
-use Rattle.std.proofs.lemmas.Bool.{cases_lt, cond_both}
+use Rattle.std.proofs.lemmas.Bool.{cond_both}
 use Rattle.std.proofs.lemmas.List.{drop_more}
 use Rattle.std.proofs.lemmas.List.Elements.{All-nil, All-cons, All-head, All-tail}
 use Rattle.std.proofs.lemmas.List.Kept.{AllPairs-cons}
 use Rattle.std.proofs.lemmas.List.Quantifiers.{position-Some}
 use Rattle.stub_tree.specs.declared.stub.Stub.{Stub}
-use Rattle.stub_tree.specs.Lawful.{IsLawfulList, IsLawfulAfter, MayFollow}
+use Rattle.stub_tree.specs.Lawful.{IsLawfulList, IsLawfulAfter}
 use Rattle.decl_parser.specs.Listing.{listing_of, IsNamedIn}
 use Rattle.property_index.specs.Keys.{RiseFrom}
 use Rattle.write_history.specs.World.{World, File, file_of, id_at, has_path, shown_text}
-use Rattle.query_engine.specs.Listed.{Listed, AreFrom, IsListed, AreAhead, listed_at, text_at, path_at, offset_in, itself, stub_at}
+use Rattle.query_engine.specs.Listed.{AreFrom, text_at, itself, stub_at}
 use Rattle.query_engine.proofs.MemberLemmas.{pairs_nil}
-
-module _ {X : Type 0} (at_of : X → ℕ) (world : World) (before : Option Listed) {id : ℕ} {x : X} {left left' : List (ℕ × X)} (next : left ≡ (id, x) ∷ left')
-    (ahead : AreAhead at_of world before left) where
-  -- the next of what is found is in a live file
-  pub ahead_live : IsSome (file_of world id)
-  ahead_live = (rw next at ahead).0
-
-  -- and stands behind those before it, in its text
-  pub ahead_stands : {file : Listed} → file ≡ listed_at world id (offset_in before id) → IsListed world file
-      → (file.at ≤ at_of x) × (at_of x ≤ length file.text)
-  ahead_stands is listed = let short = rw is at listed.short in rw is ((rw next at ahead).1 short)
-
-  -- the others stand behind it
-  pub ahead_rest : {file file' : Listed} → file ≡ listed_at world id (offset_in before id) → file' ≡ record file { at = at_of x }
-      → AreAhead at_of world (Some file') left'
-  ahead_rest is goes = rw (goes, is) (rw next at ahead).2
-
--- the file behind it is listed
-pub listed_rest : {world : World} {at id to : ℕ} {file file' : Listed} → file ≡ listed_at world id at → file' ≡ record file { at = to }
-    → IsListed world file → IsListed world file'
-listed_rest is goes listed = rw goes (let short = rw is at listed.short in rw is record { is = refl; short = short })
-
--- a file behind a place is at its own offset
-pub moved_on : (world : World) {id to : ℕ} {file file' : Listed} → file ≡ listed_at world id file.at → file' ≡ record file { at = to }
-    → file' ≡ listed_at world id file'.at
-moved_on world {to = to} is goes = let on : Listed → Listed = λ f. record f { at = to } in rw goes (ap on is)
-
--- the row that is made in a file is one by its id, its path and its text
-pub made_at : {X R : Type 0} (row : ℕ → List ℕ → List ℕ → X → R) (world : World) {at id : ℕ} (x : X) {file : Listed} {made : R} → file ≡ listed_at world id at
-    → made ≡ row file.id file.path file.text x → made ≡ row id (path_at world id) (text_at world id) x
-made_at row world x is same = same ∙ ap (λ f. row f.id f.path f.text x) is
 
 -- the next of a list, and those behind it
 pub next_left : {X : Type 0} (xs : List X) (i : ℕ) {x : X} → i < length xs → x ≡ get_or xs i x → drop i xs ≡ x ∷ drop (i + 1) xs
@@ -76,26 +45,18 @@ module _ {X : Type 0} (at_of : X → ℕ) (len : ℕ) where
 
 -- a name that isn't empty stands inside the text
 named_inside : (text : List ℕ) (s : Stub) → IsNamedIn text s → s.name ≢ [] → s.at ≤ length text
-named_inside text s named some = of (cases_lt s.at (length text))
-  where
-    of : (s.at < length text) ⊎ (length text ≤ s.at) → s.at ≤ length text
-    of (inl inside) = omega arith
-    of (inr past) =
-        absurd (some (named.name ∙ ap (take named.token.len) (drop_of_length-le text (omega (arith, past, named.place))) ∙ take-nil named.token.len))
+named_inside text s named some =
+    grind (arith, named.place, named.name, some, drop_of_length-le text {i = named.token.at}, take-nil {A = ℕ} named.token.len)
 
 -- the declarations of a lawful list that are named in a text
 pub from_lawful : (text : List ℕ) (before : Option Stub) (stubs : List Stub) → IsLawfulAfter before stubs → All (IsNamedIn text) stubs
     → AreFrom stub_at (length text) (option_map_or stub_at before 0) stubs
 from_lawful text before [] lawful named = tt
 from_lawful text before (s ∷ stubs) lawful named = (
-  follows before lawful.1,
+  grind (arith, lawful.1),
   named_inside text s (All-head (IsNamedIn text) s stubs named) lawful.0.named.some,
   from_lawful text (Some s) stubs lawful.2 (All-tail (IsNamedIn text) s stubs named),
 )
-  where
-    follows : (before : Option Stub) → MayFollow before s → option_map_or stub_at before 0 ≤ s.at
-    follows None h = omega arith
-    follows (Some b) h = omega (arith, h.2)
 
 -- the places of a property key among keys that rise, from an offset that isn't behind them
 pub from_keys : (key : List ℕ) (low from len : ℕ) (rows : List (List ℕ × ℕ)) → low ≤ from → RiseFrom from len rows

@@ -1,11 +1,10 @@
 -- What is found in the files of a world.
-use Rattle.std.proofs.Common.{ℕ, suc, ◌≡◌, ◌≤◌, ◌<◌, ◌⊎◌, inl, inr, ◌+◌, ◌==◌, if◌then◌else◌, Bool, true, false, cond, List, [], ◌∷◌, ◌++◌, map, length, get_or, Option, Some, None, option_map, option_to_list, IsSome, All, refl, ap, ◌∙◌, le_refl, arith}
+use Rattle.std.proofs.Common.{ℕ, suc, ◌≡◌, ◌≤◌, ◌<◌, ◌⊎◌, inl, inr, ◌+◌, ◌==◌, if◌then◌else◌, Bool, true, false, cond, List, [], ◌∷◌, ◌++◌, map, length, get_or, Option, Some, None, option_map, IsSome, All, refl, ap, ◌∙◌, le_refl, arith}
 use Rattle.std.specs.List.{AllPairs}
-use Rattle.std.specs.Option.{option_map_or}
 use Rattle.std.proofs.lemmas.Grind.{common_steps}
 use Rattle.std.proofs.lemmas.List.{map-append}
 use Rattle.std.proofs.lemmas.Simd.{map-map}
-use Rattle.std.proofs.lemmas.List.Elements.{All-nil, All-head, All-tail, All-append, All-map, All-weaker}
+use Rattle.std.proofs.lemmas.List.Elements.{All-nil, All-head, All-tail, All-append, All-map}
 use Rattle.ide_text.specs.Text.{max_chars}
 use Rattle.dumb_mode.specs.declared.kind.FileKind.{FileKind}
 use Rattle.dumb_mode.specs.declared.kind.FileKind.TheVariants.{Java, Properties}
@@ -13,15 +12,14 @@ use Rattle.dumb_mode.specs.Filter.{has_kind}
 use Rattle.stub_tree.specs.declared.stub.Stub.{Stub}
 use Rattle.stub_tree.specs.Lawful.{IsLawfulList}
 use Rattle.decl_parser.specs.Listing.{listing_of, IsNamedIn}
-use Rattle.java_tokens.specs.Words.{words_of, mask_in}
 use Rattle.property_index.specs.Keys.{RiseFrom, keys_of, places_of_key}
-use Rattle.write_history.specs.World.{World, File, file_of, shown_text}
+use Rattle.write_history.specs.World.{World, File, file_of, lowest_unready, shown_text}
 use Rattle.ide_world.specs.Found.{found, found_from, stubs_in, masks_in}
 use Rattle.query_engine.specs.declared.answer.WordRow.{WordRow}
-use Rattle.query_engine.specs.Reply.{of_files, of_world, word_in, word_row}
+use Rattle.query_engine.specs.Reply.{of_files, of_world, word_in}
 use Rattle.query_engine.specs.Listed.{Listed, AreLive, AreAhead, AreFrom, StandsIn, itself, listed_at, offset_in, path_at, stub_at, text_at, word_found}
 use Rattle.query_engine.proofs.AheadLemmas.{read_found, from_all, from_pairs, from_filter, from_lawful, from_keys}
-use Rattle.query_engine.proofs.MemberLemmas.{all_each, pairs_nil, pairs_head, pairs_tail, pairs_append, pairs_map}
+use Rattle.query_engine.proofs.MemberLemmas.{pairs_nil, pairs_head, pairs_tail, pairs_append, pairs_map}
 
 -- the row that is made for a word
 pub word_row_made : (world : World) {id mask : ℕ} {path copy : List ℕ} → Some path ≡ option_map (λ file. file.path) (file_of world id) → copy ≡ path
@@ -75,33 +73,32 @@ found_is kind read world = rows_found kind (λ xs. xs) (λ xs ys. refl) refl rea
 pub placed_found : {X R : Type 0} (kind : FileKind) (row : ℕ → List ℕ → List ℕ → X → R) (read : List ℕ → List X) (rows : ℕ → File → List R) (world : World)
     → ((id : ℕ) (file : File) → map (row id file.path (shown_text file)) (read (shown_text file)) ≡ rows id file)
     → map (λ f. row f.0 (path_at world f.0) (text_at world f.0) f.1) (found kind read world) ≡ of_world kind rows world
-placed_found {X} {R} kind row read rows world each =
-    rows_found kind (map made) (map-append made) refl read rows world
-    (λ id file is. map-map made (λ x. (id, x)) (read (shown_text file))
-    ∙ ap (λ (o : Option File). map (row id (option_map_or (λ f. f.path) o []) (option_map_or shown_text o [])) (read (shown_text file))) is ∙ each id file)
-  where
-    made : ℕ × X → R
-    made f = row f.0 (path_at world f.0) (text_at world f.0) f.1
+placed_found {X} kind row read rows world each =
+    rows_found kind (map (λ (f : ℕ × X). row f.0 (path_at world f.0) (text_at world f.0) f.1)) (map-append _) refl read rows world
+    (λ id file is. simp (map-map, is) (each id file))
 
 -- the rows of a word that is found
 pub word_rows_found : (name : List ℕ) (world : World) → map (word_found world) (found Java (masks_in name) world) ≡ of_world Java (word_in name) world
 word_rows_found name world =
-    placed_found Java row (masks_in name) (word_in name) world (λ id file. of id file (mask_in (words_of (shown_text file)) name))
-  where
-    row : ℕ → List ℕ → List ℕ → ℕ → WordRow
-    row id path text mask = record { file = id; path = path; mask = mask }
+    placed_found Java (λ id path text mask. record { file = id; path = path; mask = mask }) (masks_in name) (word_in name) world
+    (λ id file. grind (arith, common_steps))
 
-    of : (id : ℕ) (file : File) (mask : Option ℕ) → map (row id file.path (shown_text file)) (option_to_list mask) ≡ word_row id file mask
-    of id file None = refl
-    of id file (Some mask) = refl
+-- what holds of what each file gives, with its id, holds of all that is found
+found_each : {X : Type 0} (kind : FileKind) (read : List ℕ → List X) (world : World) (P : ℕ × X → Type 0)
+    → ((id : ℕ) (file : File) → file_of world id ≡ Some file → All (λ x. P (id, x)) (read (shown_text file))) → All P (found kind read world)
+found_each kind read world P each =
+    found_law {R = ℕ} kind read (λ id file. []) world (λ id xs rs. All P xs) (λ id. All-nil P) (λ id xs rs h. h)
+    (λ id file xs rs is h. All-append P (map (λ x. (id, x)) (read (shown_text file))) xs (All-map P (λ x. (id, x)) (read (shown_text file)) (each id file is)) h)
+
+-- what a walk finds where no file is unready
+abbrev pub Finds : {X : Type 0} → World → List (ℕ × X) → List (ℕ × X) → Type 0
+Finds world walk found = lowest_unready world ≡ None → walk ≡ found
 
 -- what is found is of live files
-pub live_found : {X : Type 0} (read : List ℕ → List X) (world : World) → AreLive world (found Java read world)
-live_found {X} read world =
-    found_law {R = ℕ} Java read (λ id file. []) world (λ id xs rs. AreLive world xs) (λ id. All-nil (λ (f : ℕ × X). IsSome (file_of world f.0)))
-    (λ id xs rs h. h)
-    (λ id file xs rs is h. All-append (λ (f : ℕ × X). IsSome (file_of world f.0)) (map (λ x. (id, x)) (read (shown_text file))) xs
-    (All-map (λ (f : ℕ × X). IsSome (file_of world f.0)) (λ x. (id, x)) (read (shown_text file)) (λ k d inside. rw is refl)) h)
+pub live_found : {X : Type 0} (read : List ℕ → List X) (world : World) {walk : List (ℕ × X)} → Finds world walk (found Java read world)
+    → lowest_unready world ≡ None → AreLive world walk
+live_found {X} read world ready smart =
+    rw (ready smart) (found_each Java read world (λ (f : ℕ × X). IsSome (file_of world f.0)) (λ id file is k d inside. rw is refl))
 
 -- one stands before the other: in a file with a lower id, or in one file as a relation says
 abbrev pub Stands : {X : Type 0} → (ℕ → X → X → Type 0) → ℕ × X → ℕ × X → Type 0
@@ -111,18 +108,14 @@ Stands R a b = (a.0 < b.0) ⊎ ((a.0 ≡ b.0) × R a.0 a.1 b.1)
 pub found_sorted : {X : Type 0} (kind : FileKind) (R : ℕ → X → X → Type 0) (read : List ℕ → List X) (world : World)
     → ((id : ℕ) (file : File) → file_of world id ≡ Some file → AllPairs (R id) (read (shown_text file))) → AllPairs (Stands R) (found kind read world)
 found_sorted {X} kind R read world each =
-    (found_law {R = ℕ} kind read (λ id file. []) world (λ id xs rs. AllPairs (Stands R) xs × All (λ f. id ≤ f.0) xs)
-    (λ id. (pairs_nil (Stands R), All-nil (λ (f : ℕ × X). id ≤ f.0))) (λ id xs rs h. (h.0, lower id xs h.1))
+    (found_law {R = ℕ} kind read (λ id file. []) world (λ id xs rs. AllPairs (Stands R) xs × ((low : ℕ) → low ≤ id → All (λ f. low ≤ f.0) xs))
+    (λ id. (pairs_nil (Stands R), (λ low le. All-nil (λ (f : ℕ × X). low ≤ f.0)))) (λ id xs rs h. (h.0, (λ low le. h.1 low (omega arith))))
     (λ id file xs rs is h. let here : List X = read (shown_text file) in (
       pairs_append (Stands R) (map (λ x. (id, x)) here) xs (pairs_map (R id) (Stands R) (λ x. (id, x)) (λ a b h. inr (refl, h)) here (each id file is)) h.0
-          (All-map (λ t. All (Stands R t) xs) (λ x. (id, x)) here (all_each (λ x. All (Stands R (id, x)) xs) here
-          (λ x. All-weaker (λ f. id + 1 ≤ f.0) (Stands R (id, x)) (λ f over. inl (omega arith)) xs h.1))),
-      All-append (λ f. id ≤ f.0) (map (λ x. (id, x)) here) xs (All-map (λ (f : ℕ × X). id ≤ f.0) (λ x. (id, x)) here (λ k d inside. le_refl id))
-          (lower id xs h.1),
+          (All-map (λ t. All (Stands R t) xs) (λ x. (id, x)) here (λ i e within k d inside. inl (omega (arith, h.1 (id + 1) (le_refl (id + 1)) k d inside)))),
+      (λ low le. All-append (λ f. low ≤ f.0) (map (λ x. (id, x)) here) xs (All-map (λ (f : ℕ × X). low ≤ f.0) (λ x. (id, x)) here (λ k d inside. le))
+          (h.1 low (omega arith))),
     ))).0
-  where
-    lower : (id : ℕ) (xs : List (ℕ × X)) → All (λ f. id + 1 ≤ f.0) xs → All (λ f. id ≤ f.0) xs
-    lower id xs above = All-weaker (λ f. id + 1 ≤ f.0) (λ f. id ≤ f.0) (λ f over. omega arith) xs above
 
 module _ {X : Type 0} (at_of : X → ℕ) (world : World) where
   -- it is in a live file, and stands in its text
@@ -156,13 +149,12 @@ module _ {X : Type 0} (at_of : X → ℕ) (world : World) where
   module _ (kind : FileKind) (read : List ℕ → List X) (rise : (text : List ℕ) → length text ≤ max_chars → AreFrom at_of (length text) 0 (read text)) where
     pub found_placed : All IsPlaced (found kind read world)
     found_placed =
-        found_law {R = ℕ} kind read (λ id file. []) world (λ id xs rs. All IsPlaced xs) (λ id. All-nil IsPlaced) (λ id xs rs h. h)
-        (λ id file xs rs is h. All-append IsPlaced (map (λ x. (id, x)) (read (shown_text file))) xs
-        (All-map IsPlaced (λ x. (id, x)) (read (shown_text file)) (λ k d within. (
+        found_each kind read world IsPlaced
+        (λ id file is k d within. (
           rw is refl,
           (λ short. rw is (
               from_all at_of (length (shown_text file)) 0 (read (shown_text file)) (rise (shown_text file) (rw is at short)) k d within)),
-        ))) h)
+        ))
 
     -- so what is found stands one ahead of another
     pub found_ahead : AreAhead at_of world None (found kind read world)
@@ -180,11 +172,13 @@ module _ (lawful : (text : List ℕ) → length text ≤ max_chars → IsLawfulL
   pub stubs_placed : All (IsPlaced stub_at world) (found Java (stubs_in fits) world)
   stubs_placed = found_placed stub_at world Java (stubs_in fits) rise
 
-  pub stubs_ahead : AreAhead stub_at world None (found Java (stubs_in fits) world)
-  stubs_ahead = found_ahead stub_at world Java (stubs_in fits) rise
+  pub stubs_ahead : {walk : List (ℕ × Stub)} → Finds world walk (found Java (stubs_in fits) world) → lowest_unready world ≡ None
+      → AreAhead stub_at world None walk
+  stubs_ahead ready smart = rw (ready smart) (found_ahead stub_at world Java (stubs_in fits) rise)
 
 -- and so do the places of a property key
-pub keys_ahead : ((text : List ℕ) → RiseFrom 0 (length text) (keys_of text)) → (key : List ℕ) (world : World)
-    → AreAhead itself world None (found Properties (places_of_key key) world)
-keys_ahead rise key world =
-    found_ahead itself world Properties (places_of_key key) (λ text short. from_keys key 0 0 (length text) (keys_of text) (le_refl 0) (rise text))
+pub keys_ahead : ((text : List ℕ) → RiseFrom 0 (length text) (keys_of text)) → (key : List ℕ) (world : World) {walk : List (ℕ × ℕ)}
+    → Finds world walk (found Properties (places_of_key key) world) → lowest_unready world ≡ None → AreAhead itself world None walk
+keys_ahead rise key world ready smart =
+    rw (ready smart)
+    (found_ahead itself world Properties (places_of_key key) (λ text short. from_keys key 0 0 (length text) (keys_of text) (le_refl 0) (rise text)))

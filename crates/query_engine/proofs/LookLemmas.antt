@@ -1,7 +1,7 @@
 -- Looks, one after another, and rows that are made between them.
-use Rattle.std.proofs.Common.{ℕ, ◌≡◌, ◌≤◌, ◌+◌, ◌/◌, ◌%◌, List, [], ◌∷◌, ◌++◌, map, length, refl, ap, sym, ◌∙◌, append_assoc, arith, Result, Ok, Err, IsErrAnd}
+use Rattle.std.proofs.Common.{ℕ, ◌≡◌, ◌≤◌, ◌+◌, ◌/◌, ◌%◌, List, [], ◌∷◌, ◌++◌, map, length, refl, ap, ◌∙◌, append_assoc, arith, Result, Ok, Err, IsErrAnd}
 use Rattle.std.proofs.lemmas.Grind.{common_steps}
-use Rattle.std.proofs.lemmas.List.{length-append, length-map}
+use Rattle.std.proofs.lemmas.List.{length-append}
 use Rattle.query_engine.specs.declared.answer.AskRefusal.{AskRefusal}
 use Rattle.query_engine.specs.declared.answer.AskRefusal.TheVariants.{Cancelled, OutOfMemory}
 use Rattle.query_engine.specs.Looks.{rows_a_look, looks_at, HasLooked, LooksThrough, StopsUnseen, EndsEarly}
@@ -59,45 +59,32 @@ module _ {W : Type 0} (l s : W → ℕ) (st : W → W → Type 0) where
 -- Rows are made of the first of all that was found, and others are left; the watch was looked at for these rows.
 pub record IsMade {W F R : Type 0} (l s : W → ℕ) (row : F → R) (all : List F) (rows : List R) (left : List F) (old new : W) : Type 0 where
   pub looked : LooksThrough l s (length rows / rows_a_look) old new
+  pub few : length rows + length left ≡ length all
   pub made : rows ++ map row left ≡ map row all
 
--- as many rows are made and left as there are
-made_few : {F R : Type 0} (row : F → R) (all : List F) (rows : List R) (left : List F) → rows ++ map row left ≡ map row all
-    → length rows + length left ≡ length all
-made_few row all rows left made = omega (arith, ap length made, length-append rows (map row left), length-map left row, length-map all row)
+module _ {W F R : Type 0} {l s : W → ℕ} {row : F → R} {all : List F} {rows rows' : List R} {x : F} {left left' : List F} {n : ℕ} {old mid : W} (y : R)
+    (next : left ≡ x ∷ left') (grown : rows' ≡ rows ++ y ∷ []) (count : n ≡ length rows') (h : IsMade l s row all rows left old mid) where
+  more : length rows' ≡ length rows + 1
+  more = ap length grown ∙ length-append rows (y ∷ [])
 
-module _ {W F R : Type 0} {l s : W → ℕ} {row : F → R} {all : List F} where
-  -- no row yet
-  pub made_none : {rows : List R} {left : List F} {watch : W} → rows ≡ [] → left ≡ all → IsMade l s row all rows left watch watch
-  made_none none whole = rw (none, whole) record { looked = looked_not refl; made = refl }
+  -- the look behind one row more
+  looks : length rows / rows_a_look + looks_at n ≡ length rows' / rows_a_look
+  looks = let more = more in grind (arith, common_steps, more, count)
 
-  -- memory runs out on the way
-  pub made_short : {rows : List R} {left : List F} {old new : W} → IsMade l s row all rows left old new → (st : W → W → Type 0) {Y : Type 0}
-      (r : Result Y AskRefusal) → IsErrAnd r (λ f. f ≡ OutOfMemory) → HasLooked l s st r (length all / rows_a_look) old new
-  made_short h st (Ok y) told = absurd told
-  made_short {rows} {left} h st (Err f) told = let few = made_few row all rows left h.made in rw told (looked_unseen (omega arith) h.looked)
+  -- it saw nothing
+  pub made_more : {new : W} → y ≡ row x → LooksThrough l s (looks_at n) mid new → IsMade l s row all rows' left' old new
+  made_more is q = record {
+    looked = looked_through looks h.looked q;
+    few = omega (arith, more, ap length next, h.few);
+    made = cc (append_assoc rows (y ∷ []) (map row left'), ap (λ xs. rows ++ map row xs) next, h.made);
+  }
 
-  module _ {rows rows' : List R} {y : R} {x : F} {left left' : List F} {n : ℕ} {old mid : W} (next : left ≡ x ∷ left') (grown : rows' ≡ rows ++ y ∷ [])
-      (is : y ≡ row x) (count : n ≡ length rows') (h : IsMade l s row all rows left old mid) where
-    -- the look behind one row more
-    looks : length rows / rows_a_look + looks_at n ≡ length rows' / rows_a_look
-    looks = let more : length rows' ≡ length rows + 1 = ap length grown ∙ length-append rows (y ∷ []) in grind (arith, common_steps, more, count)
-
-    made : rows' ++ map row left' ≡ map row all
-    made = ap (λ rs. rs ++ map row left') (grown ∙ ap (λ r. rows ++ r ∷ []) is) ∙ append_assoc rows (row x ∷ []) (map row left')
-        ∙ sym (ap (λ xs. rows ++ map row xs) next) ∙ h.made
-
-    -- it saw nothing
-    pub made_more : {new : W} → LooksThrough l s (looks_at n) mid new → IsMade l s row all rows' left' old new
-    made_more q = record { looked = looked_through looks h.looked q; made = made }
-
-    -- or it ends the call
-    pub made_stopped : {st : W → W → Type 0} (X : Type 0) {Y : Type 0} (e : AskRefusal) (r : Result Y AskRefusal) (new : W)
-        → ((x y z : W) → st x y → st y z → st x z) → st old mid
-        → EndsEarly e → HasLooked {X = X} l s st (Err e) (looks_at n) mid new → IsErrAnd r (λ f. f ≡ e) → HasLooked l s st r (length all / rows_a_look) old new
-    made_stopped {st} X e r new on kept early q told =
-        let few = made_few row all rows' left' made in
-        looked_early l s st X _ r e old new told early (omega arith) (looked_on {X = X} _ (Err e) new on looks kept h.looked q)
+  -- or it ends the call
+  pub made_stopped : {st : W → W → Type 0} (X : Type 0) {Y : Type 0} (e : AskRefusal) (r : Result Y AskRefusal) (new : W)
+      → ((x y z : W) → st x y → st y z → st x z) → st old mid
+      → EndsEarly e → HasLooked {X = X} l s st (Err e) (looks_at n) mid new → IsErrAnd r (λ f. f ≡ e) → HasLooked l s st r (length all / rows_a_look) old new
+  made_stopped {st} X e r new on kept early q told =
+      looked_early l s st X _ r e old new told early (omega (arith, more, ap length next, h.few)) (looked_on {X = X} _ (Err e) new on looks kept h.looked q)
 
 -- Of what was found some were met, `met` others before them since the last look, and the rest is left.
 pub record HasMet {W F : Type 0} (l s : W → ℕ) (all : List F) (met : ℕ) (left : List F) (met' : ℕ) (old new : W) : Type 0 where

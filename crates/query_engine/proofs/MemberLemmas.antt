@@ -1,19 +1,12 @@
 -- What lists have, through a filter and a map, and lists in order.
-use Rattle.std.proofs.Common.{◌≡◌, ◌≤◌, ◌⊎◌, inl, inr, suc, Bool, true, false, ◌&&◌, List, [], ◌∷◌, ◌++◌, map, length, filter, get_or, All, refl, ap, sym, ◌∙◌, arith}
-use Rattle.std.specs.Prelude.{not}
+use Rattle.std.proofs.Common.{◌≡◌, ◌≤◌, zero, suc, Bool, true, false, ◌&&◌, List, [], ◌∷◌, ◌++◌, map, length, filter, All, refl, ap, ◌∙◌, arith}
 use Rattle.std.specs.List.{AllPairs, Contains, list_any}
-use Rattle.std.proofs.lemmas.Bool.{false≢true}
+use Rattle.std.proofs.lemmas.Bool.{cond_both}
 use Rattle.std.proofs.lemmas.List.{get_or-map, length-map}
-use Rattle.std.proofs.lemmas.List.Elements.{All-head, All-tail, All-append, All-map, All-filter, All-weaker, All-contains, All-contains_itself, filter_passes, Contains-append_cases}
-use Rattle.std.proofs.lemmas.List.Folds.{Any-from_list_any, list_any_at}
+use Rattle.std.proofs.lemmas.List.Elements.{All-head, All-tail, All-append, All-map, All-filter, All-weaker, All-contains, All-contains_itself, filter_passes, Contains-append_right}
 use Rattle.std.proofs.lemmas.List.Kept.{AllPairs-cons}
-use Rattle.std.proofs.lemmas.List.Sorted.{Contains-permutation, IsPermutation-filter_both}
 
 module _ {X : Type 0} where
-  -- what holds of all that there is
-  pub all_each : (P : X → Type 0) (xs : List X) → ((x : X) → P x) → All P xs
-  all_each P xs each k d inside = each (get_or xs k d)
-
   -- what stays was there, and passes the test
   pub filter_has : (p : X → Bool) (xs : List X) (x : X) → Contains (filter p xs) x → Contains xs x × (p x ≡ true)
   filter_has p xs x h = (
@@ -23,49 +16,44 @@ module _ {X : Type 0} where
 
   -- what passes a test stays
   pub has_filter : (p : X → Bool) (xs : List X) (x : X) → Contains xs x → p x ≡ true → Contains (filter p xs) x
-  has_filter p xs x h is =
-      of (Contains-append_cases (filter p xs) (filter (λ x. not (p x)) xs) x
-      (Contains-permutation xs _ x (IsPermutation-filter_both p (λ x. not (p x)) (λ x. refl) xs) h))
-    where
-      of : Contains (filter p xs) x ⊎ Contains (filter (λ x. not (p x)) xs) x → Contains (filter p xs) x
-      of (inl stays) = stays
-      of (inr goes) = absurd (false≢true (ap not (sym is) ∙ (filter_has (λ x. not (p x)) xs x goes).1))
+  has_filter p [] x h passes = absurd (omega (arith, h.1))
+  has_filter p (y ∷ ys) x (zero, inside, is) passes = rw (is, passes) (0, omega arith, refl)
+  has_filter p (y ∷ ys) x (suc k, inside, is) passes =
+      let rest = has_filter p ys x (k, omega arith, is) passes in
+      cond_both (p y) (y ∷ filter p ys) (filter p ys) (λ l. Contains l x) (λ here. Contains-append_right (y ∷ []) (filter p ys) x rest) (λ gone. rest)
 
-  pub any_has : (p : X → Bool) (xs : List X) → list_any p xs ≡ true → (x : X) × Contains xs x × (p x ≡ true)
-  any_has p xs h = let (k, x, inside, is, passes) = Any-from_list_any p xs h in (x, (k, inside, is), passes)
+  -- a filter lets no more through than there are
+  pub filter_few : (p : X → Bool) (xs : List X) → length (filter p xs) ≤ length xs
+  filter_few p [] = omega arith
+  filter_few p (x ∷ xs) = grind (arith, filter_few p xs)
 
-  pub has_any : (p : X → Bool) (xs : List X) (x : X) → Contains xs x → p x ≡ true → list_any p xs ≡ true
-  has_any p xs x h is = list_any_at p xs h.0 x h.1 (ap p h.2 ∙ is)
+  -- a filter that lets nothing through, and one that lets everything through
+  pub filter_none : (p : X → Bool) → ((x : X) → p x ≡ false) → (xs : List X) → filter p xs ≡ []
+  filter_none p none [] = refl
+  filter_none p none (x ∷ xs) = grind (arith, none x, filter_none p none xs)
 
--- a filter lets no more through than there are
-pub filter_few : {X : Type 0} (p : X → Bool) (xs : List X) → length (filter p xs) ≤ length xs
-filter_few p [] = omega arith
-filter_few p (x ∷ xs) = grind (arith, filter_few p xs)
+  pub filter_all : (xs : List X) → filter (λ x. true) xs ≡ xs
+  filter_all [] = refl
+  filter_all (x ∷ xs) = ap (λ l. x ∷ l) (filter_all xs)
 
--- a filter that lets nothing through
-pub filter_none : {X : Type 0} (p : X → Bool) (xs : List X) → All (λ x. p x ≡ false) xs → filter p xs ≡ []
-filter_none p [] all = refl
-filter_none p (x ∷ xs) all = grind (arith, All-head (λ x. p x ≡ false) x xs all, filter_none p xs (All-tail (λ x. p x ≡ false) x xs all))
+  -- two tests one after the other
+  pub filter_two : (p q : X → Bool) (xs : List X) → filter p (filter q xs) ≡ filter (λ x. q x && p x) xs
+  filter_two p q [] = refl
+  filter_two p q (x ∷ xs) = grind (arith, filter_two p q xs)
 
--- two tests one after the other
-pub filter_two : {X : Type 0} (p q : X → Bool) (xs : List X) → filter p (filter q xs) ≡ filter (λ x. q x && p x) xs
-filter_two p q [] = refl
-filter_two p q (x ∷ xs) = grind (arith, filter_two p q xs)
+module _ {X Y : Type 0} (f : X → Y) where
+  -- a test of what is made of each
+  pub filter_of_map : (p : Y → Bool) (xs : List X) → filter p (map f xs) ≡ map f (filter (λ x. p (f x)) xs)
+  filter_of_map p [] = refl
+  filter_of_map p (x ∷ xs) = grind (arith, filter_of_map p xs)
 
--- a test of what is made of each
-pub filter_of_map : {X Y : Type 0} (f : X → Y) (p : Y → Bool) (xs : List X) → filter p (map f xs) ≡ map f (filter (λ x. p (f x)) xs)
-filter_of_map f p [] = refl
-filter_of_map f p (x ∷ xs) = grind (arith, filter_of_map f p xs)
+  -- and of what is made of those that pass another
+  pub any_made : (test : Y → Bool) (q : X → Bool) (xs : List X) → list_any test (map f (filter q xs)) ≡ list_any (λ x. q x && test (f x)) xs
+  any_made test q [] = refl
+  any_made test q (x ∷ xs) = grind (arith, any_made test q xs)
 
-module _ {X Y : Type 0} (f : X → Y) (xs : List X) where
-  pub has_map : (x : X) → Contains xs x → Contains (map f xs) (f x)
-  has_map x h = (h.0, rw length-map h.1, get_or-map f xs h.0 x (f x) h.1 ∙ ap f h.2)
-
-  pub map_has : (y : Y) → Contains (map f xs) y → (x : X) × Contains xs x × (f x ≡ y)
-  map_has y h =
-      All-contains (λ y. (x : X) × Contains xs x × (f x ≡ y)) (map f xs) y
-      (All-map (λ y. (x : X) × Contains xs x × (f x ≡ y)) f xs
-      (All-weaker (Contains xs) (λ z. (x : X) × Contains xs x × (f x ≡ f z)) (λ z there. (z, there, refl)) xs (All-contains_itself xs))) h
+  pub has_map : (xs : List X) (x : X) → Contains xs x → Contains (map f xs) (f x)
+  has_map xs x h = (h.0, rw length-map h.1, get_or-map f xs h.0 x (f x) h.1 ∙ ap f h.2)
 
 module _ {X : Type 0} (R : X → X → Type 0) where
   pub pairs_nil : AllPairs R []

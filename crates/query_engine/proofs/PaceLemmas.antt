@@ -1,12 +1,13 @@
 -- Looks of a search, one for each full 256 types that it meets. It meets those that name a name that is asked for, and each name is asked
 -- for once: so no more than there are names of supers.
-use Rattle.std.proofs.Common.{ℕ, ◌≡◌, ◌≤◌, ◌+◌, ◌/◌, ◌%◌, Bool, true, false, ◌||◌, List, [], ◌∷◌, length, filter, refl, sym, arith, Result, Ok, Err, OnOk, IsErrAnd}
+use Rattle.std.proofs.Common.{ℕ, ◌≡◌, ◌≤◌, ◌+◌, ◌/◌, ◌%◌, Bool, true, false, ◌&&◌, ◌||◌, if◌then◌else◌, List, [], ◌∷◌, length, filter, refl, sym, arith, Result, Ok, Err, OnOk, IsErrAnd}
 use Rattle.std.specs.List.{list_any}
 use Rattle.std.specs.Str.{bytes_eq}
 use Rattle.std.proofs.lemmas.Bool.{false≢true}
 use Rattle.std.proofs.lemmas.Slice.Eq.{bytes_eq-Decides}
 use Rattle.query_engine.specs.declared.answer.AskRefusal.{AskRefusal}
 use Rattle.query_engine.specs.declared.answer.AskRefusal.TheVariants.{OutOfMemory}
+use Rattle.stub_tree.specs.Stub.{is_type}
 use Rattle.query_engine.specs.Fits.{has_super}
 use Rattle.query_engine.specs.Inheritors.{ListedType}
 use Rattle.query_engine.specs.Search.{is_asked, asked_supers, all_supers}
@@ -15,41 +16,34 @@ use Rattle.query_engine.specs.Paces.{Paces, LooksFew}
 use Rattle.query_engine.proofs.LookLemmas.{looked_not, looked_on, looked_unseen, looked_early, pace_sum}
 use Rattle.query_engine.proofs.MemberLemmas.{filter_few}
 
-module _ {X : Type 0} where
-  -- a wider test keeps more
-  filter_wider : (p q : X → Bool) → ((x : X) → p x ≡ true → q x ≡ true) → (xs : List X) → length (filter p xs) ≤ length (filter q xs)
-  filter_wider p q wider [] = omega arith
-  filter_wider p q wider (x ∷ xs) = grind (arith, wider x, filter_wider p q wider xs)
-
-  -- and what passes it alone is one more
-  filter_one_more : (p q r : X → Bool) → ((x : X) → p x ≡ true → q x ≡ true) → ((x : X) → r x ≡ true → p x ≡ false) → ((x : X) → r x ≡ true → q x ≡ true)
-      → (xs : List X) → list_any r xs ≡ true → 1 + length (filter p xs) ≤ length (filter q xs)
-  filter_one_more p q r wider fresh new [] any = absurd (false≢true any)
-  filter_one_more p q r wider fresh new (x ∷ xs) any =
-      grind (arith, any, wider x, fresh x, new x, filter_wider p q wider xs, filter_one_more p q r wider fresh new xs)
+-- a wider test keeps more: one more, where something that passes it alone is there
+filter_wider : {X : Type 0} (p q r : X → Bool) → ((x : X) → p x ≡ true → q x ≡ true) → ((x : X) → r x ≡ true → (p x ≡ false) × (q x ≡ true)) → (xs : List X)
+    → (if list_any r xs then 1 else 0) + length (filter p xs) ≤ length (filter q xs)
+filter_wider p q r wider new [] = omega arith
+filter_wider p q r wider new (x ∷ xs) = grind (arith, wider x, new x, filter_wider p q r wider new xs)
 
 module _ (asked asked' : List (List ℕ)) (name : List ℕ) (asks : (other : List ℕ) → is_asked other asked' ≡ (bytes_eq other name || is_asked other asked)) where
-  wider : (other : List ℕ) → is_asked other asked ≡ true → is_asked other asked' ≡ true
-  wider other h = grind (arith, h, asks other)
+  -- names that weren't asked for before, but now are
+  cost : (r : List ℕ → Bool) → ((n : List ℕ) → r n ≡ true → (is_asked n asked ≡ false) × (is_asked n asked' ≡ true)) → (types : List ListedType)
+      → length (filter (λ t. is_type t.1 && list_any r t.1.supers) types) + asked_supers types asked ≤ asked_supers types asked'
+  cost r new [] = omega arith
+  cost r new (t ∷ ts) =
+      grind (
+        arith,
+        cost r new ts,
+        filter_wider (λ n. is_asked n asked) (λ n. is_asked n asked') r (λ n h. grind (arith, h, asks n)) new t.1.supers,
+      )
 
   -- a name that wasn't asked for before
   pub cost_more : is_asked name asked ≡ false → (types : List ListedType)
       → length (filter (λ t. has_super name t.1) types) + asked_supers types asked ≤ asked_supers types asked'
-  cost_more fresh [] = omega arith
-  cost_more fresh (t ∷ ts) =
-      grind (
-        arith,
-        cost_more fresh ts,
-        filter_wider (λ n. is_asked n asked) (λ n. is_asked n asked') wider t.1.supers,
-        filter_one_more (λ n. is_asked n asked) (λ n. is_asked n asked') (λ n. bytes_eq name n) wider
-            (λ n h. rw (sym ((bytes_eq-Decides name n).0 h)) fresh)
-            (λ n h. rw (sym ((bytes_eq-Decides name n).0 h)) (grind (arith, asks name, (bytes_eq-Decides name name).1 refl))) t.1.supers,
-      )
+  cost_more fresh =
+      cost (bytes_eq name)
+      (λ n h. rw (sym ((bytes_eq-Decides name n).0 h)) (fresh, grind (arith, asks name, (bytes_eq-Decides name name).1 refl)))
 
   -- a name that was
   pub cost_same : (types : List ListedType) → asked_supers types asked ≤ asked_supers types asked'
-  cost_same [] = omega arith
-  cost_same (t ∷ ts) = omega (arith, cost_same ts, filter_wider (λ n. is_asked n asked) (λ n. is_asked n asked') wider t.1.supers)
+  cost_same types = omega (arith, cost (λ n. false) (λ n h. absurd (false≢true h)) types)
 
 -- no more than all names of supers
 cost_few : (types : List ListedType) (asked : List (List ℕ)) → asked_supers types asked ≤ all_supers types
@@ -84,15 +78,8 @@ module _ {W : Type 0} {l s : W → ℕ} {st : W → W → Type 0} {types : List 
       more = p.more + q.more;
       few = omega (arith, p.after.0, q.few);
       looked = looked_on _ r new on (pace_sum met met' p.more q.more p.after.1) kept p.looked q.looked;
-      after = both r q.after;
+      after = grind (arith, p.after.0, p.after.1, q.after);
     }
-      where
-        both : (r : Result X AskRefusal)
-            → OnOk r ((q.more + asked_supers types asked' ≤ asked_supers types asked'') × (met'' % rows_a_look ≡ (met' + q.more) % rows_a_look))
-            → OnOk r ((p.more + q.more + asked_supers types asked ≤ asked_supers types asked'')
-            × (met'' % rows_a_look ≡ (met + (p.more + q.more)) % rows_a_look))
-        both (Err e) h = tt
-        both (Ok y) h = (omega (arith, p.after.0, h.0), omega (arith, p.after.1, h.1))
 
     -- where the second ends early, a call that gives its refusal
     pub paces_stopped : {e : AskRefusal} {Z : Type 0} (r : Result Z AskRefusal) → EndsEarly e → IsErrAnd r (λ f. f ≡ e)

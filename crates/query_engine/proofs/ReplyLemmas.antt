@@ -1,15 +1,14 @@
 -- Replies, by what is found, and the first look before them.
-use Rattle.std.proofs.Common.{ℕ, ◌≡◌, ◌≢◌, ◌≤◌, ◌+◌, ◌/◌, inl, inr, List, map, length, refl, ap, subst, ◌∙◌, arith, Option, Some, None, IsSomeAnd, Result, Ok, Err, IsErrAnd, IfOk, IfErr}
+use Rattle.std.proofs.Common.{ℕ, ◌≡◌, ◌≢◌, ◌≤◌, ◌+◌, List, map, refl, ap, subst, ◌∙◌, arith, Option, Some, None, IsSomeAnd, Result, Ok, Err, IsErrAnd, IfOk, IfErr}
 use Rattle.std.specs.Prelude.{IsOk}
-use Rattle.std.proofs.lemmas.List.{length-map}
-use Rattle.action_lock.specs.Counts.{counted, HasRisen}
+use Rattle.action_lock.specs.Counts.{counted}
 use Rattle.write_history.specs.World.{World, lowest_unready}
 use Rattle.queries.specs.declared.query.Query.{Query}
 use Rattle.query_engine.specs.declared.answer.Finding.{Finding}
 use Rattle.query_engine.specs.declared.answer.AskRefusal.{AskRefusal}
 use Rattle.query_engine.specs.declared.answer.AskRefusal.TheVariants.{NotReady, Cancelled, OutOfMemory}
 use Rattle.query_engine.specs.Reply.{NoAnswer, reply, unless_unready, IsRefusalOf}
-use Rattle.query_engine.specs.Looks.{LaterLooks, just, at_most, looks_after, AreLooks, MayLook, rows_a_look, row_count, later_looks, HasLooked, HasLookedFor, LooksThrough, EndsEarly}
+use Rattle.query_engine.specs.Looks.{LaterLooks, just, at_most, looks_after, AreLooks, MayLook, later_looks, HasLooked, HasLookedFor, LooksThrough, EndsEarly}
 use Rattle.query_engine.specs.Given.{GivesReply, RepliesTo}
 use Rattle.query_engine.proofs.LookLemmas.{looked_not, looked_on, looked_early, looked_up}
 
@@ -52,31 +51,6 @@ module _ {W : Type 0} {l s : W → ℕ} {st : W → W → Type 0} where
   pub replied_by : {world : World} {query : Query} {n : ℕ} {r : Result Finding AskRefusal} {old new : W} → MayLook world query (1 + n)
       → Gives l s st (reply world query) n r old new → RepliesTo l s st world query r old new
   replied_by {n = n} may h = record { later = n; may = may; looked = h.looked; answer = h.answer; refused = h.refused }
-
-  given : {expected : Result Finding NoAnswer} {n : ℕ} {r : Result Finding AskRefusal} {old new : W} → n ≡ later_looks expected
-      → Gives l s st expected n r old new → GivesReply l s st expected r old new
-  given {r = r} {old} {new} same h =
-      record { looked = subst (λ n. HasLooked {X = Finding} l s st r n old new) same h.looked; answer = h.answer; refused = h.refused }
-
-  -- the same of a call that gives a row for each that was found
-  module _ {F R : Type 0} (world : World) (make : List R → Finding) (count : (rows : List R) → row_count (make rows) ≡ length rows) (row : F → R)
-      (found : List F) where
-    pub dumb_given : (watch : W) (e : AskRefusal) (r : Result Finding AskRefusal) → IsSomeAnd (lowest_unready world) (λ file. e ≡ NotReady file)
-        → IsErrAnd r (λ f. f ≡ e) → GivesReply l s st (unless_unready (lowest_unready world) (make (map row found))) r watch watch
-    dumb_given watch e r h told = given (none (lowest_unready world) h) (dumb (lowest_unready world) (make (map row found)) watch e r h told)
-      where
-        none : (o : Option ℕ) → IsSomeAnd o (λ file. e ≡ NotReady file) → 0 ≡ later_looks (unless_unready o (make (map row found)))
-        none None h = absurd h
-        none (Some file) h = refl
-
-    pub early_given : (X : Type 0) {old new : W} (e : AskRefusal) (r : Result Finding AskRefusal) → lowest_unready world ≡ None → EndsEarly e
-        → HasLooked {X = X} l s st (Err e) (length found / rows_a_look) old new → IsErrAnd r (λ f. f ≡ e)
-        → GivesReply l s st (unless_unready (lowest_unready world) (make (map row found))) r old new
-    early_given X e r smart ends q told = given (rw (smart, count, length-map)) (early X e r (rw smart refl) ends q told)
-
-    pub whole_given : {rows : List R} {old new : W} → lowest_unready world ≡ None → rows ≡ map row found → LooksThrough l s (length found / rows_a_look) old new
-        → GivesReply l s st (unless_unready (lowest_unready world) (make (map row found))) (Ok (make rows)) old new
-    whole_given smart is q = given (rw (smart, count, length-map)) (whole (rw (smart, is)) q)
 
   module _ {world : World} {query : Query} where
     -- a question is this one, and what gives its reply replies to it
@@ -127,8 +101,4 @@ pub never_stopped : {W : Type 0} {l s : W → ℕ} {st : W → W → Type 0} {wo
 never_stopped {l = l} {s} {st} {old = old} {new} unseen h is =
     let q : HasLooked {X = Finding} l s st (Err Cancelled) h.number old new =
     subst (λ (x : Result Finding AskRefusal). HasLooked l s st x h.number old new) is h.looked in
-    of q.seen (unseen q.before) (unseen new)
-  where
-    of : {a b : ℕ} → HasRisen a b → a ≡ 0 → b ≡ 0 → ⊥
-    of (inl less) from to = omega arith
-    of (inr full) from to = omega arith
+    omega (arith, q.seen, unseen q.before, unseen new)

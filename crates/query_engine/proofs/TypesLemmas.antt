@@ -1,5 +1,5 @@
 -- The types that the files of a world list.
-use Rattle.std.proofs.Common.{ℕ, ◌≡◌, ◌≤◌, ◌<◌, ◌+◌, ◌/◌, Bool, List, [], ◌∷◌, map, filter, length, sum, None, All, refl, ap, sym, subst, ◌∙◌, arith}
+use Rattle.std.proofs.Common.{ℕ, ◌≡◌, ◌≤◌, ◌<◌, ◌+◌, ◌/◌, List, [], ◌∷◌, map, filter, length, sum, None, All, refl, ap, sym, subst, ◌∙◌, arith}
 use Rattle.std.specs.List.{AllPairs}
 use Rattle.std.proofs.lemmas.List.Elements.{filter-append}
 use Rattle.std.proofs.lemmas.List.Kept.{AllPairs-filter}
@@ -18,8 +18,8 @@ use Rattle.query_engine.specs.Inheritors.{ListedType, StandsBefore}
 use Rattle.query_engine.specs.Search.{all_supers}
 use Rattle.query_engine.specs.Looks.{rows_a_look, super_count, MayLook}
 use Rattle.query_engine.specs.Listed.{stub_at}
-use Rattle.query_engine.specs.Reply.{types_of}
-use Rattle.query_engine.proofs.FoundLemmas.{IsPlaced, stubs_placed, found_sorted, rows_found, found_is}
+use Rattle.query_engine.specs.Reply.{types_in, types_of}
+use Rattle.query_engine.proofs.FoundLemmas.{IsPlaced, stubs_placed, found_sorted, found_law, found_is}
 
 -- the types of a world stand in order
 pub types_sorted : ((text : List ℕ) → AllPairs (λ a b. a.at < b.at) (listing_of text)) → (world : World) → AllPairs StandsBefore (types_of world)
@@ -33,22 +33,17 @@ pub types_placed : ((text : List ℕ) → length text ≤ max_chars → IsLawful
     → (world : World) → All (IsPlaced stub_at world) (types_of world)
 types_placed lawful named world = subst (All (IsPlaced stub_at world)) (found_is Java (stubs_in is_type) world) (stubs_placed lawful named is_type world)
 
--- the type names the name
-abbrev pub names_it : List ℕ → ListedType → Bool
-names_it name t = has_super name t.1
-
 -- what the walk over the types that name a name finds
-pub namers_are : (name : List ℕ) (world : World) → found Java (stubs_in (has_super name)) world ≡ filter (names_it name) (types_of world)
+pub namers_are : (name : List ℕ) (world : World)
+    → found Java (stubs_in (has_super name)) world ≡ filter (λ (t : ListedType). has_super name t.1) (types_of world)
 namers_are name world =
-    found_is Java (stubs_in (has_super name)) world
-    ∙ sym (rows_found Java (filter (names_it name)) (filter-append (names_it name)) refl (stubs_in is_type)
-    (λ id file. map (λ s. (id, s)) (filter (has_super name) (listing_of (shown_text file)))) world
-    (λ id file is. namers id (listing_of (shown_text file))))
-    ∙ ap (filter (names_it name)) (found_is Java (stubs_in is_type) world)
+    let it = λ (t : ListedType). has_super name t.1 in
+    found_law Java (stubs_in (has_super name)) types_in world (λ id xs rs. xs ≡ filter it rs) (λ id. refl) (λ id xs rs h. h)
+    (λ id file xs rs is h. let stubs = listing_of (shown_text file) in cc (filter-append it (types_in id file) rs, namers id stubs, h))
   where
     -- the types of one file that name the name
     namers : (id : ℕ) (stubs : List Stub)
-        → filter (names_it name) (map (λ s. (id, s)) (filter is_type stubs)) ≡ map (λ s. (id, s)) (filter (has_super name) stubs)
+        → filter (λ (t : ListedType). has_super name t.1) (map (λ s. (id, s)) (filter is_type stubs)) ≡ map (λ s. (id, s)) (filter (has_super name) stubs)
     namers id [] = refl
     namers id (s ∷ stubs) = grind (arith, namers id stubs)
 
@@ -57,10 +52,6 @@ supers_counted : (types : List ListedType) → all_supers types ≡ sum (map (λ
 supers_counted [] = refl
 supers_counted (t ∷ ts) = ap (λ n. length t.1.supers + n) (supers_counted ts)
     ∙ sym (sum_by-cons (λ (n : ℕ). n) (length t.1.supers) (map (λ t. length t.1.supers) ts))
-
--- the first look is one that the question may take
-pub first_may : (world : World) (name : List ℕ) → MayLook world (query.Inheritors name) (1 + 0)
-first_may world name = (omega arith, omega arith)
 
 -- as many looks as there are full 256 names of supers, at most
 pub few_may : (world : World) (name : List ℕ) {number : ℕ} → lowest_unready world ≡ None → number ≤ all_supers (types_of world) / rows_a_look

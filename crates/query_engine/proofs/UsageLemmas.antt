@@ -1,7 +1,6 @@
 -- Where a name is used in the files of a world, with a look after each file that uses it.
-use Rattle.std.proofs.Common.{ℕ, ◌≡◌, ◌≢◌, ◌≤◌, ◌+◌, true, false, List, [], ◌∷◌, ◌++◌, map, filter, length, take, Option, Some, None, IsSomeAnd, option_to_list, Ok, refl, ap, sym, ◌∙◌, append_assoc, arith}
+use Rattle.std.proofs.Common.{ℕ, ◌≡◌, ◌≢◌, ◌≤◌, ◌+◌, Bool, true, false, List, [], ◌∷◌, ◌++◌, map, filter, length, take, Option, Some, None, IsSomeAnd, option_to_list, Ok, refl, ap, sym, ◌∙◌, append_assoc, arith}
 use Rattle.std.specs.List.{flat_map}
-use Rattle.std.specs.Option.{option_map_or}
 use Rattle.std.proofs.lemmas.Grind.{common_steps, flat_map-append}
 use Rattle.std.proofs.lemmas.List.{length-append}
 use Rattle.std.proofs.lemmas.List.Elements.{filter-append}
@@ -19,7 +18,7 @@ use Rattle.query_engine.specs.declared.answer.PlaceRow.{PlaceRow}
 use Rattle.query_engine.specs.Reply.{of_world, place_row, uses_in, reply}
 use Rattle.query_engine.specs.Looks.{LooksThrough, MayLook, first_uses}
 use Rattle.query_engine.specs.Listed.{has_code, uses_at, uses_found}
-use Rattle.query_engine.proofs.FoundLemmas.{found_law, rows_found}
+use Rattle.query_engine.proofs.FoundLemmas.{Finds, found_law, rows_found}
 use Rattle.query_engine.proofs.LookLemmas.{looked_through}
 
 -- Rows are made of the first of all, and others are left; there was a look for each of the first.
@@ -29,15 +28,19 @@ pub record IsUsed {W F R : Type 0} (l s : W → ℕ) (uses : F → List R) (all 
   pub counted : number + length left ≡ length all
   pub made : rows ++ flat_map uses left ≡ flat_map uses all
 
--- the rows of one more, and the look behind them saw nothing
+-- the rows of one more that passes a test, and the look behind them saw nothing
 pub used_more : {W F R : Type 0} {l s : W → ℕ} {uses : F → List R} {all : List F} {rows rows' : List R} {x : F} {left left' : List F} {old mid new : W}
-    → left ≡ x ∷ left' → rows' ≡ rows ++ uses x → IsUsed l s uses all rows left old mid → LooksThrough l s 1 mid new → IsUsed l s uses all rows' left' old new
-used_more {uses = uses} {rows = rows} {x = x} {left' = left'} next grown h q = record {
-  number = h.number + 1;
-  looked = looked_through refl h.looked q;
-  counted = omega (arith, h.counted, ap length next);
-  made = cc (append_assoc rows (uses x) (flat_map uses left'), ap (λ xs. rows ++ flat_map uses xs) next, h.made);
-}
+    (p : F → Bool) → left ≡ x ∷ left' → p x ≡ true → rows' ≡ rows ++ uses x → IsUsed l s uses all rows (filter p left) old mid → LooksThrough l s 1 mid new
+    → IsUsed l s uses all rows' (filter p left') old new
+used_more {uses = uses} {rows = rows} {x = x} {left' = left'} p next passes grown h q =
+    let first : filter p (x ∷ left') ≡ x ∷ filter p left' = rw passes refl in
+    let here = ap (filter p) next ∙ first in
+    record {
+      number = h.number + 1;
+      looked = looked_through refl h.looked q;
+      counted = omega (arith, h.counted, ap length here);
+      made = cc (append_assoc rows (uses x) (flat_map uses (filter p left')), ap (λ xs. rows ++ flat_map uses xs) here, h.made);
+    }
 
 -- places that rise, none of them before an offset
 abbrev pub StandBehind : ℕ → ℕ → List ℕ → Type 0
@@ -46,11 +49,7 @@ StandBehind at len ats = (from : ℕ) × (at ≤ from) × RiseFrom from len ats
 -- where a file is unready, no file's uses are looked for
 pub dumb_uses : (world : World) (name : List ℕ) (e : AskRefusal) → IsSomeAnd (lowest_unready world) (λ file. e ≡ NotReady file)
     → MayLook world (query.Usages name) (1 + 0)
-dumb_uses world name e h = of (lowest_unready world) h
-  where
-    of : (o : Option ℕ) → IsSomeAnd o (λ file. e ≡ NotReady file) → 1 + 0 ≡ 1 + option_map_or (λ file. 0) o (length (first_uses name world))
-    of None h = absurd h
-    of (Some file) h = refl
+dumb_uses world name e h = grind (arith, h)
 
 module _ (unused : (name text : List ℕ) → is_in_code (mask_in (words_of text) name) ≡ false → places_of name text ≡ [])
     (used : (name text : List ℕ) → is_in_code (mask_in (words_of text) name) ≡ true → places_of name text ≢ []) (world : World) (name : List ℕ) where
@@ -74,10 +73,7 @@ module _ (unused : (name text : List ℕ) → is_in_code (mask_in (words_of text
   -- a file has a first row where the name has a place, and so where its mask has the bit
   first_there : (id : ℕ) (row : ℕ → PlaceRow) (mask : Option ℕ) (ps : List ℕ) → (is_in_code mask ≡ false → ps ≡ []) → (is_in_code mask ≡ true → ps ≢ [])
       → length (filter has_code (map (λ m. (id, m)) (option_to_list mask))) ≡ length (take 1 (map row ps))
-  first_there id row None [] none some = refl
-  first_there id row None (p ∷ ps) none some = absurd (cc (none refl))
-  first_there id row (Some mask) [] none some = let off : has_bit Code mask ≡ true → ⊥ = λ on. some on refl in grind (arith, off)
-  first_there id row (Some mask) (p ∷ ps) none some = let on : has_bit Code mask ≡ false → ⊥ = λ off. cc (none off) in grind (arith, on)
+  first_there id row mask ps none some = grind (arith, common_steps, none, some)
 
   -- as many files have the name in their code as have a first row
   uses_counted : length (filter has_code (found Java (masks_in name) world)) ≡ length (first_uses name world)
@@ -91,12 +87,12 @@ module _ (unused : (name text : List ℕ) → is_in_code (mask_in (words_of text
       ∙ omega (arith, h, first, length-append (take 1 (uses_in name id file)) rs))
 
   -- as many files as use the name are looked after
-  pub uses_may : {walk : List (ℕ × ℕ)} → (lowest_unready world ≡ None → walk ≡ found Java (masks_in name) world) → lowest_unready world ≡ None
+  pub uses_may : {walk : List (ℕ × ℕ)} → Finds world walk (found Java (masks_in name) world) → lowest_unready world ≡ None
       → MayLook world (query.Usages name) (1 + length (filter has_code walk))
   uses_may ready smart = rw (ready smart, smart) (ap (λ n. 1 + n) uses_counted)
 
   -- the answer that is given
-  pub used_reply : {walk : List (ℕ × ℕ)} {copy : List ℕ} {rows : List PlaceRow} → (lowest_unready world ≡ None → walk ≡ found Java (masks_in name) world)
+  pub used_reply : {walk : List (ℕ × ℕ)} {copy : List ℕ} {rows : List PlaceRow} → Finds world walk (found Java (masks_in name) world)
       → lowest_unready world ≡ None → copy ≡ name → rows ≡ flat_map (uses_found world name) (filter has_code walk)
       → reply world (query.Usages name) ≡ Ok (Usages copy rows)
   used_reply ready smart same made = rw (smart, same, made, ready smart) (ap (λ rs. Ok (Usages name rs)) (sym uses_told))

@@ -1,31 +1,15 @@
 -- Each entry of a run of a script makes a change, so that its history has room for no more than it may have.
-use Rattle.std.proofs.Common.{ℕ, zero, suc, ◌≡◌, ◌+◌, ◌≤◌, ◌<◌, Bool, List, [], ◌∷◌, ◌++◌, length, refl, arith, Option, Some, None, inl, inr, eqb}
-use Rattle.std.specs.List.{All, AllByRecursion}
-use Rattle.std.proofs.lemmas.Bool.{cases_Bool, cases_lt, cond_both}
-use Rattle.std.proofs.lemmas.List.Elements.{All-weaker, recursion_from_All}
-use Rattle.write_history.specs.declared.change.Change.TheVariants.{Create}
-use Rattle.write_history.specs.declared.entry.Entry.{Entry}
-use Rattle.write_history.specs.Effect.{max_entries}
-use Rattle.write_history.specs.Path.{is_path}
-use Rattle.write_history.specs.World.{unready_ids}
-use Rattle.write_history.specs.Fold.{ListRefusal, fold, list_refusal}
+use Rattle.transcript_check.proofs.Words.{All-weaker, recursion_from_All, IsOfLine, AreOfSection, AreOfScript, RunEnd, run_beside, LanesFit, RunFits}
+use Rattle.transcript_check.proofs.Words.{ℕ, zero, suc, ◌≡◌, ◌+◌, ◌≤◌, ◌<◌, Bool, List, [], ◌∷◌, ◌++◌, length, refl, arith, Option, Some, None, inl}
+use Rattle.transcript_check.proofs.Words.{inr, eqb, All, AllByRecursion, cases_Bool, cases_lt, cond_both, Create, Entry, max_entries, is_path}
+use Rattle.transcript_check.proofs.Words.{unready_ids, ListRefusal, fold, list_refusal, settled_takes, Command, Line, IsIntakeBy, Loaded, Record}
+use Rattle.transcript_check.proofs.Words.{CommandStep, step_unless, create_of, step_of, first_load, Progress, SectionFits, made_by, Sides, Parts}
+use Rattle.transcript_check.proofs.Words.{Worked}
 use Rattle.history_laws.proofs.LimitLemmas.{legal_few}
-use Rattle.history_laws.proofs.SettledLemmas.{settled_takes}
-use Rattle.script_lang.specs.declared.command.Command.{Command}
-use Rattle.script_lang.specs.declared.command.Command.TheVariants as command
-use Rattle.script_lang.specs.declared.line.Line.{Line}
-use Rattle.script_lang.specs.Parts.{Parts}
-use Rattle.script_lang.specs.Held.{IsOfLine, AreOfSection, AreOfScript}
-use Rattle.transcripts.specs.Worked.{Worked}
-use Rattle.transcripts.specs.Work.{IsIntakeBy}
-use Rattle.transcripts.specs.declared.loaded.Loaded.{Loaded}
-use Rattle.transcripts.specs.declared.loaded.Loaded.TheVariants as loaded
-use Rattle.transcripts.specs.declared.record.Record.{Record}
-use Rattle.transcripts.specs.Serial.{CommandStep, RunEnd, step_unless, create_of, step_of, first_load}
-use Rattle.transcripts.specs.Fits.{Progress, run_beside, SectionFits, made_by, LanesFit, RunFits}
-use Rattle.transcript_check.specs.Phase.{Sides}
-use Rattle.transcript_check.proofs.ChoiceLemmas.{all-append}
 use Rattle.transcript_check.proofs.StepLemmas.{made_by-own}
+use Rattle.script_lang.specs.declared.command.Command.TheVariants as command
+use Rattle.transcripts.specs.declared.loaded.Loaded.TheVariants as loaded
+use Rattle.transcript_check.proofs.ChoiceLemmas.{all-append}
 use Rattle.transcript_check.proofs.PhaseLemmas.{AllSeats}
 use Rattle.transcript_check.proofs.MiddleLemmas.{all_seats, workers_are, none_outside}
 

@@ -1,25 +1,17 @@
 -- What is checked is what a run printed, and all that a run printed is checked.
-use Rattle.std.proofs.Common.{ℕ, suc, ◌≡◌, ◌+◌, ◌^◌, ◌≤◌, ◌<◌, true, false, List, [], ◌∷◌, ◌++◌, length, refl, sym, ap, ◌∙◌, append_assoc, length-append, arith, Some}
-use Rattle.std.proofs.lemmas.List.{append-nil, append_cancel_left, map-append}
-use Rattle.std.proofs.lemmas.Bool.{and_parts}
-use Rattle.write_history.specs.declared.entry.Entry.{Entry}
-use Rattle.history_laws.proofs.FoldLemmas.{IsLegal-split}
-use Rattle.script_lang.specs.declared.line.Line.{Line}
-use Rattle.script_lang.specs.Parts.{Parts}
-use Rattle.transcripts.specs.Worked.{Worked}
-use Rattle.transcripts.specs.declared.loaded.Loaded.{Loaded}
-use Rattle.transcripts.specs.declared.record.Record.{Record}
-use Rattle.transcripts.specs.Serial.{RunState, done_from}
-use Rattle.transcripts.specs.Fits.{Progress, progress_at, SectionFits, RunFits}
-use Rattle.transcript_check.specs.Phase.{Sides, Reached, phase_from, cursors_of, after_lanes}
-use Rattle.transcript_check.specs.Checked.{entry_texts, record_texts, Came, serial_from, ends_so, sides_of, goes_on_so, begins_so, are_checked, AreTextsOfRun}
+use Rattle.transcript_check.proofs.Words.{ℕ, suc, ◌≡◌, ◌+◌, ◌^◌, ◌≤◌, ◌<◌, true, false, List, [], ◌∷◌, ◌++◌, length, refl, rules, sym, ap, ◌∙◌}
+use Rattle.transcript_check.proofs.Words.{append_assoc, length-append, arith, Some, append-nil, append_cancel_left, map-append, and_parts, Entry}
+use Rattle.transcript_check.proofs.Words.{IsLegal-split, Line, Parts, Worked, Loaded, Record, RunState, done_from, Progress, progress_at, run_beside}
+use Rattle.transcript_check.proofs.Words.{SectionFits, LanesFit, RunFits, Sides, Reached, phase_from, cursors_of, after_lanes, entry_texts}
+use Rattle.transcript_check.proofs.Words.{record_texts, Came, serial_from, ends_so, sides_of, goes_on_so, begins_so, are_checked, AreTextsOfRun}
 use Rattle.transcript_check.proofs.ChoiceLemmas.{is_nil-true, held}
 use Rattle.transcript_check.proofs.ReadLemmas.{seat-read}
 use Rattle.transcript_check.proofs.Texts.{texts_of_section}
 use Rattle.transcript_check.proofs.CursorLemmas.{AreFew, first_seat, own_seated}
 use Rattle.transcript_check.proofs.WorkerLemmas.{AreWorkers, workers_from, workers_all, workers_none}
 use Rattle.transcript_check.proofs.PhaseLemmas.{AllSeats, sound, StopsBefore, complete}
-use Rattle.transcript_check.proofs.MiddleLemmas.{sides_of_lanes, lanes_of_sides, cursors_seated, seats_all, all_seats, told_of, length-told_of, workers_fit, workers_are}
+use Rattle.transcript_check.proofs.MiddleLemmas.{sides_of_lanes, lanes_of_sides, cursors_seated, seats_all, all_seats, told_of, length-told_of, workers_fit}
+use Rattle.transcript_check.proofs.MiddleLemmas.{workers_are}
 use Rattle.transcript_check.proofs.SerialLemmas.{entry_texts-append, serial_fits}
 
 -- what is left behind each of three parts is the next, and nothing behind the last
@@ -48,31 +40,23 @@ went_sound loads script workers entries records came reached last begun beside c
     let lanes = lanes_of_sides sides.beside lower opening 1 script.lanes middle came.records (rw append-nil at goes.fits) in
     let told : List Worked = told_of (1 + length script.lanes) workers middle in
     let count : length told ≡ workers = length-told_of (1 + length script.lanes) workers middle in
+    let beside_fits : LanesFit (run_beside (length script.lanes) (length told)) lower (progress_at (length opening)) 1 script.lanes middle lanes.records =
+    rw count lanes.fits in
     let made : (s : ℕ) → 1 + length script.lanes ≤ s → AreWorkers s middle =
     λ s past. workers_all (length script.lanes) [] middle (λ seat beyond. workers_none seat) goes.workers s (omega arith) in
     record {
       told = told;
       ended = record { history = lower ++ final.own; records = prelude.records ++ lanes.records; last = final.records };
       count = count;
-      fits = record {
-        opening = opening;
-        middle = middle;
-        closing = final.own;
-        history = refl;
-        legal = final.legal ((rw append-nil at goes.lawful) (prelude.legal tt));
-        prelude_records = prelude.records;
-        lanes_records = lanes.records;
-        records = refl;
-        prelude_end = prelude.high;
-        prelude = prelude.fits;
-        lanes = rw count lanes.fits;
-        seats = seats_all sides (length script.lanes + length told) middle (rw count) goes.seats;
-        worked = workers_fit lower (length opening) (1 + length script.lanes) workers middle made;
-        last_begins = record { seen = length lower; sights = 0 };
-        last_behind = refl;
-        last_end = final.high;
-        last = final.fits;
-      };
+      fits = search (
+        rules,
+        final.legal ((rw append-nil at goes.lawful) (prelude.legal tt)),
+        prelude.fits,
+        beside_fits,
+        seats_all sides (length script.lanes + length told) middle (rw count) goes.seats,
+        workers_fit lower (length opening) (1 + length script.lanes) workers middle made,
+        final.fits,
+      );
       entries_are = three_parts (entry_texts 1 opening) (entry_texts (length opening + 1) middle) (entry_texts (length lower + 1) final.own)
           first.1 (rw append-nil at goes.texts_are) ends.1 no_entry
           ∙ rw (entry_texts-append 1 (length lower + 1) lower final.own (omega arith), entry_texts-append 1 (length opening + 1) opening middle (omega arith));
@@ -84,15 +68,11 @@ went_sound loads script workers entries records came reached last begun beside c
 pub checked_sound : (loads : List Loaded) (script : Parts) (workers : ℕ) (entries records : List (List ℕ))
     → are_checked loads script workers entries records ≡ true → AreTextsOfRun loads script workers entries records
 checked_sound loads script workers entries records checked =
-    let first = held (begins_so script workers) (serial_from 0 [] script.prelude loads entries records) refl checked in
-    let came : Came = first.0 in
-    let beside = held (goes_on_so script came.history came.records)
-    (phase_from (sides_of script workers came.history) [] (cursors_of 1 script.lanes came.records) came.entries) refl first.2 in
-    let reached : Reached = beside.0 in
-    let closing = held ends_so (serial_from 0 (came.history ++ reached.added) script.last [] reached.left (after_lanes script.lanes came.records))
-    refl beside.2 in
-    let parts = and_parts _ _ closing.2 in
-    went_sound loads script workers entries records came reached closing.0 first.1 beside.1 closing.1 (is_nil-true _ parts.0) (is_nil-true _ parts.1)
+    let (came, begun, on) = held (begins_so script workers) _ refl checked in
+    let (reached, beside, goes) = held (goes_on_so script came.history came.records) _ refl on in
+    let (last, closing, none) = held ends_so _ refl goes in
+    let parts = and_parts _ _ none in
+    went_sound loads script workers entries records came reached last begun beside closing (is_nil-true _ parts.0) (is_nil-true _ parts.1)
 
 -- ALL THAT A RUN PRINTED IS CHECKED
 
@@ -155,8 +135,8 @@ checked_complete alone loads script workers entries records small run few =
     (IsLegal-split lower closing (rw whole at fits.legal)).0 middle [] (cursors_of 1 script.lanes records_left) closing_texts (rw append-nil)
     (cursors_seated 1 (suc (length script.lanes)) script.lanes records_left (omega arith))
     (stops_before sides (lower ++ closing) fits.last_begins fits.last_end script.last run.ended.last (length lower + 1) closing last_fits)
-    seats workers_go (rw append-nil side.fits) in
+    seats workers_go (rw append-nil side.0) in
     let began : serial_from 0 [] script.prelude loads entries records ≡ Some (record { history = opening; entries = entries_left; records = records_left }) =
     rw (entries_are, records_are) (serial_goes script.prelude loads [] opening fits.prelude_records entries_left records_left first) in
     let ended = simp append-nil at (serial_goes script.last [] lower closing run.ended.last [] [] last) in
-    rw (began, rw append-nil at goes, side.left, ended)
+    rw (began, rw append-nil at goes, side.1, ended)

@@ -1,10 +1,6 @@
 -- Lists and choices: what follows where it is known what is there, or what was chosen.
-use Rattle.std.proofs.Common.{ℕ, zero, suc, ◌≡◌, ◌+◌, Bool, true, false, cond, List, [], ◌∷◌, ◌++◌, map, take, drop, refl, ap, Option, Some, None, Result, Err, ◌⊎◌, inl, inr}
-use Rattle.std.specs.Prelude.{filter, is_none, option_map}
-use Rattle.std.specs.List.{AllByRecursion}
-use Rattle.std.specs.Option.{option_map_or}
-use Rattle.std.proofs.lemmas.Bool.{cond_both}
-use Rattle.transcript_check.specs.Section.{is_nil}
+use Rattle.transcript_check.proofs.Words.{ℕ, zero, suc, ◌≡◌, Bool, true, false, cond, List, [], ◌∷◌, ◌++◌, take, drop, refl, ap, Option, Some, None}
+use Rattle.transcript_check.proofs.Words.{Result, Err, ◌⊎◌, inl, inr, is_none, option_map, AllByRecursion, option_map_or, is_nil}
 
 pub is_nil-true : {A : Type 0} (xs : List A) → is_nil xs ≡ true → xs ≡ []
 is_nil-true [] h = refl
@@ -17,16 +13,6 @@ is_none-true (Some x) h = absurd (cc)
 pub all-append : {X : Type 0} (P : X → Type 0) (xs ys : List X) → AllByRecursion P xs → AllByRecursion P ys → AllByRecursion P (xs ++ ys)
 all-append P [] ys first later = later
 all-append P (x ∷ xs) ys first later = (first.0, all-append P xs ys first.1 later)
-
-pub all-filter : {X : Type 0} (P : X → Type 0) (test : X → Bool) (xs : List X) → AllByRecursion P xs → AllByRecursion P (filter test xs)
-all-filter P test [] all = tt
-all-filter P test (x ∷ xs) all =
-    let later = all-filter P test xs all.1 in cond_both (test x) _ _ (AllByRecursion P) (λ _. (all.0, later)) (λ _. later)
-
-pub all-map : {X Y : Type 0} (P : X → Type 0) (Q : Y → Type 0) (f : X → Y) (xs : List X)
-    → ((x : X) → P x → Q (f x)) → AllByRecursion P xs → AllByRecursion Q (map f xs)
-all-map P Q f [] each all = tt
-all-map P Q f (x ∷ xs) each all = (each x all.0, all-map P Q f xs each all.1)
 
 -- with that element one more is in front of the others
 pub up_to : {A : Type 0} (xs : List A) (i : ℕ) (x : A) (rest : List A) → drop i xs ≡ x ∷ rest

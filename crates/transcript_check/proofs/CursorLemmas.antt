@@ -1,26 +1,15 @@
 -- A section on its way fits what is behind it exactly where it fits what is behind its next record or entry.
-use Rattle.std.proofs.Common.{ℕ, ◌≡◌, ◌+◌, ◌^◌, ◌≤◌, ◌<◌, Bool, true, false, not, ◌&&◌, List, [], ◌∷◌, ◌++◌, length, refl, sym, ap, ◌∙◌, append_assoc, length-append, arith, Some, None, ◌⊎◌, inl, inr, eqb}
-use Rattle.std.specs.Prelude.{bytes_eq}
-use Rattle.std.proofs.lemmas.Option.{same_Some}
-use Rattle.std.proofs.lemmas.Slice.Eq.{bytes_eq-Decides}
-use Rattle.std.proofs.lemmas.Bool.Decides.{nat_tests}
-use Rattle.std.proofs.lemmas.Bool.{both_ways, and_parts, or_cases, cases_lt, cases_Bool, not-true}
-use Rattle.std.proofs.lemmas.List.{append_cancel_left, append-nil}
-use Rattle.std.proofs.lemmas.List.Elements.{filter-append}
-use Rattle.list_laws.specs.Prefixes.{IsPrefix}
-use Rattle.transcript_check.proofs.ChoiceLemmas.{is_nil-true}
+use Rattle.transcript_check.proofs.Words.{◌^◌, or_cases, not-true, front_trans, front_length, front_filter, front_shorter, front_whole, is_told_here}
+use Rattle.transcript_check.proofs.Words.{told_from, made_from, ℕ, ◌≡◌, ◌+◌, ◌≤◌, ◌<◌, Bool, true, false, not, List, [], ◌∷◌, ◌++◌, length, refl}
+use Rattle.transcript_check.proofs.Words.{◌&&◌, sym, ap, ◌∙◌, append_assoc, length-append, arith, Some, None, ◌⊎◌, inl, inr, eqb, bytes_eq, same_Some}
+use Rattle.transcript_check.proofs.Words.{bytes_eq-Decides, nat_tests, both_ways, and_parts, cases_lt, cases_Bool, append-nil, filter-append}
+use Rattle.transcript_check.proofs.Words.{IsPrefix, Entry, fold, list_refusal, Line, Answer, CommandStep, told, made_by, Cursor, NextEntry, is_nil}
+use Rattle.transcript_check.proofs.Words.{line_step, told_text, given_up, tells_given_up, is_settle, made_by_line, append_cancel_left, Nothing}
 use Rattle.list_laws.proofs.RowLemmas.{count_le}
-use Rattle.list_laws.proofs.PrefixLemmas.{front_trans, front_length, front_filter, front_shorter, front_whole}
-use Rattle.write_history.specs.declared.entry.Entry.{Entry}
-use Rattle.write_history.specs.Fold.{fold, list_refusal}
-use Rattle.script_lang.specs.declared.line.Line.{Line}
-use Rattle.transcripts.specs.declared.loaded.Loaded.TheVariants.{Nothing}
-use Rattle.transcripts.specs.declared.record.Answer.{Answer}
-use Rattle.transcripts.specs.Serial.{CommandStep}
-use Rattle.transcripts.specs.Fits.{made_by}
-use Rattle.transcript_check.specs.Section.{Cursor, NextEntry, is_nil, line_step, told_text, given_up, tells_given_up, is_told_here, told_from, is_settle, made_by_line, made_from}
+use Rattle.transcript_check.proofs.StepLemmas.{TellsAt, IsStep, step_by, step_behind, step_is}
+use Rattle.transcript_check.proofs.StepLemmas.{settle_on, made_by-own, made_by-all}
+use Rattle.transcript_check.proofs.ChoiceLemmas.{is_nil-true}
 use Rattle.transcript_check.proofs.TextLemmas.{at_of, IsShort, same_at}
-use Rattle.transcript_check.proofs.StepLemmas.{TellsAt, IsStep, step_is, settle_steps, settle_later, settle_sooner, made_by-own, made_by-all}
 use Rattle.transcript_check.proofs.Texts.{DoneBehind, DoneLate, WasGivenUp, FirstFits, first_as, TextsFit, gave_up, text_is}
 
 -- a section behind `here` fits the whole history, of which these are its own entries behind `here`; a settle that has begun goes on right here
@@ -42,6 +31,12 @@ StopsAt beside here seat settling lines texts = Unit {0}
 -- a history is short enough for its positions to be printed
 abbrev pub AreFew : List Entry → Type 0
 AreFew history = length history < 2 ^ 64
+
+-- what fits first, and what fits behind that
+first_of : {First Rest : List Entry → ℕ → Type 0} (made : List Entry) (between : ℕ) (made_later : List Entry)
+    → First made between → Rest made_later between → FirstFits First Rest (made ++ made_later)
+first_of made between made_later first rest =
+    record { made = made; between = between; made_later = made_later; own_is = refl; first = first; rest = rest }
 
 pub one_more : (here : List Entry) (e : Entry) → length (here ++ e ∷ []) ≡ length here + 1
 one_more here e = length-append here (e ∷ [])
@@ -74,15 +69,15 @@ module _ (seat : ℕ) (here : List Entry) where
           (record { seat = seat; lines = lines; texts = texts; settling = false }) added ≡ Some m → Makes (line ∷ lines) (text ∷ texts) m
       by true (e ∷ more) told settles adds is h = rw (sym (same_Some _ m h)) (begins more settles adds)
       by false (e ∷ more) true settles adds is h =
-          rw (sym (same_Some _ m h)) (does (rw ((stepped line).one settles e more adds) at adds) (text_is _ _ is))
+          rw (sym (same_Some _ m h)) (does (rw ((rw adds at (stepped line).adds).1 settles) at adds) (text_is _ _ is))
       by settles added told s adds is h = absurd (cc)
   makes_so lines texts m h = absurd (cc)
 
   -- a section keeps its seat, which its entry has, and the entry isn't refused where it stands
   pub made_keeps : {lines : List Line} {texts : List (List ℕ)} {m : NextEntry} → Makes lines texts m
       → (m.cursor.seat ≡ seat) × (m.entry.seat ≡ seat) × (list_refusal (fold here) m.entry.changes ≡ None)
-  made_keeps (begins {line} {e = e} more settles adds) = (refl, (rw adds at (stepped line).own).0, (stepped line).lawful e more adds)
-  made_keeps (does {line} {e = e} adds told) = (refl, (rw adds at (stepped line).own).0, (stepped line).lawful e [] adds)
+  made_keeps (begins {line} more settles adds) = (refl, (rw adds at (stepped line).own).0, (rw adds at (stepped line).adds).0)
+  made_keeps (does {line} adds told) = (refl, (rw adds at (stepped line).own).0, (rw adds at (stepped line).adds).0)
 
 module _ (beside : Bool) (history : List Entry) (seat : ℕ) where
   made_seated : {start : List Entry} {line : Line} {made : List Entry} {text : List ℕ} → DoneBehind history start seat line made text
@@ -99,32 +94,33 @@ module _ (beside : Bool) (history : List Entry) (seat : ℕ) where
       → TextsFit beside history seat len lines texts own → TextsFit beside history seat less lines texts own
   sooner (line ∷ lines) len less (text ∷ texts) own below fits = elim fits.first [
     | inl late ↦ first_as fits (inl (done_later late (omega arith)))
-    | inr given ↦ record {
-      made = fits.made;
-      between = less;
-      made_later = fits.made_later;
-      own_is = fits.own_is;
-      first = inr (given.0, record { told = given.1.told; nothing = given.1.nothing; between_is = refl });
-      rest = sooner lines fits.between less texts fits.made_later (omega (arith, given.1.between_is)) fits.rest;
-    }
+    | inr given ↦ rw fits.own_is (first_of fits.made less _
+        (inr (given.0, record { told = given.1.told; nothing = given.1.nothing; between_is = refl }))
+        (sooner lines fits.between less texts fits.made_later (omega (arith, given.1.between_is)) fits.rest))
   ]
   sooner lines len less texts own below fits = fits
+
+  -- what was done late was done behind all that stands before
+  begins_late : (here : List Entry) {line : Line} {made : List Entry} {text : List ℕ} {between : ℕ} → IsPrefix here history
+      → (late : DoneLate history seat line (length here) made text between) → IsPrefix here late.start
+  begins_late here {made = made} front late =
+      front_shorter here late.start history front (front_trans late.start _ history (made, refl) late.done.stands) late.late
+
+  -- a prefix has no more entries with the seat
+  counted : (before after : List Entry) → IsPrefix before after → length (made_by seat before) ≤ length (made_by seat after)
+  counted before after front = front_length _ _ (front_filter (λ (x : Entry). eqb x.seat seat) before after front)
 
   -- a section has no more entries of its own than there are with its seat behind what it had seen
   few_own : (lines : List Line) (texts : List (List ℕ)) (own before : List Entry) → IsPrefix before history
       → TextsFit beside history seat (length before) lines texts own → length (made_by seat before) + length own ≤ length (made_by seat history)
-  few_own [] texts own before front fits =
-      omega (arith, ap length fits.1, front_length _ _ (front_filter (λ (x : Entry). eqb x.seat seat) before history front))
+  few_own [] texts own before front fits = omega (arith, ap length fits.1, counted before history front)
   few_own (line ∷ lines) [] own before front fits = absurd fits
   few_own (line ∷ lines) (text ∷ texts) own before front fits =
       let own_is = ap length fits.own_is ∙ length-append fits.made fits.made_later in
       elim fits.first [
-        | inl late ↦ (let rest = few_own lines texts fits.made_later (late.start ++ fits.made) late.done.stands (rw late.between_is at fits.rest) in
-            let begins = front_shorter before late.start history front (front_trans late.start _ history (fits.made, refl) late.done.stands) late.late in
-            let more = front_length _ _ (front_filter (λ (x : Entry). eqb x.seat seat) before late.start begins) in
-            let split = ap length (filter-append (λ (x : Entry). eqb x.seat seat) late.start fits.made)
-            ∙ length-append (made_by seat late.start) (made_by seat fits.made) in
-            omega (arith, ap length (made_seated late.done)))
+        | inl late ↦ (let rest = simp (filter-append, length-append)
+            at (few_own lines texts fits.made_later (late.start ++ fits.made) late.done.stands (rw late.between_is at fits.rest)) in
+            omega (arith, counted before late.start (begins_late before front late), ap length (made_seated late.done)))
         | inr given ↦ omega (arith, ap length given.1.nothing, few_own lines texts fits.made_later before front (rw given.1.between_is at fits.rest))
       ]
 
@@ -152,6 +148,16 @@ module _ (beside : Bool) (history : List Entry) (seat : ℕ) where
     quiet false lines texts own fits = fits
     quiet true lines texts own fits = loosen false lines texts own fits
 
+    -- a line that was done behind all of `here` was done right here, or later
+    late_at : {line : Line} {made : List Entry} {text : List ℕ} {between : ℕ} → IsPrefix here history
+        → (late : DoneLate history seat line (length here) made text between)
+        → (DoneBehind history here seat line made text × (between ≡ length (here ++ made))) ⊎ (length here < length late.start)
+    late_at front late = elim (cases_lt (length here) (length late.start)) [
+      | inl past ↦ inr past
+      | inr not_past ↦ (let same = sym (front_whole here late.start (begins_late here front late) not_past) in
+          inl (rw same at late.done, rw same at late.between_is))
+    ]
+
     -- WHAT IS TOLD HERE
 
     -- a record that is told here: its answer, and which of the two cases it is
@@ -159,21 +165,14 @@ module _ (beside : Bool) (history : List Entry) (seat : ℕ) where
       answer : Answer
       tells : TellsAt here answer
       text_is : told_text seat line.number answer ≡ text
-      how : (line_step here seat line ≡ record { added = []; answer = answer }) ⊎ ((b ≡ true) × (tells_given_up seat line.number line.command text ≡ true))
+      how : (line_step here seat line ≡ told answer) ⊎ ((b ≡ true) × (tells_given_up seat line.number line.command text ≡ true))
 
     told_is : (b : Bool) (line : Line) (text : List ℕ) → is_told_here b here seat line text ≡ true → Told b line text
     told_is b line text holds = elim (or_cases _ _ holds) [
-      | inl so ↦ (let parts = and_parts _ _ so in
-          let none = is_nil-true _ parts.0 in
-          record {
-            answer = (line_step here seat line).answer;
-            tells = (stepped seat here line).nothing none;
-            text_is = text_is _ _ parts.1;
-            how = inl (λ i. record { added = none i; answer = (line_step here seat line).answer });
-          })
-      | inr given ↦ (let parts = and_parts _ _ given in
-          let gave = gave_up seat line.number line.command text parts.1 in
-          record { answer = given_up seat gave.attempts; tells = inl refl; text_is = gave.told; how = inr parts })
+      | inl so ↦ (let none = is_nil-true _ (and_parts _ _ so).0 in let is = text_is _ _ (and_parts _ _ so).1 in
+          record { answer = _; tells = rw none at (stepped seat here line).adds; text_is = is; how = inl (step_by none refl) })
+      | inr given ↦ (let gave = gave_up seat line.number line.command text (and_parts _ _ given).1 in
+          record { answer = given_up seat gave.attempts; tells = inl refl; text_is = gave.told; how = inr (and_parts _ _ given) })
     ]
 
     -- a line that was done here and made nothing is told here
@@ -186,21 +185,16 @@ module _ (beside : Bool) (history : List Entry) (seat : ℕ) where
     never_given line text stops given = both_ways _ stops (rw (given.0, given.1.told) (grind arith))
 
     -- what is told here made nothing wherever else it was done
-    tells_short : (at : List Entry) (answer : Answer) → TellsAt at answer → AreFew at → IsShort (at_of answer)
-    tells_short at answer (inl none) few = rw none tt
-    tells_short at answer (inr some) few = rw some few
-
     nothing_made : (start : List Entry) (b : Bool) (line : Line) (text : List ℕ) (made : List Entry) → AreFew history → length here ≤ length start
         → Told b line text → DoneBehind history start seat line made text → made ≡ []
     nothing_made start b line text [] few late told done = refl
     nothing_made start b line text (f ∷ made) few late told done =
         let behind : List Entry = start ++ f ∷ made in
-        let made_at : at_of done.answer ≡ Some (length behind) =
-        rw done.step at ((stepped seat start line).something f made (ap (λ (s : CommandStep). s.added) done.step)) in
+        let made_at : at_of done.answer ≡ Some (length behind) = (rw done.step at (stepped seat start line).adds).2 in
         let long = front_length behind history done.stands in
         let whole = length-append start (f ∷ made) in
-        let same = same_at seat line.number told.answer done.answer (tells_short here told.answer told.tells (omega arith))
-        (tells_short behind done.answer (inr made_at) (omega arith)) (told.text_is ∙ sym done.told) ∙ made_at in
+        let short : IsShort (at_of told.answer) = elim told.tells [ inl none ↦ rw none tt | inr some ↦ rw some (omega arith) ] in
+        let same = same_at seat line.number told.answer done.answer short (rw made_at (omega arith)) (told.text_is ∙ sym done.told) ∙ made_at in
         absurd (elim told.tells [ inl none ↦ cc | inr some ↦ (let both : length here ≡ length behind = cc in omega arith) ])
 
     -- behind a record that is told here the section fits as before
@@ -209,10 +203,8 @@ module _ (beside : Bool) (history : List Entry) (seat : ℕ) where
         → TextsFit beside history seat (length here) lines texts own
     tell_forth b line lines text texts own few told fits =
         let goes : (fits.made ≡ []) × (length here ≤ fits.between) = elim fits.first [
-          | inl late ↦ (
-            nothing_made late.start b line text fits.made few late.late told late.done,
-            omega (arith, late.between_is, late.late, length-append late.start fits.made),
-          )
+          | inl late ↦ (let none = nothing_made late.start b line text fits.made few late.late told late.done in
+              (none, omega (arith, late.between_is, late.late, length-append late.start fits.made)))
           | inr given ↦ (given.1.nothing, omega (arith, given.1.between_is))
         ] in
         rw (fits.own_is, goes.0) (sooner lines fits.between (length here) texts fits.made_later goes.1 fits.rest)
@@ -221,22 +213,10 @@ module _ (beside : Bool) (history : List Entry) (seat : ℕ) where
         → Told (beside && not settling) line text → TextsFit beside history seat (length here) lines texts own
         → StateFits beside history here seat settling (line ∷ lines) (text ∷ texts) own
     tell_back settling line lines text texts own front told fits = elim told.how [
-      | inl step ↦ loosen settling (line ∷ lines) (text ∷ texts) own (record {
-        made = [];
-        between = length here;
-        made_later = own;
-        own_is = refl;
-        first = (record { answer = told.answer; stands = rw append-nil front; step = step; told = told.text_is }, rw append-nil);
-        rest = fits;
-      })
-      | inr given ↦ rw (not-true settling (and_parts beside (not settling) given.0).1) (record {
-        made = [];
-        between = length here;
-        made_later = own;
-        own_is = refl;
-        first = inr ((and_parts _ _ given.0).0, record { told = given.1; nothing = refl; between_is = refl });
-        rest = fits;
-      })
+      | inl step ↦ loosen settling (line ∷ lines) (text ∷ texts) own (first_of [] (length here) own
+          (record { answer = told.answer; stands = rw append-nil front; step = step; told = told.text_is }, rw append-nil) fits)
+      | inr given ↦ rw (not-true settling (and_parts beside (not settling) given.0).1) (first_of [] (length here) own
+          (inr ((and_parts _ _ given.0).0, record { told = given.1; nothing = refl; between_is = refl })) fits)
     ]
 
     -- a section behind all records that are told here fits where it did before them
@@ -262,26 +242,14 @@ module _ (beside : Bool) (history : List Entry) (seat : ℕ) where
     -- WHAT IS MADE HERE
 
     -- where a line was done right here whose record isn't told here, what comes next is the first that it made
-    record MadeFirst (e : Entry) (made : List Entry) : Type 0 where
-      more : List Entry
-      made_is : made ≡ e ∷ more
-      own : e.seat ≡ seat
-
     first_made : (b : Bool) (line : Line) (text : List ℕ) (e : Entry) (es made : List Entry) → is_told_here b here seat line text ≡ false
-        → history ≡ here ++ e ∷ es → DoneBehind history here seat line made text → MadeFirst e made
+        → history ≡ here ++ e ∷ es → DoneBehind history here seat line made text → (more : List Entry) × (made ≡ e ∷ more) × (e.seat ≡ seat)
     first_made b line text e es [] stops parts done = absurd (not_done b line text stops done)
     first_made b line text e es (f ∷ made) stops parts done =
         let both = append_cancel_left here (e ∷ es) (f ∷ made ++ done.stands.0)
         (sym parts ∙ done.stands.1 ∙ append_assoc here (f ∷ made) done.stands.0) in
         let same : f ≡ e = cc in
-        record { more = made; made_is = ap (λ (x : Entry). x ∷ made) same; own = rw same at (first_seat seat f made (made_seated done)) }
-
-    -- a line that was done behind all of `here` and no more was done right here
-    done_exactly : {start : List Entry} {line : Line} {made : List Entry} {text : List ℕ} → IsPrefix here history → length start ≤ length here
-        → length here ≤ length start → DoneBehind history start seat line made text → DoneBehind history here seat line made text
-    done_exactly {start} front above below done =
-        let begins = front_shorter here start history front (front_trans start _ history (_, refl) done.stands) below in
-        rw (sym (front_whole here start begins above)) at done
+        (made, rw same, rw same at (first_seat seat f made (made_seated done)))
 
     -- a section whose next record isn't told here was done right here, or fits behind the next entry and isn't in the middle of a settle
     here_or_later : (settling : Bool) (line : Line) (lines : List Line) (text : List ℕ) (texts : List (List ℕ)) (e : Entry) (es own : List Entry)
@@ -291,12 +259,9 @@ module _ (beside : Bool) (history : List Entry) (seat : ℕ) where
         ⊎ ((settling ≡ false) × TextsFit beside history seat (length (here ++ e ∷ [])) (line ∷ lines) (text ∷ texts) own)
     here_or_later true line lines text texts e es own stops parts fits = inl fits
     here_or_later false line lines text texts e es own stops parts fits = elim fits.first [
-      | inl late ↦ elim (cases_lt (length here) (length late.start)) [
-        | inl past ↦ inr (refl, first_as fits (inl (done_later late (omega (arith, one_more here e)))))
-        | inr not_past ↦ inl (first_as fits (
-          done_exactly (e ∷ es, parts) not_past late.late late.done,
-          omega (arith, late.between_is, late.late, length-append late.start fits.made, length-append here fits.made),
-        ))
+      | inl late ↦ elim (late_at (e ∷ es, parts) late) [
+        | inl at ↦ inl (first_as fits at)
+        | inr past ↦ inr (refl, first_as fits (inl (done_later late (omega (arith, one_more here e)))))
       ]
       | inr given ↦ absurd (never_given line text stops given)
     ]
@@ -309,10 +274,24 @@ module _ (beside : Bool) (history : List Entry) (seat : ℕ) where
     other_forth false [] texts e es own stops parts other fits = (refl, fits)
     other_forth settling (line ∷ lines) (text ∷ texts) e es own stops parts other fits =
         elim (here_or_later settling line lines text texts e es own stops parts fits) [
-          | inl at ↦ absurd (other (first_made (beside && not settling) line text e es at.made stops parts at.first.0).own)
+          | inl at ↦ absurd (other (first_made (beside && not settling) line text e es at.made stops parts at.first.0).2)
           | inr later ↦ later
         ]
     other_forth settling lines texts e es own stops parts other fits = absurd fits
+
+    -- a settle was done here, with this entry first, where it was done behind that entry
+    done_on : {line : Line} {e : Entry} {made : List Entry} {text : List ℕ} → is_settle line.command ≡ true
+        → DoneBehind history here seat line (e ∷ made) text → DoneBehind history (here ++ e ∷ []) seat line made text
+    done_on {line} {e} {made} settles done =
+        let both = sym (settle_on seat Nothing here line.number line.command e made settles (ap (λ (s : CommandStep). s.added) done.step)) ∙ done.step in
+        record { answer = done.answer; stands = rw append_assoc done.stands; step = step_behind both; told = done.told }
+
+    done_back : {line : Line} {e : Entry} {made : List Entry} {text : List ℕ} (more : List Entry) → is_settle line.command ≡ true
+        → (line_step here seat line).added ≡ e ∷ more → DoneBehind history (here ++ e ∷ []) seat line made text
+        → DoneBehind history here seat line (e ∷ made) text
+    done_back {line} {e} {made} more settles adds done =
+        let on = settle_on seat Nothing here line.number line.command e more settles adds in
+        record { answer = done.answer; stands = rw (append_assoc here (e ∷ []) made) at done.stands; step = on ∙ rw done.step; told = done.told }
 
     -- a section that goes on with an entry of its own: what it makes here, and that it fits behind that
     pub record GoesOn (lines : List Line) (texts : List (List ℕ)) (e : Entry) (own : List Entry) : Type 0 where
@@ -331,26 +310,10 @@ module _ (beside : Bool) (history : List Entry) (seat : ℕ) where
       cursor = record { seat = seat; lines = line ∷ lines; texts = text ∷ texts; settling = true };
       makes = rw (is, done.step);
       seat_is = refl;
-      fits = record {
-        made = more;
-        between = between;
-        made_later = own;
-        own_is = refl;
-        first = (
-          record {
-            answer = done.answer;
-            stands = rw append_assoc done.stands;
-            step = settle_steps seat Nothing (here ++ e ∷ []) line.number line.command is
-                ∙ settle_later seat line.number here e more done.answer (sym (settle_steps seat Nothing here line.number line.command is) ∙ done.step);
-            told = done.told;
-          },
-          rw append_assoc at,
-        );
-        rest = rest;
-      };
+      fits = first_of more between own (done_on is done, rw append_assoc at) rest;
     }
     goes_on_by line lines text texts e more own between false is done at rest =
-        let none : more ≡ [] = (stepped seat here line).one is e more (ap (λ (s : CommandStep). s.added) done.step) in
+        let none : more ≡ [] = (rw done.step at (stepped seat here line).adds).1 is in
         record {
           cursor = record { seat = seat; lines = lines; texts = texts; settling = false };
           makes = rw (is, done.step, done.told, (bytes_eq-Decides text text).1 refl);
@@ -374,12 +337,12 @@ module _ (beside : Bool) (history : List Entry) (seat : ℕ) where
               let split = simp (filter-append, length-append) at (rw parts at few) in
               absurd (omega (arith, ap length (made_by-own seat e [] own))))
         ] in
-        let first = first_made (beside && not settling) line text e es at.made stops parts at.first.0 in
-        let both : e ∷ made_by seat es ≡ e ∷ first.more ++ at.made_later =
-        ◌∙◌ {c = e ∷ first.more ++ at.made_later} (sym (made_by-own seat e es own)) (rw first.made_is at at.own_is) in
-        let owns : made_by seat es ≡ first.more ++ at.made_later = cc in
-        rw owns (goes_on_by line lines text texts e first.more at.made_later at.between (is_settle line.command) refl
-        (rw first.made_is at at.first.0) (rw first.made_is at at.first.1) at.rest)
+        let (more, made_is, _) = first_made (beside && not settling) line text e es at.made stops parts at.first.0 in
+        let both : e ∷ made_by seat es ≡ e ∷ more ++ at.made_later =
+        ◌∙◌ {c = e ∷ more ++ at.made_later} (sym (made_by-own seat e es own)) (rw made_is at at.own_is) in
+        let owns : made_by seat es ≡ more ++ at.made_later = cc in
+        rw owns (goes_on_by line lines text texts e more at.made_later at.between (is_settle line.command) refl
+        (rw made_is at at.first.0) (rw made_is at at.first.1) at.rest)
     own_forth settling lines texts e es stops parts own fits = absurd fits
 
     -- what a section that makes an entry here is: it fits where it fits behind that entry
@@ -387,41 +350,11 @@ module _ (beside : Bool) (history : List Entry) (seat : ℕ) where
         → IsPrefix (here ++ m.entry ∷ []) history → CursorFits beside history (here ++ m.entry ∷ []) m.cursor own
         → StateFits beside history here seat settling lines texts (m.entry ∷ own)
     own_back settling own (begins {line} {lines} {text} {texts} {e} more settles adds) front fits =
-        let whole : (here ++ e ∷ []) ++ fits.made ≡ here ++ e ∷ fits.made = append_assoc here (e ∷ []) fits.made in
-        let steps = settle_steps seat Nothing here line.number line.command settles in
-        loosen settling (line ∷ lines) (text ∷ texts) (e ∷ own) (record {
-          made = e ∷ fits.made;
-          between = fits.between;
-          made_later = fits.made_later;
-          own_is = ap (λ (xs : List Entry). e ∷ xs) fits.own_is;
-          first = (
-            record {
-              answer = fits.first.0.answer;
-              stands = rw whole at fits.first.0.stands;
-              step = steps ∙ settle_sooner seat line.number here e more fits.made fits.first.0.answer (rw steps at adds)
-                  (sym (settle_steps seat Nothing (here ++ e ∷ []) line.number line.command settles) ∙ fits.first.0.step);
-              told = fits.first.0.told;
-            },
-            fits.first.1 ∙ ap length whole,
-          );
-          rest = fits.rest;
-        })
-    own_back settling own (does {line} {lines} {text} {texts} {e} adds told) front fits = loosen settling (line ∷ lines) (text ∷ texts) (e ∷ own) (record {
-      made = e ∷ [];
-      between = length (here ++ e ∷ []);
-      made_later = own;
-      own_is = refl;
-      first = (
-        record {
-          answer = (line_step here seat line).answer;
-          stands = front;
-          step = λ i. record { added = adds i; answer = (line_step here seat line).answer };
-          told = told;
-        },
-        refl,
-      );
-      rest = fits;
-    })
+        loosen settling (line ∷ lines) (text ∷ texts) (e ∷ own) (rw fits.own_is (first_of (e ∷ fits.made) fits.between _
+        (done_back more settles adds fits.first.0, rw append_assoc at fits.first.1) fits.rest))
+    own_back settling own (does {line} {lines} {text} {texts} {e} adds told) front fits =
+        loosen settling (line ∷ lines) (text ∷ texts) (e ∷ own) (first_of (e ∷ []) (length (here ++ e ∷ [])) own
+        (record { answer = (line_step here seat line).answer; stands = front; step = step_by adds refl; told = told }, refl) fits)
 
     -- the next record of a section may fit later, where it isn't in the middle of a settle
     pub other_back : (settling : Bool) (lines : List Line) (texts : List (List ℕ)) (e : Entry) (own : List Entry) → settling ≡ false
@@ -451,8 +384,10 @@ module _ (beside : Bool) (history : List Entry) (seat : ℕ) where
   over_forth false [] texts stops fits = rw fits.0
   over_forth true (line ∷ lines) (text ∷ texts) stops fits = absurd (ended line text fits.made (beside && false) stops fits.first.0)
   over_forth false (line ∷ lines) (text ∷ texts) stops fits = absurd (elim fits.first [
-    | inl late ↦ ended line text fits.made (beside && true) stops (done_exactly history ([], sym (append-nil history))
-        (omega (arith, front_length (late.start ++ fits.made) history late.done.stands, length-append late.start fits.made)) late.late late.done)
+    | inl late ↦ elim (late_at history ([], sym (append-nil history)) late) [
+      | inl at ↦ ended line text fits.made (beside && true) stops at.0
+      | inr past ↦ omega (arith, front_length (late.start ++ fits.made) history late.done.stands, length-append late.start fits.made)
+    ]
     | inr given ↦ never_given history line text stops given
   ])
   over_forth settling lines texts stops fits = absurd fits

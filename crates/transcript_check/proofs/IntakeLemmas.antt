@@ -1,17 +1,10 @@
 -- The intakes that workers have made, as a set.
-use Rattle.std.proofs.Common.{ℕ, ◌≡◌, ◌≤◌, true, ◌||◌, eqb, List, [], ◌∷◌, ◌++◌, refl, sym, ◌∙◌, arith, inl, inr}
-use Rattle.std.specs.List.{list_any}
+use Rattle.transcript_check.proofs.Words.{list_any, is_taking, is_among, ℕ, ◌≡◌, ◌≤◌, true, ◌||◌, eqb, List, [], ◌∷◌, ◌++◌, refl, sym, ◌∙◌, arith}
+use Rattle.transcript_check.proofs.Words.{inl, inr, cases_Bool, ne_eqb, nat_tests, filter_more, filter_same, Intake, Entry, entry_of, Taking, AreKept}
+use Rattle.transcript_check.proofs.Words.{list_any-append}
 use Rattle.std.specs.Ordering.{nat_cmp, is_eq, ordering_then}
 use Rattle.std.specs.declared.cmp.Ordering.{Ordering}
 use Rattle.std.specs.BTreeSet.{BTreeSet, Updates}
-use Rattle.std.proofs.lemmas.Bool.{cases_Bool, ne_eqb}
-use Rattle.std.proofs.lemmas.List.Folds.{list_any-append}
-use Rattle.std.proofs.lemmas.Bool.Decides.{nat_tests}
-use Rattle.list_laws.proofs.PrefixLemmas.{filter_more, filter_same}
-use Rattle.write_history.specs.declared.change.Change.TheVariants.{Intake}
-use Rattle.write_history.specs.declared.entry.Entry.{Entry}
-use Rattle.write_history.specs.Settle.{entry_of}
-use Rattle.transcript_check.specs.Intakes.{Taking, is_taking, is_among, AreKept}
 
 -- THE SET
 

@@ -1,5 +1,5 @@
+pub mod Words
 pub mod ChoiceLemmas
-pub mod BlockLemmas
 pub mod ScanLemmas
 pub mod TextBlocks
 pub mod ReadLemmas
@@ -15,12 +15,6 @@ pub mod SerialLemmas
 pub mod CheckedLemmas
 pub mod ChangeLemmas
 pub mod VerdictLemmas
-pub mod HereLemmas
-pub mod HeadLemmas
-pub mod MakeLemmas
-pub mod ToldLemmas
-pub mod RoundLemmas
-pub mod GoneLemmas
 pub mod JudgeLemmas
 pub mod IntakeLemmas
 pub mod ReachLemmas

@@ -1,24 +1,12 @@
 -- What comes before the place where going through a transcript stops fits, and what stands there doesn't.
-use Rattle.std.proofs.Common.{ℕ, ◌≡◌, true, false, List, [], ◌∷◌, ◌++◌, length, refl, sym, ap, append_assoc, Option, Some, Err, inl, inr}
-use Rattle.std.specs.List.{find}
-use Rattle.std.proofs.lemmas.List.{append-nil}
-use Rattle.std.proofs.lemmas.Option.{none-some}
-use Rattle.write_history.specs.declared.entry.Entry.{Entry}
-use Rattle.script_lang.specs.declared.line.Line.{Line}
-use Rattle.transcripts.specs.declared.loaded.Loaded.{Loaded}
-use Rattle.transcripts.specs.declared.record.Record.{Record}
-use Rattle.transcripts.specs.Serial.{CommandStep, step_of, first_load, later_loads}
-use Rattle.transcript_check.specs.declared.stop.LineStop.{LineStop}
-use Rattle.transcript_check.specs.declared.stop.SideStop.{SideStop}
-use Rattle.transcript_check.specs.declared.stop.SideStop.TheVariants as side
-use Rattle.transcript_check.specs.Reading.{seat_in}
-use Rattle.transcript_check.specs.Section.{Cursor, told_text}
-use Rattle.transcript_check.specs.Phase.{Sides, Went, is_seat, next_went, all_told}
-use Rattle.transcript_check.specs.Checked.{line_so}
-use Rattle.transcript_check.specs.Stops.{stops_at, waits, waits_at, serial_or, reached_or, phase_or}
-use Rattle.transcript_check.specs.Meaning.{DiffersFrom, StopsAtLine, goes_on_here, StopsBeside}
+use Rattle.transcript_check.proofs.Words.{ℕ, ◌≡◌, true, false, List, [], ◌∷◌, ◌++◌, length, refl, rules, sym, ap, append_assoc, Option, Some, Err}
+use Rattle.transcript_check.proofs.Words.{inl, inr, find, append-nil, none-some, Entry, Line, Loaded, Record, CommandStep, step_of, first_load}
+use Rattle.transcript_check.proofs.Words.{later_loads, LineStop, SideStop, seat_in, Cursor, told_text, Sides, Went, is_seat, next_went, all_told}
+use Rattle.transcript_check.proofs.Words.{line_so, stops_at, waits, waits_at, serial_or, reached_or, phase_or, DiffersFrom, StopsAtLine, Way, go_in}
+use Rattle.transcript_check.proofs.Words.{goes_on_here, StopsBeside}
 use Rattle.transcript_check.proofs.ChoiceLemmas.{found_or, chosen, stopped}
 use Rattle.transcript_check.proofs.SerialLemmas.{went_so, goes_so, texts_on}
+use Rattle.transcript_check.specs.declared.stop.SideStop.TheVariants as side
 
 -- ---- a section alone
 
@@ -82,29 +70,12 @@ stops_at_line seat history (line ∷ lines) loads entries (text ∷ records) sto
 one_before : (sides : Sides) (added : List Entry) (cursors : List Cursor) (text : List ℕ) (texts : List (List ℕ)) (w : Went) (stop : SideStop)
     → is_seat sides (seat_in text) ≡ true → next_went sides added (all_told sides added cursors) text ≡ Some w
     → StopsBeside sides (added ++ w.entry ∷ []) w.cursors texts stop → StopsBeside sides added cursors (text ∷ texts) stop
-one_before sides added cursors text texts w (side.Entry seat left) here next rest = record {
-  before = text ∷ rest.before;
-  text = rest.text;
-  later = rest.later;
-  entries_are = ap (λ (ts : List (List ℕ)). text ∷ ts) rest.entries_are;
-  way = rest.way;
-  go = rw (here, next) rest.go;
-  names = rest.names;
-  here = rest.here;
-  left_is = rest.left_is;
-  stays = rest.stays;
-}
-one_before sides added cursors text texts w (side.Line stop) here next rest = record {
-  before = text ∷ rest.before;
-  left = rest.left;
-  entries_are = ap (λ (ts : List (List ℕ)). text ∷ ts) rest.entries_are;
-  way = rest.way;
-  go = rw (here, next) rest.go;
-  none_here = rest.none_here;
-  cursor = rest.cursor;
-  first = rest.first;
-  stop_is = rest.stop_is;
-}
+one_before sides added cursors text texts w (side.Entry seat left) here next rest =
+    let go : go_in sides added cursors (text ∷ rest.before) ≡ Some rest.way = rw (here, next) rest.go in
+    search (rules, go, ap (λ (ts : List (List ℕ)). text ∷ ts) rest.entries_are, rest.names, rest.here, rest.left_is, rest.stays)
+one_before sides added cursors text texts w (side.Line stop) here next rest =
+    let go : go_in sides added cursors (text ∷ rest.before) ≡ Some rest.way = rw (here, next) rest.go in
+    search (rules, go, ap (λ (ts : List (List ℕ)). text ∷ ts) rest.entries_are, rest.none_here, rest.first, rest.stop_is)
 
 -- where no text is of a seat here they stop there
 waits_here : (sides : Sides) (added : List Entry) (cursors : List Cursor) (left : List (List ℕ)) (stop : SideStop) → goes_on_here sides left ≡ false
@@ -113,17 +84,9 @@ waits_here sides added cursors left stop none is = elim (found_or (find waits (a
   | inl over ↦ absurd (cc (rw over at is))
   | inr (lane, first) ↦ (
       let same : side.Line (waits_at lane left) ≡ stop = cc (rw first at is) in
-      rw (sym same) (record {
-        before = [];
-        left = left;
-        entries_are = refl;
-        way = record { added = added; cursors = cursors };
-        go = refl;
-        none_here = none;
-        cursor = lane;
-        first = first;
-        stop_is = refl;
-      }))
+      let way : Way = record { added = added; cursors = cursors } in
+      rw (sym same)
+      (record { before = []; left = left; entries_are = refl; way = way; go = refl; none_here = none; cursor = lane; first = first; stop_is = refl }))
 ]
 
 -- where lanes and workers stop, that is the first entry that doesn't go in, or a lane that waits behind all that go in
@@ -134,18 +97,10 @@ stops_beside sides added cursors (text ∷ texts) stop is =
     let next : Option Went = next_went sides added (all_told sides added cursors) text in
     elim (chosen (is_seat sides (seat_in text)) _ _ is) [
       | inl here ↦ elim (stopped _ next (side.Entry (seat_in text) (length (text ∷ texts))) stop here.1) [
-        | inl none ↦ rw (sym none.1) (record {
-          before = [];
-          text = text;
-          later = texts;
-          entries_are = refl;
-          way = record { added = added; cursors = cursors };
-          go = refl;
-          names = refl;
-          here = here.0;
-          left_is = refl;
-          stays = none.0;
-        })
+        | inl none ↦ (let way : Way = record { added = added; cursors = cursors } in
+            let are : text ∷ texts ≡ [] ++ text ∷ texts = refl in
+            let go : go_in sides added cursors [] ≡ Some way = refl in
+            rw (sym none.1) (search (rules, are, go, here.0, none.0)))
         | inr went ↦ one_before sides added cursors text texts went.0 stop here.0 went.1
             (stops_beside sides (added ++ went.0.entry ∷ []) went.0.cursors texts stop went.2)
       ]

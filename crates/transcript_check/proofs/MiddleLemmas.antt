@@ -1,71 +1,49 @@
 -- Lanes and workers as a run's relation says them, and as sections side by side.
-use Rattle.std.proofs.Common.{ℕ, zero, suc, ◌≡◌, ◌+◌, ◌≤◌, ◌<◌, Bool, true, false, List, [], ◌∷◌, ◌++◌, length, take, drop, take-append-drop, refl, sym, ap, ◌∙◌, subst, append_assoc, arith, inl, inr}
-use Rattle.std.specs.List.{All}
-use Rattle.std.proofs.lemmas.List.{map-append, take_at, drop_at}
-use Rattle.std.proofs.lemmas.List.Elements.{All-nil, All-from_recursion, recursion_from_All}
-use Rattle.std.proofs.lemmas.Bool.{cases_lt}
-use Rattle.std.proofs.lemmas.Bool.Decides.{nat_tests}
-use Rattle.write_history.specs.declared.entry.Entry.{Entry}
-use Rattle.script_lang.specs.declared.line.Line.{Line}
+use Rattle.transcript_check.proofs.Words.{ℕ, zero, suc, ◌≡◌, ◌+◌, ◌≤◌, ◌<◌, Bool, true, false, List, [], ◌∷◌, ◌++◌, length, take, drop}
+use Rattle.transcript_check.proofs.Words.{take-append-drop, refl, sym, ap, ◌∙◌, subst, append_assoc, arith, inl, inr, All, length-map, map-append}
+use Rattle.transcript_check.proofs.Words.{take_at, drop_at, All-nil, All-from_recursion, recursion_from_All, cases_lt, nat_tests, Entry, Line, Worked}
+use Rattle.transcript_check.proofs.Words.{Record, Progress, progress_at, made_by, LanesFit, WorkersFit, IsSeatOf, Sides, is_seat, cursors_of}
+use Rattle.transcript_check.proofs.Words.{after_lanes, record_texts, record_text, max_turns, IsIntakeBy}
 use Rattle.transcripts.specs.End.TheVariants.{Turns}
-use Rattle.transcripts.specs.Worked.{Worked}
-use Rattle.transcripts.specs.Work.{max_turns, IsIntakeBy}
-use Rattle.transcripts.specs.declared.record.Record.{Record}
-use Rattle.transcripts.specs.Fits.{Progress, progress_at, made_by, LanesFit, WorkersFit, IsSeatOf}
-use Rattle.transcript_check.specs.Phase.{Sides, is_seat, cursors_of, after_lanes}
-use Rattle.transcript_check.specs.Checked.{record_texts}
-use Rattle.transcript_check.proofs.Texts.{TextsFit, texts_of_section, section_of_texts}
+use Rattle.transcript_check.proofs.Texts.{texts_of_section, section_of_texts, of_section}
 use Rattle.transcript_check.proofs.WorkerLemmas.{AreWorkers}
 use Rattle.transcript_check.proofs.SideLemmas.{CursorsFit, AreSeated}
 use Rattle.transcript_check.proofs.PhaseLemmas.{AllSeats}
 
--- there is a text for each line
-texts_count : (beside : Bool) (history : List Entry) (seat len : ℕ) (lines : List Line) (texts : List (List ℕ)) (own : List Entry)
-    → TextsFit beside history seat len lines texts own → length texts ≡ length lines
-texts_count beside history seat len [] texts own fits = ap length fits.0
-texts_count beside history seat len (line ∷ lines) [] own fits = absurd fits
-texts_count beside history seat len (line ∷ lines) (text ∷ texts) own fits = ap suc (texts_count _ _ _ _ lines texts _ fits.rest)
-
--- from lanes to sections side by side
-pub record LanesAre (beside : Bool) (history here : List Entry) (seat : ℕ) (lanes : List (List Line)) (middle : List Entry)
-    (texts rest : List (List ℕ)) : Type 0 where
-  pub fits : CursorsFit beside history here (cursors_of seat lanes texts) middle
-  pub left : after_lanes lanes texts ≡ rest
-
-pub sides_of_lanes : (beside : Bool) (history here : List Entry) (seat : ℕ) (lanes : List (List Line)) (middle : List Entry) (records : List Record)
-    (rest : List (List ℕ)) → LanesFit beside history (progress_at (length here)) seat lanes middle records
-    → LanesAre beside history here seat lanes middle (record_texts records ++ rest) rest
-sides_of_lanes beside history here seat [] middle records rest fits = record { fits = tt; left = ap (λ (rs : List Record). record_texts rs ++ rest) fits }
-sides_of_lanes beside history here seat (lane ∷ lanes) middle records rest fits =
-    let own : List (List ℕ) = record_texts fits.own_records in
-    let others : List (List ℕ) = record_texts fits.others ++ rest in
-    let texts = texts_of_section beside history seat (progress_at (length here)) fits.high lane fits.own_records (made_by seat middle) fits.fits in
-    let count = texts_count _ _ _ _ lane own _ texts in
-    let later = sides_of_lanes beside history here (suc seat) lanes middle fits.others rest fits.rest in
-    let parts : record_texts records ++ rest ≡ own ++ others = rw fits.records_are (simp (map-append, append_assoc)) in
-    rw parts (record {
-      fits = (rw (take_at own others (length lane) count) texts, rw (drop_at own others (length lane) count) later.fits);
-      left = rw (drop_at own others (length lane) count) later.left;
-    })
-
--- and back
+-- from sections side by side to lanes
 pub record LanesFitTexts (beside : Bool) (history : List Entry) (low : Progress) (seat : ℕ) (lanes : List (List Line)) (middle : List Entry)
     (texts : List (List ℕ)) : Type 0 where
   pub records : List Record
   pub fits : LanesFit beside history low seat lanes middle records
   pub texts_are : texts ≡ record_texts records ++ after_lanes lanes texts
 
-pub lanes_of_sides : (beside : Bool) (history here : List Entry) (seat : ℕ) (lanes : List (List Line)) (middle : List Entry) (texts : List (List ℕ))
-    → CursorsFit beside history here (cursors_of seat lanes texts) middle → LanesFitTexts beside history (progress_at (length here)) seat lanes middle texts
-lanes_of_sides beside history here seat [] middle texts fits = record { records = []; fits = refl; texts_are = refl }
-lanes_of_sides beside history here seat (lane ∷ lanes) middle texts fits =
-    let own = section_of_texts beside history seat (length here) 0 lane (take (length lane) texts) (made_by seat middle) fits.0 in
-    let later = lanes_of_sides beside history here (suc seat) lanes middle (drop (length lane) texts) fits.1 in
-    record {
-      records = own.records ++ later.records;
-      fits = record { own_records = own.records; others = later.records; high = own.high; records_are = refl; fits = own.fits; rest = later.fits };
-      texts_are = sym (take-append-drop (length lane) texts) ∙ (λ i. sym own.texts_are i ++ later.texts_are i) ∙ simp (map-append, append_assoc);
-    }
+-- lanes are sections side by side, and back
+module _ (beside : Bool) (history here : List Entry) where
+  pub sides_of_lanes : (seat : ℕ) (lanes : List (List Line)) (middle : List Entry) (records : List Record) (rest : List (List ℕ))
+      → LanesFit beside history (progress_at (length here)) seat lanes middle records
+      → CursorsFit beside history here (cursors_of seat lanes (record_texts records ++ rest)) middle × (after_lanes lanes (record_texts records ++ rest) ≡ rest)
+  sides_of_lanes seat [] middle records rest fits = (tt, ap (λ (rs : List Record). record_texts rs ++ rest) fits)
+  sides_of_lanes seat (lane ∷ lanes) middle records rest fits =
+      let own : List (List ℕ) = record_texts fits.own_records in
+      let others : List (List ℕ) = record_texts fits.others ++ rest in
+      let texts = texts_of_section beside history seat (progress_at (length here)) fits.high lane fits.own_records (made_by seat middle) fits.fits in
+      let count = length-map fits.own_records record_text ∙ (of_section (λ reply. Unit {0}) (λ _ _ _ _ _ _ _ fit. tt) lane _ _ _ _ _ _ fits.fits).count in
+      let later = sides_of_lanes (suc seat) lanes middle fits.others rest fits.rest in
+      let parts : record_texts records ++ rest ≡ own ++ others = rw fits.records_are (simp (map-append, append_assoc)) in
+      let behind = drop_at own others (length lane) count in
+      rw parts ((rw (take_at own others (length lane) count) texts, rw behind later.0), rw behind later.1)
+
+  pub lanes_of_sides : (seat : ℕ) (lanes : List (List Line)) (middle : List Entry) (texts : List (List ℕ))
+      → CursorsFit beside history here (cursors_of seat lanes texts) middle → LanesFitTexts beside history (progress_at (length here)) seat lanes middle texts
+  lanes_of_sides seat [] middle texts fits = record { records = []; fits = refl; texts_are = refl }
+  lanes_of_sides seat (lane ∷ lanes) middle texts fits =
+      let own = section_of_texts beside history seat (length here) 0 lane (take (length lane) texts) (made_by seat middle) fits.0 in
+      let later = lanes_of_sides (suc seat) lanes middle (drop (length lane) texts) fits.1 in
+      record {
+        records = own.records ++ later.records;
+        fits = record { own_records = own.records; others = later.records; high = own.high; records_are = refl; fits = own.fits; rest = later.fits };
+        texts_are = sym (take-append-drop (length lane) texts) ∙ (λ i. sym own.texts_are i ++ later.texts_are i) ∙ simp (map-append, append_assoc);
+      }
 
 pub cursors_seated : (seat past : ℕ) (lanes : List (List Line)) (texts : List (List ℕ)) → past ≡ seat + length lanes
     → AreSeated seat past (cursors_of seat lanes texts)

@@ -1,32 +1,18 @@
 -- Sections and workers side by side lead from one history to another exactly where each fits.
-use Rattle.std.proofs.Common.{ℕ, suc, ◌≡◌, ◌+◌, ◌^◌, ◌≤◌, ◌<◌, Bool, true, false, List, [], ◌∷◌, ◌++◌, length, refl, sym, ap, ◌∙◌, append_assoc, length-append, arith, Some, None, inl, inr, leb}
-use Rattle.std.specs.List.{AllByRecursion}
-use Rattle.std.proofs.lemmas.Option.{option_and_then_some, cond_some}
-use Rattle.std.proofs.lemmas.Slice.Eq.{bytes_eq-Decides}
-use Rattle.std.proofs.lemmas.List.{append-nil}
-use Rattle.std.proofs.lemmas.Bool.{and_parts, leb-true, leb-false, le-leb, lt-leb, not-true, cases_lt}
-use Rattle.std.proofs.lemmas.Bool.Decides.{nat_tests}
-use Rattle.list_laws.specs.Prefixes.{IsPrefix}
-use Rattle.transcript_check.proofs.ChoiceLemmas.{is_none-true, chosen}
-use Rattle.write_history.specs.declared.change.Change.TheVariants.{Intake}
-use Rattle.write_history.specs.declared.entry.Entry.{Entry}
-use Rattle.write_history.specs.World.{file_of}
-use Rattle.write_history.specs.Effect.{stamp_of}
-use Rattle.write_history.specs.Fold.{fold, list_refusal, IsLegal}
-use Rattle.write_history.specs.Print.{entry_line}
-use Rattle.write_history.specs.Settle.{entry_of, intake_entry}
-use Rattle.transcripts.specs.Fits.{made_by}
-use Rattle.transcript_check.specs.Reading.{seat_in, file_in}
-use Rattle.transcript_check.specs.Section.{Cursor}
-use Rattle.history_laws.proofs.FoldLemmas.{IsLegal-append, IsLegal-split}
+use Rattle.transcript_check.proofs.Words.{ℕ, suc, ◌≡◌, ◌+◌, ◌^◌, ◌<◌, Bool, true, false, List, [], ◌∷◌, ◌++◌, length, refl, rules, sym, ap, ◌∙◌}
+use Rattle.transcript_check.proofs.Words.{append_assoc, length-append, arith, Some, None, inl, inr, leb, AllByRecursion, option_and_then_some}
+use Rattle.transcript_check.proofs.Words.{cond_some, bytes_eq-Decides, append-nil, and_parts, leb-true, leb-false, le-leb, lt-leb, not-true, cases_lt}
+use Rattle.transcript_check.proofs.Words.{nat_tests, IsPrefix, Intake, Entry, file_of, list_refusal, IsLegal, entry_line, made_by, seat_in, file_in}
+use Rattle.transcript_check.proofs.Words.{Cursor, IsLegal-append, IsLegal-split, Sides, Went, Reached, is_seat, worker_went, seat_went, printed_so}
+use Rattle.transcript_check.proofs.Words.{next_went, all_told, reached, phase_from, entry_texts, stamp_of, fold, entry_of, intake_entry}
 use Rattle.history_laws.proofs.LimitLemmas.{intake_finds, live_small}
-use Rattle.transcript_check.specs.Phase.{Sides, Went, Reached, is_seat, worker_went, seat_went, printed_so, next_went, all_told, reached, phase_from}
-use Rattle.transcript_check.specs.Checked.{entry_texts}
+use Rattle.transcript_check.proofs.ChoiceLemmas.{is_none-true, chosen}
 use Rattle.transcript_check.proofs.ReadLemmas.{seat-read, file-read}
 use Rattle.transcript_check.proofs.Texts.{text_is}
 use Rattle.transcript_check.proofs.CursorLemmas.{AreFew}
 use Rattle.transcript_check.proofs.WorkerLemmas.{MayMake, WorkersFrom, taken_anew, not_taken}
-use Rattle.transcript_check.proofs.SideLemmas.{CursorsFit, AreSeated, AllStop, beside_all, all_told_fits, others_forth, others_back, section_forth, went_so, went_seat, went_seated, went_back, all_over_back, all_over_forth}
+use Rattle.transcript_check.proofs.SideLemmas.{CursorsFit, AreSeated, AllStop, beside_all, all_told_fits, others_forth, others_back, section_forth, went_so}
+use Rattle.transcript_check.proofs.SideLemmas.{went_seat, went_seated, went_back, all_over_back, all_over_forth}
 
 -- all entries have seats of the lanes and workers
 abbrev pub AllSeats : Sides → List Entry → Type 0
@@ -102,21 +88,20 @@ module _ (sides : Sides) where
       ]
 
   -- one entry before those that follow it
-  joins : (added : List Entry) (cursors told : List Cursor) (text : List ℕ) (texts : List (List ℕ)) (w : Went) (r : Reached)
-      → ((history es : List Entry) → IsPrefix (sides.before ++ added) history → CursorsFit sides.beside history (sides.before ++ added) told es
-      → CursorsFit sides.beside history (sides.before ++ added) cursors es)
-      → is_seat sides (seat_in text) ≡ true → EntryWent sides added told (seat_in text) w → entry_line (length (sides.before ++ added) + 1) w.entry ≡ text
+  joins : (added : List Entry) (cursors : List Cursor) (text : List ℕ) (texts : List (List ℕ)) (w : Went) (r : Reached) → is_seat sides (seat_in text) ≡ true
+      → EntryWent sides added (all_told sides added cursors) (seat_in text) w → entry_line (length (sides.before ++ added) + 1) w.entry ≡ text
       → PhaseGoes sides (added ++ w.entry ∷ []) w.cursors texts r → PhaseGoes sides added cursors (text ∷ texts) r
-  joins added cursors told text texts w r untold seat went printed rest =
+  joins added cursors text texts w r seat went printed rest =
       let e : Entry = w.entry in
       let here : List Entry = sides.before ++ added in
       let next : length (sides.before ++ (added ++ e ∷ [])) + 1 ≡ length here + 1 + 1 = omega (arith, length-append {A = Entry}) in
       let texts_are = rw next at rest.texts_are in
+      let whole : List Entry = here ++ e ∷ rest.behind in
       record {
         behind = e ∷ rest.behind;
         added_is = rest.added_is ∙ append_assoc added (e ∷ []) rest.behind;
         texts_are = λ i. sym printed i ∷ texts_are i;
-        fits = untold (here ++ e ∷ rest.behind) (e ∷ rest.behind) (e ∷ rest.behind, refl) (went.back sides.beside (here ++ e ∷ rest.behind) rest.behind
+        fits = (all_told_fits sides.beside whole here cursors (e ∷ rest.behind, refl)).back (e ∷ rest.behind) (went.back sides.beside whole rest.behind
             (rest.behind, sym (append_assoc here (e ∷ []) rest.behind)) (simp append_assoc (simp append_assoc at rest.fits)));
         seats = (rw went.seat_is seat, rest.seats);
         workers = (went.may, rest.workers);
@@ -136,8 +121,7 @@ module _ (sides : Sides) where
             let prints : entry_line (length here + 1) w.entry ≡ text = rw printed.1 at (text_is (entry_line (length here + 1) v.entry) text printed.0) in
             let went = seat_is added told (seat_in text) text w
             ((all_told_fits sides.beside here here cursors ([], rw append-nil)).seated 1 (suc sides.lanes) seated) (rw printed.1 at is) in
-            joins added cursors told text texts w r (λ history es front fits. (all_told_fits sides.beside history here cursors front).back es fits) seat.0 went
-            prints (sound texts (added ++ w.entry ∷ []) w.cursors r went.seated later))))
+            joins added cursors text texts w r seat.0 went prints (sound texts (added ++ w.entry ∷ []) w.cursors r went.seated later))))
         | inr other ↦ ends added cursors (text ∷ texts) r other.1
       ]
 
@@ -145,13 +129,6 @@ module _ (sides : Sides) where
 abbrev pub StopsBefore : Sides → List (List ℕ) → Type 0
 StopsBefore sides [] = Unit {0}
 StopsBefore sides (text ∷ texts) = is_seat sides (seat_in text) ≡ false
-
--- how the next entry goes in
-record NextGoes (sides : Sides) (added : List Entry) (told : List Cursor) (history : List Entry) (e : Entry) (es : List Entry) : Type 0 where
-  behind : List Cursor
-  goes : next_went sides added told (entry_line (length (sides.before ++ added) + 1) e) ≡ Some (record { entry = e; cursors = behind })
-  seated : AreSeated 1 (suc sides.lanes) behind
-  fits : CursorsFit sides.beside history (sides.before ++ added ++ e ∷ []) behind es
 
 module _ (sides : Sides) (small : sides.lanes + sides.workers < 2 ^ 64) (history : List Entry) (few : AreFew history)
     (legal : IsLegal history) where
@@ -164,59 +141,46 @@ module _ (sides : Sides) (small : sides.lanes + sides.workers < 2 ^ 64) (history
       let told = all_told_fits sides.beside here here cursors ([], rw append-nil) in
       rw (all_over_forth sides.beside here (all_told sides added cursors) told.stops (told.forth (rw whole at few) [] (rw whole at fits)))
 
-  -- the entry of a seat, as it is printed, goes in
-  printed_goes : (added : List Entry) (told behind : List Cursor) (e : Entry) → length (sides.before ++ added) + 1 < 2 ^ 64 → e.seat < 2 ^ 64
-      → seat_went sides added told e.seat (entry_line (length (sides.before ++ added) + 1) e) ≡ Some (record { entry = e; cursors = behind })
-      → next_went sides added told (entry_line (length (sides.before ++ added) + 1) e) ≡ Some (record { entry = e; cursors = behind })
-  printed_goes added told behind e short seat_small goes =
-      let text : List ℕ = entry_line (length (sides.before ++ added) + 1) e in
-      rw (seat-read (length (sides.before ++ added) + 1) e seat_small, goes, (bytes_eq-Decides text text).1 refl)
-
   module _ (added : List Entry) (told : List Cursor) (e : Entry) (es : List Entry) (whole : history ≡ sides.before ++ added ++ e ∷ es)
       (seated : AreSeated 1 (suc sides.lanes) told) (stops : AllStop sides.beside (sides.before ++ added) told)
-      (fits : CursorsFit sides.beside history (sides.before ++ added) told (e ∷ es)) where
-    short : length (sides.before ++ added) + 1 < 2 ^ 64
-    short = omega (arith, ap length whole, length-append (sides.before ++ added) (e ∷ es))
+      (fits : CursorsFit sides.beside history (sides.before ++ added) told (e ∷ es)) (seat : is_seat sides e.seat ≡ true) where
+    abbrev text : List ℕ
+    text = entry_line (length (sides.before ++ added) + 1) e
 
-    -- the entry of a worker
-    worker_goes : sides.lanes < e.seat → e.seat < 2 ^ 64 → MayMake added e → NextGoes sides added told history e es
-    worker_goes past seat_small may =
-        let here : List Entry = sides.before ++ added in
-        let file : ℕ = may.intake.file in
-        let parts = IsLegal-split here (e ∷ es) (rw whole at legal) in
-        let there = intake_finds (fold here) file may.intake.stamp (rw may.intake.is at parts.1.0) in
-        let reads = ap (λ (x : Entry). file_in (entry_line (length here + 1) x)) may.intake.is
-        ∙ file-read (length here + 1) e.seat 0 file may.intake.stamp (live_small here file parts.0 there.0) in
-        let made : e ≡ intake_entry here e.seat 0 file = may.intake.is ∙ ap (λ (n : ℕ). entry_of e.seat 0 (Intake file n ∷ [])) there.1 in
-        let others = others_forth sides.beside history here told e es (beside_all e.seat 1 (suc sides.lanes) told seated (λ from. past)) stops whole fits in
-        let anew = not_taken file (stamp_of (file_of (fold here) file)) (made_by e.seat added) (rw made at may.anew) in
-        record {
-          behind = told;
-          goes = printed_goes added told told e short seat_small (rw (lt-leb e.seat sides.lanes past, reads, others.0, rw made at parts.1.0, anew)
-              (ap (λ (x : Entry). Some (record { entry = x; cursors = told })) (sym made)));
-          seated = seated;
-          fits = others.1;
-        }
+    -- how the next entry goes in
+    record NextGoes : Type 0 where
+      behind : List Cursor
+      goes : next_went sides added told text ≡ Some (record { entry = e; cursors = behind })
+      are_seated : AreSeated 1 (suc sides.lanes) behind
+      they_fit : CursorsFit sides.beside history (sides.before ++ added ++ e ∷ []) behind es
 
-    -- the entry of a section
-    section_goes : 1 ≤ e.seat → e.seat ≤ sides.lanes → e.seat < 2 ^ 64 → NextGoes sides added told history e es
-    section_goes above below seat_small =
-        let goes = section_forth sides.beside history (sides.before ++ added) 1 (suc sides.lanes) told e es seated above (omega arith) stops whole fits in
-        record {
-          behind = goes.behind;
-          goes = printed_goes added told goes.behind e short seat_small (rw (le-leb e.seat sides.lanes below) goes.goes);
-          seated = goes.seated;
-          fits = goes.fits;
-        }
+    -- the entry of a seat, as it is printed, goes in
+    printed_goes : (behind : List Cursor) → seat_went sides added told e.seat text ≡ Some (record { entry = e; cursors = behind })
+        → next_went sides added told text ≡ Some (record { entry = e; cursors = behind })
+    printed_goes behind goes =
+        rw (seat-read (length (sides.before ++ added) + 1) e (grind (arith, nat_tests, seat, small)), goes, (bytes_eq-Decides text text).1 refl)
 
-    next_goes : is_seat sides e.seat ≡ true → (sides.lanes < e.seat → MayMake added e) → NextGoes sides added told history e es
-    next_goes seat may =
-        let above : 1 ≤ e.seat = grind (arith, nat_tests, seat) in
-        let within : e.seat ≤ sides.lanes + sides.workers = grind (arith, nat_tests, seat) in
-        elim (cases_lt sides.lanes e.seat) [
-          | inl past ↦ worker_goes past (omega arith) (may past)
-          | inr lane ↦ section_goes above lane (omega arith)
-        ]
+    next_goes : (sides.lanes < e.seat → MayMake added e) → NextGoes
+    next_goes may = elim (cases_lt sides.lanes e.seat) [
+      | inl past ↦ (
+          let here : List Entry = sides.before ++ added in
+          let its = may past in
+          let file : ℕ = its.intake.file in
+          let parts = IsLegal-split here (e ∷ es) (rw whole at legal) in
+          let there = intake_finds (fold here) file its.intake.stamp (rw its.intake.is at parts.1.0) in
+          let reads = ap (λ (x : Entry). file_in (entry_line (length here + 1) x)) its.intake.is
+          ∙ file-read (length here + 1) e.seat 0 file its.intake.stamp (live_small here file parts.0 there.0) in
+          let made : e ≡ intake_entry here e.seat 0 file = its.intake.is ∙ ap (λ (n : ℕ). entry_of e.seat 0 (Intake file n ∷ [])) there.1 in
+          let others = others_forth sides.beside history here told e es (beside_all e.seat 1 (suc sides.lanes) told seated (λ from. past)) stops whole fits in
+          let anew = not_taken file (stamp_of (file_of (fold here) file)) (made_by e.seat added) (rw made at its.anew) in
+          let goes = printed_goes told (rw (lt-leb e.seat sides.lanes past, reads, others.0, rw made at parts.1.0, anew)
+          (ap (λ (x : Entry). Some (record { entry = x; cursors = told })) (sym made))) in
+          record { behind = told; goes = goes; are_seated = seated; they_fit = others.1 })
+      | inr lane ↦ (
+          let goes = section_forth sides.beside history (sides.before ++ added) 1 (suc sides.lanes) told e es seated
+          (grind (arith, nat_tests, seat)) (omega arith) stops whole fits in
+          search (rules, printed_goes goes.behind (rw (le-leb e.seat sides.lanes lane) goes.goes), goes.seated, goes.fits))
+    ]
 
   pub complete : (behind added : List Entry) (cursors : List Cursor) (left : List (List ℕ)) → history ≡ sides.before ++ added ++ behind
       → AreSeated 1 (suc sides.lanes) cursors → StopsBefore sides left → AllSeats sides behind → WorkersFrom sides.lanes added behind
@@ -231,9 +195,9 @@ module _ (sides : Sides) (small : sides.lanes + sides.workers < 2 ^ 64) (history
       let told = all_told_fits sides.beside history here cursors (e ∷ behind, whole) in
       let next = next_goes added (all_told sides added cursors) e behind whole (told.seated 1 (suc sides.lanes) seated) told.stops
       (told.forth few (e ∷ behind) fits) seats.0 workers.0 in
-      let within : e.seat ≤ sides.lanes + sides.workers = grind (arith, nat_tests, seats.0) in
-      let seat : is_seat sides (seat_in (entry_line (length here + 1) e)) ≡ true = rw (seat-read (length here + 1) e (omega arith)) seats.0 in
-      let rest = complete behind (added ++ e ∷ []) next.behind left (simp append_assoc (simp append_assoc at whole)) next.seated stop seats.1 workers.1
-      (rw append_assoc at next.fits) in
+      let small_seat : e.seat < 2 ^ 64 = grind (arith, nat_tests, seats.0, small) in
+      let seat : is_seat sides (seat_in (entry_line (length here + 1) e)) ≡ true = rw (seat-read (length here + 1) e small_seat) seats.0 in
+      let rest = complete behind (added ++ e ∷ []) next.behind left (simp append_assoc (simp append_assoc at whole)) next.are_seated stop seats.1 workers.1
+      (rw append_assoc at next.they_fit) in
       let position : length (sides.before ++ (added ++ e ∷ [])) + 1 ≡ length here + 1 + 1 = omega (arith, length-append {A = Entry}) in
       rw (seat, next.goes) (rw (position, append_assoc added (e ∷ []) behind) at rest)

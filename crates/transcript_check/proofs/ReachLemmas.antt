@@ -1,101 +1,135 @@
 -- Lanes and workers side by side, from what the code found.
-use Rattle.std.proofs.Common.{ℕ, ◌≡◌, ◌+◌, ◌<◌, ◌≤◌, get_or, arith, Bool, true, false, cond, not, ◌&&◌, leb, List, [], ◌∷◌, ◌++◌, length, refl, sym, ap, ◌∙◌, append_assoc, Some, None, Option, Result, Ok, Err, inl, inr, ltb, ltb-true, ltb-false}
-use Rattle.std.specs.Prelude.{if◌then◌else◌, bytes_eq, is_none, option_map}
-use Rattle.std.specs.List.{find, position, position_or_len}
-use Rattle.std.proofs.lemmas.List.Folds.{find_at}
-use Rattle.std.proofs.lemmas.Option.{slice_get-get_or, slice_get_past}
-use Rattle.std.specs.Option.{option_and_then, option_map_or}
-use Rattle.std.proofs.lemmas.List.{append-nil}
-use Rattle.std.proofs.lemmas.Bool.{cases_Bool, le-leb, lt-leb}
-use Rattle.write_history.specs.declared.entry.Entry.{Entry}
-use Rattle.write_history.specs.World.{World, file_of}
-use Rattle.write_history.specs.Effect.{stamp_of}
-use Rattle.write_history.specs.Fold.{fold, list_refusal}
-use Rattle.write_history.specs.Print.{entry_line}
-use Rattle.history_laws.proofs.FoldLemmas.{fold-append}
-use Rattle.history_laws.proofs.StampLemmas.{entries-fold}
-use Rattle.write_history.specs.Settle.{intake_of, intake_entry}
-use Rattle.transcripts.specs.Fits.{made_by}
-use Rattle.transcript_check.specs.Reading.{seat_in, file_in}
-use Rattle.transcript_check.specs.Section.{Cursor}
-use Rattle.transcript_check.specs.Phase.{Sides, Went, Reached, is_seat, is_busy, section_went, has_taken, worker_went, printed_so, next_went, all_told}
-use Rattle.transcript_check.specs.declared.stop.LineStop.{LineStop}
-use Rattle.transcript_check.specs.declared.stop.SideStop.{SideStop}
-use Rattle.transcript_check.specs.declared.stop.SideStop.TheVariants as side
-use Rattle.transcript_check.specs.Stops.{waits, waits_at, left_or, reached_or, phase_or}
-use Rattle.transcript_check.specs.Here.{AreToldAll}
-use Rattle.transcript_check.specs.Going.{HasReached}
-use Rattle.transcript_check.specs.Intakes.{Taking, AreKept}
+use Rattle.transcript_check.proofs.Words.{cond, leb, ltb, ltb-true, ltb-false, length-take, length-drop, map, nat_lt, slice_set, find, position}
+use Rattle.transcript_check.proofs.Words.{position_or_len, option_and_then, slice_get-get_or, le-leb, lt-leb, file_of, stamp_of, made_here, Reached}
+use Rattle.transcript_check.proofs.Words.{is_seat, went_later, worker_went, printed_so, next_went, all_told, AreToldAll, ℕ, suc, ◌≡◌, ◌+◌, ◌<◌, ◌≤◌}
+use Rattle.transcript_check.proofs.Words.{Bool, true, false, not, ◌||◌, eqb, add-one, length-append, List, [], ◌∷◌, ◌++◌, length, get_or, take, drop}
+use Rattle.transcript_check.proofs.Words.{refl, ◌&&◌, sym, ap, ◌∙◌, append_assoc, arith, Some, None, Option, Result, Ok, Err, inl, inr, if◌then◌else◌}
+use Rattle.transcript_check.proofs.Words.{bytes_eq, is_none, option_map, slice_index_or, option_map_or, append-nil, slice_get_past, cases_Bool}
+use Rattle.transcript_check.proofs.Words.{nat_tests, Entry, World, fold, list_refusal, entry_line, intake_of, intake_entry, fold-append, entries-fold}
+use Rattle.transcript_check.proofs.Words.{made_by, LineStop, Cursor, NextEntry, Sides, Went, is_busy, section_went, has_taken, IsMadeAs, HasMadeNext}
+use Rattle.transcript_check.proofs.Words.{Taking, AreKept, length-map, get_or_default, find_at, SideStop, seat_in, file_in, waits, waits_at, left_or}
+use Rattle.transcript_check.proofs.Words.{reached_or, phase_or, HasReached}
+use Rattle.std.proofs.lemmas.List.Edits.{map_over_more}
 use Rattle.transcript_check.specs.Sides.{IsGoneAs, HasSectionGone, HasWorkerGone, IsNextGone, HasSeatGone}
+use Rattle.transcript_check.specs.declared.stop.SideStop.TheVariants as side
 use Rattle.transcript_check.proofs.ChoiceLemmas.{found_or}
-use Rattle.transcript_check.proofs.SideLemmas.{went_so, went_seat}
 use Rattle.transcript_check.proofs.IntakeLemmas.{kept_none, kept_beside, kept_more}
+use Rattle.transcript_check.proofs.SideLemmas.{went_so, went_seat}
+
+-- EVERY SECTION BEHIND WHAT IS TOLD
+
+-- one section more is behind what is told
+pub told_more : {A : Type 0} (f : A → A) (xs ys : List A) (i : ℕ) (d new : A) → i < length xs → ys ≡ map f (take i xs) ++ drop i xs
+    → new ≡ f (slice_index_or ys i d) → slice_set ys i new ≡ map f (take (i + 1) xs) ++ drop (i + 1) xs
+told_more f xs ys i d new within stands is =
+    let long = simp (length-append, length-map, length-take, length-drop) at (ap length stands) in
+    rw is (map_over_more f xs ys i (get_or ys i d) within stands (get_or_default ys i d _ (omega arith)))
+
+-- A SECTION BESIDE OTHERS
+
+-- any section
+abbrev no_section : Cursor
+no_section = record { seat = 0; lines = []; texts = []; settling = false }
+
+-- a section is behind its entry, at its place
+abbrev set_at : List Cursor → ℕ → NextEntry → Went
+set_at cursors place made = record { entry = made.entry; cursors = slice_set cursors place made.cursor }
+
+-- the entry of the section at the place that was found, or none
+abbrev gone_at : List Entry → List Cursor → Cursor → Option ℕ → Option Went
+gone_at history cursors d None = None
+gone_at history cursors d (Some place) =
+    cond (is_busy (take place cursors) || is_busy (drop (suc place) cursors)) None
+    (option_map (set_at cursors place) (made_here history (get_or cursors place d)))
+
+-- the place behind one section more
+behind : (history : List Entry) (c : Cursor) (cs : List Cursor) (d : Cursor) (place : ℕ)
+    → went_later c (gone_at history cs d (cond (nat_lt place (length cs)) (Some place) None))
+    ≡ gone_at history (c ∷ cs) d (cond (nat_lt (1 + place) (suc (length cs))) (Some (1 + place)) None)
+behind history c cs d place =
+    let next : 1 + place ≡ suc place = omega arith in
+    let same : nat_lt (suc place) (suc (length cs)) ≡ nat_lt place (length cs) = grind (arith, nat_tests) in
+    rw (next, same) (grind arith)
+
+-- the section with a seat is the first that has it
+went_is : (seat : ℕ) (history : List Entry) (d : Cursor) (cursors : List Cursor)
+    → section_went seat history cursors ≡ gone_at history cursors d (position (λ (c : Cursor). eqb c.seat seat) cursors)
+went_is seat history d [] = refl
+went_is seat history d (c ∷ cs) = elim (cases_Bool (eqb c.seat seat)) [
+  | inl own ↦ rw (own, le-leb 1 (suc (length cs)) (omega arith)) refl
+  | inr other ↦ rw (other, went_is seat history d cs) (behind history c cs d (position_or_len (λ (x : Cursor). eqb x.seat seat) cs))
+]
+
+-- no section has the seat
+pub none_gone : {world after : World} {seat : ℕ} {cursors cursors' : List Cursor} {text : List ℕ}
+    → position (λ (c : Cursor). eqb c.seat seat) cursors ≡ None → HasSectionGone world after seat cursors cursors' text false
+none_gone {seat = seat} {cursors = cursors} none = record { is = λ history leads. rw (went_is seat history no_section cursors, none) refl }
+
+module _ {world after : World} {seat : ℕ} {cursors : List Cursor} {text : List ℕ} {place : ℕ}
+    (found : position (λ (c : Cursor). eqb c.seat seat) cursors ≡ Some place) where
+  -- beside one that is in a settle none goes in
+  pub section_waits : {cursors' : List Cursor} → (is_busy (take place cursors) || is_busy (drop (place + 1) cursors)) ≡ true
+      → HasSectionGone world after seat cursors cursors' text false
+  section_waits busy = record { is = λ history leads. rw (went_is seat history no_section cursors, found, rw add-one at busy) refl }
+
+  -- else it goes in where it is made
+  pub section_made : (d : Cursor) {cursor' : Cursor} {went : Bool} → (is_busy (take place cursors) || is_busy (drop (place + 1) cursors)) ≡ false
+      → HasMadeNext world after (get_or cursors place d) cursor' text went
+      → HasSectionGone world after seat cursors (slice_set cursors place cursor') text went
+  section_made d {cursor'} {went} quiet made = record {
+    is = λ history leads.
+        rw (went_is seat history d cursors, found, rw add-one at quiet) (by history (made_here history (get_or cursors place d)) (made.is history leads));
+  }
+    where
+      by : (history : List Entry) (made : Option NextEntry) → IsMadeAs made history after cursor' text went
+          → IsGoneAs (option_map (set_at cursors place) made) history after (slice_set cursors place cursor') text went
+      by history None is = is
+      by history (Some made) is = (is.0, λ t. ((is.1 t).0, ap (slice_set cursors place) (is.1 t).1))
 
 -- THE NEXT ENTRY
 
--- the entry of a section
-section_next : (lanes seat : ℕ) (before added : List Entry) (after : World) (taken : List Taking) (cursors' : List Cursor) (text : List ℕ) (went : Bool)
-    → seat ≤ lanes → AreKept lanes taken added → (o : Option Went) → ((w : Went) → o ≡ Some w → w.entry.seat ≡ seat)
-    → IsGoneAs o (before ++ added) after cursors' text went
-    → IsNextGone (option_and_then (printed_so (before ++ added) text) o) lanes before added after taken cursors' went
-section_next lanes seat before added after taken cursors' text went below kept None seated gone = gone
-section_next lanes seat before added after taken cursors' text went below kept (Some w) seated gone =
-    elim (cases_Bool (bytes_eq (entry_line (length (before ++ added) + 1) w.entry) text)) [
-      | inl so ↦ (let parts = gone.1 (gone.0 ∙ so) in
-          rw so (
-            gone.0 ∙ so,
-            parts.0 ∙ ap fold (append_assoc before added (w.entry ∷ [])),
-            parts.1,
-            kept_beside lanes taken added w.entry (omega (arith, seated w refl)) kept,
-          ))
-      | inr otherwise ↦ rw otherwise (gone.0 ∙ otherwise)
-    ]
-
--- the entry of a worker
-worker_next : (lanes seat file : ℕ) (before added : List Entry) (after : World) (taken taken' : List Taking) (cursors : List Cursor)
-    (text : List ℕ) (went : Bool) → lanes < seat → AreKept lanes taken added
-    → HasWorkerGone (fold (before ++ added)) after taken taken' seat file cursors text went
-    → IsNextGone (option_and_then (printed_so (before ++ added) text) (worker_went (before ++ added) added seat file cursors)) lanes before added after taken'
-    cursors went
-worker_next lanes seat file before added after taken taken' cursors text went past kept gone =
-    let here : List Entry = before ++ added in
-    let e : Entry = intake_entry here seat 0 file in
-    let stamp : ℕ = stamp_of (file_of (fold here) file) in
-    let lawful : Bool = is_none (list_refusal (fold here) (intake_of (fold here) file)) in
-    let printed : Bool = bytes_eq (entry_line (length here + 1) e) text in
-    let anew : Bool = not (has_taken file stamp (made_by seat added)) in
-    let w : Went = record { entry = e; cursors = cursors } in
-    let goes : went ≡ (not (is_busy cursors) && (anew && (lawful && printed))) =
-    (rw (kept.is seat file stamp past) at gone.is)
-    ∙ ap (λ (n : ℕ). not (is_busy cursors) && (anew && (lawful && bytes_eq (entry_line (n + 1) e) text))) (entries-fold here) in
-    let next : option_and_then (printed_so here text) (worker_went here added seat file cursors) ≡ cond went (Some w) None = grind (arith, goes) in
-    elim (cases_Bool went) [
-      | inl so ↦ rw (next, so) (
-        refl,
-        gone.then_after so ∙ sym (fold-append here (e ∷ [])) ∙ ap fold (append_assoc before added (e ∷ [])),
-        refl,
-        kept_more lanes taken taken' added seat 0 file stamp (gone.then_kept so) kept,
-      )
-      | inr otherwise ↦ rw (next, otherwise)
-    ]
+-- what goes in where it is printed so
+gone_where : {lanes : ℕ} (before added : List Entry) {after : World} {taken : List Taking} {cursors : List Cursor} {went : Bool} (w : Went)
+    → (went ≡ true → (after ≡ fold ((before ++ added) ++ w.entry ∷ [])) × (cursors ≡ w.cursors) × AreKept lanes taken (added ++ w.entry ∷ []))
+    → IsNextGone (cond went (Some w) None) lanes before added after taken cursors went
+gone_where before added {went = true} w goes =
+    let parts = goes refl in (refl, parts.0 ∙ ap fold (append_assoc before added (w.entry ∷ [])), parts.1, parts.2)
+gone_where before added {went = false} w goes = refl
 
 -- a lane's entry is that of the next seat
 pub lane_gone : {lanes seat : ℕ} {world after : World} {taken : List Taking} {cursors cursors' : List Cursor} {text : List ℕ} {went : Bool}
     → seat ≤ lanes → HasSectionGone world after seat cursors cursors' text went → HasSeatGone lanes world after taken taken seat cursors cursors' text went
-lane_gone {lanes} {seat} {after = after} {taken} {cursors} {cursors'} {text} {went} below gone = record {
+lane_gone {lanes} {seat} {taken = taken} {cursors} below gone = record {
   is = λ sides added own named leads kept. (let here : List Entry = sides.before ++ added in
-      rw (named, own, le-leb seat lanes below) (section_next lanes seat sides.before added after taken cursors' text went below kept
-      (section_went seat here cursors) (λ w goes. went_seat here seat (went_so here seat cursors w goes)) (gone.is here leads)));
+      let so = gone.is here leads in
+      rw (named, own, le-leb seat lanes below) (elim (found_or (section_went seat here cursors)) [
+        | inl none ↦ rw none (rw none at so)
+        | inr (w, is) ↦ (let goes = rw is at so in
+            let own_seat = went_seat here seat (went_so here seat cursors w is) in
+            rw (is, ← goes.0) (gone_where sides.before added w (λ t. ((goes.1 t).0, (goes.1 t).1, kept_beside lanes taken added w.entry (omega arith) kept))))
+      ]));
 }
 
 -- and so is a worker's
 pub worker_gone : {lanes seat : ℕ} {world after : World} {taken taken' : List Taking} {cursors : List Cursor} {text : List ℕ} {went : Bool}
     → lanes < seat → HasWorkerGone world after taken taken' seat (file_in text) cursors text went
     → HasSeatGone lanes world after taken taken' seat cursors cursors text went
-worker_gone {lanes} {seat} {after = after} {taken} {taken'} {cursors} {text} {went} past gone = record {
-  is = λ sides added own named leads kept.
-      rw (named, own, lt-leb seat lanes past)
-      (worker_next lanes seat (file_in text) sides.before added after taken taken' cursors text went past kept (rw (sym leads) at gone));
+worker_gone {lanes} {seat} {taken = taken} {taken'} {cursors} {text} {went} past in_world = record {
+  is = λ sides added own named leads kept. (
+      let here : List Entry = sides.before ++ added in
+      let file : ℕ = file_in text in
+      let gone = rw (← leads) at in_world in
+      let e : Entry = intake_entry here seat 0 file in
+      let stamp : ℕ = stamp_of (file_of (fold here) file) in
+      let lawful : Bool = is_none (list_refusal (fold here) (intake_of (fold here) file)) in
+      let anew : Bool = not (has_taken file stamp (made_by seat added)) in
+      let w : Went = record { entry = e; cursors = cursors } in
+      let goes : went ≡ (not (is_busy cursors) && (anew && (lawful && bytes_eq (entry_line (length here + 1) e) text))) =
+      (rw (kept.is seat file stamp past) at gone.is)
+      ∙ ap (λ (n : ℕ). not (is_busy cursors) && (anew && (lawful && bytes_eq (entry_line (n + 1) e) text))) (entries-fold here) in
+      let next : option_and_then (printed_so here text) (worker_went here added seat file cursors) ≡ cond went (Some w) None = grind (arith, goes) in
+      rw (named, own, lt-leb seat lanes past, next) (gone_where sides.before added w (λ t.
+      (gone.then_after t ∙ sym (fold-append here (e ∷ [])), refl, kept_more lanes taken taken' added seat 0 file stamp (gone.then_kept t) kept))));
 }
 
 -- ENTRY BY ENTRY
@@ -194,7 +228,7 @@ find_by test xs d = elim (cases_Bool (ltb (position_or_len test xs) (length xs))
 
 -- no section waits
 pub none_waits : (cursors : List Cursor) {left : List (List ℕ)} → position waits cursors ≡ None → Ok left ≡ left_or cursors left
-none_waits cursors none = rw (find_by waits cursors (record { seat = 0; lines = []; texts = []; settling = false }), none)
+none_waits cursors none = rw (find_by waits cursors no_section, none)
 
 -- the one at the place that was found does
 pub one_waits : (cursors : List Cursor) (left : List (List ℕ)) {place : ℕ} {cursor : Cursor} {stop : LineStop} → position waits cursors ≡ Some place

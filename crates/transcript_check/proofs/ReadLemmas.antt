@@ -1,12 +1,6 @@
 -- The numbers that are read from an entry's text are those that were printed.
-use Rattle.std.proofs.Common.{◌≡◌, ℕ, ◌^◌, ◌<◌, List, [], ◌∷◌, ◌++◌, refl, append_assoc, arith}
-use Rattle.std.specs.Fmt.{decimal}
-use Rattle.std.proofs.lemmas.Bool.Decides.{nat_tests}
-use Rattle.write_history.specs.declared.change.Change.TheVariants.{Intake}
-use Rattle.write_history.specs.declared.entry.Entry.{Entry}
-use Rattle.write_history.specs.Print.{entry_line}
-use Rattle.transcript_check.specs.Blocks.{space}
-use Rattle.transcript_check.specs.Reading.{after_space, seat_in, file_in}
+use Rattle.transcript_check.proofs.Words.{◌≡◌, ℕ, ◌^◌, ◌<◌, List, [], ◌∷◌, ◌++◌, refl, append_assoc, arith, decimal, nat_tests, Intake, Entry}
+use Rattle.transcript_check.proofs.Words.{entry_line, space, after_space, seat_in, file_in}
 use Rattle.transcript_check.proofs.ScanLemmas.{decimal-by}
 use Rattle.transcript_check.proofs.TextLemmas.{number_at-decimal}
 

@@ -1,21 +1,11 @@
 -- A section that goes alone: it fits, a history stays legal, and its texts are those of its entries and records.
-use Rattle.std.proofs.Common.{ℕ, ◌≡◌, ◌+◌, false, List, [], ◌∷◌, ◌++◌, length, refl, sym, ap, ◌∙◌, append_assoc, length-append, arith, inl, Some}
-use Rattle.std.proofs.lemmas.Option.{option_and_then_some, same_Some}
-use Rattle.std.proofs.lemmas.Slice.Eq.{bytes_eq-Decides}
-use Rattle.write_history.specs.Print.{entry_line}
-use Rattle.transcript_check.specs.Section.{told_text}
-use Rattle.transcript_check.specs.Checked.{entry_texts, record_texts, texts_behind, Came, line_so, serial_from}
+use Rattle.transcript_check.proofs.Words.{option_and_then_some, record_texts, Came, serial_from, done_from, ℕ, ◌≡◌, ◌+◌, false, List, [], ◌∷◌, ◌++◌}
+use Rattle.transcript_check.proofs.Words.{length, refl, sym, ap, ◌∙◌, append_assoc, length-append, arith, inl, Some, same_Some, bytes_eq-Decides}
+use Rattle.transcript_check.proofs.Words.{entry_line, told_text, entry_texts, texts_behind, line_so, append-nil, Entry, IsLegal, Line, Loaded, Record}
+use Rattle.transcript_check.proofs.Words.{CommandStep, step_of, first_load, later_loads, Progress, SectionFits}
+use Rattle.transcript_check.proofs.StepLemmas.{step_is}
 use Rattle.transcript_check.proofs.Texts.{text_is}
 use Rattle.transcript_check.proofs.ChoiceLemmas.{if_some}
-use Rattle.std.proofs.lemmas.List.{append-nil}
-use Rattle.write_history.specs.declared.entry.Entry.{Entry}
-use Rattle.write_history.specs.Fold.{IsLegal}
-use Rattle.script_lang.specs.declared.line.Line.{Line}
-use Rattle.transcripts.specs.declared.loaded.Loaded.{Loaded}
-use Rattle.transcripts.specs.declared.record.Record.{Record}
-use Rattle.transcripts.specs.Serial.{CommandStep, step_of, done_from, first_load, later_loads}
-use Rattle.transcripts.specs.Fits.{Progress, SectionFits}
-use Rattle.transcript_check.proofs.StepLemmas.{step_is}
 
 -- texts that begin with others
 behind_is : (wanted texts left : List (List ℕ)) → texts_behind wanted texts ≡ Some left → texts ≡ wanted ++ left

@@ -1,16 +1,11 @@
 -- Sections side by side: each fits what is behind them all.
-use Rattle.std.proofs.Common.{ℕ, suc, ◌≡◌, ◌≤◌, ◌<◌, Bool, true, false, List, [], ◌∷◌, ◌++◌, map, refl, sym, ◌∙◌, subst, arith, Some, None, inl, inr, eqb}
-use Rattle.std.specs.List.{list_all}
-use Rattle.std.proofs.lemmas.Bool.{cases_Bool, eqb-true, eqb-false, or_parts, and_parts}
-use Rattle.list_laws.specs.Prefixes.{IsPrefix}
-use Rattle.transcript_check.proofs.ChoiceLemmas.{chosen, made_of}
-use Rattle.write_history.specs.declared.entry.Entry.{Entry}
-use Rattle.write_history.specs.Fold.{fold, list_refusal}
-use Rattle.transcripts.specs.Fits.{made_by}
-use Rattle.transcript_check.specs.Section.{Cursor, NextEntry, told_here, is_over}
-use Rattle.transcript_check.specs.Phase.{Went, is_busy, section_went}
+use Rattle.transcript_check.proofs.Words.{map, list_all, eqb-false, or_parts, told_here, is_over, ℕ, suc, ◌≡◌, ◌≤◌, ◌<◌, Bool, true, false, List, []}
+use Rattle.transcript_check.proofs.Words.{◌∷◌, ◌++◌, refl, sym, ◌∙◌, subst, arith, Some, None, inl, inr, eqb, cases_Bool, eqb-true, and_parts}
+use Rattle.transcript_check.proofs.Words.{IsPrefix, Entry, fold, list_refusal, made_by, Cursor, NextEntry, Went, is_busy, section_went}
 use Rattle.transcript_check.proofs.StepLemmas.{made_by-own, made_by-other}
-use Rattle.transcript_check.proofs.CursorLemmas.{CursorFits, StopsAt, AreFew, Makes, makes_so, made_keeps, told_fits, other_forth, other_back, own_forth, own_back, over_back, over_forth}
+use Rattle.transcript_check.proofs.ChoiceLemmas.{chosen, made_of}
+use Rattle.transcript_check.proofs.CursorLemmas.{CursorFits, StopsAt, AreFew, Makes, makes_so, made_keeps, told_fits, other_forth, other_back, own_forth}
+use Rattle.transcript_check.proofs.CursorLemmas.{own_back, over_back, over_forth}
 
 -- each section fits what is behind `here`
 abbrev pub CursorsFit : Bool → List Entry → List Entry → List Cursor → List Entry → Type 0
@@ -58,10 +53,7 @@ module _ (beside : Bool) (history here : List Entry) where
       let one = told_fits beside history c.seat here c.settling c.lines c.texts front in
       let rest = all_told_fits cs front in
       record {
-        forth = λ few behind fits. (
-          rw one.seat_is (rw one.seat_is at (one.forth few (made_by c.seat behind) fits.0)),
-          rest.forth few behind fits.1,
-        );
+        forth = λ few behind fits. (rw one.seat_is (rw one.seat_is at (one.forth few _ fits.0)), rest.forth few behind fits.1);
         back = λ behind fits. (one.back (made_by c.seat behind) (rw one.seat_is (rw one.seat_is at fits.0)), rest.back behind fits.1);
         seated = λ first past seated. (one.seat_is ∙ seated.0, rest.seated (suc first) past seated.1);
         stops = (rw one.seat_is one.stops, rest.stops);
@@ -82,11 +74,9 @@ module _ (beside : Bool) (history here : List Entry) where
       → CursorsFit beside history (here ++ e ∷ []) cursors es → CursorsFit beside history here cursors (e ∷ es)
   others_back [] e es none quiet fits = tt
   others_back (c ∷ cs) e es none quiet fits =
-      let parts = or_parts _ _ quiet in (
-        rw (made_by-other c.seat e es none.0)
-            (other_back beside history c.seat here c.settling c.lines c.texts e (made_by c.seat es) parts.0 fits.0),
-        others_back cs e es none.1 parts.1 fits.1,
-      )
+      let parts = or_parts _ _ quiet in
+      let one = other_back beside history c.seat here c.settling c.lines c.texts e (made_by c.seat es) parts.0 fits.0 in
+      (rw (made_by-other c.seat e es none.0) one, others_back cs e es none.1 parts.1 fits.1)
 
   -- the next entry is that of one of them
   pub record SectionGoes (first past : ℕ) (cursors : List Cursor) (e : Entry) (es : List Entry) : Type 0 where
@@ -103,22 +93,13 @@ module _ (beside : Bool) (history here : List Entry) where
     | inl own ↦ (let same = eqb-true c.seat e.seat own in
         let one = own_forth beside history c.seat here c.settling c.lines c.texts e es stops.0 parts (sym same) fits.0 in
         let rest = others_forth cs e es (beside_all e.seat (suc first) past cs seated.1 (λ next. absurd (omega (arith, seated.0)))) stops.1 parts fits.1 in
-        record {
-          behind = one.cursor ∷ cs;
-          goes = rw (own, rest.0, one.makes);
-          seated = (one.seat_is ∙ seated.0, seated.1);
-          fits = (rw one.seat_is (rw one.seat_is at one.fits), rest.1);
-        })
+        let own_fits = rw one.seat_is at one.fits in
+        record { behind = one.cursor ∷ cs; goes = rw (own, rest.0, one.makes); seated = (one.seat_is ∙ seated.0, seated.1); fits = (rw one.seat_is own_fits, rest.1) })
     | inr fails ↦ (let other : e.seat ≡ c.seat → ⊥ = λ same. eqb-false c.seat e.seat fails (sym same) in
         let one = other_forth beside history c.seat here c.settling c.lines c.texts e es (made_by c.seat es) stops.0 parts other
         (rw (made_by-other c.seat e es other) at fits.0) in
         let rest = section_forth (suc first) past cs e es seated.1 (omega (arith, seated.0)) below stops.1 parts fits.1 in
-        record {
-          behind = c ∷ rest.behind;
-          goes = rw (fails, one.0, rest.goes);
-          seated = (seated.0, rest.seated);
-          fits = (rw one.0 one.1, rest.fits);
-        })
+        record { behind = c ∷ rest.behind; goes = rw (fails, one.0, rest.goes); seated = (seated.0, rest.seated); fits = (rw one.0 one.1, rest.fits) })
   ]
 
 module _ (here : List Entry) (seat : ℕ) where
@@ -155,16 +136,15 @@ module _ (here : List Entry) (seat : ℕ) where
       → AreSeated low past cursors → IsPrefix (here ++ w.entry ∷ []) history
       → CursorsFit beside history (here ++ w.entry ∷ []) w.cursors es → CursorsFit beside history here cursors (w.entry ∷ es)
   went_back beside history es low past (first {c} {cs} {m} is quiet makes) seated front fits =
-      let keeps = made_keeps c.seat here makes in (
-        rw (made_by-own c.seat m.entry es keeps.1) (own_back beside history c.seat here c.settling (made_by c.seat es) makes front
-            (subst (λ (n : ℕ). CursorFits beside history (here ++ m.entry ∷ []) m.cursor (made_by n es)) keeps.0 fits.0)),
-        others_back beside history here cs m.entry es (beside_all m.entry.seat (suc low) past cs seated.1 (λ next. absurd (omega (arith, seated.0)))) quiet fits.1,
-      )
-  went_back beside history es low past (later {c} {cs} {w} other quiet went) seated front fits = (
-    rw (made_by-other c.seat w.entry es (λ same. other (sym (went_seat went) ∙ same)))
-        (other_back beside history c.seat here c.settling c.lines c.texts w.entry (made_by c.seat es) quiet fits.0),
-    went_back beside history es (suc low) past went seated.1 front fits.1,
-  )
+      let keeps = made_keeps c.seat here makes in
+      let others = beside_all m.entry.seat (suc low) past cs seated.1 (λ next. absurd (omega (arith, seated.0))) in
+      let own = subst (λ (n : ℕ). CursorFits beside history (here ++ m.entry ∷ []) m.cursor (made_by n es)) keeps.0 fits.0 in
+      let one = own_back beside history c.seat here c.settling (made_by c.seat es) makes front own in
+      (rw (made_by-own c.seat m.entry es keeps.1) one, others_back beside history here cs m.entry es others quiet fits.1)
+  went_back beside history es low past (later {c} {cs} {w} other quiet went) seated front fits =
+      let one = other_back beside history c.seat here c.settling c.lines c.texts w.entry (made_by c.seat es) quiet fits.0 in
+      let rest = went_back beside history es (suc low) past went seated.1 front fits.1 in
+      (rw (made_by-other c.seat w.entry es (λ same. other (sym (went_seat went) ∙ same))) one, rest)
 
 -- at the end of a history each section fits it where it is over
 pub all_over_back : (beside : Bool) (here : List Entry) (cursors : List Cursor) → list_all is_over cursors ≡ true

@@ -1,16 +1,11 @@
 -- What is read of a text is what was printed.
-use Rattle.std.proofs.Common.{ℕ, ◌≡◌, ◌+◌, ◌*◌, ◌^◌, ◌<◌, false, List, [], ◌∷◌, ◌++◌, take, drop, refl, sym, ap, ◌∙◌, append_assoc, arith, Some, None}
-use Rattle.std.specs.Prelude.{Option, codes, bytes_eq, decimal, if◌then◌else◌}
+use Rattle.transcript_check.proofs.Words.{ℕ, ◌≡◌, ◌+◌, ◌*◌, ◌^◌, ◌<◌, false, List, [], ◌∷◌, ◌++◌, take, drop, refl, sym, ap, ◌∙◌, append_assoc, arith}
+use Rattle.transcript_check.proofs.Words.{Some, None, Option, codes, bytes_eq, decimal, if◌then◌else◌, append_cancel_left, nat_tests, Answer}
+use Rattle.transcript_check.proofs.Words.{Accepted, Refused, NotText, TooLong, Smart, NotReady, Found, Cancelled, prefix_text, answer_text, is_digit}
+use Rattle.transcript_check.proofs.Words.{number_from, number_at, told_text}
 use Rattle.std.specs.Str.Parse.{AllDigits, digits_value_after}
 use Rattle.std.specs.Char.{digit_value}
 use Rattle.std.proofs.lemmas.Fmt.{decimal_is_IsNumeral}
-use Rattle.std.proofs.lemmas.List.{append_cancel_left}
-use Rattle.std.proofs.lemmas.Bool.Decides.{nat_tests}
-use Rattle.transcripts.specs.declared.record.Answer.{Answer}
-use Rattle.transcripts.specs.declared.record.Answer.TheVariants.{Accepted, Refused, NotText, TooLong, Smart, NotReady, Found, Cancelled}
-use Rattle.transcripts.specs.Transcript.{prefix_text, answer_text}
-use Rattle.transcript_check.specs.Reading.{is_digit, number_from, number_at}
-use Rattle.transcript_check.specs.Section.{told_text}
 
 -- the digits at the beginning of a text are read up to the first byte that is none
 pub number_from-digits : (ds rest : List ℕ) (n byte : ℕ) → AllDigits 10 ds → is_digit byte ≡ false

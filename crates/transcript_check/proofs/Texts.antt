@@ -1,20 +1,9 @@
 -- A section by the texts of its records: what `SectionFits` says, without what isn't printed.
-use Rattle.std.proofs.Common.{ℕ, ◌≡◌, ◌+◌, ◌≤◌, Bool, true, List, [], ◌∷◌, ◌++◌, length, map, refl, sym, ap, rules, ◌⊎◌, inl, inr}
-use Rattle.std.specs.Prelude.{bytes_eq}
-use Rattle.std.proofs.lemmas.Slice.Eq.{bytes_eq-Decides}
-use Rattle.list_laws.specs.Prefixes.{IsPrefix}
-use Rattle.write_history.specs.declared.entry.Entry.{Entry}
-use Rattle.queries.specs.declared.query.Query.{Query}
-use Rattle.script_lang.specs.declared.command.Command.{Command}
+use Rattle.transcript_check.proofs.Words.{ℕ, ◌≡◌, ◌+◌, ◌≤◌, Bool, true, List, [], ◌∷◌, ◌++◌, length, length-append, map, refl, sym, ap, suc, arith}
+use Rattle.transcript_check.proofs.Words.{rules, ◌⊎◌, inl, inr, bytes_eq, All, flat_map, All-nil, All-cons, All-append, bytes_eq-Decides, IsPrefix}
+use Rattle.transcript_check.proofs.Words.{Entry, Query, Command, Line, Loaded, Answer, Record, Progress, Fits, SectionFits, LanesFit, record_text}
+use Rattle.transcript_check.proofs.Words.{line_step, told_text, given_up, tells_given_up, Nothing, Cancelled}
 use Rattle.script_lang.specs.declared.command.Command.TheVariants as command
-use Rattle.script_lang.specs.declared.line.Line.{Line}
-use Rattle.transcripts.specs.declared.loaded.Loaded.TheVariants.{Nothing}
-use Rattle.transcripts.specs.declared.record.Answer.{Answer}
-use Rattle.transcripts.specs.declared.record.Answer.TheVariants.{Cancelled}
-use Rattle.transcripts.specs.declared.record.Record.{Record}
-use Rattle.transcripts.specs.Fits.{Progress, Fits, SectionFits}
-use Rattle.transcripts.specs.Transcript.{record_text}
-use Rattle.transcript_check.specs.Section.{line_step, told_text, given_up, tells_given_up}
 
 -- A line was done behind `start`: what it made stands right behind that, and this is the text of its record
 pub record DoneBehind (history start : List Entry) (seat : ℕ) (line : Line) (made : List Entry) (text : List ℕ) : Type 0 where
@@ -52,14 +41,7 @@ pub record FirstFits (First Rest : List Entry → ℕ → Type 0) (own : List En
 
 -- the first fits in another way, and the others as before
 pub first_as : {P Q R : List Entry → ℕ → Type 0} {own : List Entry} → (fits : FirstFits P R own) → Q fits.made fits.between → FirstFits Q R own
-first_as fits first = record {
-  made = fits.made;
-  between = fits.between;
-  made_later = fits.made_later;
-  own_is = fits.own_is;
-  first = first;
-  rest = fits.rest;
-}
+first_as fits first = search (rules, fits.own_is, first, fits.rest)
 
 -- the texts of a section's records fit the history from so many entries on, of which these are its own
 abbrev pub TextsFit : Bool → List Entry → ℕ → ℕ → List Line → List (List ℕ) → List Entry → Type 0
@@ -105,14 +87,6 @@ pub record RecordsFit (beside : Bool) (history : List Entry) (seat len sights : 
   pub fits : SectionFits beside history seat (record { seen = len; sights = sights }) lines [] records own high
   pub texts_are : map record_text records ≡ texts
 
--- the first record fits, up to a mark
-record RecordFits (beside : Bool) (history : List Entry) (seat : ℕ) (line : Line) (len sights : ℕ) (made : List Entry) (text : List ℕ)
-    (between : ℕ) : Type 0 where
-  answer : Answer
-  later_sights : ℕ
-  fits : Fits beside history seat line Nothing (record { seen = len; sights = sights }) made answer (record { seen = between; sights = later_sights })
-  text_is : told_text seat line.number answer ≡ text
-
 -- a soft question that was given up, with the number of its attempts
 pub record GaveUp (seat : ℕ) (line : Line) (text : List ℕ) : Type 0 where
   pub attempts : ℕ
@@ -127,17 +101,17 @@ gave_up seat number (command.Soft attempts query) text told =
 gave_up seat number c text told = absurd cc
 
 record_fits : (beside : Bool) (history : List Entry) (seat : ℕ) (line : Line) (len sights : ℕ) (made : List Entry) (text : List ℕ) (between : ℕ)
-    → TextFits beside history seat line len made text between → RecordFits beside history seat line len sights made text between
+    → TextFits beside history seat line len made text between → (answer : Answer) × (later : ℕ) × (told_text seat line.number answer ≡ text)
+    × Fits beside history seat line Nothing (record { seen = len; sights = sights }) made answer (record { seen = between; sights = later })
 record_fits beside history seat line len sights made text between (inl late) =
-    record { answer = late.done.answer; later_sights = sights; fits = inl (search (rules, late.done.stands, late.done.step)); text_is = late.done.told }
+    (late.done.answer, sights, late.done.told, inl (search (rules, late.done.stands, late.done.step)))
 record_fits beside history seat line len sights made text between (inr (is, given)) =
-    let gave : GaveUp seat line text = gave_up seat line.number line.command text given.told in
-    record {
-      answer = Cancelled (record { seat = seat; attempts = gave.attempts; before = sights; after = sights + gave.attempts });
-      later_sights = sights + gave.attempts;
-      fits = inr (is, search (rules, gave.soft));
-      text_is = gave.told;
-    }
+    let gave : GaveUp seat line text = gave_up seat line.number line.command text given.told in (
+      Cancelled (record { seat = seat; attempts = gave.attempts; before = sights; after = sights + gave.attempts }),
+      sights + gave.attempts,
+      gave.told,
+      inr (is, search (rules, gave.soft)),
+    )
 
 pub section_of_texts : (beside : Bool) (history : List Entry) (seat len sights : ℕ) (lines : List Line) (texts : List (List ℕ)) (own : List Entry)
     → TextsFit beside history seat len lines texts own → RecordsFit beside history seat len sights lines texts own
@@ -146,10 +120,40 @@ section_of_texts beside history seat len sights [] texts own fits =
 section_of_texts beside history seat len sights (line ∷ lines) [] own fits = absurd fits
 section_of_texts beside history seat len sights (line ∷ lines) (text ∷ texts) own fits =
     let first = record_fits beside history seat line len sights fits.made text fits.between fits.first in
-    let rest = section_of_texts beside history seat fits.between first.later_sights lines texts fits.made_later fits.rest in
+    let rest = section_of_texts beside history seat fits.between first.1 lines texts fits.made_later fits.rest in
     record {
-      records = record { seat = seat; line = line.number; answer = first.answer } ∷ rest.records;
+      records = record { seat = seat; line = line.number; answer = first.0 } ∷ rest.records;
       high = rest.high;
-      fits = search (rules, first.fits, rest.fits, fits.own_is);
-      texts_are = λ i. first.text_is i ∷ rest.texts_are i;
+      fits = search (rules, first.3, rest.fits, fits.own_is);
+      texts_are = λ i. first.2 i ∷ rest.texts_are i;
     }
+
+-- lines have a record each, and each of these has P
+pub record AreOfLines (P : Record → Type 0) (lines : List Line) (records : List Record) : Type 0 where
+  pub count : length records ≡ length lines
+  pub each : All P records
+
+pub of_both : {P : Record → Type 0} {lines more : List Line} {records others : List Record} → AreOfLines P lines records → AreOfLines P more others
+    → AreOfLines P (lines ++ more) (records ++ others)
+of_both {P} first later = record { count = grind (arith, length-append, first.count, later.count); each = All-append P _ _ first.each later.each }
+
+-- P holds of each record that fits a history
+abbrev pub HoldsOfFitting : (Record → Type 0) → Bool → List Entry → Type 0
+HoldsOfFitting P beside history =
+    (seat : ℕ) (line : Line) (load : Loaded) (low : Progress) (own : List Entry) (answer : Answer) (high : Progress)
+    → Fits beside history seat line load low own answer high → P (record { seat = seat; line = line.number; answer = answer })
+
+-- so it holds of the records of a section, and of lanes
+module _ (P : Record → Type 0) {beside : Bool} {history : List Entry} (fitting : HoldsOfFitting P beside history) where
+  pub of_section : (lines : List Line) (seat : ℕ) (low : Progress) (loads : List Loaded) (records : List Record) (own : List Entry) (high : Progress)
+      → SectionFits beside history seat low lines loads records own high → AreOfLines P lines records
+  of_section [] seat low loads records own high fits = rw fits.0 (record { count = refl; each = All-nil P })
+  of_section (line ∷ lines) seat low loads records own high fits =
+      let rest = of_section lines _ _ _ _ _ _ fits.rest in
+      rw fits.records_are (record { count = ap suc rest.count; each = All-cons P _ _ (fitting _ _ _ _ _ _ _ fits.first) rest.each })
+
+  pub of_lanes : (lanes : List (List Line)) (low : Progress) (seat : ℕ) (entries : List Entry) (records : List Record)
+      → LanesFit beside history low seat lanes entries records → AreOfLines P (flat_map (λ (lane : List Line). lane) lanes) records
+  of_lanes [] low seat entries records fits = rw fits (record { count = refl; each = All-nil P })
+  of_lanes (lane ∷ lanes) low seat entries records fits =
+      rw fits.records_are (of_both (of_section lane _ _ _ _ _ _ fits.fits) (of_lanes lanes _ _ _ _ fits.rest))

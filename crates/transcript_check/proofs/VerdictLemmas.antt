@@ -1,61 +1,27 @@
 -- Bytes are found good exactly where they are a transcript, there is a misfit exactly where they aren't, and what a line as misfit means.
-use Rattle.std.proofs.Common.{ℕ, suc, ◌≡◌, ◌+◌, ◌<◌, ◌^◌, ◌⊎◌, inl, inr, Bool, true, List, [], ◌∷◌, ◌++◌, length, take, drop, take-append-drop, refl, sym, ap, ◌∙◌, length-append, arith, ◌≤◌, Option, Some, None, Result, Ok, Err, IfOk, append_assoc}
-use Rattle.std.specs.Prelude.{bytes_eq, ◌↔◌, is_none}
-use Rattle.std.specs.List.{concat, flat_map, find, list_all}
-use Rattle.std.proofs.lemmas.Slice.Eq.{bytes_eq-Decides}
-use Rattle.std.proofs.lemmas.Bool.{and_parts, and_from}
-use Rattle.std.proofs.lemmas.List.{take_at, drop_at, length-map, length-take-le, append-nil, map-append, nil_from_length}
-use Rattle.std.specs.Option.{option_and_then, option_map_or}
+use Rattle.transcript_check.proofs.Words.{ℕ, suc, ◌≡◌, ◌+◌, ◌<◌, ◌^◌, ◌⊎◌, inl, inr, Bool, true, List, [], ◌∷◌, ◌++◌, length, take, drop}
+use Rattle.transcript_check.proofs.Words.{take-append-drop, refl, sym, ap, ◌∙◌, length-append, arith, ◌≤◌, Option, Some, None, Result, Ok, Err, IfOk}
+use Rattle.transcript_check.proofs.Words.{append_assoc, bytes_eq, ◌↔◌, is_none, concat, find, list_all, bytes_eq-Decides, and_parts, and_from}
+use Rattle.transcript_check.proofs.Words.{take_at, drop_at, length-map, length-take-le, map-append, nil_from_length, append-nil, option_and_then}
+use Rattle.transcript_check.proofs.Words.{option_map_or, nat_tests, Entry, Line, AreOfScript, Parts, Worked, Loaded, Record, RunEnd, run_of, step_of}
+use Rattle.transcript_check.proofs.Words.{first_load, later_loads, CommandStep, RunState, after_step, done_from, RunFits, run_beside, transcript_of}
+use Rattle.transcript_check.proofs.Words.{record_text, blocks_of, history_line, texts_of, entry_texts, record_texts, are_checked, AreTextsOfRun, Came}
+use Rattle.transcript_check.proofs.Words.{serial_from, goes_on_so, Misfit, LineStop, SideStop, seat_in, Cursor, is_over, Sides, Reached, next_went}
+use Rattle.transcript_check.proofs.Words.{all_told, reached, phase_from, after_lanes, waits, serial_or, phase_or, ends_or, goes_on_or, misfit_among}
+use Rattle.transcript_check.proofs.Words.{misfit_of, FindsMisfit, line_misfit, loads_behind, StopsAtLine, DiffersFromRun}
 use Rattle.std.specs.Result.{result_ok}
-use Rattle.std.proofs.lemmas.Bool.Decides.{nat_tests}
 use Rattle.ide_io.specs.Files.{TreeFiles}
-use Rattle.write_history.specs.declared.entry.Entry.{Entry}
-use Rattle.script_lang.specs.declared.line.Line.{Line}
-use Rattle.script_lang.specs.Held.{AreOfScript, all_lines}
-use Rattle.script_lang.specs.Parts.{Parts}
-use Rattle.transcripts.specs.Worked.{Worked}
-use Rattle.transcripts.specs.declared.loaded.Loaded.{Loaded}
-use Rattle.transcripts.specs.declared.record.Record.{Record}
-use Rattle.transcripts.specs.Serial.{RunEnd, run_of, step_of, first_load, later_loads, CommandStep, RunState, after_step, done_from}
-use Rattle.transcripts.specs.Fits.{Progress, SectionFits, LanesFit, RunFits, run_beside}
 use Rattle.transcripts.specs.Play.{IsTranscriptOf}
-use Rattle.transcripts.specs.Transcript.{transcript_of, record_text}
-use Rattle.transcript_check.specs.Blocks.{blocks_of}
-use Rattle.transcript_check.specs.Texts.{history_line, texts_of}
-use Rattle.transcript_check.specs.Checked.{entry_texts, record_texts, are_checked, AreTextsOfRun, Came, line_so, serial_from, goes_on_so}
 use Rattle.transcript_check.specs.Verdict.{entries_among, are_blocks_of, verdict_of, told_verdict, Judges}
-use Rattle.transcript_check.specs.declared.misfit.Misfit.{Misfit}
-use Rattle.transcript_check.specs.declared.stop.LineStop.{LineStop}
-use Rattle.transcript_check.specs.declared.stop.SideStop.{SideStop}
-use Rattle.transcript_check.specs.declared.stop.SideStop.TheVariants as side
-use Rattle.transcript_check.specs.Reading.{seat_in}
-use Rattle.transcript_check.specs.Section.{Cursor, is_over}
-use Rattle.transcript_check.specs.Phase.{Sides, Reached, next_went, all_told, reached, phase_from, after_lanes}
-use Rattle.transcript_check.specs.Stops.{stops_at, waits, serial_or, phase_or}
-use Rattle.transcript_check.specs.Misfit.{ends_or, goes_on_or, misfit_among, misfit_of, FindsMisfit, line_misfit}
-use Rattle.transcript_check.specs.declared.misfit.Misfit.TheVariants as misfit
-use Rattle.transcript_check.specs.Meaning.{loads_behind, StopsAtLine, DiffersFromRun}
-use Rattle.transcript_check.proofs.BlockLemmas.{blocks-joined}
-use Rattle.transcript_check.proofs.TextBlocks.{texts-joined}
+use Rattle.transcript_check.proofs.ScanLemmas.{blocks-joined}
+use Rattle.transcript_check.proofs.TextBlocks.{texts-joined, run-records}
 use Rattle.transcript_check.proofs.CheckedLemmas.{checked_sound}
 use Rattle.transcript_check.proofs.Texts.{text_is}
 use Rattle.transcript_check.proofs.ChoiceLemmas.{is_none-true}
 use Rattle.transcript_check.proofs.SerialLemmas.{texts_on, SerialFits, serial_fits}
 use Rattle.transcript_check.proofs.MeaningLemmas.{stops_at_line}
-
--- a transcript is cut into its texts
-abbrev pub IsCut : Type 0
-IsCut = (loads : List Loaded) (script : Parts) (told : List Worked) (ended : RunEnd) → RunFits loads script told ended
-    → blocks_of (transcript_of ended) ≡ texts_of ended
-
--- a run without lanes and workers is the one on one thread
-abbrev pub IsAlone : Type 0
-IsAlone = (loads : List Loaded) (script : Parts) (ended : RunEnd) → script.lanes ≡ [] → RunFits loads script [] ended → ended ≡ run_of loads script
-
--- all texts of a run are checked
-abbrev pub AreAllChecked : Type 0
-AreAllChecked = (loads : List Loaded) (script : Parts) (workers : ℕ) (entries records : List (List ℕ)) → AreOfScript script → workers < 2 ^ 32
-    → AreTextsOfRun loads script workers entries records → are_checked loads script workers entries records ≡ true
+use Rattle.transcript_check.specs.declared.stop.SideStop.TheVariants as side
+use Rattle.transcript_check.specs.declared.misfit.Misfit.TheVariants as misfit
 
 pub length-entry_texts : (position : ℕ) (entries : List Entry) → length (entry_texts position entries) ≡ length entries
 length-entry_texts position [] = refl
@@ -66,7 +32,9 @@ abbrev pub IsSound : Type 0
 IsSound = (loads : List Loaded) (script : Parts) (workers : ℕ) (bytes : List ℕ) → verdict_of loads script workers bytes ≡ true
     → IsTranscriptOf loads script workers bytes
 
-pub verdict_sound : IsAlone → IsSound
+-- where a run without lanes and workers is the one on one thread
+pub verdict_sound : ((loads : List Loaded) (script : Parts) (ended : RunEnd) → script.lanes ≡ [] → RunFits loads script [] ended → ended ≡ run_of loads script)
+    → IsSound
 verdict_sound serial loads script workers bytes good = by (blocks_of bytes) refl good
   where
     by : (blocks : List (List ℕ)) → blocks_of bytes ≡ blocks → are_blocks_of loads script workers blocks ≡ true → IsTranscriptOf loads script workers bytes
@@ -90,37 +58,16 @@ verdict_sound serial loads script workers bytes good = by (blocks_of bytes) refl
           printed = sym (blocks-joined bytes) ∙ ap concat (is ∙ blocks_are) ∙ texts-joined run.ended;
         }
 
--- there is a record for each line
-section_count : (beside : Bool) (history : List Entry) (seat : ℕ) (low high : Progress) (lines : List Line) (loads : List Loaded) (records : List Record)
-    (own : List Entry) → SectionFits beside history seat low lines loads records own high → length records ≡ length lines
-section_count beside history seat low high [] loads records own fits = ap length fits.0
-section_count beside history seat low high (line ∷ lines) loads records own fits =
-    ap length fits.records_are ∙ ap suc (section_count _ _ _ _ _ lines _ _ _ fits.rest)
-
-lanes_count : (beside : Bool) (history : List Entry) (low : Progress) (seat : ℕ) (lanes : List (List Line)) (entries : List Entry) (records : List Record)
-    → LanesFit beside history low seat lanes entries records → length records ≡ length (flat_map (λ (lane : List Line). lane) lanes)
-lanes_count beside history low seat [] entries records fits = ap length fits
-lanes_count beside history low seat (lane ∷ lanes) entries records fits =
-    grind (arith, length-append, fits.records_are, section_count _ _ _ _ _ lane _ _ _ fits.fits, lanes_count _ _ _ _ lanes _ _ fits.rest)
-
-run_count : (loads : List Loaded) (script : Parts) (told : List Worked) (ended : RunEnd) → RunFits loads script told ended
-    → length (ended.records ++ ended.last) ≡ length (all_lines script)
-run_count loads script told ended fits =
-    grind (
-      arith,
-      length-append,
-      fits.records,
-      section_count _ _ _ _ _ script.prelude _ _ _ fits.prelude,
-      lanes_count _ _ _ _ script.lanes _ _ fits.lanes,
-      section_count _ _ _ _ _ script.last _ _ _ fits.last,
-    )
-
 -- a transcript of a script is found good
 abbrev pub IsComplete : Type 0
 IsComplete = (loads : List Loaded) (script : Parts) (workers : ℕ) (bytes : List ℕ) → AreOfScript script → workers < 2 ^ 32
     → IsTranscriptOf loads script workers bytes → verdict_of loads script workers bytes ≡ true
 
-pub verdict_complete : IsCut → AreAllChecked → IsComplete
+-- where a transcript is cut into its texts, and all texts of a run are checked
+pub verdict_complete : ((loads : List Loaded) (script : Parts) (told : List Worked) (ended : RunEnd) → RunFits loads script told ended
+    → blocks_of (transcript_of ended) ≡ texts_of ended)
+    → ((loads : List Loaded) (script : Parts) (workers : ℕ) (entries records : List (List ℕ)) → AreOfScript script → workers < 2 ^ 32
+    → AreTextsOfRun loads script workers entries records → are_checked loads script workers entries records ≡ true) → IsComplete
 verdict_complete cut complete loads script workers bytes are few is =
     let ended : RunEnd = is.ended in
     let fits = is.played.fits in
@@ -128,8 +75,9 @@ verdict_complete cut complete loads script workers bytes are few is =
     let records : List (List ℕ) = record_texts (ended.records ++ ended.last) in
     let made : length entries ≡ length ended.history = length-entry_texts 1 ended.history in
     let size : ℕ = length ended.history in
+    let lines = (run-records (λ reply. Unit {0}) (λ _ _ legal _ _ _ _ _ _ _ fit. tt) fits).count in
     let count : entries_among script (entries ++ records) ≡ size =
-    omega (arith, made, length-append entries records, length-map (ended.records ++ ended.last) record_text, run_count loads script is.told ended fits) in
+    omega (arith, made, length-append entries records, length-map (ended.records ++ ended.last) record_text, lines) in
     rw (is.printed, cut loads script is.told ended fits, count, take_at entries records size made, drop_at entries records size made)
     (and_from _ _ ((bytes_eq-Decides (history_line size) (history_line size)).1 refl)
     (complete loads script workers entries records are few
@@ -137,26 +85,24 @@ verdict_complete cut complete loads script workers bytes are few is =
 
 -- ---- no misfit, exactly where the verdict is good
 
--- a choice of a value, or of an error
-chosen : {A B E : Type 0} (f : A → Result B E) (g : A → Option B) (e : E) → ((x : A) → result_ok (f x) ≡ g x) → (o : Option A)
-    → result_ok (option_map_or f o (Err e)) ≡ option_and_then g o
-chosen f g e same None = refl
-chosen f g e same (Some x) = same x
-
 -- a section goes where it doesn't stop
 pub serial_ok : (seat : ℕ) (history : List Entry) (lines : List Line) (loads : List Loaded) (entries records : List (List ℕ))
     → result_ok (serial_or seat history lines loads entries records) ≡ serial_from seat history lines loads entries records
 serial_ok seat history [] loads entries records = refl
 serial_ok seat history (line ∷ lines) loads entries [] = refl
 serial_ok seat history (line ∷ lines) loads entries (text ∷ records) =
-    let step = step_of (first_load loads) history seat line.number line.command in
-    chosen _ _ (stops_at seat line entries (text ∷ records)) (λ left. serial_ok seat (history ++ step.added) lines (later_loads loads) left records)
-    (line_so history seat line.number step text entries)
+    grind (arith, serial_ok seat (history ++ (step_of (first_load loads) history seat line.number line.command).added) lines (later_loads loads))
 
 -- all sections are over where none waits
 all_over : (cursors : List Cursor) → is_none (find waits cursors) ≡ list_all is_over cursors
 all_over [] = refl
 all_over (cursor ∷ cursors) = grind (arith, all_over cursors)
+
+-- a choice of a value, or of an error
+chosen : {A B E : Type 0} (f : A → Result B E) (g : A → Option B) (e : E) → ((x : A) → result_ok (f x) ≡ g x) → (o : Option A)
+    → result_ok (option_map_or f o (Err e)) ≡ option_and_then g o
+chosen f g e same None = refl
+chosen f g e same (Some x) = same x
 
 -- lanes and workers go where they don't stop
 pub phase_ok : (sides : Sides) (added : List Entry) (cursors : List Cursor) (texts : List (List ℕ))
@@ -170,14 +116,11 @@ phase_ok sides added cursors (text ∷ texts) =
           (next_went sides added (all_told sides added cursors) text),
     )
 
--- THE WHOLE
-
 -- the last section goes on from where lanes and workers came
 goes_on_ok : (script : Parts) (entries records : List (List ℕ)) (opening : List Entry) (told : List (List ℕ)) (reached : Result Reached SideStop)
     → is_none (goes_on_or script entries records opening told reached) ≡ goes_on_so script opening told (result_ok reached)
-goes_on_ok script entries records opening told (Err stop) = refl
-goes_on_ok script entries records opening told (Ok reached) =
-    grind (arith, serial_ok 0 (opening ++ reached.added) script.last [] reached.left (after_lanes script.lanes told))
+goes_on_ok script entries records opening told reached =
+    grind (arith, λ (r : Reached). serial_ok 0 (opening ++ r.added) script.last [] r.left (after_lanes script.lanes told))
 
 -- texts have no misfit exactly where they are those of a run
 among_ok : (loads : List Loaded) (script : Parts) (workers : ℕ) (entries records : List (List ℕ))

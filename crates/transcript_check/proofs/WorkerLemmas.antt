@@ -1,19 +1,10 @@
 -- What workers may make, entry by entry.
-use Rattle.std.proofs.Common.{ℕ, ◌≡◌, ◌≢◌, ◌<◌, true, false, List, [], ◌∷◌, ◌++◌, length, refl, sym, subst, append_assoc, length-append, arith, eqb, inl, inr}
-use Rattle.std.specs.List.{All, AllPairs}
+use Rattle.transcript_check.proofs.Words.{◌≢◌, ℕ, ◌≡◌, ◌<◌, AllPairs, All-push, false≢true, false_from_ne_true, AreApart, is_intake_at, true, false}
+use Rattle.transcript_check.proofs.Words.{List, [], ◌∷◌, ◌++◌, length, refl, sym, subst, append_assoc, length-append, arith, eqb, inl, inr, All}
+use Rattle.transcript_check.proofs.Words.{append-nil, filter-append, cases_Bool, eqb-true, eq-eqb, both_ways, and_parts, filter_more, filter_same}
+use Rattle.transcript_check.proofs.Words.{Change, Intake, Entry, IsIntakeBy, made_by, has_taken, get_or_append_left, list_any_at, list_any_none}
 use Rattle.std.proofs.Math.Seq.{get_or-append_seam}
-use Rattle.std.proofs.lemmas.List.{append-nil, get_or_append_left}
-use Rattle.std.proofs.lemmas.List.Elements.{All-push, filter-append}
-use Rattle.std.proofs.lemmas.List.Folds.{list_any_at, list_any_none}
 use Rattle.std.proofs.lemmas.List.Quantifiers.{all_pairs_push}
-use Rattle.std.proofs.lemmas.Bool.{false≢true, cases_Bool, eqb-true, eq-eqb, both_ways, and_parts, false_from_ne_true}
-use Rattle.list_laws.proofs.PrefixLemmas.{filter_more, filter_same}
-use Rattle.write_history.specs.declared.change.Change.{Change}
-use Rattle.write_history.specs.declared.change.Change.TheVariants.{Intake}
-use Rattle.write_history.specs.declared.entry.Entry.{Entry}
-use Rattle.transcripts.specs.Work.{IsIntakeBy, AreApart}
-use Rattle.transcripts.specs.Fits.{made_by}
-use Rattle.transcript_check.specs.Phase.{is_intake_at, has_taken}
 use Rattle.transcript_check.proofs.StepLemmas.{made_by-own}
 
 -- the entries of a worker are intakes, no two the same
@@ -42,10 +33,8 @@ pairs_seam R xs y ys pairs = λ k d less.
 pub may_make : (added : List Entry) (e : Entry) (es : List Entry) → AreWorkers e.seat (added ++ e ∷ es) → MayMake added e
 may_make added e es workers =
     let parts : made_by e.seat (added ++ e ∷ es) ≡ made_by e.seat added ++ e ∷ made_by e.seat es = rw (filter-append, made_by-own e.seat e es refl) in
-    record {
-      intake = all_seam (IsIntakeBy e.seat) _ e _ (rw parts at workers.intakes);
-      anew = pairs_seam (λ (d f : Entry). d.changes ≢ f.changes) _ e _ (rw parts at workers.apart);
-    }
+    let intake = all_seam (IsIntakeBy e.seat) _ e _ (rw parts at workers.intakes) in
+    record { intake = intake; anew = pairs_seam (λ (d f : Entry). d.changes ≢ f.changes) _ e _ (rw parts at workers.apart) }
 
 pub workers_from : (lanes : ℕ) (added es : List Entry) → ((seat : ℕ) → lanes < seat → AreWorkers seat (added ++ es)) → WorkersFrom lanes added es
 workers_from lanes added [] workers = tt
@@ -59,10 +48,9 @@ workers_push : (seat : ℕ) (added : List Entry) (e : Entry) → AreWorkers seat
 workers_push seat added e workers may = elim (cases_Bool (eqb e.seat seat)) [
   | inl own ↦ (let is = eqb-true e.seat seat own in
       let grown = filter_more (λ (x : Entry). eqb x.seat seat) added e own in
-      record {
-        intakes = rw grown (All-push (IsIntakeBy seat) _ e workers.intakes (subst (λ (n : ℕ). IsIntakeBy n e) is (may is).intake));
-        apart = rw grown (all_pairs_push (λ (d f : Entry). d.changes ≢ f.changes) _ e workers.apart (rw is at (may is).anew));
-      })
+      let intakes = All-push (IsIntakeBy seat) _ e workers.intakes (subst (λ (n : ℕ). IsIntakeBy n e) is (may is).intake) in
+      let apart = all_pairs_push (λ (d f : Entry). d.changes ≢ f.changes) _ e workers.apart (rw is at (may is).anew) in
+      record { intakes = rw grown intakes; apart = rw grown apart })
   | inr other ↦ (let same = filter_same (λ (x : Entry). eqb x.seat seat) added e other in
       record { intakes = rw same workers.intakes; apart = rw same workers.apart })
 ]

@@ -1,5 +1,4 @@
-use Rattle.std.proofs.Common.{All}
-use Rattle.action_lock.specs.Slots.{HasNoHome}
+use Rattle.action_lock.proofs.Common.{All, HasNoHome}
 use Rattle.action_lock.proofs.lock.discard.Given as goal
 
 abbrev pub invariant-loop-slot : goal.invariant-loop-slot

@@ -1,5 +1,4 @@
-use Rattle.std.proofs.Common.{◌≡◌, List, All, length}
-use Rattle.action_lock.specs.Slots.{HasNoHome, MayKeep}
+use Rattle.action_lock.proofs.Common.{◌≡◌, List, All, length, HasNoHome, MayKeep}
 use Rattle.action_lock.proofs.lock.shares_of.Given as goal
 
 abbrev pub invariant-loop-made : goal.invariant-loop-made

@@ -1,4 +1,4 @@
-use Rattle.demo_runs.proofs.ApartLemmas.{demo_writes_apart}
+use Rattle.demo_runs.proofs.ScriptLemmas.{demo_writes_apart}
 use Rattle.demo_runs.proofs.agree.demo_runs_agree.Goals as goal
 
 pub returns : goal.returns

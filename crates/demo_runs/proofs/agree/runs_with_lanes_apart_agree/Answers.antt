@@ -1,4 +1,4 @@
-use Rattle.demo_runs.proofs.AgreeLemmas.{writes_apart_agree}
+use Rattle.demo_runs.proofs.RunLemmas.{writes_apart_agree}
 use Rattle.demo_runs.proofs.agree.runs_with_lanes_apart_agree.Goals as goal
 
 pub returns : goal.returns

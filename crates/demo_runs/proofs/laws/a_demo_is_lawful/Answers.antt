@@ -1,4 +1,4 @@
-use Rattle.demo_runs.proofs.LineLemmas.{demo_is_script}
+use Rattle.demo_runs.proofs.ScriptLemmas.{demo_is_script}
 use Rattle.demo_runs.proofs.laws.a_demo_is_lawful.Goals as goal
 
 pub returns : goal.returns

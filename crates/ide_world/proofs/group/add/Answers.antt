@@ -1,5 +1,6 @@
-use Rattle.ide_world.proofs.GroupLemmas.{extended, on_ok}
+use Rattle.std.proofs.lemmas.Result.{on_ok_weaker}
+use Rattle.ide_world.proofs.GroupLemmas.{extended}
 use Rattle.ide_world.proofs.group.add.Goals as goal
 
 pub returns : goal.returns
-returns c = on_ok c.push.result c.push.ensures.ok (λ same. extended _ _ _ c.in_ok-step.step c.push.ensures.draft c.requires.few c.in_ok-step.ensures same)
+returns c = on_ok_weaker c.push.result (extended _ _ _ c.in_ok-step.step c.push.ensures.draft c.requires.few c.in_ok-step.ensures) c.push.ensures.ok

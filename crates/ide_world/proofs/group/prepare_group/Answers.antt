@@ -8,8 +8,8 @@ loop-index-preserved c =
     let t = turn_at _ _ _ c.index-changes-index.result _ _ c.loop-index-test.true c.index-changes-index.is
     c.loop-index.invariant.so_far c.loop-index.invariant.edits c.in_default.ensures.accepted c.in_default.ensures.extended in
     record {
-      so_far = t.so_far;
-      edits = t.edits;
+      so_far = t.0;
+      edits = t.1;
       first = λ some. first_accepted _ _ _ _ c.index-changes-index.result _ c.index-changes-index.is
           c.loop-index.invariant.so_far c.loop-index.invariant.first c.in_default.ensures.accepted;
     }

@@ -1,16 +1,12 @@
 use Rattle.std.proofs.Common.{◌∙◌, sym}
 use Rattle.write_history.specs.declared.change.Change.TheVariants.{Intake}
-use Rattle.ide_world.proofs.GroupLemmas.{single, if_made}
+use Rattle.ide_world.proofs.GroupLemmas.{single}
 use Rattle.ide_world.proofs.group.prepare_intake.Goals as goal
 
 pub returns-in-Ok-clause-ready : goal.returns-in-Ok-clause-ready
-returns-in-Ok-clause-ready c = if_made c.made_ready.result _ (λ ready alike wide.
-    (single _ (Intake c.args.made.file c.args.made.stamp) _ _ ready c.new-draft.ensures.base c.new-draft.ensures.steps
-    (sym c.intake_refusal.ensures ∙ c.in_default.is) c.in-Ok.ensures alike wide).0)
-    c.made_ready.ensures.alike c.made_ready.ensures.wide
+returns-in-Ok-clause-ready c = (single _ (Intake c.args.made.file c.args.made.stamp) _ _ c.made_ready.result c.new-draft.ensures.base c.new-draft.ensures.steps
+    (sym c.intake_refusal.ensures ∙ c.in_default.is) c.in-Ok.ensures c.made_ready.ensures.alike c.made_ready.ensures.wide).0
 
 pub returns-in-Ok-clause-makes : goal.returns-in-Ok-clause-makes
-returns-in-Ok-clause-makes c = if_made c.made_ready.result _ (λ ready alike wide.
-    (single _ (Intake c.args.made.file c.args.made.stamp) _ _ ready c.new-draft.ensures.base c.new-draft.ensures.steps
-    (sym c.intake_refusal.ensures ∙ c.in_default.is) c.in-Ok.ensures alike wide).1)
-    c.made_ready.ensures.alike c.made_ready.ensures.wide
+returns-in-Ok-clause-makes c = (single _ (Intake c.args.made.file c.args.made.stamp) _ _ c.made_ready.result c.new-draft.ensures.base c.new-draft.ensures.steps
+    (sym c.intake_refusal.ensures ∙ c.in_default.is) c.in-Ok.ensures c.made_ready.ensures.alike c.made_ready.ensures.wide).1

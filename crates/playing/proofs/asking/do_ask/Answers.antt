@@ -1,4 +1,4 @@
-use Rattle.playing.proofs.AnsweredLemmas.{replies}
+use Rattle.playing.proofs.SectionLemmas.{replies}
 use Rattle.playing.proofs.asking.do_ask.Goals as goal
 
 pub returns-clause-answer : goal.returns-clause-answer

@@ -1,5 +1,5 @@
 use Rattle.std.proofs.Common.{inl, inr, refl}
-use Rattle.playing.proofs.AnsweredLemmas.{replies}
+use Rattle.playing.proofs.SectionLemmas.{replies}
 use Rattle.playing.proofs.asking.do_soft_ask.Goals as goal
 
 pub returns-in-Ok-clause-answer : goal.returns-in-Ok-clause-answer

@@ -1,6 +1,6 @@
 use Rattle.std.proofs.Common.{Some}
 use Rattle.transcripts.specs.Serial.{changes_answer}
-use Rattle.playing.proofs.AnsweredLemmas.{told_so}
+use Rattle.playing.proofs.SectionLemmas.{told_so}
 use Rattle.playing.proofs.changing.do_group.Goals as goal
 
 pub returns-in-Ok-clause-answer : goal.returns-in-Ok-clause-answer

@@ -1,6 +1,6 @@
 use Rattle.std.proofs.Common.{rules, ◌≡◌, true, false, refl}
 use Rattle.write_history.specs.Path.{is_path}
-use Rattle.playing.proofs.AnsweredLemmas.{not_called}
+use Rattle.playing.proofs.SectionLemmas.{not_called}
 use Rattle.playing.proofs.changing.do_load.Goals as goal
 
 pub returns-then-not-is_lawful_path-clause-answer : goal.returns-then-not-is_lawful_path-clause-answer

@@ -1,8 +1,7 @@
 use Rattle.std.proofs.Common.{◌≡◌, [], ◌∷◌, ◌++◌, length, ap, arith, length-append}
 use Rattle.playing.specs.declared.player.Outcome.TheVariants.{Nothing}
 use Rattle.playing.specs.declared.player.Player.{Player}
-use Rattle.playing.proofs.RoundLemmas.{begun_more}
-use Rattle.playing.proofs.SliceLemmas.{pushed}
+use Rattle.playing.proofs.RoundLemmas.{begun_more, pushed}
 use Rattle.playing.proofs.round.begin_players.Goals as goal
 
 pub loop-place-preserved : goal.loop-place-preserved

@@ -2,8 +2,7 @@ use Rattle.std.proofs.Common.{◌≡◌, List, [], ◌∷◌, ◌++◌, sym, ◌
 use Rattle.std.proofs.lemmas.Bool.{and_parts}
 use Rattle.playing.specs.declared.player.Player.{Player}
 use Rattle.playing.specs.Players.{CanMeet}
-use Rattle.playing.proofs.RoundLemmas.{met_more, taken_more}
-use Rattle.playing.proofs.SliceLemmas.{first_removed, holds_of_removed, where_ok}
+use Rattle.playing.proofs.RoundLemmas.{met_more, taken_more, first_removed, holds_of_removed, where_ok}
 use Rattle.playing.proofs.round.meet_players.Goals as goal
 
 pub meet-requires : goal.meet-requires

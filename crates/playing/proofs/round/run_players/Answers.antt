@@ -1,5 +1,5 @@
 use Rattle.std.proofs.Common.{length, ap, ◌∙◌}
-use Rattle.playing.proofs.SliceLemmas.{given_back}
+use Rattle.playing.proofs.RoundLemmas.{given_back}
 use Rattle.playing.proofs.round.run_players.Goals as goal
 
 pub returns-clause-run : goal.returns-clause-run

@@ -1,5 +1,5 @@
 use Rattle.playing.specs.Players.{HasRun}
-use Rattle.playing.proofs.SliceLemmas.{turned_round}
+use Rattle.playing.proofs.RoundLemmas.{turned_round}
 use Rattle.playing.proofs.round.run_reversed.Goals as goal
 
 pub returns-clause-run : goal.returns-clause-run

@@ -1,5 +1,5 @@
 use Rattle.transcripts.specs.Serial.{settle_answer}
-use Rattle.playing.proofs.AnsweredLemmas.{told_so}
+use Rattle.playing.proofs.SectionLemmas.{told_so}
 use Rattle.playing.proofs.settling.do_settle.Goals as goal
 
 pub returns-in-Ok-clause-answer : goal.returns-in-Ok-clause-answer

@@ -1,32 +1,24 @@
-use Rattle.std.proofs.Common.{map, refl, sym, ap, le_refl, Ok}
-use Rattle.write_history.specs.World.{lowest_unready}
+use Rattle.std.proofs.Common.{refl, le_refl, arith}
 use Rattle.query_engine.specs.declared.answer.Finding.{Finding}
-use Rattle.query_engine.specs.declared.answer.Finding.TheVariants.{Inheritors}
 use Rattle.query_engine.specs.declared.answer.AskRefusal.TheVariants.{OutOfMemory}
 use Rattle.query_engine.specs.declared.reached.Reached.{Reached}
-use Rattle.query_engine.specs.Inheritors.{inheritors_of}
-use Rattle.query_engine.specs.Reply.{types_of, level_row}
 use Rattle.query_engine.proofs.LevelRowLemmas.{rows_found, found_ahead}
 use Rattle.query_engine.proofs.LookLemmas.{looked_unseen}
 use Rattle.query_engine.proofs.ReplyLemmas.{dumb, early, whole, replied_by}
-use Rattle.query_engine.proofs.TypesLemmas.{first_may, few_may, types_sorted, types_placed}
+use Rattle.query_engine.proofs.TypesLemmas.{few_may, types_sorted, types_placed}
 use Rattle.query_engine.proofs.inheritors.inheritors.Goals as goal
 
 -- what was found stands ahead
 pub level_rows-requires : goal.level_rows-requires
 level_rows-requires g c =
     let world = c.args.state.now.world in
-    found_ahead world c.args.name.now (types_of world) _ c.in_ok-reached.ensures.found (types_sorted c.offsets_rise.ensures world)
+    found_ahead world _ _ _ c.in_ok-reached.ensures.found (types_sorted c.offsets_rise.ensures world)
     (types_placed c.listings_are_lawful.ensures c.names_are_identifiers.ensures world)
 
 -- a file is unready
 pub returns-in_err-ready-clause-replied : goal.returns-in_err-ready-clause-replied
 returns-in_err-ready-clause-replied g c =
-    let world = c.args.state.now.world in
-    let name = c.args.name.now in
-    replied_by (first_may world name)
-    (dumb (lowest_unready world) (Inheritors (map (level_row world) (inheritors_of name (types_of world)))) c.args.watch.now _ c.from_residual.result
-    c.in_err-ready.ensures.dumb c.from_residual.ensures.1)
+    replied_by {n = 0} (omega arith, omega arith) (dumb _ _ _ _ c.from_residual.result c.in_err-ready.ensures.dumb c.from_residual.ensures.1)
 
 -- the search ends early
 pub returns-in_err-reached-clause-replied : goal.returns-in_err-reached-clause-replied
@@ -48,9 +40,7 @@ returns-in_err-rows-clause-replied g c =
 -- all rows are there
 pub returns-clause-replied : goal.returns-clause-replied
 returns-clause-replied g c =
-    let world = c.args.state.now.world in
-    let name = c.args.name.now in
     let looks = c.in_ok-reached.ensures.looked in
     let smart = c.in_ok-ready.ensures.smart in
-    let same = rows_found world name (types_of world) _ _ c.in_ok-reached.ensures.found c.in_ok-rows.ensures.rise c.in_ok-rows.ensures.same in
-    replied_by (few_may world name smart looks.few) (whole (rw smart (ap (λ rows. Ok (Inheritors rows)) (sym same))) looks.looked)
+    let same = rows_found c.args.state.now.world c.args.name.now _ _ _ c.in_ok-reached.ensures.found c.in_ok-rows.ensures.rise c.in_ok-rows.ensures.same in
+    replied_by (few_may c.args.state.now.world c.args.name.now smart looks.few) (whole (rw (smart, same) refl) looks.looked)

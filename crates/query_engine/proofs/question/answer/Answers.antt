@@ -1,4 +1,4 @@
-use Rattle.std.proofs.Common.{◌≡◌, List, ℕ, Bool, None, refl, sym, subst}
+use Rattle.std.proofs.Common.{◌≡◌, List, ℕ, Bool, refl, sym}
 use Rattle.dumb_mode.specs.declared.kind.FileKind.TheVariants.{Java, Properties}
 use Rattle.property_index.specs.Keys.{places_of_key}
 use Rattle.stub_tree.specs.declared.stub.Stub.{Stub}
@@ -8,32 +8,30 @@ use Rattle.query_engine.specs.declared.answer.Finding.TheVariants.{Rows, Words, 
 use Rattle.query_engine.specs.Fits.{is_class, has_super, is_method}
 use Rattle.query_engine.specs.Given.{declared_reply}
 use Rattle.query_engine.specs.Reply.{of_world, place_row, row_of, rows_in, unless_unready}
-use Rattle.query_engine.specs.Listed.{AreAhead, AreLive, itself, stub_at, row_found, word_found, place_found}
-use Rattle.query_engine.proofs.FoundLemmas.{placed_found, word_rows_found, stubs_ahead, keys_ahead, live_found}
+use Rattle.query_engine.specs.Listed.{row_found, word_found, place_found}
+use Rattle.query_engine.proofs.FoundLemmas.{Finds, placed_found, word_rows_found, stubs_ahead, keys_ahead, live_found}
 use Rattle.query_engine.proofs.LookLemmas.{looked_not}
 use Rattle.query_engine.proofs.ReplyLemmas.{replied, replied_as, told}
 use Rattle.query_engine.proofs.question.answer.Goals as goal
 
 -- the reply by the declarations that a walk finds is the one by the files
-stubs_told : (fits : Stub → Bool) (world : World) {walk : List (ℕ × Stub)} → (lowest_unready world ≡ None → walk ≡ found Java (stubs_in fits) world)
+stubs_told : (fits : Stub → Bool) (world : World) {walk : List (ℕ × Stub)} → Finds world walk (found Java (stubs_in fits) world)
     → declared_reply world walk ≡ unless_unready (lowest_unready world) (Rows (of_world Java (rows_in fits) world))
 stubs_told fits world ready = told world Rows (row_found world) ready (placed_found Java row_of (stubs_in fits) (rows_in fits) world (λ id file. refl))
 
 pub declared-requires-clause-ahead : goal.declared-requires-clause-ahead
-declared-requires-clause-ahead g c = λ smart.
-    let world = c.args.state.now.world in
-    subst (AreAhead stub_at world None) (sym (c.type_rows.ensures.ready smart))
-    (stubs_ahead c.listings_are_lawful.ensures c.names_are_identifiers.ensures (is_class c.in-Class.name) world)
+declared-requires-clause-ahead g c =
+    stubs_ahead c.listings_are_lawful.ensures c.names_are_identifiers.ensures (is_class c.in-Class.name) c.args.state.now.world
+    c.type_rows.ensures.ready
 
 pub returns-in-Class-clause-replied : goal.returns-in-Class-clause-replied
 returns-in-Class-clause-replied g c =
     replied c.in-Class.is (stubs_told (is_class c.in-Class.name) c.args.state.now.world c.type_rows.ensures.ready) refl c.declared.ensures.answered
 
 pub declared-requires-in-Supers-clause-ahead : goal.declared-requires-in-Supers-clause-ahead
-declared-requires-in-Supers-clause-ahead g c = λ smart.
-    let world = c.args.state.now.world in
-    subst (AreAhead stub_at world None) (sym (c.super_rows.ensures.ready smart))
-    (stubs_ahead c.listings_are_lawful.ensures c.names_are_identifiers.ensures (has_super c.in-Supers.name) world)
+declared-requires-in-Supers-clause-ahead g c =
+    stubs_ahead c.listings_are_lawful.ensures c.names_are_identifiers.ensures (has_super c.in-Supers.name) c.args.state.now.world
+    c.super_rows.ensures.ready
 
 pub returns-in-Supers-clause-replied : goal.returns-in-Supers-clause-replied
 returns-in-Supers-clause-replied g c =
@@ -41,10 +39,9 @@ returns-in-Supers-clause-replied g c =
     c.declared-in-Supers.ensures.answered
 
 pub declared-requires-in-Method-clause-ahead : goal.declared-requires-in-Method-clause-ahead
-declared-requires-in-Method-clause-ahead g c = λ smart.
-    let world = c.args.state.now.world in
-    subst (AreAhead stub_at world None) (sym (c.method_rows.ensures.ready smart))
-    (stubs_ahead c.listings_are_lawful.ensures c.names_are_identifiers.ensures (is_method c.in-Method.name) world)
+declared-requires-in-Method-clause-ahead g c =
+    stubs_ahead c.listings_are_lawful.ensures c.names_are_identifiers.ensures (is_method c.in-Method.name) c.args.state.now.world
+    c.method_rows.ensures.ready
 
 pub returns-in-Method-clause-replied : goal.returns-in-Method-clause-replied
 returns-in-Method-clause-replied g c =
@@ -52,9 +49,7 @@ returns-in-Method-clause-replied g c =
     c.declared-in-Method.ensures.answered
 
 pub with_word-requires-clause-live : goal.with_word-requires-clause-live
-with_word-requires-clause-live g c = λ smart.
-    let world = c.args.state.now.world in
-    subst (AreLive world) (sym (c.word_rows.ensures.ready smart)) (live_found (masks_in c.in-Word.name) world)
+with_word-requires-clause-live g c = live_found (masks_in c.in-Word.name) c.args.state.now.world c.word_rows.ensures.ready
 
 pub returns-in-Word-clause-replied : goal.returns-in-Word-clause-replied
 returns-in-Word-clause-replied g c =
@@ -69,9 +64,7 @@ pub returns-in-Inheritors-clause-replied : goal.returns-in-Inheritors-clause-rep
 returns-in-Inheritors-clause-replied g c = replied_as _ c.in-Inheritors.is c.inheritors.ensures.replied
 
 pub with_key-requires-clause-ahead : goal.with_key-requires-clause-ahead
-with_key-requires-clause-ahead g c = λ smart.
-    let world = c.args.state.now.world in
-    subst (AreAhead itself world None) (sym (c.key_rows.ensures.ready smart)) (keys_ahead c.keys_stand_in_the_text.ensures c.in-Key.key world)
+with_key-requires-clause-ahead g c = keys_ahead c.keys_stand_in_the_text.ensures c.in-Key.key c.args.state.now.world c.key_rows.ensures.ready
 
 pub returns-in-Key-clause-replied : goal.returns-in-Key-clause-replied
 returns-in-Key-clause-replied g c =
@@ -82,11 +75,8 @@ returns-in-Key-clause-replied g c =
 
 pub returns-in-Outline-clause-replied : goal.returns-in-Outline-clause-replied
 returns-in-Outline-clause-replied g c =
-    replied c.in-Outline.is refl refl record {
-      looked = c.outline.ensures.looked;
-      answer = c.outline.ensures.answer;
-      refused = c.outline.ensures.refused;
-    }
+    let outline = c.outline.ensures in
+    replied c.in-Outline.is refl refl record { looked = outline.looked; answer = outline.answer; refused = outline.refused }
 
 pub returns-in-Status-clause-replied : goal.returns-in-Status-clause-replied
 returns-in-Status-clause-replied g c =

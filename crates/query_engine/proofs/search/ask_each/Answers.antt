@@ -1,7 +1,7 @@
-use Rattle.std.proofs.Common.{length, refl, ap, sym, subst, List, ℕ, le_refl, ◌∙◌, arith, rules}
+use Rattle.std.proofs.Common.{length, refl, ap, sym, le_refl, ◌∙◌, arith, rules}
 use Rattle.std.proofs.lemmas.List.{nil_from_length}
 use Rattle.query_engine.specs.Reply.{types_of}
-use Rattle.query_engine.specs.Search.{AskedEach, asked_supers}
+use Rattle.query_engine.specs.Search.{asked_supers}
 use Rattle.query_engine.proofs.PaceLemmas.{paces_none, paces_on, paces_stopped}
 use Rattle.query_engine.proofs.search.ask_each.Goals as goal
 
@@ -16,14 +16,12 @@ loop-name-init g c = record {
 
 pub loop-name-preserved : goal.loop-name-preserved
 loop-name-preserved g c =
-    let was = c.loop-name.search in
     let now = c.ask_types.new.search in
     record {
       can = c.ask_types.ensures.again;
       stays = g.met.W.Watch.stays_on _ _ _ c.loop-name.invariant.stays c.ask_types.ensures.stays;
       each = λ asked' reached' h. c.loop-name.invariant.each asked' reached'
-          (subst (λ (names : List (List ℕ)). AskedEach (types_of c.args.state.now.world) c.args.level names was.asked was.reached asked' reached')
-          (sym c.in-Some.ensures.steps.0) (now.asked, now.reached, rw c.name.ensures at c.in_ok-ask_types.ensures.asked, h));
+          (rw c.in-Some.ensures.steps.0 (now.asked, now.reached, rw c.name.ensures at c.in_ok-ask_types.ensures.asked, h));
       paced = paces_on g.met.W.Watch.stays_on c.loop-name.invariant.stays c.loop-name.invariant.paced c.in_ok-ask_types.ensures.paced;
       long = omega (arith, c.loop-name.invariant.long, ap length c.in-Some.ensures.steps.0, c.in-Some.ensures.steps.1);
     }
@@ -37,8 +35,7 @@ pub returns-clause-each : goal.returns-clause-each
 returns-clause-each g c =
     let was = c.loop-name.search in
     c.loop-name.invariant.each was.asked was.reached
-    (subst (λ (names : List (List ℕ)). AskedEach (types_of c.args.state.now.world) c.args.level names was.asked was.reached was.asked was.reached)
-    (sym (nil_from_length _ (sym c.loop-name.invariant.long ∙ c.in-None.ensures.steps.0))) (refl, refl))
+    (rw (nil_from_length _ (sym c.loop-name.invariant.long ∙ c.in-None.ensures.steps.0)) (refl, refl))
 
 pub returns-clause-paced : goal.returns-clause-paced
 returns-clause-paced g c = c.loop-name.invariant.paced

@@ -1,5 +1,4 @@
-use Rattle.std.proofs.Common.{ap, sym, ◌∙◌, arith}
-use Rattle.query_engine.specs.Search.{meet_all}
+use Rattle.std.proofs.Common.{arith}
 use Rattle.query_engine.proofs.LookLemmas.{met_next, met_stop}
 use Rattle.query_engine.proofs.search.meet_each.Goals as goal
 
@@ -7,8 +6,7 @@ pub loop-file-preserved : goal.loop-file-preserved
 loop-file-preserved g c = record {
   can = c.look_after_another.ensures.again;
   stays = g.met.W.Watch.stays_on _ _ _ c.loop-file.invariant.stays c.look_after_another.ensures.stays;
-  reached = ap (λ r. meet_all c.args.level r c.next.new.self) c.in_ok-meet.ensures
-      ∙ sym (ap (meet_all c.args.level c.loop-file.reached) c.in-Some.ensures.steps) ∙ c.loop-file.invariant.reached;
+  reached = rw c.in_ok-meet.ensures (rw c.in-Some.ensures.steps at c.loop-file.invariant.reached);
   met = met_next c.in-Some.ensures.steps c.loop-file.invariant.met (omega (arith, c.look_after_another.ensures.met)) c.in_ok-look_after_another.ensures.looked;
 }
 

@@ -1,13 +1,12 @@
-use Rattle.std.proofs.Common.{◌≡◌, [], length, ap, sym, subst, ◌∙◌, le_refl, rules}
+use Rattle.std.proofs.Common.{◌≡◌, [], length, sym, ◌∙◌, le_refl, rules}
 use Rattle.std.specs.Vec.{vec_len}
 use Rattle.std.proofs.lemmas.Bool.{eqb-true}
 use Rattle.std.proofs.lemmas.List.{nil_from_length}
 use Rattle.query_engine.specs.Reply.{types_of}
-use Rattle.query_engine.specs.Search.{Reached, AskedEach, IsFound}
+use Rattle.query_engine.specs.Search.{AskedEach}
 use Rattle.query_engine.proofs.FinishLemmas.{before_first, before_next, found_all}
 use Rattle.query_engine.proofs.LookLemmas.{looked_unseen}
 use Rattle.query_engine.proofs.PaceLemmas.{paces_none, paces_wanting, paces_on, paces_stopped, looks_few}
-use Rattle.query_engine.proofs.SearchLemmas.{at_first, at_all}
 use Rattle.query_engine.proofs.TypesLemmas.{types_sorted}
 use Rattle.query_engine.proofs.search.search_types.Goals as goal
 
@@ -21,12 +20,10 @@ loop-level-init g c = record {
 
 pub returns-then-is_empty-clause-found : goal.returns-then-is_empty-clause-found
 returns-then-is_empty-clause-found g c =
-    let types = types_of c.args.state.now.world in
     let same : vec_len c.take_next-names.result ≡ length c.take_next-names.result.items = search rules in
     let none : c.loop-level.search.reached.next ≡ [] =
     sym c.take_next-names.ensures.names ∙ nil_from_length _ (sym same ∙ eqb-true _ 0 (sym c.if-is_empty.ensures)) in
-    subst (IsFound types c.args.name.now) (sym (ap (λ (r : Reached). r.seen) c.take_next-names.ensures.rest))
-    (found_all (types_sorted c.offsets_rise.ensures c.args.state.now.world) (rw none at c.loop-level.invariant.before))
+    rw c.take_next-names.ensures.rest (found_all (types_sorted c.offsets_rise.ensures c.args.state.now.world) (rw none at c.loop-level.invariant.before))
 
 pub returns-then-is_empty-clause-looked : goal.returns-then-is_empty-clause-looked
 returns-then-is_empty-clause-looked g c = looks_few c.loop-level.invariant.paced c.loop-level.invariant.paced.looked
@@ -43,20 +40,14 @@ returns-in_err-of-clause-looked g c =
 
 pub loop-level-preserved : goal.loop-level-preserved
 loop-level-preserved g c =
-    let types = types_of c.args.state.now.world in
-    let level = c.loop-level.level in
     let was = c.loop-level.search in
-    let now = c.ask_each.new.search in
-    let b = c.loop-level.invariant.before in
-    let sorted = types_sorted c.offsets_rise.ensures c.args.state.now.world in
-    let each : AskedEach types level was.reached.next was.asked (record { seen = was.reached.seen; next = [] }) now.asked now.reached =
+    let each : AskedEach (types_of c.args.state.now.world) c.loop-level.level was.reached.next was.asked (record { seen = was.reached.seen; next = [] })
+    c.ask_each.new.search.asked c.ask_each.new.search.reached =
     rw (c.take_next-names.ensures.rest, c.take_next-names.ensures.names) at c.in_ok-ask_each.ensures.each in
     record {
       can = c.ask_each.ensures.again;
       stays = g.met.W.Watch.stays_on _ _ _ c.loop-level.invariant.stays c.ask_each.ensures.stays;
-      before = before_next b
-          (at_all types sorted b.levels level [] was.reached.next was.asked (record { seen = was.reached.seen; next = [] }) now.asked now.reached each
-          (at_first types sorted b.levels level was.asked was.reached.seen b.is b.none_more));
+      before = before_next c.loop-level.invariant.before (types_sorted c.offsets_rise.ensures c.args.state.now.world) each;
       paced = paces_on g.met.W.Watch.stays_on c.loop-level.invariant.stays c.loop-level.invariant.paced c.in_ok-ask_each.ensures.paced;
     }
 

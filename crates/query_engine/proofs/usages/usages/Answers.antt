@@ -1,4 +1,4 @@
-use Rattle.std.proofs.Common.{length, filter, refl, sym, subst, le_refl}
+use Rattle.std.proofs.Common.{length, filter, refl, le_refl}
 use Rattle.dumb_mode.specs.declared.kind.FileKind.TheVariants.{Java}
 use Rattle.write_history.specs.World.{lowest_unready}
 use Rattle.ide_world.specs.Found.{masks_in}
@@ -8,7 +8,7 @@ use Rattle.query_engine.specs.declared.answer.AskRefusal.TheVariants.{OutOfMemor
 use Rattle.query_engine.specs.declared.answer.PlaceRow.{PlaceRow}
 use Rattle.query_engine.specs.declared.answer.RowList.{RowList}
 use Rattle.query_engine.specs.Reply.{of_world, uses_in}
-use Rattle.query_engine.specs.Listed.{AreLive, has_code}
+use Rattle.query_engine.specs.Listed.{has_code}
 use Rattle.query_engine.proofs.FoundLemmas.{live_found}
 use Rattle.query_engine.proofs.LookLemmas.{looked_unseen}
 use Rattle.query_engine.proofs.ReplyLemmas.{dumb, early, whole, replied_by}
@@ -18,8 +18,7 @@ use Rattle.query_engine.proofs.usages.usages.Goals as goal
 -- the files in which the name is found are live
 pub use_rows-requires-clause-live : goal.use_rows-requires-clause-live
 use_rows-requires-clause-live g c =
-    let world = c.args.state.now.world in
-    subst (AreLive world) (sym (c.word_rows.ensures.ready c.in_ok-ready.ensures.smart)) (live_found (masks_in c.args.name.now) world)
+    live_found (masks_in c.args.name.now) c.args.state.now.world c.word_rows.ensures.ready c.in_ok-ready.ensures.smart
 
 -- a file is unready
 pub returns-in_err-ready-clause-replied : goal.returns-in_err-ready-clause-replied

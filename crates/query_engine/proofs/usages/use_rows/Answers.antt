@@ -1,4 +1,5 @@
 use Rattle.std.proofs.Common.{refl, sym, ◌∙◌}
+use Rattle.query_engine.specs.Listed.{has_code}
 use Rattle.query_engine.proofs.FoundLemmas.{live_rest}
 use Rattle.query_engine.proofs.UsageLemmas.{used_more}
 use Rattle.query_engine.proofs.usages.use_rows.Goals as goal
@@ -7,12 +8,12 @@ use Rattle.query_engine.proofs.usages.use_rows.Goals as goal
 pub loop-file-preserved-in-Continue-branch-2 : goal.loop-file-preserved-in-Continue-branch-2
 loop-file-preserved-in-Continue-branch-2 g c =
     let next = c.in-Some.ensures.steps in
+    let stands = sym c.is_in.ensures ∙ c.if-is_in.true in
     record {
       can = c.look.ensures.again;
       stays = g.met.W.Watch.stays_on _ _ _ c.loop-file.invariant.stays c.look.ensures.stays;
       world = refl;
-      used = used_more {x = (c.in-Some.file, c.in-Some.mask)} (rw (next, sym c.is_in.ensures ∙ c.if-is_in.true) refl) c.in_ok-add_uses.ensures
-          c.loop-file.invariant.used c.in_ok-look.ensures.looked;
+      used = used_more has_code next stands c.in_ok-add_uses.ensures c.loop-file.invariant.used c.in_ok-look.ensures.looked;
       live = live_rest c.args.state.now.world next c.loop-file.invariant.live;
     }
 

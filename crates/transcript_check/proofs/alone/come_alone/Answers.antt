@@ -1,5 +1,4 @@
-use Rattle.std.proofs.Common.{◌≤◌, length, arith, Bor}
-use Rattle.transcripts.specs.declared.loaded.Loaded.{Loaded}
+use Rattle.transcript_check.proofs.Words.{◌≤◌, length, arith, Bor, Loaded}
 use Rattle.transcript_check.proofs.AloneLemmas.{next_line, other_line, no_record, all_lines_gone, got}
 use Rattle.transcript_check.proofs.alone.come_alone.Goals as goal
 

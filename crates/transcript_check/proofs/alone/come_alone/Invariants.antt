@@ -1,4 +1,4 @@
-use Rattle.std.proofs.Common.{◌≤◌, length}
+use Rattle.transcript_check.proofs.Words.{◌≤◌, length}
 use Rattle.transcript_check.proofs.AloneLemmas.{ComesFrom}
 use Rattle.transcript_check.proofs.alone.come_alone.Given as goal
 

@@ -1,5 +1,4 @@
-use Rattle.std.proofs.Common.{sym, ◌∙◌}
-use Rattle.std.proofs.lemmas.Result.{IfOk-weaker}
+use Rattle.transcript_check.proofs.Words.{sym, ◌∙◌, IfOk-weaker}
 use Rattle.transcript_check.proofs.AloneLemmas.{told_gone, short_of_entries, changed_gone}
 use Rattle.transcript_check.proofs.alone.plain_so.Goals as goal
 

@@ -1,5 +1,4 @@
-use Rattle.std.proofs.Common.{None, sym, ◌∙◌}
-use Rattle.std.proofs.lemmas.Result.{IfOk-weaker}
+use Rattle.transcript_check.proofs.Words.{None, sym, ◌∙◌, IfOk-weaker}
 use Rattle.transcript_check.proofs.AloneLemmas.{settle_next, settle_stops, settle_answered, fewer_unready}
 use Rattle.transcript_check.proofs.alone.settle_so.Goals as goal
 

@@ -1,7 +1,4 @@
-use Rattle.std.proofs.Common.{ℕ, List, length, Option}
-use Rattle.write_history.specs.World.{World, unready_ids}
-use Rattle.transcripts.specs.Serial.{settle_step}
-use Rattle.transcript_check.specs.Alone.{HasGone}
+use Rattle.transcript_check.proofs.Words.{ℕ, List, length, Option, World, unready_ids, settle_step, HasGone}
 use Rattle.transcript_check.proofs.alone.settle_so.Given as goal
 
 -- what a settle from here leads to is what it leads to from the start

@@ -1,6 +1,5 @@
-use Rattle.std.proofs.Common.{rules, arith}
-use Rattle.std.proofs.lemmas.Bool.Decides.{nat_tests}
-use Rattle.transcript_check.proofs.BlockLemmas.{cut-end, cut-turn, first_len-within, first_len-some}
+use Rattle.transcript_check.proofs.Words.{rules, arith, nat_tests}
+use Rattle.transcript_check.proofs.ScanLemmas.{cut-end, cut-turn, first_len-within, first_len-some}
 use Rattle.transcript_check.proofs.blocks.cut.Goals as goal
 
 pub split_at-requires : goal.split_at-requires

@@ -1,5 +1,4 @@
-use Rattle.std.proofs.Common.{◌≡◌, ◌++◌, length}
-use Rattle.transcript_check.specs.Blocks.{blocks_of}
+use Rattle.transcript_check.proofs.Words.{◌≡◌, ◌++◌, length, blocks_of}
 use Rattle.transcript_check.proofs.blocks.cut.Given as goal
 
 -- the blocks so far and those of what is left are all

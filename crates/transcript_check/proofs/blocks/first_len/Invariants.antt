@@ -1,5 +1,4 @@
-use Rattle.std.proofs.Common.{◌≡◌, ◌+◌, length}
-use Rattle.transcript_check.specs.Blocks.{first_len}
+use Rattle.transcript_check.proofs.Words.{◌≡◌, ◌+◌, length, first_len}
 use Rattle.transcript_check.proofs.blocks.first_len.Given as goal
 
 -- so many bytes of the first block were passed, and what is left has the others

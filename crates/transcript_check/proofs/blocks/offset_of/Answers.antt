@@ -1,9 +1,8 @@
-use Rattle.std.proofs.Common.{ℕ, zero, suc, ◌≡◌, ◌+◌, List, [], ◌∷◌, ◌++◌, length, take, drop, refl, ap, ◌∙◌, length-append, take-append-drop, arith, rules}
-use Rattle.std.specs.List.{concat}
-use Rattle.std.proofs.lemmas.List.{append-nil, drop-drop}
-use Rattle.std.proofs.lemmas.List.Folds.{concat-append}
-use Rattle.transcript_check.specs.Blocks.{blocks_of, first_len}
-use Rattle.transcript_check.proofs.BlockLemmas.{blocks-first, first_len-within}
+use Rattle.transcript_check.proofs.Words.{ℕ, ◌≡◌, ◌+◌, List, [], ◌∷◌, length, take, drop, ap, ◌∙◌, length-append, take-append-drop, arith, rules}
+use Rattle.transcript_check.proofs.Words.{concat, append-nil, drop-drop, concat-append, first_len}
+use Rattle.transcript_check.specs.Blocks.{blocks_of}
+use Rattle.std.proofs.Math.Seq.{take-add}
+use Rattle.transcript_check.proofs.ScanLemmas.{blocks-first, first_len-within}
 use Rattle.transcript_check.proofs.blocks.offset_of.Goals as goal
 
 -- one block is passed, if there is one
@@ -16,11 +15,6 @@ one_passed (byte ∷ bytes) later is =
     let size = take-append-drop (first_len (byte ∷ bytes)) (byte ∷ bytes) in
     (grind (arith, first), grind (arith, first, size, length-append, append-nil))
 
-take_more : (i : ℕ) (xs : List (List ℕ)) → take (suc i) xs ≡ take i xs ++ take 1 (drop i xs)
-take_more zero xs = refl
-take_more (suc i) [] = refl
-take_more (suc i) (x ∷ xs) = ap (λ (ys : List (List ℕ)). x ∷ ys) (take_more i xs)
-
 pub split_at-requires : goal.split_at-requires
 split_at-requires c = grind (arith, first_len-within)
 
@@ -32,5 +26,5 @@ loop-number-preserved c =
     let passed = one_passed c.loop-number.left.now c.split_at.result.1.now (search rules) in
     record {
       later = passed.0 ∙ ap (drop 1) so_far.later ∙ drop-drop 1 i all;
-      passed = grind (arith, take_more i all, concat-append, length-append, passed.1, so_far.later, so_far.passed);
+      passed = grind (arith, take-add i 1 all, concat-append, length-append, passed.1, so_far.later, so_far.passed);
     }

@@ -1,6 +1,4 @@
-use Rattle.std.proofs.Common.{◌≡◌, ◌+◌, length, take, drop}
-use Rattle.std.specs.List.{concat}
-use Rattle.transcript_check.specs.Blocks.{blocks_of}
+use Rattle.transcript_check.proofs.Words.{◌≡◌, ◌+◌, length, take, drop, concat, blocks_of}
 use Rattle.transcript_check.proofs.blocks.offset_of.Given as goal
 
 -- what is left has the later blocks, and the bytes of the earlier ones were passed

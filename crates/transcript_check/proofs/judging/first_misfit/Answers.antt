@@ -1,4 +1,4 @@
-use Rattle.std.proofs.Common.{rules, sym}
+use Rattle.transcript_check.proofs.Words.{rules, sym}
 use Rattle.transcript_check.proofs.judging.first_misfit.Goals as goal
 
 pub returns-in-Err-TreeFault-clause-asks_some : goal.returns-in-Err-TreeFault-clause-asks_some

@@ -1,4 +1,4 @@
-use Rattle.std.proofs.Common.{rules}
+use Rattle.transcript_check.proofs.Words.{rules}
 use Rattle.transcript_check.proofs.JudgeLemmas.{prelude_stops, sides_stop, last_decides, after_all}
 use Rattle.transcript_check.proofs.judging.goes_through.Goals as goal
 

@@ -1,4 +1,4 @@
-use Rattle.std.proofs.Common.{rules}
+use Rattle.transcript_check.proofs.Words.{rules}
 use Rattle.transcript_check.proofs.VerdictLemmas.{all_found}
 use Rattle.transcript_check.proofs.judging.judged.Goals as goal
 

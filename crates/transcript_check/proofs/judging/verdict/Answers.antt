@@ -1,4 +1,4 @@
-use Rattle.std.proofs.Common.{rules}
+use Rattle.transcript_check.proofs.Words.{rules}
 use Rattle.transcript_check.proofs.VerdictLemmas.{judges}
 use Rattle.transcript_check.proofs.judging.verdict.Goals as goal
 

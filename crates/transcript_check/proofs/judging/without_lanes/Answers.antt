@@ -1,4 +1,4 @@
-use Rattle.std.proofs.Common.{◌≡◌, ◌+◌, suc, arith}
+use Rattle.transcript_check.proofs.Words.{◌≡◌, ◌+◌, suc, arith}
 use Rattle.transcript_check.proofs.JudgeLemmas.{lines_from}
 use Rattle.transcript_check.proofs.judging.without_lanes.Goals as goal
 

@@ -1,5 +1,4 @@
-use Rattle.std.proofs.Common.{◌≡◌, ◌-◌, length, drop}
-use Rattle.std.specs.List.{flat_map}
+use Rattle.transcript_check.proofs.Words.{◌≡◌, ◌-◌, length, drop, flat_map}
 use Rattle.transcript_check.proofs.judging.without_lanes.Given as goal
 
 -- what is left without the lanes to come is what all leave

@@ -1,4 +1,4 @@
-use Rattle.std.proofs.Common.{◌∙◌, arith, ℕ, min, length, ap, List}
+use Rattle.transcript_check.proofs.Words.{◌∙◌, arith, ℕ, min, length, ap, List}
 use Rattle.transcript_check.proofs.JudgeLemmas.{after_turn}
 use Rattle.transcript_check.proofs.lanes.after_lanes.Goals as goal
 

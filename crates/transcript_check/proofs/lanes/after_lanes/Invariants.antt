@@ -1,5 +1,4 @@
-use Rattle.std.proofs.Common.{◌≡◌, ◌≤◌, length, take, drop}
-use Rattle.transcript_check.specs.Phase.{after_lanes}
+use Rattle.transcript_check.proofs.Words.{◌≡◌, ◌≤◌, length, take, drop, after_lanes}
 use Rattle.transcript_check.proofs.lanes.after_lanes.Given as goal
 
 -- what is left is behind the lanes so far

@@ -1,6 +1,5 @@
-use Rattle.std.proofs.Common.{◌≡◌, suc, false, take, [], ◌∷◌, ◌+◌, ◌++◌, drop, ap, sym, ◌∙◌, append_assoc, arith, ℕ, min, length, List}
-use Rattle.transcript_check.specs.Section.{Cursor}
-use Rattle.transcript_check.specs.Phase.{cursors_of}
+use Rattle.transcript_check.proofs.Words.{◌≡◌, suc, false, take, [], ◌∷◌, ◌+◌, ◌++◌, drop, ap, sym, ◌∙◌, append_assoc, arith, ℕ, min, length, List}
+use Rattle.transcript_check.proofs.Words.{Cursor, cursors_of}
 use Rattle.transcript_check.proofs.JudgeLemmas.{cursors_turn}
 use Rattle.transcript_check.proofs.lanes.cursors_of.Goals as goal
 

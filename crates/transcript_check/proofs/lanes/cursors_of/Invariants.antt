@@ -1,5 +1,4 @@
-use Rattle.std.proofs.Common.{◌≡◌, ◌≤◌, ◌++◌, suc, length, drop}
-use Rattle.transcript_check.specs.Phase.{cursors_of}
+use Rattle.transcript_check.proofs.Words.{◌≡◌, ◌≤◌, ◌++◌, suc, length, drop, cursors_of}
 use Rattle.transcript_check.proofs.lanes.cursors_of.Given as goal
 
 -- the lanes so far and those to come are all

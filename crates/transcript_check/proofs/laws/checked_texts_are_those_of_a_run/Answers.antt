@@ -1,4 +1,4 @@
-use Rattle.std.proofs.Common.{arith}
+use Rattle.transcript_check.proofs.Words.{arith}
 use Rattle.transcript_check.proofs.ChangeLemmas.{run_few}
 use Rattle.transcript_check.proofs.CheckedLemmas.{checked_sound, checked_complete}
 use Rattle.transcript_check.proofs.laws.checked_texts_are_those_of_a_run.Goals as goal

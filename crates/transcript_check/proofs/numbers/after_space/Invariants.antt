@@ -1,5 +1,4 @@
-use Rattle.std.proofs.Common.{◌≡◌, length}
-use Rattle.transcript_check.specs.Reading.{after_space}
+use Rattle.transcript_check.proofs.Words.{◌≡◌, length, after_space}
 use Rattle.transcript_check.proofs.numbers.after_space.Given as goal
 
 -- what is left has the same first space

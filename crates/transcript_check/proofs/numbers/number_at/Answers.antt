@@ -1,5 +1,4 @@
-use Rattle.std.proofs.Common.{ℕ, ◌≤◌, ◌+◌, ◌-◌, ◌*◌, List, [], ◌∷◌, arith}
-use Rattle.transcript_check.specs.Reading.{number_from}
+use Rattle.transcript_check.proofs.Words.{ℕ, ◌≤◌, ◌+◌, ◌-◌, ◌*◌, List, [], ◌∷◌, arith, number_from}
 use Rattle.transcript_check.proofs.numbers.number_at.Goals as goal
 
 -- a number that is read only grows

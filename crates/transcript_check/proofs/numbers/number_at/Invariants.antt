@@ -1,5 +1,4 @@
-use Rattle.std.proofs.Common.{◌≡◌, length}
-use Rattle.transcript_check.specs.Reading.{number_from}
+use Rattle.transcript_check.proofs.Words.{◌≡◌, length, number_from}
 use Rattle.transcript_check.proofs.numbers.number_at.Given as goal
 
 -- the digits that are left go on to the number of all

@@ -1,6 +1,4 @@
-use Rattle.std.proofs.Common.{rules, ◌≡◌, ◌<◌, true, false, length, sym}
-use Rattle.std.proofs.lemmas.List.{length-drop}
-use Rattle.list_laws.proofs.PartLemmas.{next_left}
+use Rattle.transcript_check.proofs.Words.{rules, ◌<◌, length, sym, length-drop, next_left}
 use Rattle.transcript_check.proofs.ReachLemmas.{begun, one_on, none_on}
 use Rattle.transcript_check.proofs.sides.reach.Goals as goal
 
@@ -10,13 +8,11 @@ loop-place-init c = begun c.new-taken.ensures c.in_ok-tell_all.ensures
 pub returns-then-not-branch : goal.returns-then-not-branch
 returns-then-not-branch c =
     let within : c.loop-place.place < length c.args.entries.now = search rules in
-    let stays : c.in_ok-seat_goes.field-0 ≡ false = search rules in
     none_on (next_left _ _ within c.index-entries-place.is) c.in-Some.ensures c.loop-place.invariant c.in_ok-seat_goes.ensures
-    (sym (length-drop c.loop-place.place c.args.entries.now)) stays
+    (sym (length-drop c.loop-place.place c.args.entries.now)) (search rules)
 
 pub loop-place-preserved : goal.loop-place-preserved
 loop-place-preserved c =
     let within : c.loop-place.place < length c.args.entries.now = search rules in
-    let goes : c.in_ok-seat_goes.field-0 ≡ true = search rules in
-    one_on (next_left _ _ within c.index-entries-place.is) c.in-Some.ensures c.loop-place.invariant c.in_ok-seat_goes.ensures goes
+    one_on (next_left _ _ within c.index-entries-place.is) c.in-Some.ensures c.loop-place.invariant c.in_ok-seat_goes.ensures (search rules)
     c.in_ok-tell_all-2.ensures

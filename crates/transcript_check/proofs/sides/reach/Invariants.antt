@@ -1,4 +1,4 @@
-use Rattle.std.proofs.Common.{drop}
+use Rattle.transcript_check.proofs.Words.{drop}
 use Rattle.transcript_check.proofs.ReachLemmas.{AreOnTheWay}
 use Rattle.transcript_check.proofs.sides.reach.Given as goal
 

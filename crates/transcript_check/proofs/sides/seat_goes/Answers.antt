@@ -1,4 +1,4 @@
-use Rattle.std.proofs.lemmas.Result.{IfOk-weaker}
+use Rattle.transcript_check.proofs.Words.{IfOk-weaker}
 use Rattle.transcript_check.proofs.ReachLemmas.{lane_gone, worker_gone}
 use Rattle.transcript_check.proofs.sides.seat_goes.Goals as goal
 

@@ -1,4 +1,4 @@
-use Rattle.std.proofs.Common.{sym, ◌∙◌}
+use Rattle.transcript_check.proofs.Words.{sym, ◌∙◌}
 use Rattle.transcript_check.proofs.ReachLemmas.{none_waits, one_waits}
 use Rattle.transcript_check.proofs.sides.where_over.Goals as goal
 

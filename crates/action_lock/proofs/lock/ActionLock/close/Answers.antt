@@ -1,63 +1,54 @@
-use Rattle.std.proofs.Common.{refl, ◌≡◌, ◌+◌, ◌<◌, get_or, ap, ◌∙◌, sym, subst, arith, false, length}
-use mathlib.Core.Option.{some, some-injective}
-use lib.ListN.{get_elem?}
-use Rattle.action_lock.specs.Slots.{HasNoHome}
+use Rattle.action_lock.proofs.Common.{◌≡◌, ℕ, ◌+◌, ◌<◌, Bool, List, get_or, set, ap, ◌∙◌, sym, subst, arith, false, length, get_or-set_other, get_or-set_same}
+use Rattle.action_lock.proofs.Common.{some, some-injective, HasNoHome}
+use borrow.Author.Count.{below_more}
 use Rattle.action_lock.proofs.Hands.{home_one}
-use Rattle.action_lock.proofs.Ends.{closes, HasTaken, taken_next}
+use Rattle.action_lock.proofs.Numbers.{closes}
 use Rattle.action_lock.proofs.lock.ActionLock.close.Goals as goal
+
+-- the slots before a place are empty, and so is that one now
+gone_next : (filled later : List Bool) (place : ℕ) → later ≡ set filled place false → place < length filled
+    → ((k : ℕ) → k < place → get_or filled k false ≡ false) → (k : ℕ) → k < place + 1 → get_or later k false ≡ false
+gone_next filled later place is l gone = below_more (λ k. get_or later k false ≡ false) place
+    (λ k less. ap (λ x. get_or x k false) is ∙ (get_or-set_other filled place k false false (λ e. omega arith) ∙ gone k less))
+    (ap (λ x. get_or x place false) is ∙ get_or-set_same filled place false false l)
 
 pub loop-place-init : goal.loop-place-init
 loop-place-init g c =
-    let last = c.requires.last in
-    let ended = closes _ _ _ _ _ c.args.pass.spread last.leads last.all_met c.requires.pass.out.at.phase c.close_with-closed.ensures.values.2 in
-    let counted = c.close_with-closed.ensures.counts.1 in
-    let len : c.close_with-closed.result.slots.len ≡ c.args.pass.places + 1 = omega (arith, ended.2, counted, c.args.self.sized.1) in
-    record {
-      items = refl;
-      len = len;
-      taken = record { left = λ k more less. c.close_with-closed.ensures.values.1 k more (omega arith); gone = λ k less. absurd (omega arith) };
-    }
+    let last = c.requires.last in let closed = c.close_with-closed.ensures in
+    let ended = closes _ _ _ _ _ c.args.pass.spread last.leads last.all_met c.requires.pass.out.at.phase closed.values.2 in
+    let len : c.close_with-closed.result.slots.len ≡ c.args.pass.places + 1 = omega (arith, ended.2, closed.counts.1, c.args.self.sized.1) in
+    record { ended = ended.0; len = len; left = λ k more less. closed.values.1 k more (omega arith); gone = λ k less. absurd (omega arith) }
 
 pub clear-requires : goal.clear-requires
-clear-requires g c =
-    let last = c.requires.last in
-    let ended = closes _ _ _ _ _ c.args.pass.spread last.leads last.all_met c.requires.pass.out.at.phase c.close_with-closed.ensures.values.2 in
-    let kept = ended.0.others c.loop-place.place c.loop-place-test.true in
-    subst HasNoHome (some-injective _ _
-    (sym kept.1 ∙ (ap (λ xs. get_elem? xs c.loop-place.place) (sym c.loop-place.invariant.items) ∙ c.take.ensures.value))) kept.2
+clear-requires g c = let kept = c.loop-place.invariant.ended.others c.loop-place.place c.loop-place-test.true in
+    subst HasNoHome (some-injective _ _ (sym kept.1 ∙ c.take.ensures.value)) kept.2
 
 pub loop-place-preserved : goal.loop-place-preserved
 loop-place-preserved g c =
     let before = c.loop-place.invariant in let others = c.take.ensures.others in let slots = c.loop-place.closed.slots in
     let within : c.loop-place.place < length slots.filled = omega (arith, slots.ok.1, c.loop-place-test.true, before.len) in
     record {
-      items = others.0 ∙ before.items;
+      ended = rw others.0 before.ended;
       len = others.2 ∙ before.len;
-      taken = subst (HasTaken (c.args.pass.places + 1) (c.loop-place.place + 1)) (sym others.1)
-          (taken_next (c.args.pass.places + 1) c.loop-place.place slots.filled within before.taken);
+      left = λ k more less. ap (λ filled. get_or filled k false) others.1
+          ∙ (get_or-set_other slots.filled c.loop-place.place k false false (λ e. omega arith) ∙ before.left k (omega arith) less);
+      gone = gone_next _ _ _ others.1 within before.gone;
     }
 
 pub into_home-home-requires : goal.into_home-home-requires
-into_home-home-requires g c =
-    let last = c.requires.last in
-    let ended = closes _ _ _ _ _ c.args.pass.spread last.leads last.all_met c.requires.pass.out.at.phase c.close_with-closed.ensures.values.2 in
-    let there = ap (λ xs. get_elem? xs c.args.pass.places) c.loop-place.invariant.items ∙ ended.0.home_there in
-    (ended.0.home, some-injective _ _ (sym c.take-2.ensures.value ∙ there))
+into_home-home-requires g c = let ended = c.loop-place.invariant.ended in
+    (ended.home, some-injective _ _ (sym c.take-2.ensures.value ∙ ended.home_there))
 
 pub free-requires : goal.free-requires
 free-requires g c = λ k less.
-    let before = c.loop-place.invariant in let slots = c.loop-place.closed.slots in
+    let before = c.loop-place.invariant in let slots = c.loop-place.closed.slots in let others = c.take-2.ensures.others in
     let counted : slots.len ≡ length slots.filled = slots.ok.1 in let many = before.len in
-    let all_taken : HasTaken (c.args.pass.places + 1) c.args.pass.places slots.filled = subst (λ p. HasTaken (c.args.pass.places + 1) p slots.filled)
-    (omega (arith, c.loop-place.auto.place-end, c.loop-place-test.false)) before.taken in
-    let same = c.take-2.ensures.others.2 in
-    ap (λ filled. get_or filled k false) c.take-2.ensures.others.1 ∙ (taken_next (c.args.pass.places + 1) c.args.pass.places slots.filled
-    (omega arith) all_taken).gone k (omega arith)
+    let all : c.loop-place.place ≡ c.args.pass.places = omega (arith, c.loop-place.auto.place-end, c.loop-place-test.false) in
+    gone_next slots.filled _ c.args.pass.places others.1 (omega arith) (λ j l. before.gone j (omega arith)) k (omega (arith, others.2))
 
 pub returns : goal.returns
 returns g c =
-    let last = c.requires.last in
-    let ended = closes _ _ _ _ _ c.args.pass.spread last.leads last.all_met c.requires.pass.out.at.phase c.close_with-closed.ensures.values.2 in
-    let there = ap (λ xs. get_elem? xs c.args.pass.places) (sym c.loop-place.invariant.items) ∙ (c.take-2.ensures.value ∙ ap some c.into_home-home.ensures) in
-    let same = home_one _ _ (some-injective _ _ (sym ended.0.home_there ∙ there)) in
-    record { stands = subst (λ home. g.H.Home.stands home c.args.pass.seat.me.0.seen) same ended.0.home_stands; knows = ended.1 }
+    let last = c.requires.last in let ended = c.loop-place.invariant.ended in
+    let knows = closes _ _ _ _ _ c.args.pass.spread last.leads last.all_met c.requires.pass.out.at.phase c.close_with-closed.ensures.values.2 in
+    let same = home_one _ _ (some-injective _ _ (sym ended.home_there ∙ (c.take-2.ensures.value ∙ ap some c.into_home-home.ensures))) in
+    record { stands = subst (λ home. g.H.Home.stands home c.args.pass.seat.me.0.seen) same ended.home_stands; knows = knows.1 }

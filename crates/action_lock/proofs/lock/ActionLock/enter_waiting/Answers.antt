@@ -1,4 +1,4 @@
-use Rattle.std.proofs.Common.{rules}
+use Rattle.action_lock.proofs.Common.{rules}
 use Rattle.action_lock.proofs.ReadLemmas.{looked_again}
 use Rattle.action_lock.proofs.lock.ActionLock.enter_waiting.Goals as goal
 

@@ -1,5 +1,4 @@
-use Rattle.action_lock.specs.Passes.{view_of, IsSamePass, IsOut}
-use Rattle.action_lock.specs.Reads.{HasLooked}
+use Rattle.action_lock.proofs.Common.{view_of, IsSamePass, IsOut, HasLooked}
 use Rattle.action_lock.proofs.lock.ActionLock.enter_waiting.Given as goal
 
 abbrev pub invariant-loop : goal.invariant-loop

@@ -1,4 +1,4 @@
-use Rattle.std.proofs.Common.{rules}
+use Rattle.action_lock.proofs.Common.{rules}
 use Rattle.action_lock.proofs.Numbers.{tells}
 use Rattle.action_lock.proofs.lock.ActionLock.is_last.Goals as goal
 

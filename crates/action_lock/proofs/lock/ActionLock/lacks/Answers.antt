@@ -1,5 +1,4 @@
-use Rattle.std.proofs.Common.{[], ◌∷◌, ap, ◌∙◌, sym, ⊎_elim}
-use Rattle.action_lock.specs.declared.slot.Slot.TheVariants.{Share, Empty}
+use Rattle.action_lock.proofs.Common.{[], ◌∷◌, ap, ◌∙◌, sym, ⊎_elim, Share, Empty}
 use Rattle.action_lock.proofs.Hands.{in_front}
 use Rattle.action_lock.proofs.lock.ActionLock.lacks.Goals as goal
 

@@ -1,7 +1,5 @@
-use Rattle.std.proofs.Common.{ap, ◌∙◌, sym, subst, rules}
-use Rattle.action_lock.specs.declared.slot.Slot.TheVariants.{Empty}
-use Rattle.action_lock.specs.Slots.{HasNoHome, writing_hand}
-use Rattle.action_lock.proofs.Hands.{in_front, front_set, front_same, hand_all, hand_home}
+use Rattle.action_lock.proofs.Common.{◌∙◌, sym, subst, rules, Empty, HasNoHome, writing_hand}
+use Rattle.action_lock.proofs.Hands.{in_front, hand_after, front_same, hand_all, hand_home}
 use Rattle.action_lock.proofs.lock.ActionLock.lay.Goals as goal
 
 pub exchange-requires : goal.exchange-requires
@@ -13,9 +11,9 @@ clear-requires g c = let found = c.places-last.ensures in
     subst HasNoHome (sym (front_same (c.requires.hand_is ∙ hand_all _ _ found.is found.some_place) c.exchange.ensures.2)) tt
 
 pub returns-clause-hand : goal.returns-clause-hand
-returns-clause-hand g c = let found = c.places-last.ensures in let home = c.args.home in let after = c.exchange.ensures.3 in
-    ap (λ m. m.1) after ∙ (front_set (c.requires.hand_is ∙ hand_all _ _ found.is found.some_place)
-    ∙ (sym (hand_home _ _ home found.is) ∙ ap (λ n. writing_hand n home) (sym (ap (λ m. m.0.places) after))))
+returns-clause-hand g c = let found = c.places-last.ensures in let home = c.args.home in
+    hand_after (c.requires.hand_is ∙ hand_all _ _ found.is found.some_place) (λ v. writing_hand v.places home) c.exchange.ensures.3
+    (sym (hand_home _ _ found.is home))
 
 pub returns-clause-writes : goal.returns-clause-writes
 returns-clause-writes g c = let home = c.args.home in let hand = returns-clause-hand g c in search (rules, home, hand)

@@ -1,5 +1,5 @@
-use Rattle.std.proofs.Common.{rules}
-use Rattle.action_lock.proofs.WriterSteps.{releases}
+use Rattle.action_lock.proofs.Common.{rules}
+use Rattle.action_lock.proofs.StepLemmas.{releases}
 use Rattle.action_lock.proofs.lock.ActionLock.let_intent_go.Goals as goal
 
 pub store-requires : goal.store-requires

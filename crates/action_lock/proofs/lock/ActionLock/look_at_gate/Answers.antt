@@ -1,5 +1,5 @@
-use Rattle.std.proofs.Common.{rules}
-use Rattle.action_lock.proofs.ReaderSteps.{looks}
+use Rattle.action_lock.proofs.Common.{rules}
+use Rattle.action_lock.proofs.StepLemmas.{looks}
 use Rattle.action_lock.proofs.lock.ActionLock.look_at_gate.Goals as goal
 
 pub load-found-requires : goal.load-found-requires

@@ -1,7 +1,4 @@
-use Rattle.std.proofs.Common.{◌≡◌, []}
-use Rattle.action_lock.specs.declared.view.Phase.TheVariants.{Out}
-use Rattle.action_lock.specs.Steps.{marked, with_phase}
-use Rattle.action_lock.specs.Passes.{view_of, IsSamePass, IsWriting}
+use Rattle.action_lock.proofs.Common.{◌≡◌, [], Out, marked, with_phase, view_of, IsSamePass, IsWriting}
 use Rattle.action_lock.proofs.lock.ActionLock.mark_all.Given as goal
 
 abbrev pub invariant-loop-place : goal.invariant-loop-place

@@ -1,6 +1,4 @@
-use Rattle.std.proofs.Common.{rules, ◌≡◌, ◌≢◌, ℕ, zero, suc, ◌<◌, All, List, ◌∷◌, ◌++◌, Option, Some, sym, ap, ◌∙◌, subst, arith}
-use Rattle.std.proofs.lemmas.List.Elements.{All-head, All-tail}
-use Rattle.list_laws.specs.Prefixes.{IsPrefix}
+use Rattle.action_lock.proofs.Common.{rules, ◌≡◌, ◌≢◌, ℕ, zero, suc, ◌<◌, All, Option, Some, sym, ap, ◌∙◌, subst, arith, IsPrefix}
 use Rattle.action_lock.proofs.Numbers.{joins, tells}
 use Rattle.action_lock.proofs.lock.ActionLock.meet.Goals as goal
 
@@ -19,15 +17,7 @@ load-requires g c = let numbered = ap (λ m. m.0.number) c.join_seat.ensures.2 �
     (search rules, search rules, tells _ _ _ numbered)
 
 -- what the other knows is the second of the lists that the join left to be told
-second_front : {E : Type 0} (first second seen : List E) (rest olds : List (List E)) → olds ≡ first ∷ second ∷ rest → All (λ old. IsPrefix old seen) olds
-    → IsPrefix second seen
-second_front first second seen rest olds is all =
-    All-head (λ old. IsPrefix old seen) second rest (All-tail (λ old. IsPrefix old seen) first (second ∷ rest) (subst (All (λ old. IsPrefix old seen)) is all))
-
 pub returns-clause-learns : goal.returns-clause-learns
-returns-clause-learns g c =
-    let v = c.args.pass.now.seat.me.0 in
-    let w = c.args.other.seat.me.0 in
-    subst (IsPrefix w.seen) (sym (ap (λ m. m.0.seen) c.load.ensures.2.0))
-    (second_front v.seen w.seen c.join_seat.new.seat.me.0.seen (v.olds ++ w.olds) c.join_seat.new.seat.me.0.olds
-    (ap (λ m. m.0.olds) c.join_seat.ensures.2) c.load.ensures.2.1)
+returns-clause-learns g c = let w = c.args.other.seat.me.0 in
+    let olds = subst (All (λ old. IsPrefix old c.join_seat.new.seat.me.0.seen)) (ap (λ m. m.0.olds) c.join_seat.ensures.2) c.load.ensures.2.1 in
+    subst (IsPrefix w.seen) (sym (ap (λ m. m.0.seen) c.load.ensures.2.0)) (olds 1 w.seen (omega arith))

@@ -1,9 +1,5 @@
-use Rattle.std.proofs.Common.{◌≡◌, ◌++◌, ◌∷◌, [], sym, subst, rules, replicate, arith}
-use Rattle.atomic_table.specs.Table.{opening}
-use Rattle.action_lock.specs.declared.slot.Slot.TheVariants.{Home}
-use Rattle.action_lock.specs.Rule.{IsKept}
-use Rattle.action_lock.specs.Views.{first_view}
-use Rattle.action_lock.proofs.Ends.{opens}
+use Rattle.action_lock.proofs.Common.{◌≡◌, ◌++◌, ◌∷◌, [], sym, subst, rules, replicate, arith, opening, Home, IsKept, first_view}
+use Rattle.action_lock.proofs.Numbers.{opens}
 use Rattle.action_lock.proofs.lock.ActionLock.new.Goals as goal
 
 pub new-requires : goal.new-requires

@@ -1,7 +1,5 @@
-use Rattle.std.proofs.Common.{◌∷◌, ap, ◌∙◌, sym, subst, rules}
-use Rattle.action_lock.specs.declared.slot.Slot.TheVariants.{Empty}
-use Rattle.action_lock.specs.Slots.{HasNoHome, MayKeep, shut_hand}
-use Rattle.action_lock.proofs.Hands.{in_front, front_set, front_same, hand_next}
+use Rattle.action_lock.proofs.Common.{◌∷◌, refl, sym, ◌∙◌, subst, rules, Empty, HasNoHome, MayKeep, shut_hand}
+use Rattle.action_lock.proofs.Hands.{in_front, hand_after, front_same, hand_next}
 use Rattle.action_lock.proofs.lock.ActionLock.open_at.Goals as goal
 
 pub exchange-requires : goal.exchange-requires
@@ -11,9 +9,7 @@ pub clear-requires : goal.clear-requires
 clear-requires g c = subst HasNoHome (sym (front_same (c.requires.shuts.hand_is ∙ hand_next _ c.args.place) c.exchange.ensures.2)) tt
 
 pub open-requires-clause-opens : goal.open-requires-clause-opens
-open-requires-clause-opens g c =
-    let kept = c.kept_of-kept.result in let after = c.exchange.ensures.3 in
-    let hand = ap (λ m. m.1) after ∙ (front_set (c.requires.shuts.hand_is ∙ hand_next _ c.args.place)
-    ∙ ap (λ n. (c.args.place, kept) ∷ shut_hand n c.args.place) (sym (ap (λ m. m.0.places) after))) in
-    let stood = subst (λ m. MayKeep g.H.Home.share_stands m.0.seen kept) (sym after) (c.kept_of-kept.ensures _ c.requires.stands) in
+open-requires-clause-opens g c = let kept = c.kept_of-kept.result in let place = c.args.place in
+    let hand = hand_after (c.requires.shuts.hand_is ∙ hand_next _ place) (λ v. (place, kept) ∷ shut_hand v.places place) c.exchange.ensures.3 refl in
+    let stood = subst (λ m. MayKeep g.H.Home.share_stands m.0.seen kept) (sym c.exchange.ensures.3) (c.kept_of-kept.ensures _ c.requires.stands) in
     (kept, stood, search (rules, hand))

@@ -1,5 +1,4 @@
-use Rattle.std.proofs.Common.{[], ◌∷◌, ap, ◌∙◌, sym}
-use Rattle.action_lock.specs.declared.slot.Slot.TheVariants.{Share}
+use Rattle.action_lock.proofs.Common.{[], ◌∷◌, ap, ◌∙◌, sym, Share}
 use Rattle.action_lock.proofs.Hands.{in_front}
 use Rattle.action_lock.proofs.lock.ActionLock.share_in_hand.Goals as goal
 

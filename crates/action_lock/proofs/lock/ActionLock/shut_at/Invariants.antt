@@ -1,7 +1,4 @@
-use Rattle.std.proofs.Common.{◌≡◌}
-use Rattle.action_lock.specs.declared.view.Phase.TheVariants.{Shutting}
-use Rattle.action_lock.specs.Slots.{shut_hand}
-use Rattle.action_lock.specs.Passes.{view_of, IsSamePass, IsWriting}
+use Rattle.action_lock.proofs.Common.{◌≡◌, Shutting, shut_hand, view_of, IsSamePass, IsWriting}
 use Rattle.action_lock.proofs.lock.ActionLock.shut_at.Given as goal
 
 abbrev pub invariant-loop : goal.invariant-loop

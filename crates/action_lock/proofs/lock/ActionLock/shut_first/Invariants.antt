@@ -1,6 +1,4 @@
-use Rattle.std.proofs.Common.{◌≡◌, []}
-use Rattle.action_lock.specs.declared.view.Phase.TheVariants.{Marking}
-use Rattle.action_lock.specs.Passes.{view_of, IsSamePass, IsWriting}
+use Rattle.action_lock.proofs.Common.{◌≡◌, [], Marking, view_of, IsSamePass, IsWriting}
 use Rattle.action_lock.proofs.lock.ActionLock.shut_first.Given as goal
 
 abbrev pub invariant-loop : goal.invariant-loop

@@ -1,4 +1,4 @@
-use Rattle.std.proofs.Common.{rules, ◌≡◌, arith}
+use Rattle.action_lock.proofs.Common.{rules, ◌≡◌, arith}
 use Rattle.action_lock.proofs.Numbers.{splits}
 use Rattle.action_lock.proofs.lock.ActionLock.split.Goals as goal
 

@@ -1,5 +1,5 @@
-use Rattle.std.proofs.Common.{rules}
-use Rattle.action_lock.proofs.WriterSteps.{takes_intent}
+use Rattle.action_lock.proofs.Common.{rules}
+use Rattle.action_lock.proofs.StepLemmas.{takes_intent}
 use Rattle.action_lock.proofs.lock.ActionLock.take.Goals as goal
 
 pub fetch_or-found-requires : goal.fetch_or-found-requires

@@ -1,5 +1,4 @@
-use Rattle.std.proofs.Common.{◌≡◌, ◌≤◌}
-use Rattle.action_lock.specs.Passes.{view_of, IsSamePass, IsPassOf}
+use Rattle.action_lock.proofs.Common.{◌≡◌, ◌≤◌, view_of, IsSamePass, IsPassOf}
 use Rattle.action_lock.proofs.pass.Pass.intent.Given as goal
 
 abbrev pub invariant-loop : goal.invariant-loop

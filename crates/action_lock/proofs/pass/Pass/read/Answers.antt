@@ -1,4 +1,4 @@
-use Rattle.std.proofs.Common.{rules}
+use Rattle.action_lock.proofs.Common.{rules}
 use Rattle.action_lock.proofs.pass.Pass.read.Goals as goal
 
 pub returns-in_err-enter_waiting : goal.returns-in_err-enter_waiting

@@ -1,5 +1,4 @@
-use Rattle.std.proofs.Common.{ap, sym, subst}
-use Rattle.action_lock.specs.Counts.{HasRisen}
+use Rattle.action_lock.proofs.Common.{ap, sym, subst, HasRisen}
 use Rattle.action_lock.proofs.ReadLemmas.{found_mark}
 use Rattle.action_lock.proofs.reading.ReadingWatch.look.Goals as goal
 

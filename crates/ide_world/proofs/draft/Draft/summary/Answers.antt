@@ -6,9 +6,6 @@ use Rattle.ide_world.proofs.WalkLemmas.{part_now}
 use Rattle.ide_world.proofs.draft.Draft.summary.Goals as goal
 
 pub returns-clause-value : goal.returns-clause-value
-returns-clause-value c = rw (
-  ← c.self.view_is,
-  part_now edited_summary c.args.id (option_map summary_of) summary-edited (drafted c.self.inside) c.self.invariant.draft,
-  ← c.summary_of-first.ensures.value,
-  ← c.as_slice.ensures,
-) c.summary.ensures.value
+returns-clause-value c =
+    let now = part_now edited_summary c.args.id (option_map summary_of) summary-edited (drafted c.self.inside) c.self.invariant.draft in
+    rw (← c.self.view_is, now, ← c.summary_of-first.ensures.value, ← c.as_slice.ensures) c.summary.ensures.value

@@ -8,9 +8,6 @@ pub text-requires : goal.text-requires
 text-requires c = rw (c.in_ok-first.ensures, c.as_slice.ensures) (texts_fit (drafted c.self.inside) c.args.id c.self.invariant.draft)
 
 pub returns : goal.returns
-returns c = rw (
-  ← c.self.view_is,
-  part_now edited_text c.args.id text_of_document text-edited (drafted c.self.inside) c.self.invariant.draft,
-  ← c.in_ok-first.ensures,
-  ← c.as_slice.ensures,
-) c.text.ensures
+returns c =
+    let now = part_now edited_text c.args.id text_of_document text-edited (drafted c.self.inside) c.self.invariant.draft in
+    rw (← c.self.view_is, now, ← c.in_ok-first.ensures, ← c.as_slice.ensures) c.text.ensures

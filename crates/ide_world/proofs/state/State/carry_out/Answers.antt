@@ -1,4 +1,4 @@
-use Rattle.std.proofs.Common.{length, ap, ◌∙◌, arith}
+use Rattle.std.proofs.Common.{length, refl, ap, ◌∙◌, arith}
 use Rattle.ide_world.proofs.WorldLemmas.{rows_known, document_here, new_row_room, may_have, marks_some, marks_few, rows_left, world_after, kept_after}
 use Rattle.ide_world.proofs.RoomLemmas.{chars_left}
 use Rattle.ide_world.proofs.state.State.carry_out.Goals as goal
@@ -6,7 +6,7 @@ use Rattle.ide_world.proofs.state.State.carry_out.Goals as goal
 pub apply_row-row-requires-clause-within : goal.apply_row-row-requires-clause-within
 apply_row-row-requires-clause-within c =
     let known = rows_known c.self.inside c.args.step c.self.invariant (rw (← c.self.view_is) at c.requires.lawful) in
-    omega (arith, known, ap (λ rows. length rows) c.draw_if.ensures.rows)
+    omega (arith, known, ap length c.draw_if.ensures.rows)
 
 pub apply_row-row-requires-clause-made : goal.apply_row-row-requires-clause-made
 apply_row-row-requires-clause-made c =
@@ -34,31 +34,27 @@ invariant_of-self c =
     kept_after c.self.inside c.args.step c.self.invariant (rw (← c.self.view_is) at c.requires.lawful)
     _ c.draw_if.new.files c.is_unready_file-is_unready.result (assumption c) (rw (← c.self.view_is) at c.requires.stamps)
 
-pub returns-clause-world : goal.returns-clause-world
-returns-clause-world c = rw (← c.self.view_is)
-    (world_after c.self.inside c.args.step c.self.invariant (rw (← c.self.view_is) at c.requires.lawful) record {
-      files = c.apply_row-row.new.files;
-      docs = c.apply_document.new.docs;
-      layers = c.apply_index-index.new.layers;
-      unready = c.set.new.self;
-      entries = c.self.inside.entries;
-    } c.draw_if.new.files c.is_unready_file-is_unready.result (assumption c))
-
-pub returns-clause-rows : goal.returns-clause-rows
-returns-clause-rows c = rw (← c.self.view_is)
-    (rows_left c.self.inside c.args.step c.self.invariant (rw (← c.self.view_is) at c.requires.lawful) c.draw_if.new.files c.apply_row-row.new.files
-    c.draw_if.ensures.rows c.apply_row-row.ensures.made (omega (arith, c.draw_if.ensures.keeps.rows, c.apply_row-row.ensures.keeps.rows)))
-
-pub returns-clause-chars : goal.returns-clause-chars
-returns-clause-chars c = rw (← c.self.view_is)
-    (chars_left c.self.inside.docs c.apply_document.new.docs c.args.step c.apply_document.ensures.documents c.apply_document.ensures.others
-    c.apply_document.ensures.room)
-
-pub returns-clause-keeps : goal.returns-clause-keeps
-returns-clause-keeps c = rw (← c.self.view_is) record {
-  paths = λ path had. c.apply_row-row.ensures.keeps.paths path (c.draw_if.ensures.keeps.paths path had);
-  places = c.apply_document.ensures.places;
-  parts = c.apply_index-index.ensures.keeps;
-  layers = c.apply_index-index.ensures.keeps_place;
-  marks = λ id had. c.set.ensures.keeps id ∙ had;
-}
+pub returns : goal.returns
+returns c =
+    let lawful = rw (← c.self.view_is) at c.requires.lawful in
+    rw (← c.self.view_is) record {
+      id = refl;
+      world = world_after c.self.inside c.args.step c.self.invariant lawful record {
+        files = c.apply_row-row.new.files;
+        docs = c.apply_document.new.docs;
+        layers = c.apply_index-index.new.layers;
+        unready = c.set.new.self;
+        entries = c.self.inside.entries;
+      } c.draw_if.new.files c.is_unready_file-is_unready.result (assumption c);
+      keeps = record {
+        paths = λ path had. c.apply_row-row.ensures.keeps.paths path (c.draw_if.ensures.keeps.paths path had);
+        places = c.apply_document.ensures.places;
+        parts = c.apply_index-index.ensures.keeps;
+        layers = c.apply_index-index.ensures.keeps_place;
+        marks = λ id had. c.set.ensures.keeps id ∙ had;
+      };
+      rows = rows_left c.self.inside c.args.step c.self.invariant lawful c.draw_if.new.files c.apply_row-row.new.files c.draw_if.ensures.rows
+          c.apply_row-row.ensures.made (omega (arith, c.draw_if.ensures.keeps.rows, c.apply_row-row.ensures.keeps.rows));
+      chars = chars_left c.self.inside.docs c.apply_document.new.docs c.args.step c.apply_document.ensures.documents c.apply_document.ensures.others
+          c.apply_document.ensures.room;
+    }

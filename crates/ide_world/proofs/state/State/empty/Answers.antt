@@ -1,12 +1,27 @@
-use Rattle.std.proofs.Common.{refl, rules}
-use Rattle.ide_world.proofs.WorldLemmas.{kept_empty, world_empty}
+use Rattle.std.proofs.Common.{ℕ, zero, suc, ◌≡◌, None, refl, sym, ◌∙◌, arith}
+use Rattle.std.proofs.lemmas.Option.{none-some}
+use Rattle.write_history.specs.World.{empty_world, file_of}
 use Rattle.ide_world.proofs.state.State.empty.Goals as goal
 
+no_file : (id : ℕ) → file_of empty_world id ≡ None
+no_file zero = refl
+no_file (suc place) = refl
+
 pub invariant_of-result : goal.invariant_of-result
-invariant_of-result c =
-    kept_empty (record { files = c.new.result; docs = c.new-2.result; layers = c.new-3.result; unready = c.new-4.result; entries = 0 })
-    c.new.ensures.rows c.new.ensures.stamp refl c.new-2.ensures.documents c.new-2.ensures.count
-    c.new-3.ensures.base c.new-3.ensures.overlay c.new-4.ensures.off c.new-4.ensures.none
+invariant_of-result c = rw (c.new.ensures.rows, c.new.ensures.stamp) record {
+  sound = record {
+    files = record { sound = λ id. rw (no_file id) tt; apart = λ a b f g at_a at_b same. absurd (none-some f (sym (no_file a) ∙ at_a)) };
+    made = omega arith;
+    stamps = omega arith;
+    entries = omega arith;
+  };
+  drawn = omega arith;
+  whole = λ id gone. c.new-2.ensures.documents id;
+  index = λ id. rw (no_file id) (c.new-3.ensures.base id, c.new-3.ensures.overlay id);
+  unready = λ id. rw (no_file id) (c.new-4.ensures.off id);
+  unready_count = c.new-4.ensures.none;
+  open_count = c.new-2.ensures.count;
+}
 
 pub returns : goal.returns
-returns c = search (rules, world_empty)
+returns c = rw (c.new.ensures.rows, c.new.ensures.stamp) refl

@@ -1,27 +1,15 @@
-use Rattle.std.proofs.Common.{◌++◌, sym, ap, subst, ◌∙◌}
-use Rattle.ide_world.specs.Step.{after_steps}
-use Rattle.ide_world.specs.Ready.{first_unready, ids_of}
-use Rattle.ide_world.specs.StepsReady.{IsReady, ids_of_gone}
+use Rattle.std.proofs.Common.{refl}
 use Rattle.ide_world.proofs.RoomLemmas.{ready_counted, after_steps-counted}
 use Rattle.ide_world.proofs.state.State.install.Goals as goal
 
 pub carry_out_all-requires-clause-ready : goal.carry_out_all-requires-clause-ready
-carry_out_all-requires-clause-ready c =
-    subst (IsReady c.count_entry.new.self) (sym c.steps.view_is)
-    (ready_counted c.args.self.now c.count_entry.new.self c.args.steps c.requires.lawful c.requires.room
+carry_out_all-requires-clause-ready c = rw c.steps.view_is (ready_counted c.args.self.now _ _ c.requires.lawful c.requires.room
     c.count_entry.ensures.stamps c.count_entry.ensures.world c.count_entry.ensures.room)
 
 pub returns-clause-world : goal.returns-clause-world
-returns-clause-world c =
-    c.sweep_all.ensures.world ∙ c.carry_out_all.ensures.world
-    ∙ ap (after_steps c.count_entry.new.self.world) c.steps.view_is
-    ∙ ap (λ w. after_steps w c.args.steps) c.count_entry.ensures.world
-    ∙ after_steps-counted c.args.self.now.world c.args.steps
+returns-clause-world c = rw (c.sweep_all.ensures.world, c.carry_out_all.ensures.world, c.steps.view_is, c.count_entry.ensures.world)
+    (after_steps-counted c.args.self.now.world c.args.steps)
 
 pub returns-clause-unready : goal.returns-clause-unready
 returns-clause-unready c =
-    c.first_unready.ensures
-    ∙ ap (first_unready c.sweep_all.new.self.world)
-    (ap ids_of_gone c.deref-2.ensures.value ∙ c.carry_out_all.ensures.ids
-    ∙ ap (λ g. ids_of_gone g ++ ids_of c.steps.inside.steps.items) c.steps.invariant.0
-    ∙ ap ids_of c.steps.view_is)
+    rw (c.first_unready.ensures, c.deref-2.ensures.value, c.carry_out_all.ensures.ids, c.steps.invariant.0, c.steps.view_is) refl

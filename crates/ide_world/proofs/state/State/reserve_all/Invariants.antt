@@ -1,7 +1,7 @@
 use Rattle.std.proofs.Common.{◌≡◌, length, take}
+use Rattle.std.specs.List.{AllByRecursion}
 use Rattle.vfs_core.specs.FilesView.{HasRowRoom}
-use Rattle.ide_world.specs.Room.{HasEachRoom}
-use Rattle.ide_world.proofs.RoomLemmas.{HasEachChars}
+use Rattle.ide_world.proofs.RoomLemmas.{HasRoomFor}
 use Rattle.ide_world.proofs.state.State.reserve_all.Given as goal
 
 -- the world stays, and there is room for the rows of all and for what the steps so far bring
@@ -9,5 +9,5 @@ abbrev pub invariant-loop-step : goal.invariant-loop-step
 invariant-loop-step l = record {
   world : l.self.world ≡ l.fn.self.world;
   rows : HasRowRoom l.self.room.files (length l.steps);
-  each : HasEachRoom l.self.room (take l.step-index l.steps) × HasEachChars l.self.room l.steps (take l.step-index l.steps);
+  each : AllByRecursion (HasRoomFor l.self.room l.steps) (take l.step-index l.steps);
 }

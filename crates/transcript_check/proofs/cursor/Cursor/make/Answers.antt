@@ -1,18 +1,12 @@
-use Rattle.std.proofs.Common.{rules, ◌≡◌, true, false, ◌∷◌}
-use Rattle.std.proofs.lemmas.Result.{IfOk-weaker}
-use Rattle.std.proofs.lemmas.List.Elements.{All-rest}
-use Rattle.script_lang.specs.declared.line.Line.{Line}
-use Rattle.script_lang.specs.Held.{IsOfLine, IsNoLoad}
-use Rattle.transcript_check.specs.Section.{is_settle}
-use Rattle.transcript_check.proofs.ToldLemmas.{settle_made, line_made}
+use Rattle.transcript_check.proofs.Words.{rules, ◌≡◌, ◌∷◌, IfOk-weaker, All-rest, Line, IsOfLine, IsNoLoad}
+use Rattle.transcript_check.proofs.StepLemmas.{settle_made, line_made}
 use Rattle.transcript_check.proofs.cursor.Cursor.make.Goals as goal
 
 pub returns-then-is_settle : goal.returns-then-is_settle
 returns-then-is_settle c =
     let lines : c.self.inside.lines.now ≡ c.in-Some.line.now ∷ c.in-Some.later.now = search rules in
     let texts : c.self.inside.texts.now ≡ c.in-Some-split_first.told.now ∷ c.in-Some-split_first.rest.now = search rules in
-    let settles : is_settle c.in-Some.line.now.command ≡ true = search rules in
-    IfOk-weaker c.take_lowest_so.result _ _ (λ went. settle_made c.self.view_is lines texts settles) c.take_lowest_so.ensures
+    IfOk-weaker c.take_lowest_so.result _ _ (λ went. settle_made c.self.view_is lines texts (search rules)) c.take_lowest_so.ensures
 
 pub invariant_of-self-2 : goal.invariant_of-self-2
 invariant_of-self-2 c =
@@ -23,5 +17,4 @@ pub returns : goal.returns
 returns c =
     let lines : c.self.inside.lines.now ≡ c.in-Some.line.now ∷ c.in-Some.later.now = search rules in
     let texts : c.self.inside.texts.now ≡ c.in-Some-split_first.told.now ∷ c.in-Some-split_first.rest.now = search rules in
-    let no_settle : is_settle c.in-Some.line.now.command ≡ false = search rules in
-    IfOk-weaker c.change_so.result _ _ (λ went. line_made c.self.view_is lines texts no_settle) c.change_so.ensures
+    IfOk-weaker c.change_so.result _ _ (λ went. line_made c.self.view_is lines texts (search rules)) c.change_so.ensures

@@ -1,7 +1,4 @@
-use Rattle.std.proofs.Common.{◌≡◌, List, length}
-use Rattle.write_history.specs.declared.entry.Entry.{Entry}
-use Rattle.write_history.specs.Fold.{fold}
-use Rattle.transcript_check.specs.Section.{told_here}
+use Rattle.transcript_check.proofs.Words.{◌≡◌, List, length, Entry, fold, told_here}
 use Rattle.transcript_check.proofs.cursor.Cursor.tell.Given as goal
 
 -- going on from here leads where going on from the start does

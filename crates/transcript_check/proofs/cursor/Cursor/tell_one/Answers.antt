@@ -1,7 +1,4 @@
-use Rattle.std.proofs.Common.{rules, ◌≡◌, ◌∷◌}
-use Rattle.std.proofs.lemmas.List.Elements.{All-rest}
-use Rattle.script_lang.specs.declared.line.Line.{Line}
-use Rattle.script_lang.specs.Held.{IsOfLine, IsNoLoad}
+use Rattle.transcript_check.proofs.Words.{rules, ◌≡◌, ◌∷◌, All-rest, Line, IsOfLine, IsNoLoad}
 use Rattle.transcript_check.proofs.cursor.Cursor.tell_one.Goals as goal
 
 pub invariant_of-self : goal.invariant_of-self

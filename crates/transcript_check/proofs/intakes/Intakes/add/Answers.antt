@@ -1,5 +1,4 @@
-use Rattle.std.proofs.Common.{ap, ◌∙◌, ◌||◌}
-use Rattle.transcript_check.specs.Intakes.{is_taking, is_among}
+use Rattle.transcript_check.proofs.Words.{ap, ◌∙◌, ◌||◌, is_taking, is_among}
 use Rattle.transcript_check.proofs.IntakeLemmas.{among_more}
 use Rattle.transcript_check.proofs.intakes.Intakes.add.Goals as goal
 
