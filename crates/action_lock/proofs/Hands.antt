@@ -1,6 +1,7 @@
 -- What a seat has in hand, and the slot that it took last.
-use Rattle.action_lock.proofs.Common.{◌≡◌, ℕ, suc, ◌+◌, ◌-◌, ◌<◌, List, [], ◌∷◌, get_or, ap, ◌∙◌, sym, subst, arith, Me, rest, turned, Slot, Home, Empty}
-use Rattle.action_lock.specs.Slots.{shut_hand, writing_hand}
+pub use Rattle.action_lock.proofs.Common.{◌≡◌, ℕ, suc, ◌+◌, ◌-◌, ◌<◌, List, [], ◌∷◌, get_or, ap, ◌∙◌, sym, subst, arith, Me, rest, turned, Slot, Home, Empty}
+pub use Rattle.action_lock.proofs.Common.{rules, refl, ⊎_elim, Share, HasNoHome, MayKeep, ◌%◌, ◌≤◌, length, Option, Some, View}
+pub use Rattle.action_lock.specs.Slots.{shut_hand, writing_hand}
 
 module _ {H S : Type 0} where
   -- one place more is shut

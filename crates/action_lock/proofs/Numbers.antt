@@ -1,15 +1,16 @@
 -- Steps on numbers keep the rule: a load that tells a seat what a join left, and that it knows its own lists, splitting off a pass with the next number,
 -- and taking in the view of a pass that was met. With them the rule at the beginning, and what it says where number 0 has met all others.
-use Rattle.action_lock.proofs.Common.{◌≡◌, ℕ, ◌+◌, ◌<◌, ◌≤◌, false, List, [], ◌∷◌, ◌++◌, length, map, replicate, set, get_or, refl, ap, ◌∙◌, sym, subst}
-use Rattle.action_lock.proofs.Common.{arith, Option, Some, None, All, nat_lt, eqb, eqb-true, lt-ltb, ne_eqb, length-append, suc, none, some, some-ne-none}
-use Rattle.action_lock.proofs.Common.{get_elem?, nat_tests, get_or-replicate, get_or_default, length-replicate, All-append, All-cons, All-nil, Me, step}
-use Rattle.action_lock.proofs.Common.{keeps, Allows, Splits, Joins, opening, Final, Seen, set_else, at_index, at_longer, at_last, at_map, Slot, Home, Empty}
-use Rattle.action_lock.proofs.Common.{Out, Ended, View, HasNoHome, MayKeep, count, word_at, weight, weight_in, here, number_count, number_is, leading}
-use Rattle.action_lock.proofs.Common.{numbers, times, first_view, spent_view, entries_of, IsSound, IsRecorded, IsKept, KnowsPlaces, SeesAll, told, Tells}
-use Rattle.action_lock.proofs.Common.{KnowsItsLists, splitting, split_off, joined, end_of, total, IsPrefix, longer, one_if, bool_cases, Each, each_set}
-use Rattle.action_lock.proofs.Common.{each_snoc, front_all, front_trans, front_whole, front_same_filter, longer_is, longer_front, front_longer_left}
-use Rattle.action_lock.proofs.Common.{front_longer_right, filter_none, All-weaken, total-set, total-same, total-at, total-two, total-only, total-append, true}
-use Rattle.action_lock.proofs.Placing.{tally_is, placed_same, spread_set, quiet}
+pub use Rattle.action_lock.proofs.Common.{◌≡◌, inl, inr, ℕ, ◌+◌, ◌<◌, ◌≤◌, false, List, [], ◌∷◌, ◌++◌, length, map, replicate, set, get_or, refl, ap, ◌∙◌, sym}
+pub use Rattle.action_lock.proofs.Common.{subst, arith, Option, Some, None, All, nat_lt, eqb, eqb-true, lt-ltb, ne_eqb, length-append, suc, none, some}
+pub use Rattle.action_lock.proofs.Common.{some-ne-none, get_elem?, nat_tests, get_or-replicate, get_or_default, length-replicate, All-append, All-cons}
+pub use Rattle.action_lock.proofs.Common.{All-nil, Me, step, keeps, Allows, Splits, Joins, opening, Final, Seen, set_else, at_index, at_longer, at_last}
+pub use Rattle.action_lock.proofs.Common.{at_map, Slot, Home, Empty, Out, Ended, View, HasNoHome, MayKeep, count, word_at, weight, weight_in, here}
+pub use Rattle.action_lock.proofs.Common.{number_count, number_is, leading, numbers, times, first_view, spent_view, entries_of, IsSound, IsRecorded, IsKept}
+pub use Rattle.action_lock.proofs.Common.{KnowsPlaces, SeesAll, told, Tells, KnowsItsLists, splitting, split_off, joined, end_of, total, IsPrefix, longer}
+pub use Rattle.action_lock.proofs.Common.{one_if, cases_Bool, Each, each_set, each_snoc, front_all, front_trans, front_whole, front_same_filter, longer_is}
+pub use Rattle.action_lock.proofs.Common.{longer_front, front_longer_left, front_longer_right, filter_none, All-weaken, total-set, total-same, total-at}
+pub use Rattle.action_lock.proofs.Common.{total-two, total-only, total-append, true, rules}
+use Rattle.action_lock.proofs.Placing.{tally_is, placed_same, spread_set, quiet, kept_by}
 use Rattle.action_lock.proofs.Sound.{Keeps, keeps_between, told_all, fresh_sound, sound_more}
 
 -- what a slot that may be kept by a place holds is no home value
@@ -19,8 +20,7 @@ no_home share_stands entries kept may = tt
 
 module _ {E : Type 0} where
   end_count : (k : ℕ) (number : Option ℕ) (w : View E) → total (λ (x : Ended E). one_if (eqb x.number k)) (end_of number w) ≡ number_is k number
-  end_count k None w = refl
-  end_count k (Some n) w = omega arith
+  end_count k number w = grind (arith)
 
   -- what holds of what is left of a pass, if it has a number
   ends_known : (P : Ended E → Type 0) (w : View E) (number : Option ℕ)
@@ -32,10 +32,10 @@ module _ {E : Type 0} where
   ended_seen : (number_of : E → ℕ) (history seen : List E) (k : ℕ) (ended : List (Ended E)) → 0 < total (λ (e : Ended E). one_if (eqb e.number k)) ended
       → All (Keeps number_of history seen) ended → entries_of number_of k seen ≡ entries_of number_of k history
   ended_seen number_of history seen k [] some_there all = absurd (omega arith)
-  ended_seen number_of history seen k (x ∷ xs) some_there all = bool_cases (eqb x.number k) (λ _. entries_of number_of k seen ≡ entries_of number_of k history)
-      (λ e. let both = all 0 x (omega arith) in
-      subst (λ (j : ℕ). entries_of number_of j seen ≡ entries_of number_of j history) (eqb-true x.number k e) (sym both.1 ∙ both.0))
-      (λ e. ended_seen number_of history seen k xs (omega (arith, ap one_if e)) (λ j d l. all (suc j) d (omega arith)))
+  ended_seen number_of history seen k (x ∷ xs) some_there all = elim (cases_Bool (eqb x.number k)) [
+    | inl same ↦ let both = all 0 x (omega arith) in rw (eqb-true x.number k same) at (sym both.1 ∙ both.0)
+    | inr apart ↦ ended_seen number_of history seen k xs (omega (arith, ap one_if apart)) (λ j d l. all (suc j) d (omega arith))
+  ]
 
   module _ {number_of : E → ℕ} {history : List E} {drawn : ℕ} where
     -- a view without a number weighs nothing
@@ -75,13 +75,6 @@ module _ {E : Type 0} where
         no_others = λ leads full k d l. has_all leads full (number_of (get_or v.seen k d)) (all_known k d l);
       }
 
-module _ {H S E : Type 0} {number_of : E → ℕ} {stands : H → List E → Type 0} {share_stands : S → List E → Type 0} {places n : ℕ} where
-  pub tells : (slots id : ℕ) (me : Me (Slot H S) (View E)) → me.0.number ≡ Some n
-      → Allows (IsKept number_of stands share_stands places) slots id me count (λ x. x) (Tells number_of (step slots count 0 0 none) me)
-  tells slots id me has s r _ at _ = let sound = r.recorded.each id me.0 at in
-      let rule = quiet r id at (told me.0) refl count refl refl (told_all sound has) in
-      (told me.0, keeps, tt, rule, (refl, sound.olds, knows r.recorded id me.0 at []))
-
 one_more : (n d : ℕ) → one_if (nat_lt n d) + one_if (eqb d n) ≡ one_if (nat_lt n (d + 1))
 one_more n d = grind (arith, nat_tests)
 
@@ -107,18 +100,7 @@ module _ {E : Type 0} (vs : List (View E)) (id : ℕ) (v : View E) (at : get_ele
     given_more : (u : View E) (given : ℕ) → IsSound number_of history drawn u → (u.number ≡ None → record u { drawn = given } ≡ spent_view)
         → (u.number ≡ Some 0 → given ≡ drawn + 1)
         → IsSound number_of history (drawn + 1) (record u { drawn = given })
-    given_more u given sound spent counts = record {
-      spent = spent;
-      counts = counts;
-      asks = sound.asks;
-      current_intends = sound.current_intends;
-      seen = sound.seen;
-      olds = sound.olds;
-      entered = sound.entered;
-      current = sound.current;
-      mine = sound.mine;
-      ended = sound.ended;
-    }
+    given_more u given sound spent counts = search (rules, sound, spent, counts)
 
     split_recorded : IsRecorded number_of history drawn vs → v.number ≡ Some 0 → v.drawn < 65536 → IsRecorded number_of history (drawn + 1) Split
     split_recorded r leads room =
@@ -141,24 +123,9 @@ module _ {E : Type 0} (vs : List (View E)) (id : ℕ) (v : View E) (at : get_ele
               (no_entries number_of drawn history r.known, no_entries number_of drawn v.seen (all_known r id v at))));
         }
 
-module _ {H S E : Type 0} (number_of : E → ℕ) (stands : H → List E → Type 0) (share_stands : S → List E → Type 0) (places : ℕ) where
-  pub splits : (id : ℕ) (v : View E) → v.number ≡ Some 0 → v.drawn < 65536
-      → Splits (IsKept number_of stands share_stands places) id v (splitting v) (split_off v)
-  splits id v leads room s r at = record {
-    history = r.history;
-    drawn = r.drawn + 1;
-    recorded = split_recorded s.views id v at r.recorded leads room;
-    placed = placed_same r.placed (Split s.views id v at)
-        (each_snoc (KnowsPlaces places) (set s.views id (splitting v)) (split_off v) (spread_set s.views id at (splitting v) refl places r.placed.spread)
-        (λ n has. r.placed.spread id v at 0 leads))
-        (λ p. tally_is p (Split s.views id v at) s.views (λ f none_more. unchanged s.views id v at (λ (u : View E). f (weight p u)) refl none_more))
-        (unchanged s.views id v at (λ (u : View E). one_if u.intent) refl refl);
-  }
-
 module _ {E : Type 0} where
   end_length : (number : Option ℕ) (w : View E) → length (end_of number w) ≡ number_count number
-  end_length None w = refl
-  end_length (Some n) w = refl
+  end_length number w = grind (arith)
 
   -- the numbers of both views stand in the one that takes the other in
   times_joined : (k : ℕ) (v w : View E) → times k (joined v w) ≡ times k v + times k w
@@ -178,8 +145,7 @@ module _ {E : Type 0} where
       let whole : IsPrefix seen history = longer_front v.seen w.seen history sound.seen sound'.seen in
       let current = λ (e : v.current ≡ true). longer_is v.seen w.seen (λ l. l ≡ history) (λ _. sound.current e)
       (λ more. front_whole w.seen history sound'.seen (omega (arith, ap length (sound.current e)))) in
-      sound_more sound has sound.asks (λ e. (sound.current_intends e, current e))
-      (subst (λ p. SeesAll p (seen ≡ history)) (sym is) tt) left whole
+      sound_more sound has sound.asks (λ e. (sound.current_intends e, current e)) (subst (λ p. SeesAll p (seen ≡ history)) (sym is) tt) left whole
       (All-cons Front v.seen (w.seen ∷ (v.olds ++ w.olds)) left (All-cons Front w.seen (v.olds ++ w.olds) right (All-append Front v.olds w.olds
       (λ k d l. front_trans _ v.seen seen (sound.olds k d l) left) (λ k d l. front_trans _ w.seen seen (sound'.olds k d l) right))))
       (All-append Known v.ended (end_of w.number w ++ w.ended) (λ k d l. keeps_between number_of v.seen left whole (get_or v.ended k d) (sound.ended k d l))
@@ -188,6 +154,20 @@ module _ {E : Type 0} where
       (λ k d l. keeps_between number_of w.seen right whole (get_or w.ended k d) (sound'.ended k d l))))
 
 module _ {H S E : Type 0} (number_of : E → ℕ) (stands : H → List E → Type 0) (share_stands : S → List E → Type 0) (places : ℕ) where
+  pub tells : (slots id : ℕ) {n : ℕ} (me : Me (Slot H S) (View E)) → me.0.number ≡ Some n
+      → Allows (IsKept number_of stands share_stands places) slots id me count (λ x. x) (Tells number_of (step slots count 0 0 none) me)
+  tells slots id me has s r _ at _ = let sound = r.recorded.each id me.0 at in
+      let rule = quiet r id at (told me.0) refl count refl refl (told_all sound has) in
+      (told me.0, keeps, tt, rule, (refl, sound.olds, knows r.recorded id me.0 at []))
+
+  pub splits : (id : ℕ) (v : View E) → v.number ≡ Some 0 → v.drawn < 65536
+      → Splits (IsKept number_of stands share_stands places) id v (splitting v) (split_off v)
+  splits id v leads room s r at = kept_by (split_recorded s.views id v at r.recorded leads room) (placed_same r.placed (Split s.views id v at)
+      (each_snoc (KnowsPlaces places) (set s.views id (splitting v)) (split_off v) (spread_set s.views id at (splitting v) refl places r.placed.spread)
+      (λ n has. r.placed.spread id v at 0 leads))
+      (λ p. tally_is p (Split s.views id v at) s.views (λ f none_more. unchanged s.views id v at (λ (u : View E). f (weight p u)) refl none_more))
+      (unchanged s.views id v at (λ (u : View E). one_if u.intent) refl refl))
+
   pub joins : (id : ℕ) (v : View E) (other : ℕ) (w : View E) (n m : ℕ) → v.number ≡ Some n → v.phase ≡ Out → w.number ≡ Some m → 0 < m → w.phase ≡ Out
       → w.intent ≡ false
       → Joins (IsKept number_of stands share_stands places) id v other w (joined v w) spent_view
@@ -196,34 +176,26 @@ module _ {H S E : Type 0} (number_of : E → ℕ) (stands : H → List E → Typ
       let there' : get_elem? s.views other ≡ some w = sym (set_else s.views id other both apart) ∙ there in
       let kept : (f : View E → ℕ) → f both + f (spent_view {E = E}) ≡ f v + f w → total f (set (set s.views id both) other spent_view) ≡ total f s.views =
       λ f same. omega (arith, total-set f s.views id v both at, total-set f (set s.views id both) other w spent_view there) in
-      record {
-        history = r.history;
-        drawn = r.drawn;
-        recorded = record {
-          one_leads = kept leading (omega (arith, ap (number_is 0) has', ap one_if (ne_eqb m 0 (λ e. omega arith)))) ∙ r.recorded.one_leads;
-          once = λ k. kept (times k) (omega (arith, times_joined k v w)) ∙ r.recorded.once k;
-          in_all = kept numbers (omega (arith, numbers_joined v w)) ∙ r.recorded.in_all;
-          limit = r.recorded.limit;
-          known = r.recorded.known;
-          each = each_set (IsSound number_of r.history r.drawn) (set s.views id both) other spent_view
-              (fresh_sound 0 None 0 [] (λ _. refl) (λ e. absurd (cc)) (r.history, refl) (λ k e. absurd (cc)))
-              (λ j u _. each_set (IsSound number_of r.history r.drawn) s.views id both
-              (joined_sound has (each id v at) (each other w there') is) (λ i x _. each i x) j u);
-        };
-        placed = placed_same r.placed (set (set s.views id both) other spent_view)
-            (each_set (KnowsPlaces places) (set s.views id both) other spent_view (λ k none_there. absurd (cc))
-            (λ j u _. each_set (KnowsPlaces places) s.views id both (r.placed.spread id v at) (λ i x _. r.placed.spread i x) j u))
-            (λ p. let none_there = ap (weight_in (here p w) p) is' in
-            tally_is p (set (set s.views id both) other spent_view) s.views
-            (λ f _. kept (λ (u : View E). f (weight p u)) (ap (λ t. f (weight p v) + f t) (sym none_there))))
-            (kept (λ (u : View E). one_if u.intent) (λ k. one_if v.intent + one_if (sym free k)));
+      kept_by record {
+        one_leads = kept leading (omega (arith, ap (number_is 0) has', ap one_if (ne_eqb m 0 (λ e. omega arith)))) ∙ r.recorded.one_leads;
+        once = λ k. kept (times k) (omega (arith, times_joined k v w)) ∙ r.recorded.once k;
+        in_all = kept numbers (omega (arith, numbers_joined v w)) ∙ r.recorded.in_all;
+        limit = r.recorded.limit;
+        known = r.recorded.known;
+        each = each_set (IsSound number_of r.history r.drawn) (set s.views id both) other spent_view
+            (fresh_sound 0 None 0 [] (λ _. refl) (λ e. absurd (cc)) (r.history, refl) (λ k e. absurd (cc)))
+            (λ j u _. each_set (IsSound number_of r.history r.drawn) s.views id both
+            (joined_sound has (each id v at) (each other w there') is) (λ i x _. each i x) j u);
       }
+      (placed_same r.placed (set (set s.views id both) other spent_view)
+      (each_set (KnowsPlaces places) (set s.views id both) other spent_view (λ k none_there. absurd (cc))
+      (λ j u _. each_set (KnowsPlaces places) s.views id both (r.placed.spread id v at) (λ i x _. r.placed.spread i x) j u))
+      (λ p. let none_there = ap (weight_in (here p w) p) is' in
+      tally_is p (set (set s.views id both) other spent_view) s.views
+      (λ f _. kept (λ (u : View E). f (weight p u)) (ap (λ t. f (weight p v) + f t) (sym none_there))))
+      (kept (λ (u : View E). one_if u.intent) (λ k. one_if v.intent + one_if (sym free k))))
 
 module _ {A : Type 0} where
-  -- something stands at each place
-  there_or : (l : List A) (i : ℕ) (d : A) → i < length l → get_elem? l i ≡ some (get_or l i d)
-  there_or l i d less = at_index l i (get_or l i d) less (get_or_default l i d (get_or l i d) less)
-
   -- what holds of an element holds of each in the list of it alone
   only : (P : A → Type 0) (x : A) → P x → Each P (x ∷ [])
   only P x = each_snoc P [] x (λ i y e. absurd (some-ne-none y (sym e)))
@@ -244,44 +216,27 @@ module _ {H S : Type 0} where
   kept_at : (May : Slot H S → Type 0) (shares more : List (Slot H S)) (p : ℕ) → p < length shares → All May shares
       → (kept : Slot H S) × (get_elem? (map some (shares ++ more)) p ≡ some (some kept)) × May kept
   kept_at May shares more p l may = let kept : Slot H S = get_or shares p Empty in
-      (kept, at_map some (shares ++ more) p kept (at_longer shares more p kept (there_or shares p Empty l)), may p Empty l)
+      (kept, at_map some (shares ++ more) p kept (at_longer shares more p kept (at_index shares p kept l (get_or_default shares p _ _ l))), may p Empty l)
 
   module _ {E : Type 0} (number_of : E → ℕ) (stands : H → List E → Type 0) (share_stands : S → List E → Type 0) (places : ℕ) where
     -- a home value that stands for no entry opens the lock, behind shares of it
     pub opens : (home : H) (shares : List (Slot H S)) → stands home [] → 0 < places → places ≤ 32 → length shares ≡ places
         → All (MayKeep share_stands []) shares
         → IsKept number_of stands share_stands places (opening (replicate 544 0) (shares ++ Home home ∷ []) (first_view places))
-    opens home shares empty some_place few many may = record {
-      history = [];
-      drawn = 1;
-      recorded = record {
-        one_leads = refl;
-        once = λ n. grind (arith, nat_tests);
-        in_all = refl;
-        limit = omega arith;
-        known = All-nil (λ e. number_of e < 1);
-        each = only (IsSound number_of [] 1) (first_view places) (fresh_sound places (Some 0) 1 [] (λ e. absurd (cc)) (λ _. refl) ([], refl)
-            (λ n e. (refl, refl)));
-      };
-      placed = record {
-        some_place = some_place;
-        spread = only (KnowsPlaces places) (first_view places) (λ n has. refl);
-        each = λ p l. record {
-          word_is = zero_at (word_at p) (omega arith);
-          one_turn = omega arith;
-          write_alone = λ some_write. absurd (omega arith);
-          at_home = λ _. kept_at (MayKeep share_stands []) shares (Home home ∷ []) p (omega arith) may;
-          away = λ some_holds. absurd (omega arith);
-        };
-        home = record {
-          at_home = λ _. (home, at_map some (shares ++ Home home ∷ []) places (Home home) (at_last shares (Home home) places many), empty);
-          away = λ some_write. absurd (omega arith);
-        };
-        intents_are = zero_at 16 (omega arith);
-        one_intent = omega arith;
-        count_is = zero_at 0 (omega arith);
-      };
-    }
+    opens home shares empty some_place few many may =
+        let home_there = at_map some (shares ++ Home home ∷ []) places (Home home) (at_last shares (Home home) places many) in
+        let once : (n : ℕ) → total (times n) (first_view {E = E} places ∷ []) ≡ one_if (nat_lt n 1) = λ n. grind (arith, nat_tests) in
+        kept_by {drawn = 1} {history = []} (search (rules, once, only (IsSound number_of [] 1) (first_view places) (search rules)))
+        record {
+          some_place = some_place;
+          spread = only (KnowsPlaces places) (first_view places) (λ n has. refl);
+          each = λ p l. let word_is = zero_at (word_at p) (omega arith) in
+              let at_home = kept_at (MayKeep share_stands []) shares (Home home ∷ []) p (omega arith) may in search (rules, word_is, at_home);
+          home = search (rules, home_there, empty);
+          intents_are = zero_at 16 (omega arith);
+          one_intent = omega arith;
+          count_is = zero_at 0 (omega arith);
+        }
 
   module _ {E : Type 0} {number_of : E → ℕ} {stands : H → List E → Type 0} {share_stands : S → List E → Type 0} {places : ℕ} where
     -- where number 0 has met all others, all is at home, and the home value stands for all that it has seen
@@ -290,17 +245,11 @@ module _ {H S : Type 0} where
         → Final (Seen (IsKept number_of stands share_stands places) id v) words slots
         → IsClosed stands found slots v.seen × KnowsItsLists number_of v × (found ≡ places)
     closes id found v words slots own leads full is (s, (r, at), words_are, as_long, there) =
-        let known : found ≡ places = sym own ∙ r.placed.spread id v at 0 leads in
-        let weighs = alone r.recorded id v at leads full in
-        let home = r.placed.home.at_home (weighs (λ (u : View E). (weight 0 u).writers) refl ∙ ap (λ P. (weight_in (here 0 v) 0 P).writers) is) in (
-          subst (λ p. IsClosed stands p slots v.seen) (sym known) record {
-            home = home.0;
-            home_there = there places (Home home.0) home.1;
-            home_stands = subst (stands home.0) (sym (seen_whole r.recorded id v at leads full)) home.2;
-            others = λ p l. let kept = (r.placed.each p l).at_home
-                (weighs (λ (u : View E). (weight p u).holders) refl ∙ ap (λ P. (weight_in (here p v) p P).holders) is) in
-                (kept.0, there p kept.0 kept.1, no_home share_stands r.history kept.0 kept.2);
-          },
-          knows r.recorded id v at v.olds,
-          known,
-        )
+        let known : found ≡ places = sym own ∙ r.placed.spread id v at 0 leads in let weighs = alone r.recorded id v at leads full in
+        let home = r.placed.home.at_home (weighs (λ (u : View E). (weight 0 u).writers) refl ∙ ap (λ P. (weight_in (here 0 v) 0 P).writers) is) in
+        let home_there = there places (Home home.0) home.1 in
+        let home_stands = subst (stands home.0) (sym (seen_whole r.recorded id v at leads full)) home.2 in
+        let others : (p : ℕ) → p < places → (kept : Slot H S) × (get_elem? slots p ≡ some kept) × HasNoHome kept = λ p l.
+        let kept = (r.placed.each p l).at_home (weighs (λ (u : View E). (weight p u).holders) refl ∙ ap (λ P. (weight_in (here p v) p P).holders) is) in
+        (kept.0, there p kept.0 kept.1, no_home share_stands r.history kept.0 kept.2) in
+        (rw known (search (rules, home_there, home_stands, others)), knows r.recorded id v at v.olds, known)

@@ -1,12 +1,11 @@
 -- What views weigh at each place, and what placing a view at a seat leaves of the rule: a step at one place leaves all the others as they are.
-use Rattle.action_lock.proofs.Common.{◌≡◌, ◌≢◌, ℕ, zero, suc, ◌+◌, ◌*◌, ◌%◌, ◌^◌, ◌<◌, ◌≤◌, Bool, true, false, if◌then◌else◌, List, [], ◌∷◌, length, get_or}
-use Rattle.action_lock.proofs.Common.{set, Option, Some, None, refl, sym, ap, ◌∙◌, subst, arith, All, eqb, nat_lt, ne_eqb, eqb-true, lt-ltb, mod-lt, some}
-use Rattle.action_lock.proofs.Common.{none, some-injective, some-ne-none, get_elem?, eq-eqb, eqb-false, le-ltb, nat_tests, Me, State, Act, Valid, Allows}
-use Rattle.action_lock.proofs.Common.{keeps, takes, gives, put_back, rest, stepped, carried_after, set_else, Slot, Phase, Out, Reading, Marking, Shutting}
-use Rattle.action_lock.proofs.Common.{Opening, Ended, View, MayKeep, word_at, count, intents, own_place, Tally, Writing, weight_in, weight, tally, here}
-use Rattle.action_lock.proofs.Common.{below, writes, intending, number_count, number_is, leading, numbers, times, turns, gate_word, KnowsPlaces, IsSound}
-use Rattle.action_lock.proofs.Common.{IsRecorded, IsGuarded, IsHoused, IsPlaced, IsKept, marked, opened, total, one_if, bool_cases, Each, each_set, total-set}
-use Rattle.action_lock.proofs.Common.{total-same, total-below, total-plus}
+use Rattle.action_lock.proofs.Common.{◌≡◌, ◌≢◌, ℕ, zero, suc, ◌+◌, ◌*◌, ◌%◌, ◌^◌, ◌<◌, ◌≤◌, Bool, true, List, [], ◌∷◌, length, get_or, set, rules, Option}
+use Rattle.action_lock.proofs.Common.{Some, None, refl, sym, ap, ◌∙◌, subst, arith, All, eqb, ne_eqb, eqb-true, lt-ltb, mod-lt, some, none, some-injective}
+use Rattle.action_lock.proofs.Common.{some-ne-none, get_elem?, eq-eqb, eqb-false, cases_Bool, inl, inr, le-ltb, nat_tests, Me, State, Act, Valid, Allows}
+use Rattle.action_lock.proofs.Common.{keeps, takes, gives, put_back, rest, stepped, carried_after, set_else, Slot, Phase, Out, Marking, Opening, Ended, View}
+use Rattle.action_lock.proofs.Common.{MayKeep, word_at, count, intents, own_place, Tally, weight_in, weight, tally, here, below, writes, intending}
+use Rattle.action_lock.proofs.Common.{number_count, number_is, leading, numbers, times, turns, gate_word, KnowsPlaces, IsSound, IsRecorded, IsHoused, IsPlaced}
+use Rattle.action_lock.proofs.Common.{IsKept, marked, opened, total, one_if, Each, each_set, total-set, total-same, total-below, total-plus}
 use mathlib.Core.Option as maybe
 use lib.Seq.{set-get_or}
 
@@ -38,31 +37,16 @@ below_other p k apart = grind (arith, nat_tests, apart)
 
 -- with no place marked a view weighs what it does when it is out
 pub marked_weighs : (h p k : ℕ) → weight_in h p (marked k) ≡ weight_in h p (Marking k)
-marked_weighs h p k = bool_cases (eqb k 0) (λ b. weight_in h p (if b then Out else Marking k) ≡ weight_in h p (Marking k))
-    (λ e. λ i. record { visitors = 0; writers = 0; pendings = sym (below_no p k (omega (arith, eqb-true k 0 e))) i; readers = 0; holders = 0 })
-    (λ e. refl)
+marked_weighs h p k = elim (cases_Bool (eqb k 0)) [ inl e ↦ rw (e, below_no p k (omega (arith, eqb-true k 0 e))) refl | inr e ↦ rw e refl ]
 
 -- with all places shut it weighs what it does before the first is opened
 pub opened_weighs : (places h p k : ℕ) → p < places → weight_in h p (opened places k) ≡ weight_in h p (Opening k)
-opened_weighs places h p k within = bool_cases (eqb k places) (λ b. weight_in h p (if b then Writing places else Opening k) ≡ weight_in h p (Opening k))
-    (λ e. let same = ap (below p) (sym (eqb-true k places e)) in
-    λ i. record { visitors = 0; writers = same i; pendings = (sym (below_yes p places within) ∙ same) i; readers = 0; holders = same i })
-    (λ e. refl)
+opened_weighs places h p k within = elim (cases_Bool (eqb k places)) [ inl e ↦ rw (e, eqb-true k _ e, below_yes p _ within) refl | inr e ↦ rw e refl ]
 
--- who holds what a place keeps has its turn
-holding_has_turn : (h p : ℕ) (phase : Phase) → (weight_in h p phase).holders ≤ turns (weight_in h p phase)
-holding_has_turn h p Out = omega arith
-holding_has_turn h p phase = omega arith
-
-reads_once : (h p : ℕ) (phase : Phase) → h ≤ 1 → (weight_in h p phase).readers ≤ 1
-reads_once h p Reading l = l
-reads_once h p phase l = omega arith
-
-pends_with_intent : (h p : ℕ) (phase : Phase) (b : Bool) → (0 < writes phase → b ≡ true) → (weight_in h p phase).pendings ≤ one_if b
-pends_with_intent h p (Marking k) b has = omega (arith, ap one_if (has (omega arith)), bit_below (nat_lt p k))
-pends_with_intent h p (Shutting k) b has = omega (arith, ap one_if (has (omega arith)))
-pends_with_intent h p (Opening k) b has = omega (arith, ap one_if (has (omega arith)), bit_below (nat_lt p k))
-pends_with_intent h p phase b has = omega arith
+-- in each phase who holds what a place keeps has its turn, one view reads once, and who marks a place has the intent
+phase_weighs : (h p : ℕ) (phase : Phase) (b : Bool) → h ≤ 1 → (0 < writes phase → b ≡ true) → ((weight_in h p phase).holders ≤ turns (weight_in h p phase))
+    × ((weight_in h p phase).readers ≤ 1) × ((weight_in h p phase).pendings ≤ one_if b)
+phase_weighs h p phase b few asks = (grind (arith), grind (arith, few), grind (arith, nat_tests, asks))
 
 -- each view has one of the places
 pub own_within : (given places : ℕ) (number : Option ℕ) → 0 < places → ((n : ℕ) → number ≡ Some n → given ≡ places) → own_place given number < places
@@ -81,30 +65,21 @@ module _ {E : Type 0} where
   -- tallies whose fields are the same totals are the same
   pub tally_is : (p : ℕ) (us vs : List (View E)) → ((f : Tally → ℕ) → f (weight_in 0 0 Out) ≡ 0
       → total (λ (u : View E). f (weight p u)) us ≡ total (λ (u : View E). f (weight p u)) vs) → tally p us ≡ tally p vs
-  tally_is p us vs each = λ k. record {
-    visitors = each (λ t. t.visitors) refl k;
-    writers = each (λ t. t.writers) refl k;
-    pendings = each (λ t. t.pendings) refl k;
-    readers = each (λ t. t.readers) refl k;
-    holders = each (λ t. t.holders) refl k;
-  }
-
-  reads_by_number : {number_of : E → ℕ} {history : List E} {drawn : ℕ} (p : ℕ) (v : View E) (number : Option ℕ) → v.number ≡ number
-      → IsSound number_of history drawn v → (weight p v).readers ≤ numbers v
-  reads_by_number p v None is sound = omega (arith, ap (λ (u : View E). (weight p u).readers) (sound.spent is))
-  reads_by_number p v (Some n) is sound = omega (arith, ap number_count is, reads_once (here p v) p v.phase (bit_below _))
+  tally_is p us vs each =
+      rw (each (λ t. t.visitors) refl, each (λ t. t.writers) refl, each (λ t. t.pendings) refl, each (λ t. t.readers) refl, each (λ t. t.holders) refl) refl
 
   module _ (vs : List (View E)) {number_of : E → ℕ} {history : List E} {drawn : ℕ} (r : IsRecorded number_of history drawn vs) where
     bounds : (p : ℕ) → ((tally p vs).holders ≤ turns (tally p vs)) × ((tally p vs).pendings ≤ intending vs) × ((tally p vs).readers ≤ 65536)
-    bounds p = (
-      (let less = total-below (λ (u : View E). (weight p u).holders) (λ (u : View E). turns (weight p u)) vs
-          (λ i v _. holding_has_turn (here p v) p v.phase) in
-          omega (arith, less, total-plus (λ (u : View E). (weight p u).visitors) (λ (u : View E). (weight p u).writers) vs)),
-      total-below (λ (u : View E). (weight p u).pendings) (λ (u : View E). one_if u.intent) vs
-          (λ i v at. pends_with_intent (here p v) p v.phase v.intent (r.each i v at).asks),
-      (let few = total-below (λ (u : View E). (weight p u).readers) numbers vs (λ i v at. reads_by_number p v v.number refl (r.each i v at)) in
-          omega (arith, few, r.in_all, r.limit)),
-    )
+    bounds p = let weighs = λ (i : ℕ) (v : View E) (at : get_elem? vs i ≡ some v). phase_weighs (here p v) p v.phase _ (bit_below _) (r.each i v at).asks in
+        let less = total-below (λ (u : View E). (weight p u).holders) (λ (u : View E). turns (weight p u)) vs (λ i v at. (weighs i v at).0) in
+        let few = total-below (λ (u : View E). (weight p u).readers) numbers vs (λ i v at. reads_by_number i v at v.number refl (weighs i v at).1) in
+        let turns = total-plus (λ (u : View E). (weight p u).visitors) (λ (u : View E). (weight p u).writers) vs in
+        (omega (arith, less, turns), total-below _ _ vs (λ i v at. (weighs i v at).2), omega (arith, few, r.in_all, r.limit))
+      where
+        reads_by_number : (i : ℕ) (v : View E) → get_elem? vs i ≡ some v → (number : Option ℕ) → v.number ≡ number → (weight p v).readers ≤ 1
+            → (weight p v).readers ≤ numbers v
+        reads_by_number i v at None is once = omega (arith, ap (λ (u : View E). (weight p u).readers) ((r.each i v at).spent is))
+        reads_by_number i v at (Some n) is once = omega (arith, ap number_count is, once)
 
   module _ (vs : List (View E)) (id : ℕ) {v : View E} (at : get_elem? vs id ≡ some v) (w : View E) where
     -- a view that weighs as much in the place of another
@@ -120,14 +95,12 @@ module _ {E : Type 0} where
         -- a view that keeps its numbers takes the place of another, beside the same history or a later one
         pub recorded_as : (later : List E) → All (λ e. number_of e < drawn) later → Each (IsSound number_of later drawn) (set vs id w)
             → IsRecorded number_of later drawn (set vs id w)
-        recorded_as later known each = record {
-          one_leads = total-same leading vs id v w at (λ k. number_is 0 (same k).1) ∙ r.one_leads;
-          once = λ n. total-same (times n) vs id v w at (λ k. number_is n (same k).1 + total (λ (e : Ended E). one_if (eqb e.number n)) (same k).2) ∙ r.once n;
-          in_all = total-same numbers vs id v w at (λ k. number_count (same k).1 + length (same k).2) ∙ r.in_all;
-          limit = r.limit;
-          known = known;
-          each = each;
-        }
+        recorded_as later known each =
+            let once = λ (n : ℕ). total-same (times n) vs id v w at (λ k. number_is n (same k).1 + total (λ (e : Ended E). one_if (eqb e.number n)) (same k).2)
+            ∙ r.once n in
+            let one_leads = total-same leading vs id v w at (λ k. number_is 0 (same k).1) ∙ r.one_leads in
+            let in_all = total-same numbers vs id v w at (λ k. number_count (same k).1 + length (same k).2) ∙ r.in_all in
+            search (rules, one_leads, once, in_all, r.limit, known, each)
 
         pub recorded_set : IsSound number_of history drawn w → IsRecorded number_of history drawn (set vs id w)
         recorded_set sound = recorded_as history r.known (each_set (IsSound number_of history drawn) vs id w sound (λ j u _. r.each j u))
@@ -179,16 +152,18 @@ step_at q h {v} {w} P Q within own before same is else_same = record {
 
 module _ {H S E : Type 0} {stands : H → List E → Type 0} {share_stands : S → List E → Type 0} {places : ℕ} {history : List E} {s : State (Slot H S) (View E)}
     (placed : IsPlaced stands share_stands places history s) where
-  -- the places where views changed that weigh the same, and words that are no place's
-  pub placed_as : (words : List ℕ) (views : List (View E)) → Each (KnowsPlaces places) views → ((p : ℕ) → tally p views ≡ tally p s.views)
-      → ((p : ℕ) → get_elem? words (word_at p) ≡ get_elem? s.words (word_at p)) → get_elem? words intents ≡ some (intending views) → intending views ≤ 1
-      → get_elem? words count ≡ some (length history % 2 ^ 64)
-      → IsPlaced stands share_stands places history record { words = words; homes = s.homes; views = views }
-  placed_as words views spread same there intents_are one_intent count_is = record {
+  -- The places where views changed that weigh the same, and words that are no place's. The history is another only where nothing is at home
+  pub placed_as : {later : List E} → ((p : ℕ) → p < places → (tally p s.views).holders ≡ 0 → history ≡ later)
+      → ((tally 0 s.views).writers ≡ 0 → history ≡ later) → {words : List ℕ} {views : List (View E)} → Each (KnowsPlaces places) views
+      → ((p : ℕ) → tally p views ≡ tally p s.views) → ((p : ℕ) → get_elem? words (word_at p) ≡ get_elem? s.words (word_at p))
+      → get_elem? words intents ≡ some (intending views) → intending views ≤ 1 → get_elem? words count ≡ some (length later % 2 ^ 64)
+      → IsPlaced stands share_stands places later record { words = words; homes = s.homes; views = views }
+  placed_as kept_one home_one spread same there intents_are one_intent count_is = record {
     some_place = placed.some_place;
     spread = spread;
-    each = λ p l. subst (λ (t : Type 0). t) (λ k. IsGuarded share_stands history (sym (same p) k) (sym (there p) k) (get_elem? s.homes p)) (placed.each p l);
-    home = subst (λ (t : Tally). IsHoused stands history t.writers (get_elem? s.homes places)) (sym (same 0)) placed.home;
+    each = λ p l. let g = placed.each p l in rw (same p, there p)
+        record { word_is = g.word_is; one_turn = g.one_turn; write_alone = g.write_alone; at_home = λ h. rw (← kept_one p l h) (g.at_home h); away = g.away };
+    home = rw (ap (λ (t : Tally). t.writers) (same 0)) record { at_home = λ h. rw (← home_one h) (placed.home.at_home h); away = placed.home.away };
     intents_are = intents_are;
     one_intent = one_intent;
     count_is = count_is;
@@ -196,8 +171,14 @@ module _ {H S E : Type 0} {stands : H → List E → Type 0} {share_stands : S �
 
   pub placed_same : (views : List (View E)) → Each (KnowsPlaces places) views → ((p : ℕ) → tally p views ≡ tally p s.views)
       → intending views ≡ intending s.views → IsPlaced stands share_stands places history record { words = s.words; homes = s.homes; views = views }
-  placed_same views spread same intents_same = placed_as s.words views spread same (λ p. refl) (placed.intents_are ∙ ap some (sym intents_same))
-      (omega (arith, placed.one_intent)) placed.count_is
+  placed_same views spread same intents_same = placed_as (λ _ _ _. refl) (λ _. refl) spread same (λ p. refl)
+      (placed.intents_are ∙ ap some (sym intents_same)) (omega (arith, placed.one_intent)) placed.count_is
+
+-- the rule, of its two parts
+pub kept_by : {H S E : Type 0} {number_of : E → ℕ} {stands : H → List E → Type 0} {share_stands : S → List E → Type 0} {places drawn : ℕ} {history : List E}
+    {s : State (Slot H S) (View E)} → IsRecorded number_of history drawn s.views → IsPlaced stands share_stands places history s
+    → IsKept number_of stands share_stands places s
+kept_by {drawn} {history} recorded placed = record { history = history; drawn = drawn; recorded = recorded; placed = placed }
 
 module _ {H S E : Type 0} {number_of : E → ℕ} {stands : H → List E → Type 0} {share_stands : S → List E → Type 0} {places : ℕ} {s : State (Slot H S) (View E)}
     (r : IsKept number_of stands share_stands places s) where
@@ -205,15 +186,9 @@ module _ {H S E : Type 0} {number_of : E → ℕ} {stands : H → List E → Typ
     -- a step that changes no word, no phase and no intent
     pub quiet : (i : ℕ) → w.phase ≡ v.phase → w.intent ≡ v.intent → IsSound number_of r.history r.drawn w
         → IsKept number_of stands share_stands places record { words = set s.words i (get_or s.words i 0); homes = s.homes; views = set s.views id w }
-    quiet i phase intent sound = record {
-      history = r.history;
-      drawn = r.drawn;
-      recorded = recorded_set s.views id at w same r.recorded sound;
-      placed = subst (λ (z : List ℕ). IsPlaced stands share_stands places r.history record { words = z; homes = s.homes; views = set s.views id w })
-          (sym (set-get_or s.words i 0))
-          (placed_same r.placed (set s.views id w) (spread_set s.views id at w same places r.placed.spread)
-          (λ p. same_tally s.views id at w p (weighs_as p v w same phase)) (same_intents s.views id at w intent));
-    }
+    quiet i phase intent sound = kept_by (recorded_set s.views id at w same r.recorded sound)
+        (rw (set-get_or s.words i 0) (placed_same r.placed (set s.views id w) (spread_set s.views id at w same places r.placed.spread)
+        (λ p. same_tally s.views id at w p (weighs_as p v w same phase)) (same_intents s.views id at w intent)))
 
     -- a step at the view's own place, from a phase of a reader to another
     pub own_step : (P Q : Phase) → v.phase ≡ P → w.phase ≡ Q → ((p : ℕ) → weight_in 0 p Q ≡ weight_in 0 p P)
@@ -238,76 +213,48 @@ module _ {H S E : Type 0} {number_of : E → ℕ} {stands : H → List E → Typ
       moving =
           let each = λ (f : Tally → ℕ). total-set (λ (u : View E). f (weight q u)) s.views id v w at in
           let few = bounds s.views r.recorded q in let guarded = r.placed.each q step.within in
-          subst (λ (t : Type 0). t) (λ k. IsMoving q s.views After (step.from k) (step.to k) (get_or s.words word 0)) record {
-            word = ap (λ i. get_or s.words i 0) is_at ∙ read_there s.words (word_at q) 0 guarded.word_is;
-            visitors = each (λ t. t.visitors);
-            writers = each (λ t. t.writers);
-            pendings = each (λ t. t.pendings);
-            readers = each (λ t. t.readers);
-            holders = each (λ t. t.holders);
-            few_holders = few.0;
-            few_pendings = few.1;
-            few_readers = none_beside _ _ few.2 (omega (arith, guarded.one_turn)) guarded.write_alone;
-            one_turn = guarded.one_turn;
-            one_intent = r.placed.one_intent;
-          }
+          let word = ap (λ i. get_or s.words i 0) is_at ∙ read_there s.words (word_at q) 0 guarded.word_is in
+          let few_readers = none_beside _ _ few.2 (omega (arith, guarded.one_turn)) guarded.write_alone in
+          let visitors = each (λ t. t.visitors) in let writers = each (λ t. t.writers) in let pendings = each (λ t. t.pendings) in
+          let readers = each (λ t. t.readers) in let holders = each (λ t. t.holders) in
+          rw (← step.from, ← step.to) (search (rules, word, visitors, writers, pendings, readers, holders, few, few_readers, guarded, r.placed.one_intent))
 
       module _ {n : ℕ} (left : Moves → IsLeft (tally q After) n) where
-        abbrev GuardedWith : List (maybe.Option (Slot H S)) → ℕ → Type 0
-        GuardedWith homes p = IsGuarded share_stands r.history (tally p After) (get_elem? (set s.words word n) (word_at p)) (get_elem? homes p)
-
         -- the others are as they were
         pub moved_at : (homes : List (maybe.Option (Slot H S))) → ((j : ℕ) → j < places → j ≢ q → get_elem? homes j ≡ get_elem? s.homes j)
             → ((tally q After).holders ≡ 0 → (kept : Slot H S) × (get_elem? homes q ≡ some (some kept)) × MayKeep share_stands r.history kept)
             → (0 < (tally q After).holders → get_elem? homes q ≡ some none)
             → IsHoused stands r.history (tally 0 After).writers (get_elem? homes places) → KeptWith n homes
-        moved_at homes kept at_home away housed = record {
-          history = r.history;
-          drawn = r.drawn;
-          recorded = recorded_set s.views id at w same r.recorded sound;
-          placed = record {
-            some_place = r.placed.some_place;
-            spread = spread_set s.views id at w same places r.placed.spread;
-            each = λ p l. by_place p l (eqb p q) refl;
-            home = housed;
-            intents_are = set_else s.words word intents n (λ e. omega (arith, is_at)) ∙ (r.placed.intents_are ∙ ap some (sym intents_same));
-            one_intent = omega (arith, intents_same, r.placed.one_intent);
-            count_is = set_else s.words word count n (λ e. omega (arith, is_at)) ∙ r.placed.count_is;
-          };
-        }
-          where
-            intents_same : intending After ≡ intending s.views
-            intents_same = same_intents s.views id at w intent
-
-            by_place : (p : ℕ) → p < places → (b : Bool) → eqb p q ≡ b → GuardedWith homes p
-            by_place p l true e = subst (GuardedWith homes) (sym (eqb-true p q e))
-                record {
-                  word_is = subst (λ i. get_elem? (set s.words i n) (word_at q) ≡ some n) (sym is_at)
-                      (there_set s.words (word_at q) n (r.placed.each q step.within).word_is) ∙ ap some (left moving).0;
-                  one_turn = (left moving).1;
-                  write_alone = λ some_write. omega (arith, (left moving).2);
-                  at_home = at_home;
-                  away = away;
-                }
-            by_place p l false e = let apart : p ≢ q = eqb-false p q e in
-                let weighed = same_tally s.views id at w p (step.elsewhere p l apart) in
-                let word_there = set_else s.words word (word_at p) n (λ e. apart (omega (arith, is_at))) in
-                let there = kept p l apart in
-                subst (λ (t : Type 0). t) (λ k. IsGuarded share_stands r.history (sym weighed k) (sym word_there k) (sym there k)) (r.placed.each p l)
+        moved_at homes kept at_home away housed =
+            let intents_same = same_intents s.views id at w intent in let guarded = r.placed.each q step.within in let now = left moving in
+            let word_is = there_set s.words (word_at q) n guarded.word_is ∙ ap some now.0 in
+            kept_by (recorded_set s.views id at w same r.recorded sound) record {
+              some_place = r.placed.some_place;
+              spread = spread_set s.views id at w same places r.placed.spread;
+              each = λ p l. elim (cases_Bool (eqb p q)) [
+                | inl here ↦ rw (eqb-true p q here, is_at)
+                    record { word_is = word_is; one_turn = now.1; write_alone = λ some_write. omega (arith, now.2); at_home = at_home; away = away }
+                | inr there ↦ let apart = eqb-false p q there in
+                    let word_there = set_else s.words word (word_at p) n (λ e. apart (omega (arith, is_at))) in
+                    rw (same_tally s.views id at w p (step.elsewhere p l apart), word_there, kept p l apart) (r.placed.each p l)
+              ];
+              home = housed;
+              intents_are = set_else s.words word intents n (λ e. omega (arith, is_at)) ∙ (r.placed.intents_are ∙ ap some (sym intents_same));
+              one_intent = omega (arith, intents_same, r.placed.one_intent);
+              count_is = set_else s.words word count n (λ e. omega (arith, is_at)) ∙ r.placed.count_is;
+            }
 
         -- the home value is where it was, and so are all slots but that of the place
         moved : (q ≡ 0 → b.writers ≡ a.writers) → (homes : List (maybe.Option (Slot H S))) → ((j : ℕ) → j ≢ q → get_elem? homes j ≡ get_elem? s.homes j)
             → ((tally q After).holders ≡ 0 → (kept : Slot H S) × (get_elem? homes q ≡ some (some kept)) × MayKeep share_stands r.history kept)
             → (0 < (tally q After).holders → get_elem? homes q ≡ some none) → KeptWith n homes
         moved same_writers homes others at_home away = let there = others places (λ e. omega (arith, step.within)) in
-            moved_at homes (λ j _. others j) at_home away
-            (subst (λ (t : Type 0). t) (λ k. IsHoused stands r.history (sym writers_same k) (sym there k)) r.placed.home)
-          where
-            writers_same : (tally 0 After).writers ≡ (tally 0 s.views).writers
-            writers_same = bool_cases (eqb 0 q) (λ _. (tally 0 After).writers ≡ (tally 0 s.views).writers)
-                (λ e. let first = eqb-true 0 q e in
-                subst (λ p. (tally p After).writers ≡ (tally p s.views).writers) (sym first) (omega (arith, moving, same_writers (sym first))))
-                (λ e. ap (λ (t : Tally). t.writers) (same_tally s.views id at w 0 (step.elsewhere 0 r.placed.some_place (eqb-false 0 q e))))
+            let writers_same : (tally 0 After).writers ≡ (tally 0 s.views).writers = elim (cases_Bool (eqb 0 q)) [
+              | inl e ↦ let first = eqb-true 0 q e in
+                  subst (λ p. (tally p After).writers ≡ (tally p s.views).writers) (sym first) (omega (arith, moving, same_writers (sym first)))
+              | inr e ↦ ap (λ (t : Tally). t.writers) (same_tally s.views id at w 0 (step.elsewhere 0 r.placed.some_place (eqb-false 0 q e)))
+            ] in
+            moved_at homes (λ j _. others j) at_home away (rw (writers_same, there) r.placed.home)
 
         -- The step by a seat with this hand, which tells this of the seat after
         module _ (hand : List (ℕ × Slot H S)) (told : Me (Slot H S) (View E) → Type 0) (same_writers : q ≡ 0 → b.writers ≡ a.writers) where
@@ -319,16 +266,14 @@ module _ {H S E : Type 0} {number_of : E → ℕ} {stands : H → List E → Typ
           pub moved_still : (Moves → (tally q After).holders ≡ (tally q s.views).holders) → told (w, hand) → Leaves
           moved_still held tells = let guarded = r.placed.each q step.within in
               let rule = moved same_writers s.homes (λ j apart. refl) (λ free. guarded.at_home (omega (arith, held moving)))
-              (λ some_holds. guarded.away (omega (arith, held moving))) in
-              (w, keeps, tt, rule, tells)
+              (λ some_holds. guarded.away (omega (arith, held moving))) in (w, keeps, tt, rule, tells)
 
           -- what it keeps goes out
           pub moved_out : {kept : Slot H S} → get_elem? s.homes q ≡ some (some kept) → (Moves → 0 < (tally q After).holders)
               → told (w, (q, kept) ∷ hand) → Leaves
           moved_out {kept} there held tells =
               let rule = moved same_writers (set s.homes q none) (λ j. set_else s.homes q j none) (λ free. absurd (omega (arith, held moving)))
-              (λ _. there_set s.homes q none there) in
-              (w, takes q kept, there, rule, tells)
+              (λ _. there_set s.homes q none there) in (w, takes q kept, there, rule, tells)
 
           -- it comes home
           pub moved_home : {kept : Slot H S} {more : List (ℕ × Slot H S)} → hand ≡ (q, kept) ∷ more → MayKeep share_stands r.history kept

@@ -1,9 +1,8 @@
 -- Which changes of a view keep it sound, and what a history that grows by one entry leaves of it.
 use Rattle.action_lock.proofs.Common.{◌≡◌, ◌≢◌, ℕ, ◌<◌, ◌≤◌, Bool, true, List, [], ◌∷◌, ◌++◌, get_or, filter, Option, Some, None, All, refl, sym, ap, ◌∙◌}
-use Rattle.action_lock.proofs.Common.{subst, arith, eqb, ne_eqb, eq-eqb, All-nil, Phase, Entering, Reading, Shutting, Opening, Ended, View, own_place, writes}
-use Rattle.action_lock.proofs.Common.{fresh, spent_view, Writing, here, weight_in, weight, number_is, times, entries_of, IsSound, SeesAll, Learns, told}
-use Rattle.action_lock.proofs.Common.{placing, IsPrefix, one_if, total, front_self, front_trans, front_between, front_filter, filter_more, filter_same}
-use Rattle.action_lock.proofs.Common.{total-zero}
+use Rattle.action_lock.proofs.Common.{subst, arith, eqb, ne_eqb, eq-eqb, rules, nat_tests, All-nil, Phase, Ended, View, own_place, writes, fresh, spent_view}
+use Rattle.action_lock.proofs.Common.{Writing, weight, number_is, times, entries_of, IsSound, SeesAll, Learns, told, placing, IsPrefix, one_if, total}
+use Rattle.action_lock.proofs.Common.{front_self, front_trans, front_between, front_filter, filter_more, filter_same, total-zero}
 
 -- these are the entries with the number, in the history and in what was seen
 abbrev pub Keeps : {E : Type 0} → (E → ℕ) → List E → List E → Ended E → Type 0
@@ -14,8 +13,7 @@ pub keeps_between : {E : Type 0} (number_of : E → ℕ) (seen : List E) {longer
     → Keeps number_of history seen e → Keeps number_of history longer e
 keeps_between {E} number_of seen {longer} {history} lower upper e both = let test : E → Bool = λ x. eqb (number_of x) e.number in
     let between = front_between (filter test seen) (filter test longer) (filter test history) (front_filter test seen longer lower)
-    (front_filter test longer history upper) in
-    (both.0, both.0 ∙ sym (between (sym both.1 ∙ both.0)))
+    (front_filter test longer history upper) in (both.0, both.0 ∙ sym (between (sym both.1 ∙ both.0)))
 
 -- the view with other counts
 abbrev recounted : {E : Type 0} → View E → List ℕ → (looks checks earlier held sights last : ℕ) → View E
@@ -28,18 +26,7 @@ module _ {E : Type 0} {number_of : E → ℕ} {history : List E} {drawn : ℕ} w
       → (number ≡ Some 0 → given ≡ drawn) → IsPrefix seen history
       → ((n : ℕ) → number ≡ Some n → ([] ≡ entries_of number_of n history) × ([] ≡ entries_of number_of n seen))
       → IsSound number_of history drawn (fresh places number given seen)
-  fresh_sound places number given seen spent counts front mine = record {
-    spent = spent;
-    counts = counts;
-    asks = λ some_mark. absurd (omega arith);
-    current_intends = λ e. absurd (cc);
-    seen = front;
-    olds = λ k d l. absurd (omega arith);
-    entered = tt;
-    current = λ e. absurd (cc);
-    mine = mine;
-    ended = λ k d l. absurd (omega arith);
-  }
+  fresh_sound places number given seen spent counts front mine = search (rules, spent, counts, front, mine)
 
   module _ {v : View E} (sound : IsSound number_of history drawn v) where
     -- a view that is current intends, and has seen the whole history
@@ -56,21 +43,12 @@ module _ {E : Type 0} {number_of : E → ℕ} {history : List E} {drawn : ℕ} w
           {looks checks earlier held sights last : ℕ}
           → (0 < writes phase → intent ≡ true) → (current ≡ true → (intent ≡ true) × (seen ≡ history)) → SeesAll phase (seen ≡ history)
           → IsPrefix v.seen seen → IsPrefix seen history → All (λ old. IsPrefix old seen) olds → All (Keeps number_of history seen) ended
-          → IsSound number_of history drawn
-          (record (recounted v reads looks checks earlier held sights last)
+          → IsSound number_of history drawn (record (recounted v reads looks checks earlier held sights last)
           { phase = phase; intent = intent; current = current; seen = seen; olds = olds; ended = ended })
-      sound_more asks whole entered lower upper olds ended = record {
-        spent = λ none_there. absurd (cc);
-        counts = sound.counts;
-        asks = asks;
-        current_intends = λ e. (whole e).0;
-        seen = upper;
-        olds = olds;
-        entered = entered;
-        current = λ e. (whole e).1;
-        mine = λ k e. keeps_between number_of v.seen lower upper record { number = k; entries = v.mine; sights = 0 } (sound.mine k e);
-        ended = ended;
-      }
+      sound_more asks whole entered lower upper olds ended =
+          let mine = λ (k : ℕ) (is : v.number ≡ Some k).
+          keeps_between number_of v.seen lower upper record { number = k; entries = v.mine; sights = 0 } (sound.mine k is) in
+          search (rules, sound, has, asks, whole, entered, upper, olds, mine, ended)
 
       -- another phase and other marks, and other counts
       pub renewed : {phase : Phase} {intent current : Bool} {looks checks held sights last : ℕ}
@@ -90,15 +68,6 @@ module _ {E : Type 0} {number_of : E → ℕ} {history : List E} {drawn : ℕ} w
           (record v { phase = phase; current = current; seen = history; reads = reads; looks = looks; checks = checks; earlier_checks = earlier; last = last })
       entered asks intends sees = sound_more asks (λ e. (intends e, refl)) sees sound.seen (front_self history)
           (λ k d l. front_trans _ v.seen history (sound.olds k d l) sound.seen) (λ k d l. ((sound.ended k d l).0, (sound.ended k d l).0))
-
--- at its own place, a phase without the turn and the intent that doesn't read needs not to have seen all
-sees_nothing : (here p : ℕ) (phase : Phase) (whole : Type 0) (intent : Bool) → here ≡ 1 → (weight_in here p phase).visitors ≡ 0
-    → (weight_in here p phase).readers ≡ 0 → (0 < writes phase → intent ≡ true) → one_if intent ≡ 0 → SeesAll phase whole
-sees_nothing here p Entering whole intent own no_turn no_read asks intentless = absurd (omega arith)
-sees_nothing here p Reading whole intent own no_turn no_read asks intentless = absurd (omega arith)
-sees_nothing here p (Shutting k) whole intent own no_turn no_read asks intentless = absurd (omega (arith, ap one_if (asks (omega arith))))
-sees_nothing here p (Opening k) whole intent own no_turn no_read asks intentless = absurd (omega (arith, ap one_if (asks (omega arith))))
-sees_nothing here p phase whole intent own no_turn no_read asks intentless = tt
 
 pub counted_once : (n : ℕ) (o : Option ℕ) → o ≡ Some n → number_is n o ≡ 1
 counted_once n o is = ap (number_is n) is ∙ ap one_if (eq-eqb n n refl)
@@ -122,34 +91,28 @@ module _ {E : Type 0} (number_of : E → ℕ) (e : E) where
     -- a view that has not the number of the entry, and isn't in, stays sound
     pub grown : (u : View E) → IsSound number_of history drawn u → times (number_of e) u ≡ 0 → (weight (own_place u.places u.number) u).visitors ≡ 0
         → (weight (own_place u.places u.number) u).readers ≡ 0 → one_if u.intent ≡ 0 → IsSound number_of (history ++ e ∷ []) drawn u
-    grown u sound not_its no_turn no_read intentless = let p = own_place u.places u.number in record {
-      spent = sound.spent;
-      counts = sound.counts;
-      asks = sound.asks;
-      current_intends = sound.current_intends;
-      seen = front_trans u.seen history (history ++ e ∷ []) sound.seen (e ∷ [], refl);
-      olds = sound.olds;
-      entered = sees_nothing (here p u) p u.phase (u.seen ≡ history ++ e ∷ []) u.intent (ap one_if (eq-eqb p p refl)) no_turn no_read sound.asks intentless;
-      current = λ is. absurd (omega (arith, ap one_if (sound.current_intends is)));
-      mine = λ n is. let both = sound.mine n is in let one = counted_once n u.number is in
-          (both.0 ∙ sym (others_same n history (λ same. absurd (omega (arith, ap (λ (k : ℕ). times k u) same)))), both.1);
-      ended = λ k d l. let both = sound.ended k d l in (both.0 ∙ sym (kept_same u.ended (omega arith) history k d l), both.1);
-    }
+    grown u sound not_its no_turn no_read intentless = let p = own_place u.places u.number in
+        let seen = front_trans u.seen history (history ++ e ∷ []) sound.seen (e ∷ [], refl) in
+        let entered : SeesAll u.phase (u.seen ≡ history ++ e ∷ []) = grind (arith, nat_tests, sound.asks, eq-eqb p p refl, no_turn, no_read, intentless) in
+        let current : u.current ≡ true → u.seen ≡ history ++ e ∷ [] = λ is. absurd (omega (arith, ap one_if (sound.current_intends is))) in
+        let mine : (n : ℕ) → u.number ≡ Some n → Keeps number_of (history ++ e ∷ []) u.seen record { number = n; entries = u.mine; sights = 0 } = λ n is.
+        let one = counted_once n u.number is in
+        ((sound.mine n is).0 ∙ sym (others_same n history (λ same. absurd (omega (arith, ap (λ (k : ℕ). times k u) same)))), (sound.mine n is).1) in
+        let ended : All (Keeps number_of (history ++ e ∷ []) u.seen) u.ended =
+        λ k d l. ((sound.ended k d l).0 ∙ sym (kept_same u.ended (omega arith) history k d l), (sound.ended k d l).1) in
+        search (rules, sound, seen, entered, current, mine, ended)
 
     -- the view that made it
     pub made : (v : View E) → IsSound number_of history drawn v → v.number ≡ Some (number_of e) → v.phase ≡ Writing v.places → v.seen ≡ history
         → times (number_of e) v ≤ 1 → IsSound number_of (history ++ e ∷ []) drawn (placing e v)
-    made v sound has is all_seen few = let more = ap (λ (h : List E). h ++ e ∷ []) all_seen in record {
-      spent = λ none_there. absurd (cc);
-      counts = sound.counts;
-      asks = sound.asks;
-      current_intends = sound.current_intends;
-      seen = subst (IsPrefix (v.seen ++ e ∷ [])) more (front_self (v.seen ++ e ∷ []));
-      olds = λ k d l. front_trans _ v.seen (v.seen ++ e ∷ []) (sound.olds k d l) (e ∷ [], refl);
-      entered = subst (λ P. SeesAll P (v.seen ++ e ∷ [] ≡ history ++ e ∷ [])) (sym is) more;
-      current = λ _. more;
-      mine = λ n is. let same : number_of e ≡ n = cc in let both = sound.mine n is in let snoc : List E → List E = λ l. l ++ e ∷ [] in
-          (ap snoc both.0 ∙ sym (own_more n history same), ap snoc both.1 ∙ sym (own_more n v.seen same));
-      ended = λ k d l. let both = sound.ended k d l in let one = counted_once (number_of e) v.number has in
-          let same = kept_same v.ended (omega arith) in (both.0 ∙ sym (same history k d l), both.1 ∙ sym (same v.seen k d l));
-    }
+    made v sound has is all_seen few = let more = ap (λ (h : List E). h ++ e ∷ []) all_seen in let snoc : List E → List E = λ l. l ++ e ∷ [] in
+        let seen = subst (IsPrefix (v.seen ++ e ∷ [])) more (front_self (v.seen ++ e ∷ [])) in
+        let olds : All (λ old. IsPrefix old (v.seen ++ e ∷ [])) v.olds = λ k d l. front_trans _ v.seen (v.seen ++ e ∷ []) (sound.olds k d l) (e ∷ [], refl) in
+        let entered = subst (λ P. SeesAll P (v.seen ++ e ∷ [] ≡ history ++ e ∷ [])) (sym is) more in
+        let mine : (n : ℕ) → v.number ≡ Some n → Keeps number_of (snoc history) (snoc v.seen) record { number = n; entries = snoc v.mine; sights = 0 } =
+        λ n its. let same : number_of e ≡ n = cc in
+        (ap snoc (sound.mine n its).0 ∙ sym (own_more n history same), ap snoc (sound.mine n its).1 ∙ sym (own_more n v.seen same)) in
+        let one = counted_once (number_of e) v.number has in let same = kept_same v.ended (omega arith) in
+        let ended : All (Keeps number_of (history ++ e ∷ []) (v.seen ++ e ∷ [])) v.ended =
+        λ k d l. ((sound.ended k d l).0 ∙ sym (same history k d l), (sound.ended k d l).1 ∙ sym (same v.seen k d l)) in
+        search (rules, sound, more, seen, olds, entered, mine, ended)

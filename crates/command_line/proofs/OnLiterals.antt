@@ -8,126 +8,59 @@ use Rattle.command_line.specs.Number.{number_of}
 use Rattle.command_line.specs.Request.{request_of}
 
 -- the name alone is `play` with no worker
-name_alone : (name : Text) → request_of (name ∷ []) ≡ Some (Play 0 None)
+play_said : (name : Text) → (request_of (name ∷ []) ≡ Some (Play 0 None))
+    × (request_of (name ∷ codes "play" ∷ []) ≡ Some (Play 0 None))
+    × (request_of (name ∷ codes "play" ∷ codes "--workers" ∷ codes "8" ∷ []) ≡ Some (Play 8 None))
+    × (request_of (name ∷ codes "play" ∷ codes "--workers" ∷ codes "9" ∷ []) ≡ None)
 unfolding clap_on_literals number_of digits
-name_alone name = refl
+play_said name = (refl, refl, refl, refl)
 
-play_said : (name : Text) → request_of (name ∷ codes "play" ∷ []) ≡ Some (Play 0 None)
+-- what isn't given has its default, and a value stands in the next word or behind `=`
+demo_said : (name : Text) → (request_of (name ∷ codes "demo" ∷ []) ≡ Some (Demo 1 8 32 0))
+    × (request_of (name ∷ codes "demo" ∷ codes "--workers" ∷ codes "1" ∷ []) ≡ Some (Demo 1 8 32 1))
+    × (request_of (name ∷ codes "demo" ∷ codes "--seed" ∷ codes "7" ∷ codes "--files=2" ∷ []) ≡ Some (Demo 7 2 32 0))
+    × (request_of (name ∷ codes "demo" ∷ codes "--files" ∷ codes "0" ∷ []) ≡ None)
+    × (request_of (name ∷ codes "demo" ∷ codes "--seed" ∷ codes "01" ∷ []) ≡ None)
+    × (request_of (name ∷ codes "demo" ∷ codes "--seed" ∷ codes "1" ∷ codes "--seed" ∷ codes "1" ∷ []) ≡ None)
 unfolding clap_on_literals number_of digits
-play_said name = refl
+demo_said name = (refl, refl, refl, refl, refl, refl)
 
-workers_said : (name : Text) → request_of (name ∷ codes "play" ∷ codes "--workers" ∷ codes "8" ∷ []) ≡ Some (Play 8 None)
+-- a path is what its word says, before the option or behind it; one that begins with `-` stands behind `--`
+check_said : (name : Text) → (request_of (name ∷ codes "check" ∷ codes "a b/t.txt" ∷ codes "--workers" ∷ codes "2" ∷ []) ≡ Some (Check (codes "a b/t.txt") 2))
+    × (request_of (name ∷ codes "check" ∷ codes "--workers=0" ∷ codes "play" ∷ []) ≡ Some (Check (codes "play") 0))
+    × (request_of (name ∷ codes "check" ∷ codes "--" ∷ codes "-t" ∷ []) ≡ Some (Check (codes "-t") 0))
+    × (request_of (name ∷ codes "check" ∷ []) ≡ None)
+    × (request_of (name ∷ codes "check" ∷ codes "a" ∷ codes "b" ∷ []) ≡ None)
 unfolding clap_on_literals number_of digits
-workers_said name = refl
-
-nine_workers : (name : Text) → request_of (name ∷ codes "play" ∷ codes "--workers" ∷ codes "9" ∷ []) ≡ None
-unfolding clap_on_literals number_of digits
-nine_workers name = refl
-
-demo_with_a_worker : (name : Text) → request_of (name ∷ codes "demo" ∷ codes "--workers" ∷ codes "1" ∷ []) ≡ Some (Demo 1 8 32 1)
-unfolding clap_on_literals number_of digits
-demo_with_a_worker name = refl
-
--- what isn't given has its default
-demo_defaults : (name : Text) → request_of (name ∷ codes "demo" ∷ []) ≡ Some (Demo 1 8 32 0)
-unfolding clap_on_literals number_of digits
-demo_defaults name = refl
-
--- a value stands in the next word or behind `=`
-demo_given : (name : Text) → request_of (name ∷ codes "demo" ∷ codes "--seed" ∷ codes "7" ∷ codes "--files=2" ∷ []) ≡ Some (Demo 7 2 32 0)
-unfolding clap_on_literals number_of digits
-demo_given name = refl
-
-no_files : (name : Text) → request_of (name ∷ codes "demo" ∷ codes "--files" ∷ codes "0" ∷ []) ≡ None
-unfolding clap_on_literals number_of digits
-no_files name = refl
-
-leading_zero : (name : Text) → request_of (name ∷ codes "demo" ∷ codes "--seed" ∷ codes "01" ∷ []) ≡ None
-unfolding clap_on_literals number_of digits
-leading_zero name = refl
-
-given_twice : (name : Text) → request_of (name ∷ codes "demo" ∷ codes "--seed" ∷ codes "1" ∷ codes "--seed" ∷ codes "1" ∷ []) ≡ None
-unfolding clap_on_literals number_of digits
-given_twice name = refl
-
--- a path is what its word says, before the option or behind it
-check_given : (name : Text) → request_of (name ∷ codes "check" ∷ codes "a b/t.txt" ∷ codes "--workers" ∷ codes "2" ∷ []) ≡ Some (Check (codes "a b/t.txt") 2)
-unfolding clap_on_literals number_of digits
-check_given name = refl
-
-path_last : (name : Text) → request_of (name ∷ codes "check" ∷ codes "--workers=0" ∷ codes "play" ∷ []) ≡ Some (Check (codes "play") 0)
-unfolding clap_on_literals number_of digits
-path_last name = refl
+check_said name = (refl, refl, refl, refl, refl)
 
 -- a store's path stands in the next word or behind `=`, before the other option or behind it
-store_given : (name : Text) → request_of (name ∷ codes "play" ∷ codes "--store" ∷ codes "a b/s" ∷ codes "--workers" ∷ codes "2" ∷ []) ≡ Some (Play 2 (Some (codes "a b/s")))
+store_said : (name : Text)
+    → (request_of (name ∷ codes "play" ∷ codes "--store" ∷ codes "a b/s" ∷ codes "--workers" ∷ codes "2" ∷ []) ≡ Some (Play 2 (Some (codes "a b/s"))))
+    × (request_of (name ∷ codes "play" ∷ codes "--workers=1" ∷ codes "--store=s" ∷ []) ≡ Some (Play 1 (Some (codes "s"))))
+    × (request_of (name ∷ codes "play" ∷ codes "--store" ∷ codes "play" ∷ []) ≡ Some (Play 0 (Some (codes "play"))))
+    × (request_of (name ∷ codes "play" ∷ codes "--store=-s" ∷ []) ≡ Some (Play 0 (Some (codes "-s"))))
+    × (request_of (name ∷ codes "play" ∷ codes "--store" ∷ codes "-s" ∷ []) ≡ None)
 unfolding clap_on_literals number_of digits
-store_given name = refl
-
-store_last : (name : Text) → request_of (name ∷ codes "play" ∷ codes "--workers=1" ∷ codes "--store=s" ∷ []) ≡ Some (Play 1 (Some (codes "s")))
-unfolding clap_on_literals number_of digits
-store_last name = refl
-
-store_alone : (name : Text) → request_of (name ∷ codes "play" ∷ codes "--store" ∷ codes "play" ∷ []) ≡ Some (Play 0 (Some (codes "play")))
-unfolding clap_on_literals number_of digits
-store_alone name = refl
-
-store_dash : (name : Text) → request_of (name ∷ codes "play" ∷ codes "--store=-s" ∷ []) ≡ Some (Play 0 (Some (codes "-s")))
-unfolding clap_on_literals number_of digits
-store_dash name = refl
-
-store_dash_apart : (name : Text) → request_of (name ∷ codes "play" ∷ codes "--store" ∷ codes "-s" ∷ []) ≡ None
-unfolding clap_on_literals number_of digits
-store_dash_apart name = refl
+store_said name = (refl, refl, refl, refl, refl)
 
 -- an option without its path, one that is given twice, and one of another subcommand
-no_store : (name : Text) → request_of (name ∷ codes "play" ∷ codes "--store" ∷ []) ≡ None
+no_store : (name : Text) → (request_of (name ∷ codes "play" ∷ codes "--store" ∷ []) ≡ None)
+    × (request_of (name ∷ codes "play" ∷ codes "--store" ∷ codes "s" ∷ codes "--store" ∷ codes "s" ∷ []) ≡ None)
+    × (request_of (name ∷ codes "demo" ∷ codes "--store" ∷ codes "s" ∷ []) ≡ None)
 unfolding clap_on_literals number_of digits
-no_store name = refl
-
-store_twice : (name : Text) → request_of (name ∷ codes "play" ∷ codes "--store" ∷ codes "s" ∷ codes "--store" ∷ codes "s" ∷ []) ≡ None
-unfolding clap_on_literals number_of digits
-store_twice name = refl
-
-store_of_a_demo : (name : Text) → request_of (name ∷ codes "demo" ∷ codes "--store" ∷ codes "s" ∷ []) ≡ None
-unfolding clap_on_literals number_of digits
-store_of_a_demo name = refl
-
-index_said : (name : Text) → request_of (name ∷ codes "index" ∷ []) ≡ Some Index
-unfolding clap_on_literals number_of digits
-index_said name = refl
+no_store name = (refl, refl, refl)
 
 -- `index` has no option and no word behind it
-index_with_workers : (name : Text) → request_of (name ∷ codes "index" ∷ codes "--workers" ∷ codes "0" ∷ []) ≡ None
+index_said : (name : Text) → (request_of (name ∷ codes "index" ∷ []) ≡ Some Index)
+    × (request_of (name ∷ codes "index" ∷ codes "--workers" ∷ codes "0" ∷ []) ≡ None)
+    × (request_of (name ∷ codes "index" ∷ codes "s" ∷ []) ≡ None)
 unfolding clap_on_literals number_of digits
-index_with_workers name = refl
+index_said name = (refl, refl, refl)
 
-index_with_a_word : (name : Text) → request_of (name ∷ codes "index" ∷ codes "s" ∷ []) ≡ None
+-- an option stands behind the subcommand, and whoever asks for help asks for nothing else
+option_first : (name : Text) → (request_of (name ∷ codes "--workers" ∷ codes "0" ∷ codes "play" ∷ []) ≡ None)
+    × (request_of (name ∷ codes "--help" ∷ []) ≡ None)
+    × (request_of (name ∷ codes "help" ∷ []) ≡ None)
 unfolding clap_on_literals number_of digits
-index_with_a_word name = refl
-
--- a path that begins with `-` stands behind `--`
-check_dash : (name : Text) → request_of (name ∷ codes "check" ∷ codes "--" ∷ codes "-t" ∷ []) ≡ Some (Check (codes "-t") 0)
-unfolding clap_on_literals number_of digits
-check_dash name = refl
-
-no_path : (name : Text) → request_of (name ∷ codes "check" ∷ []) ≡ None
-unfolding clap_on_literals number_of digits
-no_path name = refl
-
-two_paths : (name : Text) → request_of (name ∷ codes "check" ∷ codes "a" ∷ codes "b" ∷ []) ≡ None
-unfolding clap_on_literals number_of digits
-two_paths name = refl
-
--- an option stands behind the subcommand
-option_first : (name : Text) → request_of (name ∷ codes "--workers" ∷ codes "0" ∷ codes "play" ∷ []) ≡ None
-unfolding clap_on_literals number_of digits
-option_first name = refl
-
-help_asked : (name : Text) → request_of (name ∷ codes "--help" ∷ []) ≡ None
-unfolding clap_on_literals number_of digits
-help_asked name = refl
-
-help_as_a_subcommand : (name : Text) → request_of (name ∷ codes "help" ∷ []) ≡ None
-unfolding clap_on_literals number_of digits
-help_as_a_subcommand name = refl
+option_first name = (refl, refl, refl)

@@ -1,4 +1,2 @@
 mod OnLiterals
-pub mod LineLemmas
-pub mod CommandLemmas
-pub mod LengthLemmas
+pub mod ScriptLemmas

@@ -5,17 +5,8 @@ use Rattle.demo.specs.Draws.{draw_of}
 use Rattle.demo.specs.Script.{demo_bytes}
 
 -- the first four draws of the seed 1
-first_draw : draw_of 1 1 ≡ 16838
-first_draw = refl
-
-second_draw : draw_of 1 2 ≡ 5758
-second_draw = refl
-
-third_draw : draw_of 1 3 ≡ 10113
-third_draw = refl
-
-fourth_draw : draw_of 1 4 ≡ 17515
-fourth_draw = refl
+first_draws : (draw_of 1 1 ≡ 16838) × (draw_of 1 2 ≡ 5758) × (draw_of 1 3 ≡ 10113) × (draw_of 1 4 ≡ 17515)
+first_draws = (refl, refl, refl, refl)
 
 -- its script of two files and one edit
 small_script : demo_bytes 1 2 1

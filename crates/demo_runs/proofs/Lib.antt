@@ -1,4 +1,2 @@
 pub mod ScriptLemmas
-pub mod LaneLemmas
-pub mod LastLemmas
 pub mod RunLemmas

@@ -1,2 +1,3 @@
 pub mod GapLemmas
 pub mod PlaceLemmas
+pub mod Words

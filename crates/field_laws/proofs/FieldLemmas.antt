@@ -1,8 +1,8 @@
 -- A field that is read is the one that was written, and what was written is read again.
-use Rattle.std.proofs.Common.{◌≡◌, ◌≢◌, ℕ, suc, ◌+◌, ◌^◌, ◌<◌, ◌≤◌, Bool, true, false, cond, ltb, leb, List, [], ◌∷◌, ◌++◌, length, get_or, take, drop, All, Result, Ok, Err, encode_utf8_all, refl, sym, ap, subst, ◌∙◌, append_assoc, arith, inl, inr}
+use Rattle.std.proofs.Common.{◌≡◌, ◌≢◌, ℕ, suc, ◌+◌, ◌^◌, ◌<◌, Bool, true, false, ltb, leb, List, [], ◌∷◌, ◌++◌, length, get_or, take, drop, All, Result, Ok, Err, encode_utf8_all, refl, sym, ap, ◌∙◌, append_assoc, arith, inl, inr}
 use Rattle.std.specs.Int.{w32, from_be_bytes}
 use Rattle.std.specs.Str.{chars, is_utf8, IsUtf8, all_scalars}
-use Rattle.std.proofs.lemmas.Bool.{cases_lt, ltb-false, le-ltb, lt-ltb, ltb-true, leb-true, le-leb}
+use Rattle.std.proofs.lemmas.Bool.{cases_Bool, cases_lt, ltb-false, le-ltb, lt-ltb, ltb-true, leb-true, le-leb}
 use Rattle.std.proofs.lemmas.List.{take_at, drop_at, take-append-drop, length-append, length-take, get_or-drop, get_or-take, get_or_past}
 use Rattle.std.proofs.lemmas.Nat.{be_bytes_4, from_be_bytes-to_be_bytes_4}
 use Rattle.std.proofs.lemmas.Str.{encodes-chars, scalars-chars, chars-encodes, IsUtf8-from_is_utf8, is_utf8-from_IsUtf8, length-le-encodes}
@@ -17,11 +17,7 @@ IsBytes bytes = (i : ℕ) → get_or bytes i 0 < 256
 
 -- numbers below 256 are bytes
 pub bytes_fit : (bytes : List ℕ) → All (λ b. b < 256) bytes → IsBytes bytes
-bytes_fit bytes each i =
-    elim (cases_lt i (length bytes)) [
-      | inl lt ↦ each i 0 lt
-      | inr le ↦ rw (get_or_past bytes i 0 le) (omega arith)
-    ]
+bytes_fit bytes each i = grind (arith, cases_lt i (length bytes), each i 0, get_or_past bytes i 0)
 
 -- bytes are numbers below 256
 pub bytes_below : (bytes : List ℕ) → IsBytes bytes → All (λ b. b < 256) bytes
@@ -31,11 +27,7 @@ pub IsBytes-drop : (n : ℕ) (bytes : List ℕ) → IsBytes bytes → IsBytes (d
 IsBytes-drop n bytes h i = rw get_or-drop (h (n + i))
 
 pub IsBytes-take : (n : ℕ) (bytes : List ℕ) → IsBytes bytes → IsBytes (take n bytes)
-IsBytes-take n bytes h i =
-    elim (cases_lt i n) [
-      | inl lt ↦ rw (get_or-take n bytes i 0 lt) (h i)
-      | inr le ↦ rw (get_or_past (take n bytes) i 0 (omega (arith, length-take n bytes))) (omega arith)
-    ]
+IsBytes-take n bytes h i = grind (arith, cases_lt i n, h i, get_or-take n bytes i 0, get_or_past (take n bytes) i 0, length-take n bytes)
 
 -- the value of a step that met no fault
 pub bind_ok : {A B : Type 0} (r : Result A ℕ) (f : A → Result B ℕ) (y : B) → (r >>= f) ≡ Ok y → (x : A) × (r ≡ Ok x) × (f x ≡ Ok y)
@@ -53,10 +45,7 @@ pub passed : {B : Type 0} (b : Bool) (bytes : List ℕ) (f : Unit {0} → Result
 passed true bytes f y e = (refl, e)
 passed false bytes f y e = absurd cc
 
-abbrev done : {A : Type 0} → A → Result A ℕ
-done x = Ok x
-
-pub ok_is : {A : Type 0} (x y : A) → done x ≡ done y → x ≡ y
+pub ok_is : {A : Type 0} (x y : A) → ◌≡◌ {A = Result A ℕ} (Ok x) (Ok y) → x ≡ y
 ok_is x y e = cc
 
 -- what a reader took from the front
@@ -65,7 +54,7 @@ pub record Takes (bytes text rest : List ℕ) : Type 0 where
   pub rest_fits : IsBytes rest
 
 pub Takes-then : {a x b y c : List ℕ} → Takes a x b → Takes b y c → Takes a (x ++ y) c
-Takes-then {a} {x} {b} {y} {c} p q = record { parts = p.parts ∙ ap (λ (t : List ℕ). x ++ t) q.parts ∙ sym (append_assoc x y c); rest_fits = q.rest_fits }
+Takes-then {a} {x} {b} {y} {c} p q = record { parts = rw append_assoc (rw q.parts at p.parts); rest_fits = q.rest_fits }
 
 -- what is read is spelled so, and is good
 abbrev pub IsRead : {A : Type 0} → (A → List ℕ) → (A → Type 0) → List ℕ → A × List ℕ → Type 0
@@ -88,22 +77,23 @@ byte_takes (b ∷ bytes) x fits e = rw (← ok_is (b, bytes) x e) (record { part
 
 pub number_takes : Reads number_at number (λ n. n < 2 ^ 32)
 unfolding number_at
-number_takes bytes x fits e = by (ltb (length bytes) 4) refl e
-  where
-    by : (b : Bool) → ltb (length bytes) 4 ≡ b → cond b (Err (length bytes)) (Ok (from_be_bytes w32 (take 4 bytes), drop 4 bytes)) ≡ Ok x → IsRead number (λ n. n < 2 ^ 32) bytes x
-    by true short e = absurd cc
-    by false long e =
-        let fits4 : IsBytes (take 4 bytes) = IsBytes-take 4 bytes fits in
-        let back = be_bytes_4 (take 4 bytes) _ (omega (arith, length-take 4 bytes, ltb-false (length bytes) 4 long)) fits4 refl in
-        rw (← ok_is (from_be_bytes w32 (take 4 bytes), drop 4 bytes) x e)
-        (record { parts = sym (take-append-drop 4 bytes) ∙ ap (λ (l : List ℕ). l ++ drop 4 bytes) (sym back); rest_fits = IsBytes-drop 4 bytes fits }, omega (arith, fits4 0, fits4 1, fits4 2, fits4 3))
+number_takes bytes x fits e =
+    let fits4 : IsBytes (take 4 bytes) = IsBytes-take 4 bytes fits in
+    elim (cases_Bool (ltb (length bytes) 4)) [
+      | inl short ↦ absurd (grind (arith, short, e))
+      | inr long ↦
+          let back = be_bytes_4 (take 4 bytes) _ (omega (arith, length-take 4 bytes, ltb-false (length bytes) 4 long)) fits4 refl in
+          rw (← ok_is (from_be_bytes w32 (take 4 bytes), drop 4 bytes) x (rw long at e)) (
+            record { parts = sym (take-append-drop 4 bytes) ∙ ap (λ l. l ++ drop 4 bytes) (sym back); rest_fits = IsBytes-drop 4 bytes fits },
+            omega (arith, fits4 0, fits4 1, fits4 2, fits4 3),
+          )
+    ]
 
 pub number_again : ReadsBack number_at number (λ n. n < 2 ^ 32)
 unfolding number_at
 number_again n rest lt =
     let long : ltb (length (number n ++ rest)) 4 ≡ false = le-ltb _ _ (omega (arith, length-append (number n) rest)) in
-    ap (λ b. cond b (Err (length (number n ++ rest))) (Ok (from_be_bytes w32 (take 4 (number n ++ rest)), drop 4 (number n ++ rest)))) long
-    ∙ ap (λ (v : ℕ). Ok (v, rest)) (from_be_bytes-to_be_bytes_4 n lt)
+    rw (long, from_be_bytes-to_be_bytes_4 n lt) refl
 
 -- ---- names
 
@@ -113,12 +103,11 @@ unfolding characters_at
 characters_takes len bytes x fits e =
     let whole = passed (leb len (length bytes)) bytes _ x e in
     let text = passed (is_utf8 (take len bytes)) bytes _ x whole.1 in
-    let inside : len ≤ length bytes = leb-true len (length bytes) whole.0 in
     let utf8 : IsUtf8 (take len bytes) = IsUtf8-from_is_utf8 (take len bytes) text.0 in
     let same = encodes-chars (take len bytes) utf8 in
     rw (← ok_is (chars (take len bytes), drop len bytes) x text.1) (
-      record { parts = sym (take-append-drop len bytes) ∙ ap (λ (l : List ℕ). l ++ drop len bytes) (sym same); rest_fits = IsBytes-drop len bytes fits },
-      (ap length same ∙ omega (arith, length-take len bytes, inside), scalars-chars (take len bytes) utf8),
+      record { parts = rw (same, take-append-drop len bytes) refl; rest_fits = IsBytes-drop len bytes fits },
+      (rw same (omega (arith, length-take len bytes, leb-true len (length bytes) whole.0)), scalars-chars (take len bytes) utf8),
     )
 
 -- characters behind the number of their bytes
@@ -126,7 +115,7 @@ pub name_parts : (bytes : List ℕ) (l : ℕ × List ℕ) (x : List ℕ × List 
     → IsRead name (λ n. (length (encode_utf8_all n) ≡ l.0) × (all_scalars n ≡ true)) bytes x
 name_parts bytes l x front e =
     let read = characters_takes l.0 l.1 x front.rest_fits e in
-    (subst (λ k. Takes bytes (number k ++ encode_utf8_all x.0) x.1) (sym read.1.0) (Takes-then front read.0), read.1)
+    (rw read.1.0 (Takes-then front read.0), read.1)
 
 -- a name that may be written
 abbrev pub IsGoodName : List ℕ → Type 0
@@ -138,10 +127,8 @@ name_takes bytes x fits e =
     let l = step (number_at bytes) _ _ x (λ l. number_takes bytes l fits) e in
     let some = passed (ltb 0 l.0.0) bytes _ x l.2 in
     let n = name_parts bytes l.0 x l.1.0 some.1 in
-    let positive = ltb-true 0 l.0.0 some.0 in (
-      n.0,
-      (record { some = λ none. absurd (omega (arith, positive, n.1.0, ap (λ t. length (encode_utf8_all t)) none)); short = omega (arith, l.1.1, n.1.0) }, n.1.1),
-    )
+    let some_read : x.0 ≢ [] = λ none. absurd (omega (arith, ltb-true 0 l.0.0 some.0, n.1.0, ap (λ t. length (encode_utf8_all t)) none)) in
+    (n.0, (record { some = some_read; short = omega (arith, l.1.1, n.1.0) }, n.1.1))
 
 -- a name that isn't empty has bytes
 pub some_bytes : (n : List ℕ) → n ≢ [] → 0 < length (encode_utf8_all n)
@@ -161,5 +148,4 @@ pub name_again : ReadsBack name_at name IsGoodName
 unfolding name_at
 name_again n rest good =
     let some : ltb 0 (length (encode_utf8_all n)) ≡ true = lt-ltb 0 _ (some_bytes n good.0.some) in
-    ap name_at (append_assoc (number (length (encode_utf8_all n))) (encode_utf8_all n) rest)
-    ∙ rw (number_again (length (encode_utf8_all n)) (encode_utf8_all n ++ rest) good.0.short, some, characters_again n rest good.1) refl
+    rw (append_assoc, number_again (length (encode_utf8_all n)) (encode_utf8_all n ++ rest) good.0.short, some, characters_again n rest good.1) refl

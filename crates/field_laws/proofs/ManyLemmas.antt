@@ -1,11 +1,11 @@
 -- Reading so many of a kind, one after another: as a loop does, and back.
-use Rattle.std.proofs.Common.{◌≡◌, ℕ, zero, suc, ◌-◌, ◌+◌, ◌≤◌, ◌<◌, ◌^◌, List, [], ◌∷◌, ◌++◌, length, Option, Some, None, Result, Ok, Err, refl, sym, ap, subst, ◌∙◌, append_assoc, arith}
+use Rattle.std.proofs.Common.{◌≡◌, ℕ, zero, suc, ◌-◌, ◌+◌, ◌≤◌, ◌<◌, ◌^◌, List, [], ◌∷◌, ◌++◌, length, Option, Some, None, Result, Ok, Err, refl, sym, ap, append_assoc, arith}
 use Rattle.std.specs.List.{flat_map, slice_get}
 use Rattle.std.proofs.lemmas.List.{append-nil, length-append}
 use Rattle.byte_fields.specs.declared.fault.Fault.{Fault}
 use Rattle.byte_fields.specs.declared.fault.Fault.TheVariants as faults
 use Rattle.byte_fields.specs.Answers.{Fails}
-use Rattle.byte_fields.specs.Spelling.{number, counted}
+use Rattle.byte_fields.specs.Spelling.{counted}
 use Rattle.byte_fields.specs.Reading.{◌>>=◌, number_at, many_at, counted_at, AllAfter}
 use Rattle.field_laws.proofs.FieldLemmas.{IsBytes, step, ok_is, Takes, Takes-then, Reads, ReadsBack, number_takes, number_again}
 
@@ -23,11 +23,8 @@ module _ {A : Type 0} where
   last xs = slice_get xs (length xs - 1)
 
   last_is : (xs : List A) (x : A) → Some x ≡ last (xs ++ x ∷ [])
-  last_is xs x = sym (ap (slice_get (xs ++ x ∷ [])) (omega (arith, length-append xs (x ∷ []))) ∙ there xs)
-    where
-      there : (ys : List A) → slice_get (ys ++ x ∷ []) (length ys) ≡ Some x
-      there [] = refl
-      there (y ∷ ys) = there ys
+  last_is [] x = refl
+  last_is (y ∷ ys) x = grind (arith, last_is ys x, length-append ys (x ∷ []))
 
   module _ (one : Option A → List ℕ → Result (A × List ℕ) ℕ) where
     -- a turn of the loop
@@ -36,8 +33,7 @@ module _ {A : Type 0} where
     unfolding many_at
     goes_on front count i bytes n after total lt h so_far =
         let k : count - i ≡ suc (count - (i + 1)) = omega arith in
-        let one_more : with_front front (many_at one (count - i) (last front) bytes) ≡ with_front (front ++ n ∷ []) (many_at one (count - (i + 1)) (Some n) after) = rw (k, h) (regroup front n (many_at one (count - (i + 1)) (Some n) after)) in
-        ap (λ before. with_front (front ++ n ∷ []) (many_at one (count - (i + 1)) before after)) (sym (last_is front n)) ∙ sym one_more ∙ so_far
+        rw (← last_is front n, ← regroup front n (many_at one (count - (i + 1)) (Some n) after)) (rw (k, h) at so_far)
 
     -- a turn that meets a fault
     pub ends : (e : Fault) (before : Option A) (front : List A) (count i : ℕ) (bytes : List ℕ) (total : Result (List A × List ℕ) ℕ) → i < count → Fails e (one before bytes)
@@ -46,16 +42,14 @@ module _ {A : Type 0} where
     ends faults.Memory before front count i bytes total lt h so_far = tt
     ends (faults.Unlawful f) before front count i bytes total lt h so_far =
         let k : count - i ≡ suc (count - (i + 1)) = omega arith in
-        let none : with_front front (many_at one (count - i) before bytes) ≡ Err f = rw (k, h) refl in
-        sym so_far ∙ none
+        sym (rw (k, h) at so_far)
 
     -- the end of the loop
     pub is_done : (before : Option A) (front : List A) (count i : ℕ) (bytes : List ℕ) (total : Result (List A × List ℕ) ℕ) → count ≤ i → with_front front (many_at one (count - i) before bytes) ≡ total → total ≡ Ok (front, bytes)
     unfolding many_at
     is_done before front count i bytes total le so_far =
         let k : count - i ≡ 0 = omega arith in
-        let all : with_front front (many_at one (count - i) before bytes) ≡ Ok (front, bytes) = rw k (ap (λ (ns : List A). Ok (ns, bytes)) (append-nil front)) in
-        sym so_far ∙ all
+        sym (rw (k, append-nil front) at so_far)
 
     module _ (Good : Option A → A → Type 0) (spell : A → List ℕ) where
       pub many_takes : ((before : Option A) → Reads (one before) spell (Good before)) → (count : ℕ) (before : Option A) (bytes : List ℕ) (x : List A × List ℕ)
@@ -72,8 +66,7 @@ module _ {A : Type 0} where
       unfolding many_at
       many_again again [] before rest good = refl
       many_again again (x ∷ xs) before rest good =
-          ap (many_at one (suc (length xs)) before) (append_assoc (spell x) (flat_map spell xs) rest)
-          ∙ rw (again before x (flat_map spell xs ++ rest) good.0, many_again again xs (Some x) rest good.1) refl
+          rw (append_assoc, again before x (flat_map spell xs ++ rest) good.0, many_again again xs (Some x) rest good.1) refl
 
       -- ---- so many of a kind behind their number
 
@@ -85,11 +78,9 @@ module _ {A : Type 0} where
       counted_takes each bytes x fits e =
           let c = step (number_at bytes) _ _ x (λ n. number_takes bytes n fits) e in
           let m = many_takes each c.0.0 None c.0.1 x c.1.0.rest_fits c.2 in
-          let takes = subst (λ k. Takes bytes (number k ++ flat_map spell x.0) x.1) (sym m.1) (Takes-then c.1.0 m.0) in
-          (takes, (m.2, omega (arith, c.1.1, m.1)))
+          (rw m.1 (Takes-then c.1.0 m.0), (m.2, omega (arith, c.1.1, m.1)))
 
       pub counted_again : ((before : Option A) → ReadsBack (one before) spell (Good before)) → ReadsBack (counted_at one) (counted spell) AreCounted
       unfolding counted_at
       counted_again again xs rest is =
-          ap (counted_at one) (append_assoc (number (length xs)) (flat_map spell xs) rest)
-          ∙ rw (number_again (length xs) (flat_map spell xs ++ rest) is.1) (many_again again xs None rest is.0)
+          rw (append_assoc, number_again (length xs) (flat_map spell xs ++ rest) is.1) (many_again again xs None rest is.0)

@@ -1,29 +1,10 @@
 -- Rising ids, and what is among them after one was put in or taken out.
-use Rattle.std.proofs.Common.{◌≡◌, ℕ, zero, suc, ◌+◌, ◌-◌, ◌<◌, ◌≤◌, ◌||◌, ◌&&◌, eqb, false, List, [], ◌∷◌, length, get_or, take, drop, length-drop, sym, arith, ⊎_elim}
-use Rattle.std.specs.Prelude.{not, Ok, Err}
-use Rattle.std.specs.Ordering.{nat_cmp}
-use Rattle.std.specs.declared.cmp.Ordering.{Ordering}
-use Rattle.std.specs.declared.cmp.Ordering.TheVariants.{Less}
-use Rattle.std.specs.List.{insert, remove, AllByRecursion}
+use Rattle.file_index.proofs.Words.{◌≡◌, ℕ, zero, suc, ◌+◌, ◌-◌, ◌<◌, ◌≤◌, ◌||◌, ◌&&◌, eqb, false, List, [], ◌∷◌, length, get_or, take, drop, length-drop, sym}
+use Rattle.file_index.proofs.Words.{arith, ⊎_elim, not, Ok, Err, nat_cmp, Ordering, Less, insert, remove, AllByRecursion, ne_eqb, eq-eqb, cases_lt, nat_tests}
+use Rattle.file_index.proofs.Words.{get_or-drop, recursion_from_All, All-from_recursion, All-from_get_or, All-cons, All-take, All-drop, All-append, All-weaker}
+use Rattle.file_index.proofs.Words.{list_any_none, list_any_at, All-permutation, IsPermutation-insert, list_any-IsPermutation, non_decreasing_from_sorted}
+use Rattle.file_index.proofs.Words.{below_from_sorted, sorted_tail, IsPlaceOf, has_id}
 use Rattle.std.specs.List.Sorted.{IsStrictlySortedBy}
-use Rattle.std.proofs.lemmas.Bool.{ne_eqb, eq-eqb, cases_lt}
-use Rattle.std.proofs.lemmas.Bool.Decides.{nat_tests}
-use Rattle.std.proofs.lemmas.List.{get_or-drop}
-use Rattle.std.proofs.lemmas.List.Elements.{recursion_from_All, All-from_recursion, All-from_get_or, All-cons, All-take, All-weaker}
-use Rattle.std.proofs.lemmas.List.Folds.{list_any_none, list_any_at}
-use Rattle.std.proofs.lemmas.List.Sorted.{All-permutation, IsPermutation-insert, list_any-IsPermutation}
-use Rattle.std.proofs.lemmas.Map.Keys.{non_decreasing_from_sorted, below_from_sorted, sorted_tail}
-use Rattle.file_index.specs.Places.{IsPlaceOf, has_id}
-
--- one id rises
-pub one_rises : (id : ℕ) → IsStrictlySortedBy nat_cmp (id ∷ [])
-unfolding IsStrictlySortedBy
-one_rises id = (tt, tt)
-
--- no keys rise
-pub none_rise : {K : Type 0} (c : K → K → Ordering) → IsStrictlySortedBy c []
-unfolding IsStrictlySortedBy
-none_rise c = tt
 
 -- of rising keys the first rise, and the last do
 pub parts_rise : {K : Type 0} (c : K → K → Ordering) (n : ℕ) (ks : List K) → IsStrictlySortedBy c ks
@@ -44,10 +25,9 @@ all_inserted P Q ids at id weaker one all = recursion_from_All Q (insert ids at 
 
 -- what holds of all ids holds of all but one
 pub all_removed : (P : ℕ → Type 0) (ids : List ℕ) (at : ℕ) → AllByRecursion P ids → AllByRecursion P (remove ids at)
-all_removed P [] zero all = tt
-all_removed P [] (suc at) all = tt
-all_removed P (x ∷ xs) zero all = all.1
-all_removed P (x ∷ xs) (suc at) all = (all.0, all_removed P xs at all.1)
+all_removed P ids at all =
+    let every = All-from_recursion P ids all in
+    recursion_from_All P (remove ids at) (All-append P (take at ids) (drop (suc at) ids) (All-take P at ids every) (All-drop P (suc at) ids every))
 
 -- ids still rise with one more at its place
 pub insert_rises : (ids : List ℕ) (at id : ℕ) → IsStrictlySortedBy nat_cmp ids → IsPlaceOf id ids (Err at) → IsStrictlySortedBy nat_cmp (insert ids at id)
@@ -56,11 +36,10 @@ insert_rises [] zero id rises gap = (tt, tt)
 insert_rises [] (suc at) id rises gap = absurd (omega (arith, gap.0))
 insert_rises (x ∷ xs) zero id rises gap =
     (recursion_from_All _ (x ∷ xs) (All-from_get_or (λ y. nat_cmp id y ≡ Less) (x ∷ xs) 0 (λ k l. grind (arith, nat_tests, gap.2 k (omega arith) l))), rises)
-insert_rises (x ∷ xs) (suc at) id rises gap =
-    let behind = (λ (k : ℕ) (l : k < at). gap.1 (suc k) (omega arith)) in (
-      all_inserted _ _ xs at id (λ y l. l) (grind (arith, nat_tests, gap.1 0 (omega arith))) rises.0,
-      insert_rises xs at id rises.1 (omega (arith, gap.0), behind, (λ k l m. gap.2 (suc k) (omega arith) (omega arith))),
-    )
+insert_rises (x ∷ xs) (suc at) id rises gap = (
+  all_inserted _ _ xs at id (λ y l. l) (grind (arith, nat_tests, gap.1 0 (omega arith))) rises.0,
+  insert_rises xs at id rises.1 (omega (arith, gap.0), (λ k l. gap.1 (suc k) (omega arith)), (λ k l m. gap.2 (suc k) (omega arith) (omega arith))),
+)
 
 -- and with one less
 pub remove_rises : (ids : List ℕ) (at : ℕ) → IsStrictlySortedBy nat_cmp ids → IsStrictlySortedBy nat_cmp (remove ids at)
@@ -92,17 +71,15 @@ has_id-remove (x ∷ xs) (suc at) id j rises found =
 -- one that would go into the tail, behind the first there
 pub goes_into_tail : (ids : List ℕ) (near id at : ℕ) → IsStrictlySortedBy nat_cmp ids → near ≤ length ids → 0 < at
     → IsPlaceOf id (drop near ids) (Err at) → IsPlaceOf id ids (Err (near + at))
-goes_into_tail ids near id at rises inside some gap = (omega (arith, gap.0, length-drop near ids), below, above)
-  where
-    below : (k : ℕ) → k < near + at → get_or ids k 0 < id
-    below k before =
-        let up = non_decreasing_from_sorted ids rises k (near + (k - near)) 0 (omega arith) (omega (arith, gap.0, length-drop near ids)) in
-        omega (arith, up, gap.1 (k - near) (omega arith), get_or-drop near ids (k - near) 0)
-
-    above : (k : ℕ) → near + at ≤ k → k < length ids → id < get_or ids k 0
-    above k from within =
-        let up = non_decreasing_from_sorted ids rises (near + (k - near)) k 0 (omega arith) within in
-        omega (arith, up, gap.2 (k - near) (omega arith) (omega (arith, length-drop near ids)), get_or-drop near ids (k - near) 0)
+goes_into_tail ids near id at rises inside some gap = (
+  omega (arith, gap.0, length-drop near ids),
+  (λ k before.
+      let up = non_decreasing_from_sorted ids rises k (near + (k - near)) 0 (omega arith) (omega (arith, gap.0, length-drop near ids)) in
+      omega (arith, up, gap.1 (k - near) (omega arith), get_or-drop near ids (k - near) 0)),
+  (λ k from within.
+      let up = non_decreasing_from_sorted ids rises (near + (k - near)) k 0 (omega arith) within in
+      omega (arith, up, gap.2 (k - near) (omega arith) (omega (arith, length-drop near ids)), get_or-drop near ids (k - near) 0)),
+)
 
 -- an id that has a place is among them already
 pub found_has : (ids : List ℕ) (at id : ℕ) → IsPlaceOf id ids (Ok at) → (j : ℕ) → has_id j ids ≡ (has_id j ids || eqb j id)

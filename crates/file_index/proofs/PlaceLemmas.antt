@@ -1,23 +1,12 @@
 -- Which files stand under which keys after rows came or went.
-use Rattle.std.proofs.Common.{◌≡◌, ℕ, ◌+◌, ◌<◌, Bool, true, false, ◌&&◌, ◌||◌, cond, eqb, List, [], ◌∷◌, length, get_or, take, refl, arith}
-use Rattle.std.specs.Prelude.{not}
-use Rattle.std.specs.Cmp.{IsEquivalence}
-use Rattle.std.proofs.lemmas.Bool.Decides.{nat_tests}
-use Rattle.std.proofs.lemmas.List.Folds.{list_any_more}
-use Rattle.file_index.specs.KeyRows.{has_key}
-use Rattle.file_index.specs.Places.{is_placed}
-use Rattle.file_index.specs.Rows.{rows_in_file, AllPlaced}
+use Rattle.file_index.proofs.Words.{◌≡◌, ℕ, ◌+◌, ◌<◌, Bool, true, ◌&&◌, ◌||◌, cond, eqb, List, [], ◌∷◌, length, get_or, take, refl, arith, not}
+use Rattle.file_index.proofs.Words.{IsEquivalence, nat_tests, list_any_more, has_key, is_placed, rows_in_file, AllPlaced}
 
 module _ {K V : Type 0} (eq : K → K → Bool) (file : ℕ) (files changed : List (ℕ × List (K × V))) (places left : List (K × List ℕ)) where
   -- every file is still placed where one was given rows under whose keys it stood
   pub swapped_placed : (new : List (K × V)) → ((j : ℕ) → rows_in_file j changed ≡ cond (eqb j file) new (rows_in_file j files))
       → AllPlaced eq files places → ((key : K) → has_key eq key new ≡ true → is_placed eq places key file ≡ true) → AllPlaced eq changed places
   swapped_placed new each all placed j key has = grind (arith, nat_tests, each j, has, all j key, placed key)
-
-  -- what stays where one file went from under some keys
-  pub kept_placed : (seen gone : Bool) (key : K) (j : ℕ) → is_placed eq left key j ≡ (is_placed eq places key j && not (eqb j file && seen && gone))
-      → eqb j file ≡ false → is_placed eq places key j ≡ true → is_placed eq left key j ≡ true
-  kept_placed seen gone key j taken other there = grind (arith, taken, other, there)
 
   -- every file is still placed where one was taken out with its rows and from under their keys
   pub removed_placed : (own : List (K × V)) → ((j : ℕ) → rows_in_file j changed ≡ cond (eqb j file) [] (rows_in_file j files))
@@ -38,15 +27,11 @@ module _ {K V : Type 0} (eq : K → K → Bool) (laws : IsEquivalence eq) (rows 
   has_equal key (row ∷ rest) same = rw (laws.congr key item.0 row.0 same, has_equal key rest same) refl
 
   module _ (key : K) (there before at : Bool) where
-    -- under the row's key a file that has none goes
-    pub more_taken : there ≡ (before && not (at && has_key eq key (take i rows) && not (has_key eq key own))) → has_key eq item.0 own ≡ false
-        → (there && not (eq item.0 key && at)) ≡ (before && not (at && has_key eq key (take (i + 1) rows) && not (has_key eq key own)))
-    more_taken so none = grind (arith, so, none, seen_more key, laws.symm item.0 key, has_equal key own)
-
-    -- one that has some stays
-    pub more_kept : there ≡ (before && not (at && has_key eq key (take i rows) && not (has_key eq key own))) → has_key eq item.0 own ≡ true
-        → there ≡ (before && not (at && has_key eq key (take (i + 1) rows) && not (has_key eq key own)))
-    more_kept so some = grind (arith, so, some, seen_more key, has_equal key own)
+    -- under the row's key a file goes that has none
+    pub more_taken : (has now : Bool) → there ≡ (before && not (at && has_key eq key (take i rows) && not (has_key eq key own)))
+        → has ≡ has_key eq item.0 own → now ≡ cond has there (there && not (eq item.0 key && at))
+        → now ≡ (before && not (at && has_key eq key (take (i + 1) rows) && not (has_key eq key own)))
+    more_taken has now so is goes = grind (arith, so, is, goes, seen_more key, laws.symm item.0 key, has_equal key own)
 
     -- and one for which room is made comes
     pub more_marked : there ≡ (before || (has_key eq key (take i rows) && at))

@@ -1,16 +1,10 @@
--- The files that stand at places: what is found of each, and what their rows are, after one was written or emptied.
-use Rattle.std.proofs.Common.{Bor, ◌≡◌, ℕ, zero, suc, ◌<◌, ◌≤◌, ◌+◌, Bool, true, false, cond, eqb, ltb, List, [], ◌∷◌, ◌++◌, length, Option, Some, None, refl, sym, ap, ◌∙◌, arith, set, append_assoc}
-use Rattle.std.specs.Prelude.{slice_index_or, is_some, not}
-use Rattle.std.specs.Option.{unwrap_or, option_copied}
-use Rattle.std.specs.Ordering.{nat_cmp}
-use Rattle.std.specs.Map.{lookup}
-use Rattle.std.specs.BTreeMap.{is_at}
-use Rattle.std.specs.List.{filter}
-use Rattle.std.proofs.lemmas.Bool.Decides.{nat_tests}
-use Rattle.std.proofs.lemmas.List.{get_or_past, get_or-set_same, get_or-set_other, set_past, set-get_or}
-use Rattle.std.proofs.lemmas.List.Elements.{filter-append}
-use Rattle.file_index.specs.Rows.{rows_in, rows_of, rows_in_file, is_known, with_rows, without_file}
-use Rattle.file_index.specs.Slots.{standing_from, standing}
+-- The files that stand at places: what is found of each, their rows after one was written or emptied, and a walk over those that have a key.
+use Rattle.file_index.proofs.Words.{◌≡◌, ℕ, zero, suc, ◌<◌, ◌≤◌, ◌+◌, Bool, true, false, cond, eqb, ltb, List, [], ◌∷◌, ◌++◌, length, Option, Some, None, refl}
+use Rattle.file_index.proofs.Words.{sym, ap, ◌∙◌, arith, set, append_assoc, slice_index_or, is_some, not, unwrap_or, nat_cmp, lookup, is_at, filter, nat_tests}
+use Rattle.file_index.proofs.Words.{get_or_past, get_or-set_same, get_or-set_other, set_past, set-get_or, filter-append, rows_in, rows_of, rows_in_file}
+use Rattle.file_index.proofs.Words.{is_known, with_rows, without_file, standing_from, standing, ◌-◌, get_or, ⊎_elim, flat_map, IsStrictlySortedBy, cases_eq}
+use Rattle.file_index.proofs.Words.{false≢true, false_from_ne_true, map-append, below_from_sorted, sorted_tail, has_key, rows_with, has_id, rows_at, shown}
+use Rattle.file_index.proofs.Words.{walked, HasAllFiles}
 
 module _ {X : Type 0} where
   -- before all places nothing stands
@@ -35,18 +29,14 @@ module _ {X : Type 0} where
   set_at : (slots : List (Option X)) (i j : ℕ) (x : Option X) → (length slots ≤ i → x ≡ None)
       → slice_index_or (set slots i x) j None ≡ cond (eqb j i) x (slice_index_or slots j None)
   set_at slots i j x past =
-      let none = get_or_past slots i None in
       let same = set_past slots i x in
-      grind (arith, nat_tests, past, get_or-set_same slots i x None, get_or-set_other slots i j x None)
-
-  widened_from : (place : ℕ) (slots : List (Option X)) → standing_from place (slots ++ None ∷ []) ≡ standing_from place slots
-  widened_from place [] = refl
-  widened_from place (None ∷ slots) = widened_from (suc place) slots
-  widened_from place (Some x ∷ slots) = rw (widened_from (suc place) slots) refl
+      grind (arith, nat_tests, past, get_or_past slots i None, get_or-set_same slots i x None, get_or-set_other slots i j x None)
 
   -- a free place more at the end changes nothing
-  pub widened : (slots : List (Option X)) → standing (slots ++ None ∷ []) ≡ standing slots
-  widened slots = widened_from 0 slots
+  pub widened : (place : ℕ) (slots : List (Option X)) → standing_from place (slots ++ None ∷ []) ≡ standing_from place slots
+  widened place [] = refl
+  widened place (None ∷ slots) = widened (suc place) slots
+  widened place (Some x ∷ slots) = rw (widened (suc place) slots) refl
 
 -- after a file was given other rows, or taken out: the rows, those of each file, and which files are known
 pub record HasWritten {K V : Type 0} (file : ℕ) (now : Option (List (K × V))) (old new : List (ℕ × List (K × V))) : Type 0 where
@@ -92,16 +82,13 @@ module _ {K V : Type 0} where
       → rows_of (standing_from place (set slots i x)) ≡ with_rows file (unwrap_or x []) (rows_of (standing_from place slots))
   rows_from place i file [] x at past = rw (past (omega arith)) refl
   rows_from place zero file (s ∷ slots) x at past =
-      let lower = filter-first (λ k. ltb k file) place s slots in
-      let upper = filter-first (λ k. ltb file k) place s slots in
       let none = filter-from (λ k. ltb k file) false (suc place) slots (λ k l. grind (arith, nat_tests)) in
       let all = filter-from (λ k. ltb file k) true (suc place) slots (λ k l. grind (arith, nat_tests)) in
-      grind (arith, nat_tests, from_place place x slots)
+      grind (arith, nat_tests, from_place place x slots, filter-first (λ k. ltb k file) place s slots, filter-first (λ k. ltb file k) place s slots)
   rows_from place (suc i) file (s ∷ slots) x at past =
-      let lower = filter-first (λ k. ltb k file) place s slots in
-      let upper = filter-first (λ k. ltb file k) place s slots in
+      let parts = from_place place s (set slots i x) in
       let rest = rows_from (suc place) i file slots x (omega arith) (λ l. past (omega arith)) in
-      grind (arith, nat_tests, append_assoc, from_place place s (set slots i x))
+      grind (arith, nat_tests, append_assoc, parts, filter-first (λ k. ltb k file) place s slots, filter-first (λ k. ltb file k) place s slots)
 
   module _ (slots : List (Option (List (K × V)))) (files : List (ℕ × List (K × V))) (seen : standing slots ≡ files) (file : ℕ) where
     -- what is found of a file is what stands at its place
@@ -121,11 +108,6 @@ module _ {K V : Type 0} where
       known = λ j. grind (arith, found slots j, found (set slots file x) j, set_at slots file j x past);
     })
 
-    -- and after rows were written
-    pub filled : (rows : List (K × V)) (new : List (Option (List (K × V)))) → new ≡ set slots file (Some rows) → file < length slots
-        → HasWritten file (Some rows) files (standing new)
-    filled rows new is within = written (Some rows) new is (λ l. absurd (omega arith))
-
     -- the rows are those of the files below, its own and those of the files above
     itself : with_rows file (rows_in_file file files) (rows_of files) ≡ rows_of files
     itself =
@@ -138,20 +120,83 @@ module _ {K V : Type 0} where
         let other : ℕ × (K × V) → Bool = λ row. not (eqb row.0 file) in
         let below = kept_twice (λ row. ltb row.0 file) other (λ row e. grind (arith, nat_tests)) (rows_of files) in
         let above = kept_twice (λ row. ltb file row.0) other (λ row e. grind (arith, nat_tests)) (rows_of files) in
-        let own = filter-in (λ k. not (eqb k file)) file (rows_in_file file files) in
-        ap (filter other) (sym itself) ∙ simp filter-append (grind (arith, nat_tests))
+        ap (filter other) (sym itself) ∙ simp filter-append (grind (arith, nat_tests, filter-in (λ k. not (eqb k file)) file (rows_in_file file files)))
 
     -- where a file has no rows, none go with it
     pub nothing_goes : rows_in_file file files ≡ [] → with_rows file [] (rows_of files) ≡ rows_of files
     nothing_goes none = rw none at itself
 
-module _ {K V : Type 0} (file : ℕ) (files : List (ℕ × List (K × V))) where
-  -- where a file has no rows, no file has other rows without them
-  pub none_each : rows_in_file file files ≡ [] → (j : ℕ) → rows_in_file j files ≡ cond (eqb j file) [] (rows_in_file j files)
-  none_each none j = grind (arith, nat_tests, none)
+-- ids that rise, the first of them from a number on
+abbrev Rises : ℕ → List ℕ → Type 0
+Rises low [] = Unit {0}
+Rises low (id ∷ ids) = (low ≤ id) × Rises (suc id) ids
 
-  -- where a look-up that lends finds nothing, a file has no rows
-  pub none_lent : (lent : Option (Bor (List (K × V)))) → option_copied lent ≡ lookup (is_at (nat_cmp file)) files → is_some lent ≡ false
-      → rows_in_file file files ≡ []
-  none_lent None found none = rw (← found) refl
-  none_lent (Some rows) found none = absurd (cc)
+rises_from : (low : ℕ) (ids : List ℕ) → ((k : ℕ) → k < length ids → low ≤ get_or ids k 0) → IsStrictlySortedBy nat_cmp ids → Rises low ids
+rises_from low [] above rises = tt
+rises_from low (id ∷ ids) above rises = (
+  above 0 (omega arith),
+  rises_from (suc id) ids (λ k l. below_from_sorted (id ∷ ids) 0 (suc k) 0 rises (omega arith) (omega arith)) (sorted_tail nat_cmp id ids rises),
+)
+
+-- an id below all isn't among them
+absent : (id low : ℕ) (ids : List ℕ) → id < low → Rises low ids → has_id id ids ≡ false
+absent id low [] less rises = refl
+absent id low (j ∷ js) less rises = grind (arith, nat_tests, absent id (suc j) js (omega arith) rises.1)
+
+module _ {K V : Type 0} (eq : K → K → Bool) (key : K) where
+  -- what a file shows under the key
+  abbrev seen : ℕ → List (K × V) → List (ℕ × V)
+  seen file rows = shown file (rows_with eq key rows)
+
+  rows_at-in : (file : ℕ) (rows : List (K × V)) → rows_at eq key (rows_in file rows) ≡ seen file rows
+  rows_at-in file [] = refl
+  rows_at-in file (r ∷ rs) = grind (arith, rows_at-in file rs)
+
+  none_seen : (file : ℕ) (rows : List (K × V)) → has_key eq key rows ≡ false → seen file rows ≡ []
+  none_seen file [] none = refl
+  none_seen file (r ∷ rs) none = grind (arith, none_seen file rs)
+
+  -- the rows under the key from a place on
+  rows_at-from : (place : ℕ) (s : Option (List (K × V))) (slots : List (Option (List (K × V))))
+      → rows_at eq key (rows_of (standing_from place (s ∷ slots))) ≡ seen place (unwrap_or s []) ++ rows_at eq key (rows_of (standing_from (suc place) slots))
+  rows_at-from place s slots = rw (from_place place s slots) (simp (filter-append, map-append, rows_at-in place (unwrap_or s [])))
+
+  module _ (look : ℕ → List (ℕ × V)) where
+    nothing : (place : ℕ) (ids : List ℕ) → Rises place ids → ((j : ℕ) → place ≤ j → look j ≡ []) → flat_map look ids ≡ []
+    nothing place [] rises none = refl
+    nothing place (id ∷ ids) rises none = rw (none id rises.0, nothing (suc id) ids rises.1 (λ j l. none j (omega (arith, rises.0)))) refl
+
+    -- the rows under the key that are found from a place on
+    abbrev Meets : ℕ → List (Option (List (K × V))) → List ℕ → Type 0
+    Meets place slots ids = flat_map look ids ≡ rows_at eq key (rows_of (standing_from place slots))
+
+    -- a place where nothing is looked up may be skipped
+    skips : (place : ℕ) (s : Option (List (K × V))) (slots : List (Option (List (K × V)))) (ids : List ℕ) → look place ≡ seen place (unwrap_or s [])
+        → look place ≡ [] → Meets (suc place) slots ids → Meets place (s ∷ slots) ids
+    skips place s slots ids own none rest = rw (rows_at-from place s slots, ← own, none) rest
+
+    -- ids that rise meet all rows, where each shows its own and one that isn't walked has none
+    meets : (place : ℕ) (slots : List (Option (List (K × V)))) (ids : List ℕ) → Rises place ids
+        → ((i j : ℕ) → j ≡ place + i → look j ≡ seen j (unwrap_or (slice_index_or slots i None) []))
+        → ((j : ℕ) → place ≤ j → has_id j ids ≡ false → look j ≡ [])
+        → Meets place slots ids
+    meets place [] ids rises looks all = nothing place ids rises (λ j l. looks (j - place) j (omega arith))
+    meets place (s ∷ slots) [] rises looks all = skips place s slots [] (looks 0 place (omega arith)) (all place (omega arith) refl)
+        (meets (suc place) slots [] tt (λ i j e. looks (suc i) j (omega arith)) (λ j l. all j (omega arith)))
+    meets place (s ∷ slots) (id ∷ ids) rises looks all = ⊎_elim
+        (λ same.
+        let rest = meets (suc place) slots ids (rw (← same) rises.1) (λ i j e. looks (suc i) j (omega arith))
+        (λ j l away. all j (omega arith) (grind (arith, nat_tests))) in
+        rw (rows_at-from place s slots, ← looks 0 place (omega arith), same) (ap (λ l. look place ++ l) rest))
+        (λ apart. let above : Rises (suc place) (id ∷ ids) = (omega (arith, apart, rises.0), rises.1) in
+        skips place s slots (id ∷ ids) (looks 0 place (omega arith)) (all place (omega arith) (absent place (suc place) (id ∷ ids) (omega arith) above))
+        (meets (suc place) slots (id ∷ ids) above (λ i j e. looks (suc i) j (omega arith)) (λ j l. all j (omega arith))))
+        (cases_eq id place)
+
+  -- a walk over all files that have rows under the key gives the rows under it
+  pub walk_meets : (slots : List (Option (List (K × V)))) (files : List (ℕ × List (K × V))) → standing slots ≡ files
+      → (ids : List ℕ) → IsStrictlySortedBy nat_cmp ids → HasAllFiles eq key files ids → walked eq key files ids ≡ rows_at eq key (rows_of files)
+  walk_meets slots files at ids rises all = rw (← at) (meets (λ id. seen id (rows_in_file id (standing slots))) 0 slots ids
+      (rises_from 0 ids (λ k l. omega arith) rises)
+      (λ i j e. let same : j ≡ i = omega arith in rw (found_in slots (standing slots) refl j, same) refl)
+      (λ j l away. none_seen j (rows_in_file j (standing slots)) (false_from_ne_true _ (λ has. false≢true (sym away ∙ all j (rw (← at) has))))))

@@ -28,8 +28,7 @@ draws world (Intake file stamp) = (refl, omega arith)
 draws world change = (refl, omega arith)
 
 -- the put of an accepted change
-pub is_accepted : (world : World) (change : Change) → refusal_of world change ≡ None
-    → IsAccepted world (put_of world change) (files_made change)
+pub is_accepted : (world : World) (change : Change) → refusal_of world change ≡ None → IsAccepted world (put_of world change) (files_made change)
 is_accepted world (Create path text) h =
     let none = accepted_reasons world (Create path text) h in
     makes _ (refl, leb-false max_files (length world.files) none.1.1.0) refl refl (refl, refl) refl (record { free = none.1.0; lawful = not-false (is_path path) none.0 })
@@ -124,8 +123,7 @@ module _ (G : Type 0) where
       let f = found world path taken in rw (f.is, f.found) (keeps f (rw f.found at (h f.id)))
 
   -- one whose document alone is edited
-  edited_fits : (world : World) (path : List ℕ) (edit : Document → Document) → is_none (id_at world path) ≡ false
-      → ((id : ℕ) → FileFits (file_of world id))
+  edited_fits : (world : World) (path : List ℕ) (edit : Document → Document) → is_none (id_at world path) ≡ false → ((id : ℕ) → FileFits (file_of world id))
       → ((d : Document) (content : List ℕ) → document_at world path ≡ Some d → DocumentFits content d → DocumentFits content (edit d))
       → FileFits (edit_at world path 0 (λ file. Some (edited edit file))).file
   edited_fits world path edit taken h keeps = edit_fits world path 0 _ taken h

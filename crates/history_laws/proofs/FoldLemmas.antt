@@ -3,8 +3,7 @@ use Rattle.history_laws.proofs.Words.{ℕ, zero, suc, ◌≡◌, ◌+◌, length
 use Rattle.history_laws.proofs.Words.{World, empty_world, file_of, refusal_of, effect_of, effects_of, ListRefusal, refusal_or, list_refusal, counted}
 use Rattle.history_laws.proofs.Words.{after_list, fold, fold_from, IsLegal, IsLegalFrom}
 
-fold_from-append : (earlier later : List Entry) (world : World)
-    → fold_from world (earlier ++ later) ≡ fold_from (fold_from world earlier) later
+fold_from-append : (earlier later : List Entry) (world : World) → fold_from world (earlier ++ later) ≡ fold_from (fold_from world earlier) later
 fold_from-append [] later world = refl
 fold_from-append (entry ∷ earlier) later world = fold_from-append earlier later (after_list world entry.changes)
 
@@ -43,8 +42,7 @@ list_accepted world change changes h = accepted_first (refusal_of world change) 
 module _ (P : World → Type 0) (IsGiven : Change → Type 0)
     (change_keeps : (world : World) (change : Change) → refusal_of world change ≡ None → IsGiven change → P world → P (effect_of world change))
     (count_keeps : (world : World) → P world → P (counted world)) where
-  along_changes : (changes : List Change) (world : World) → list_refusal world changes ≡ None → All IsGiven changes
-      → P world → P (effects_of world changes)
+  along_changes : (changes : List Change) (world : World) → list_refusal world changes ≡ None → All IsGiven changes → P world → P (effects_of world changes)
   along_changes [] world h given p = p
   along_changes (change ∷ changes) world h given p =
       let a = list_accepted world change changes h in
@@ -59,8 +57,7 @@ module _ (P : World → Type 0) (IsGiven : Change → Type 0)
       (count_keeps (effects_of world entry.changes) (along_changes entry.changes world h.0 (given 0 entry (omega arith)) p))
 
 -- what each accepted change keeps, a legal history keeps
-pub along : (P : World → Type 0)
-    → ((world : World) (change : Change) → refusal_of world change ≡ None → P world → P (effect_of world change))
+pub along : (P : World → Type 0) → ((world : World) (change : Change) → refusal_of world change ≡ None → P world → P (effect_of world change))
     → ((world : World) → P world → P (counted world)) → (entries : List Entry) (world : World) → IsLegalFrom world entries → P world → P (fold_from world entries)
 along P change_keeps count_keeps entries world h p =
     along_given P (λ change. Unit {0}) (λ w change accepted given q. change_keeps w change accepted q) count_keeps entries world h (λ k d l j e m. tt) p
@@ -73,8 +70,7 @@ empty_has_none (suc place) = refl
 -- ---- lists of changes
 
 -- a longer list goes on from where the shorter one leads
-pub effects_of-append : (earlier later : List Change) (world : World)
-    → effects_of world (earlier ++ later) ≡ effects_of (effects_of world earlier) later
+pub effects_of-append : (earlier later : List Change) (world : World) → effects_of world (earlier ++ later) ≡ effects_of (effects_of world earlier) later
 effects_of-append [] later world = refl
 effects_of-append (change ∷ earlier) later world = effects_of-append earlier later (effect_of world change)
 

@@ -6,8 +6,7 @@ use Rattle.history_laws.proofs.FoldLemmas.{list_accepted, along, empty_has_none}
 use Rattle.history_laws.proofs.SoundLemmas.{effect_sound, fold_sound}
 
 -- accepted changes name lawful paths alone
-named_changes : (changes : List Change) (world : World) → list_refusal world changes ≡ None → IsSound world
-    → AllByRecursion (NamesPaths IsLawful) changes
+named_changes : (changes : List Change) (world : World) → list_refusal world changes ≡ None → IsSound world → AllByRecursion (NamesPaths IsLawful) changes
 named_changes [] world accepted h = tt
 named_changes (change ∷ changes) world accepted h =
     let first = list_accepted world change changes accepted in

@@ -87,8 +87,7 @@ none_stands [] h = tt
 none_stands (reason ∷ others) h = let f : reason.stands ≡ false = grind (arith, h) in (f, none_stands others (rw f at h))
 
 -- no reason to refuse an accepted change stands
-pub accepted_reasons : (world : World) (change : Change) → refusal_of world change ≡ None
-    → NoneStands (reasons world change ++ history_full world ∷ [])
+pub accepted_reasons : (world : World) (change : Change) → refusal_of world change ≡ None → NoneStands (reasons world change ++ history_full world ∷ [])
 accepted_reasons world change h = none_stands (reasons world change ++ history_full world ∷ []) h
 
 -- its id is that of a file that was made, or the next one; as many files more there are as it makes, and these have room

@@ -85,8 +85,7 @@ id_at-live world id file apart e = by (id_at world file.path) refl
         let same = apart f.id id f.old file f.found e f.same in cc
 
 -- what is at a path is a live file with that path
-pub live-id_at : (world : World) (path : List ℕ) (id : ℕ) → id_at world path ≡ Some id
-    → (file : File) × (file_of world id ≡ Some file) × (file.path ≡ path)
+pub live-id_at : (world : World) (path : List ℕ) (id : ℕ) → id_at world path ≡ Some id → (file : File) × (file_of world id ≡ Some file) × (file.path ≡ path)
 live-id_at world path id e =
     let f = found world path (ap is_none e) in
     let same : f.id ≡ id = cc in (f.old, ap (file_of world) (sym same) ∙ f.found, f.same)

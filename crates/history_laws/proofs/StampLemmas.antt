@@ -45,8 +45,7 @@ module _ (IsNew : ℕ → Type 0) where
   KeepsOrDrawsStamp-new None new h = h
   KeepsOrDrawsStamp-new (Some old) new h = inr h
 
-  KeepsOrDrawsStamp-trans : (old mid new : Option File) → KeepsOrDrawsStamp IsNew old mid → KeepsOrDrawsStamp IsNew mid new
-      → KeepsOrDrawsStamp IsNew old new
+  KeepsOrDrawsStamp-trans : (old mid new : Option File) → KeepsOrDrawsStamp IsNew old mid → KeepsOrDrawsStamp IsNew mid new → KeepsOrDrawsStamp IsNew old new
   KeepsOrDrawsStamp-trans old mid None p q = tt
   KeepsOrDrawsStamp-trans old None (Some new) p q = KeepsOrDrawsStamp-new old new q
   KeepsOrDrawsStamp-trans old (Some mid) (Some new) p (inr q) = KeepsOrDrawsStamp-new old new q
@@ -78,8 +77,7 @@ pub record IsLater (start world : World) : Type 0 where
   pub ids : next_id start ≤ next_id world
   pub kept : (id : ℕ) → IsKept (λ stamp. start.next_stamp ≤ stamp) start id (file_of world id)
 
-IsLater-effect_of : (start world : World) (change : Change) → refusal_of world change ≡ None → IsLater start world
-    → IsLater start (effect_of world change)
+IsLater-effect_of : (start world : World) (change : Change) → refusal_of world change ≡ None → IsLater start world → IsLater start (effect_of world change)
 IsLater-effect_of start world change accepted h =
     let IsNew : ℕ → Type 0 = λ stamp. start.next_stamp ≤ stamp in
     record {

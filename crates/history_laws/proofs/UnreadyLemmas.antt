@@ -39,8 +39,7 @@ pub lowest-Some : (world : World) (id : ℕ) → lowest_unready world ≡ Some i
 lowest-Some world id e = let s = position-Some is_unready (None ∷ world.files) id None (sym (id_is_place is_unready world.files refl) ∙ e) in (s.1, s.2)
 
 -- as many files are unready as there are ids of unready ones
-count-ids : (test : Option File → Bool) (start : ℕ) (files : List (Option File))
-    → length (filter test files) ≡ length (ids_from test start files)
+count-ids : (test : Option File → Bool) (start : ℕ) (files : List (Option File)) → length (filter test files) ≡ length (ids_from test start files)
 count-ids test start [] = refl
 count-ids test start (file ∷ files) = grind (arith, count-ids test (start + 1) files)
 

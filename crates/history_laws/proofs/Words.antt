@@ -17,9 +17,9 @@ pub use Rattle.list_laws.proofs.PositionLemmas.{position-None}
 pub use Rattle.list_laws.proofs.RowLemmas.{same_rows, live_inside, row_in-here, row_in-there, length-within, length-next, live_is_made, counted_in}
 pub use Rattle.list_laws.proofs.RowLemmas.{count-with_row}
 pub use Rattle.list_laws.specs.Rows.{put_at, with_row}
-pub use Rattle.document_buf.specs.Document.{Document, with_piece, without_part, inserted, erased, committed, marked_saved, replaced}
-pub use Rattle.dumb_mode.specs.Filter.{passes_filter}
-pub use Rattle.ide_text.specs.Text.{max_chars}
+pub use Rattle.write_history.specs.Document.{Document, with_piece, without_part, inserted, erased, committed, marked_saved, replaced}
+pub use Rattle.write_history.specs.Filter.{passes_filter}
+pub use Rattle.write_history.specs.Text.{max_chars}
 pub use Rattle.write_history.specs.Changes.{NamesPaths, GivesContent, stamps_drawn, files_made}
 pub use Rattle.write_history.specs.Effect.{Reason, reasons, history_full, refusal_of, is_want_of_memory, max_files, edit_at, edited, put_of, document_len}
 pub use Rattle.write_history.specs.Effect.{taken_in, stamp_of, max_entries, first_standing, Put}

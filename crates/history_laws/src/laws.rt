@@ -12,8 +12,8 @@ ghost use Rattle.write_history.specs.Settle.{all_settled, refused_for, with_entr
 ghost use Rattle.write_history.specs.Counts.{counted_as};
 ghost use Rattle.write_history.specs.declared.refusal.Refusal.{Refusal};
 ghost use Rattle.write_history.specs.declared.refusal.Refusal.TheVariants.{HistoryFull};
-ghost use Rattle.ide_text.specs.Text.{max_chars};
-ghost use Rattle.document_buf.specs.Document.{Document};
+ghost use Rattle.write_history.specs.Text.{max_chars};
+ghost use Rattle.write_history.specs.Document.{Document};
 ghost use Rattle.write_history.specs.Path.{is_path};
 ghost use Rattle.write_history.specs.Stamps.{IsAsStamped, KeepsOrDrawsStamp};
 

@@ -1,8 +1,5 @@
-pub mod ReadLemmas
 pub mod MadeLemmas
 pub mod StepLemmas
-pub mod TurnLemmas
 pub mod SettleLemmas
 pub mod ChangeLemmas
-pub mod AheadLemmas
-pub mod ChoiceLemmas
+pub mod Words

@@ -11,7 +11,7 @@ use Rattle.query_engine.specs.Listed.{path_at}
 use Rattle.ide_calls.specs.Made.{IsAnsweredByRead}
 use Rattle.ide_calls.specs.declared.reply.Reply.{Reply}
 use Rattle.ide_calls.specs.declared.reply.Reply.TheVariants.{Found, NoSuchFile, NotReady}
-use Rattle.ide_calls.specs.declared.replied.Replied.{Replied}
+pub use Rattle.ide_calls.specs.declared.replied.Replied.{Replied}
 
 -- the reply tells what the definition gives in this world, and the path of a file that isn't ready
 abbrev pub Tells : World → Result Finding NoAnswer → Reply → Type 0

@@ -1,18 +1,9 @@
 -- Steps that differ in nothing but the room of their documents do the same.
-use Rattle.std.proofs.Common.{ℕ, ◌≡◌, ◌-◌, ◌<◌, List, [], ◌∷◌, length, take, drop, get_or, refl, ap, sym, ◌∙◌, arith, rules, ◌+◌, ◌≤◌}
+use Rattle.ide_world.proofs.Words.{ℕ, ◌≡◌, ◌-◌, ◌<◌, List, [], ◌∷◌, length, take, drop, get_or, refl, ap, sym, ◌∙◌, arith, rules, ◌+◌, ◌≤◌, length-map}
+use Rattle.ide_world.proofs.Words.{length-set, take_rest, get_or_default, drop-set, World, DocEdit, Keep, Step, IsWide, room_needed, after_step, after_steps}
+use Rattle.ide_world.proofs.Words.{ids_of, IsLawfulStep, AreLawfulFrom, AreWide, bare_edit, bare_step, AreAlike}
 use Rattle.std.proofs.Math.ListN.{set}
 use Rattle.std.proofs.Math.Seq.{map-set_same}
-use Rattle.std.proofs.lemmas.List.{length-map, length-set, take_rest, get_or_default, drop-set}
-use Rattle.write_history.specs.World.{World}
-use Rattle.ide_world.specs.declared.step.DocEdit.{DocEdit}
-use Rattle.ide_world.specs.declared.step.DocEdit.TheVariants.{Keep}
-use Rattle.ide_world.specs.declared.step.Step.{Step}
-use Rattle.ide_world.specs.DocEdits.{IsWide}
-use Rattle.ide_world.specs.Room.{room_needed}
-use Rattle.ide_world.specs.Step.{after_step, after_steps}
-use Rattle.ide_world.specs.Ready.{ids_of}
-use Rattle.ide_world.specs.Lawful.{IsLawfulStep, AreLawfulFrom, AreWide}
-use Rattle.ide_world.specs.Alike.{bare_edit, bare_step, AreAlike}
 
 abbrev with_edit : DocEdit → Step → Step
 with_edit edit step = record { id = step.id; row = step.row; doc = edit; index = step.index; draws = step.draws }

@@ -1,12 +1,7 @@
 -- What edits of a document make of what readers see of it.
-use Rattle.std.proofs.Common.{ℕ, ◌≡◌, ◌+◌, ◌-◌, ◌≤◌, true, List, length, arith, Some, length-append, length-drop}
-use Rattle.std.proofs.lemmas.List.{length-take-le}
-use Rattle.std.specs.Prelude.{Option, option_map, is_some}
-use Rattle.document_buf.specs.Document.{Document, with_piece, without_part}
-use Rattle.ide_world.specs.declared.step.DocEdit.{DocEdit}
-use Rattle.ide_world.specs.declared.step.DocEdit.TheVariants.{Insert, Erase}
-use Rattle.ide_world.specs.DocEdits.{edited_document, IsDocEditFit}
-use Rattle.ide_world.specs.Walk.{summary_of, edited_summary, edited_committed, edited_text, IsTextEditFit, keeps_texts, is_open_after}
+use Rattle.ide_world.proofs.Words.{ℕ, ◌≡◌, ◌+◌, ◌-◌, ◌≤◌, true, List, length, arith, Some, length-append, length-drop, length-take-le, Option, option_map}
+use Rattle.ide_world.proofs.Words.{is_some, Document, with_piece, without_part, DocEdit, Insert, Erase, edited_document, IsDocEditFit, summary_of}
+use Rattle.ide_world.proofs.Words.{edited_summary, edited_committed, edited_text, IsTextEditFit, keeps_texts, is_open_after}
 
 abbrev pub text_of_document : Option Document → Option (List ℕ)
 text_of_document document = option_map (λ d. d.text) document
@@ -18,8 +13,7 @@ length-with_piece : (at : ℕ) (piece text : List ℕ) → at ≤ length text �
 length-with_piece at piece text inside = simp (length-append, length-take-le at text inside, length-drop) (omega arith)
 
 length-without_part : (from to : ℕ) (text : List ℕ) → from ≤ to → to ≤ length text → length (without_part from to text) ≡ length text - (to - from)
-length-without_part from to text ordered inside =
-    simp (length-append, length-take-le from text (omega arith), length-drop) (omega arith)
+length-without_part from to text ordered inside = simp (length-append, length-take-le from text (omega arith), length-drop) (omega arith)
 
 -- what readers see of the document after an edit is made of what they saw before it
 pub summary-edited : (edit : DocEdit) (d : Option Document) → IsDocEditFit edit d

@@ -1,24 +1,11 @@
 -- What a name finds, and what it finds where no file is unready.
-use Rattle.std.proofs.Common.{◌≡◌, ℕ, suc, ◌+◌, ◌≤◌, true, cond, List, [], ◌∷◌, length, get_or, Some, None, refl, ◌∙◌, arith}
-use Rattle.std.specs.Prelude.{Option, is_some, unwrap_or, not, ◌&&◌}
-use Rattle.std.proofs.lemmas.Bool.Decides.{nat_tests}
-use Rattle.std.specs.List.{position_or_len}
-use Rattle.list_laws.proofs.RowLemmas.{past_all}
-use Rattle.document_buf.specs.Document.{Document}
-use Rattle.dumb_mode.specs.declared.kind.FileKind.{FileKind}
-use Rattle.dumb_mode.specs.declared.kind.FileKind.TheVariants.{Java, Properties}
-use Rattle.dumb_mode.specs.Filter.{kind_of, has_kind, is_same_kind}
-use Rattle.dumb_mode.specs.Unready.{is_indexed_at}
+use Rattle.ide_world.proofs.Words.{◌≡◌, ℕ, suc, ◌+◌, ◌≤◌, true, cond, List, [], ◌∷◌, length, get_or, Some, None, refl, ◌∙◌, arith, Option, is_some, unwrap_or}
+use Rattle.ide_world.proofs.Words.{not, ◌&&◌, nat_tests, position_or_len, past_all, Document, FileKind, Java, Properties, kind_of, has_kind, is_same_kind}
+use Rattle.ide_world.proofs.Words.{is_indexed_at, row_in, File, is_unready, shown_text, lowest_unready, Indexed, HoldsLive, HoldsIndex, found_at, found_from}
+use Rattle.ide_world.proofs.Words.{shown_from, shown, found, kept_of, world_of, indexed_in, held, IsSound, Inside}
 use Rattle.overlay_index.specs.Parts.{Parts, no_parts, parts_of}
 use Rattle.overlay_index.specs.Layers as layers
 use Rattle.overlay_index.specs.Found as walk
-use Rattle.list_laws.specs.Rows.{row_in}
-use Rattle.write_history.specs.World.{File, is_unready, shown_text, lowest_unready}
-use Rattle.ide_world.specs.IndexEdits.{Indexed}
-use Rattle.ide_world.specs.Sound.{HoldsLive, HoldsIndex}
-use Rattle.ide_world.specs.Found.{found_at, found_from, shown_from, shown, found, kept_of}
-use Rattle.ide_world.specs.State.{world_of, indexed_in, held, IsSound}
-use Rattle.ide_world.specs.declared.state.State.TheInside.{Inside}
 
 pub indexed_at : (present : ℕ) (indexed : Option ℕ) → is_indexed_at present indexed ≡ true → indexed ≡ Some present
 indexed_at present indexed h = grind (arith, nat_tests, h)

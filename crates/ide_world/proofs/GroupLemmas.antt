@@ -1,26 +1,17 @@
 -- A list of changes, made one after another on a draft.
-use Rattle.std.proofs.Common.{ℕ, ◌≡◌, ◌+◌, ◌<◌, ◌≤◌, true, false, List, [], ◌∷◌, ◌++◌, length, get_or, drop, append_assoc, append-nil, refl, ap, sym, ◌∙◌, arith, Some, None}
-use Rattle.std.specs.Prelude.{Result, Ok, Err, IfOk, Option, option_map}
+use Rattle.ide_world.proofs.Words.{ℕ, ◌≡◌, ◌+◌, ◌<◌, ◌≤◌, true, false, List, [], ◌∷◌, ◌++◌, length, get_or, drop, append_assoc, append-nil, refl, ap, sym}
+use Rattle.ide_world.proofs.Words.{◌∙◌, arith, Some, None, Result, Ok, Err, IfOk, Option, option_map, World, refusal_of, is_want_of_memory, max_entries}
+use Rattle.ide_world.proofs.Words.{effect_of, effects_of, ListRefusal, one_later, list_refusal, Step, AreWide, AreAlike, changed_ids, ids_of, Makes}
+use Rattle.ide_world.proofs.Words.{IsReadyFor, IsRefusalOf, is_edit, Drafted, IsDraft, IsExtended, drafted_world, Builds, and_parts, map-append, drop_all}
+use Rattle.ide_world.proofs.Words.{next_left, list_all, zero, suc, IfSome, nil_from_length, IsFirstAccepted}
 use Rattle.write_history.specs.declared.change.Change.{Change}
 use Rattle.write_history.specs.declared.refusal.Refusal.{Refusal}
 use Rattle.write_history.specs.declared.refusal.Refusal.TheVariants.{OutOfMemory}
-use Rattle.write_history.specs.World.{World}
-use Rattle.write_history.specs.Effect.{refusal_of, is_want_of_memory, max_entries}
-use Rattle.write_history.specs.Fold.{effect_of, effects_of, ListRefusal, one_later, list_refusal}
 use Rattle.history_laws.proofs.LimitLemmas.{accepted_room}
-use Rattle.ide_world.specs.declared.step.Step.{Step}
-use Rattle.ide_world.specs.Lawful.{AreWide}
-use Rattle.ide_world.specs.Alike.{AreAlike}
-use Rattle.ide_world.specs.Ready.{changed_ids, ids_of, Makes, IsReadyFor, IsRefusalOf}
-use Rattle.write_history.specs.Changes.{is_edit}
-use Rattle.ide_world.specs.Drafted.{Drafted, IsDraft, IsExtended, drafted_world}
-use Rattle.ide_world.specs.Builds.{Builds}
+use Rattle.history_laws.proofs.RuleLemmas.{refused_by_rule}
 use Rattle.ide_world.proofs.WalkLemmas.{entries_after_steps, after_steps-push, pushed}
 use Rattle.ide_world.proofs.AlikeLemmas.{same_alike, length_alike}
-use Rattle.std.proofs.lemmas.Bool.{and_parts}
-use Rattle.std.proofs.lemmas.List.{length-append, map-append, drop_all}
-use Rattle.list_laws.proofs.PartLemmas.{next_left}
-use Rattle.std.specs.List.{list_all}
+use Rattle.std.proofs.lemmas.List.{length-append}
 
 -- a refusal that stands so many places later
 abbrev pub later_by : ℕ → ListRefusal → ListRefusal
@@ -122,3 +113,27 @@ turn_at w changes i item d new inside is so_far edits accepted e =
       turns w changes i item (drop (i + 1) changes) d new (rw split at so_far) accepted e,
       (and_parts (is_edit item) (list_all is_edit (drop (i + 1) changes)) (rw split at edits)).1,
     )
+
+-- ---- the first change of a list is judged before any step is made
+
+-- a change that is accepted is the first, or the first was accepted before it
+pub first_accepted : (w : World) (changes rest : List Change) (i : ℕ) (item : Change) (d : Drafted) → item ≡ get_or changes i item → IsSoFar w changes i rest d
+    → (1 ≤ i → IsFirstAccepted w changes) → refusal_of (drafted_world d) item ≡ None → IsFirstAccepted w changes
+first_accepted w [] rest i item d is h first accepted = tt
+first_accepted w (change ∷ changes) rest zero item d is h first accepted = rw (is, world_at_first w d h.base (nil_from_length d.steps h.count)) at accepted
+first_accepted w (change ∷ changes) rest (suc i) item d is h first accepted = first (omega arith)
+
+-- a refusal that isn't told is none: memory ran out, and the rules never say so
+not_told : {A : Type 0} (w : World) (c : Change) (got : Refusal) (r : Result A Refusal) → r ≡ Err got → is_want_of_memory got ≡ true
+    → (o : Option Refusal) → refusal_of w c ≡ o → IfSome o (λ why. r ≡ Err why) → o ≡ None
+not_told w c got r is want None e told = refl
+not_told w c got r is want (Some why) e told = grind (arith, is, told, want, refused_by_rule w c why e)
+
+-- so it is accepted where memory runs out for a change, whichever that is
+pub first_at_want : {A : Type 0} (w : World) (changes rest : List Change) (i : ℕ) (item : Change) (d : Drafted) (got : Refusal) (r : Result A Refusal)
+    → item ≡ get_or changes i item → IsSoFar w changes i rest d → (1 ≤ i → IsFirstAccepted w changes)
+    → (d.steps ≡ [] → IfSome (refusal_of (drafted_world d) item) (λ why. r ≡ Err why)) → r ≡ Err got
+    → is_want_of_memory got ≡ true → IsFirstAccepted w changes
+first_at_want w changes rest zero item d got r is h first told e want = first_accepted w changes rest zero item d is h first
+    (not_told (drafted_world d) item got r e want _ refl (told (nil_from_length d.steps h.count)))
+first_at_want w changes rest (suc i) item d got r is h first told e want = first (omega arith)

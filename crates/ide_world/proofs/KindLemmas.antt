@@ -1,36 +1,32 @@
 -- The step of each kind of change makes it.
-use Rattle.std.proofs.Common.{rules, ℕ, ◌≡◌, Bool, true, false, List, ◌∷◌, length, refl, sym, ◌∙◌, arith, Some, None}
-use Rattle.std.specs.Prelude.{is_some, Option, IfSome, option_map, ◌==◌, bytes_eq}
-use Rattle.std.specs.Cmp.Lexicographic.{bytes_decides}
-use Rattle.std.proofs.lemmas.Bool.{leb-false, eqb-true, false≢true, not-false}
-use Rattle.vfs_core.specs.declared.row.FileRow.{FileRow}
-use Rattle.document_buf.specs.Document.{Document, opened, committed}
-use Rattle.document_buf.specs.DocsView.{HeldDoc}
-use Rattle.dumb_mode.specs.declared.kind.FileKind.{FileKind}
-use Rattle.dumb_mode.specs.declared.kind.FileKind.TheVariants.{Java, Properties}
-use Rattle.dumb_mode.specs.Filter.{kind_of}
-use Rattle.dumb_mode.specs.Unready.{is_indexed_at}
-use Rattle.write_history.specs.declared.change.Change.TheVariants.{Create, Write, OpenDoc, Save, CloseDoc, Intake, Move}
-use Rattle.write_history.specs.World.{World, id_at, file_of, next_id}
-use Rattle.write_history.specs.Effect.{refusal_of, is_uncommitted, max_files, saved, closed}
-use Rattle.list_laws.proofs.RowLemmas.{past_all, live_is_made}
-use Rattle.history_laws.proofs.PutLemmas.{none_at_free, accepted_reasons}
-use Rattle.ide_world.specs.declared.step.Step.{Step}
-use Rattle.ide_world.specs.declared.step.RowEdit.TheVariants as row_edit
-use Rattle.ide_world.specs.declared.step.DocEdit.{DocEdit}
-use Rattle.ide_world.specs.declared.step.DocEdit.TheVariants as doc_edit
+use Rattle.ide_world.proofs.Words.{ℕ, ◌≡◌, List, arith, Some, Option, FileRow, Document, World, File, file_of, id_at, file_with, row_part, document_part}
+use Rattle.ide_world.proofs.Words.{IsLiveAt, rules, Bool, true, false, ◌∷◌, length, refl, sym, ◌∙◌, None, is_some, IfSome, option_map, ◌==◌, bytes_eq}
+use Rattle.ide_world.proofs.Words.{bytes_decides, leb-false, eqb-true, false≢true, not-false, opened, committed, HeldDoc, FileKind, Java, Properties, kind_of}
+use Rattle.ide_world.proofs.Words.{is_indexed_at, Create, Write, OpenDoc, Save, CloseDoc, Intake, Move, next_id, refusal_of, is_uncommitted, max_files, saved}
+use Rattle.ide_world.proofs.Words.{closed, past_all, live_is_made, none_at_free, accepted_reasons, Step, DocEdit, IsPathFree, Indexed, edited_index}
+use Rattle.ide_world.proofs.Words.{IsSoundLive, AreSoundFiles, HoldsLive, Summary, summary_of, Task, IsOfWorld, Builds, open_index, moved_index, close_index}
+use Rattle.ide_world.proofs.Words.{intake_index}
 use Rattle.ide_world.specs.declared.step.IndexEdit.{IndexEdit}
-use Rattle.ide_world.specs.declared.step.IndexEdit.TheVariants as index_edit
-use Rattle.ide_world.specs.Lawful.{IsPathFree}
-use Rattle.ide_world.specs.IndexEdits.{Indexed, edited_index}
-use Rattle.ide_world.specs.Step.{file_with, row_part, document_part}
-use Rattle.ide_world.specs.Sound.{IsSoundLive, AreSoundFiles, HoldsLive}
-use Rattle.ide_world.specs.declared.summary.Summary.{Summary}
-use Rattle.ide_world.specs.Walk.{summary_of}
-use Rattle.ide_world.specs.Task.{Task, IsOfWorld}
-use Rattle.ide_world.specs.Builds.{Builds, open_index, moved_index, close_index, intake_index}
 use Rattle.ide_world.proofs.FoundLemmas.{indexed_at}
-use Rattle.ide_world.proofs.BuildLemmas.{IsFileAt, file_of_row}
+use Rattle.ide_world.specs.declared.step.RowEdit.TheVariants as row_edit
+use Rattle.ide_world.specs.declared.step.DocEdit.TheVariants as doc_edit
+use Rattle.ide_world.specs.declared.step.IndexEdit.TheVariants as index_edit
+
+-- ---- the live file at a path, with its row and its document
+
+-- a live file at a path, with its row and document
+pub record IsFileAt (w : World) (path : List ℕ) (id : ℕ) (row : FileRow) (doc : Option Document) : Type 0 where
+  pub at_path : id_at w path ≡ Some id
+  pub live : file_of w id ≡ Some (file_with doc row)
+
+-- the file of a row that is found
+pub file_of_row : (o : Option File) (row : FileRow) → row_part o ≡ Some row → o ≡ Some (file_with (document_part o) row)
+file_of_row o row e = grind (arith, e)
+
+pub is_file_at : (w : World) (path : List ℕ) (id : ℕ) (row : FileRow) → IsLiveAt w path id row → IsFileAt w path id row (document_part (file_of w id))
+is_file_at w path id row h = record { at_path = h.at_path; live = file_of_row (file_of w id) row h.live }
+
+-- ---- the step of each kind of change makes it
 
 abbrev put_step : ℕ → FileRow → DocEdit → IndexEdit → Bool → Step
 put_step id row doc index draws = record { id = id; row = row_edit.Put row; doc = doc; index = index; draws = draws }

@@ -6,9 +6,7 @@ pub mod FoundLemmas
 pub mod EditLemmas
 pub mod PathLemmas
 pub mod WalkLemmas
-pub mod BuildLemmas
 pub mod KindLemmas
 pub mod AlikeLemmas
 pub mod GroupLemmas
-pub mod FirstLemmas
-pub mod SweepLemmas
+pub mod Words

@@ -1,22 +1,8 @@
 -- The id at a path, and what a step makes of it.
-use Rattle.std.proofs.Common.{ℕ, ◌≡◌, Bool, true, false, List, ap, sym, ◌∙◌, Some, None, arith}
-use Rattle.std.specs.Prelude.{Option, if◌then◌else◌, ◌==◌, unwrap_or}
-use Rattle.std.specs.Option.{option_map_or}
-use Rattle.std.specs.Cmp.Lexicographic.{bytes_decides}
-use Rattle.std.proofs.lemmas.Bool.Decides.{nat_tests}
-use Rattle.std.proofs.lemmas.Option.{none-some}
-use Rattle.document_buf.specs.Document.{Document}
-use Rattle.write_history.specs.World.{World, File, file_of, id_at, has_path}
-use Rattle.history_laws.proofs.PutLemmas.{live_with_path}
-use Rattle.history_laws.proofs.SoundLemmas.{id_at-live, live-id_at}
-use Rattle.ide_world.specs.declared.step.Step.{Step}
-use Rattle.ide_world.specs.declared.step.RowEdit.{RowEdit}
-use Rattle.ide_world.specs.RowEdits.{edited_row}
-use Rattle.ide_world.specs.DocEdits.{edited_document}
-use Rattle.ide_world.specs.Step.{joined, row_part, document_part, after_step}
-use Rattle.ide_world.specs.Sound.{AreSoundFiles}
-use Rattle.ide_world.specs.Lawful.{IsLawfulStep}
-use Rattle.ide_world.specs.Walk.{moved_id, id_after}
+use Rattle.ide_world.proofs.Words.{ℕ, ◌≡◌, Bool, true, false, List, ap, sym, ◌∙◌, Some, None, arith, Option, if◌then◌else◌, ◌==◌, unwrap_or, option_map_or}
+use Rattle.ide_world.proofs.Words.{bytes_decides, nat_tests, none-some, Document, World, File, file_of, id_at, has_path, live_with_path, id_at-live}
+use Rattle.ide_world.proofs.Words.{live-id_at, Step, RowEdit, edited_row, edited_document, joined, row_part, document_part, after_step, AreSoundFiles}
+use Rattle.ide_world.proofs.Words.{IsLawfulStep, moved_id, id_after}
 use Rattle.ide_world.proofs.StepLemmas.{file_here, file_after, sound_after_step}
 
 -- whether an id is the one that was found

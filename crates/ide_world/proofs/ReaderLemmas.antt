@@ -1,31 +1,20 @@
 -- What the readers of a state give: how many files are live, the id at a path, and the first unready file from an id on.
-use Rattle.std.proofs.Common.{◌≡◌, ℕ, ◌+◌, ◌-◌, ◌<◌, ◌≤◌, suc, Bool, true, false, List, [], ◌∷◌, length, get_or, filter, nat_cmp, Some, None, refl, sym, ◌∙◌, arith}
-use Rattle.std.specs.Prelude.{Option, is_some, option_map, nat_le, find, unwrap_or, IfSome, IfNone}
+use Rattle.ide_world.proofs.Words.{◌≡◌, ℕ, ◌+◌, ◌-◌, ◌<◌, ◌≤◌, suc, Bool, true, false, List, [], ◌∷◌, length, get_or, filter, nat_cmp, Some, None, refl, sym}
+use Rattle.ide_world.proofs.Words.{◌∙◌, arith, Option, is_some, option_map, nat_le, find, unwrap_or, IfSome, IfNone, position_or_len, AllByRecursion}
+use Rattle.ide_world.proofs.Words.{option_or, nat_tests, IfSome_then, past_all, Document, HeldDoc, document_of, FileRow, World, File, file_of, id_at}
+use Rattle.ide_world.proofs.Words.{has_path, ids_from, is_unready, unready_ids, lowest_unready, id_is_place, IdSet, mark_in, is_on, joined, Inside}
+use Rattle.ide_world.proofs.Words.{files_from, world_of, IsSound}
 use Rattle.std.specs.declared.ops.Bound.TheVariants.{Included, Unbounded}
 use Rattle.std.specs.declared.cmp.Ordering.TheVariants.{Less}
 use Rattle.std.specs.BTreeMap.Range.{range_contains}
-use Rattle.std.specs.List.{position_or_len, AllByRecursion}
 use Rattle.std.specs.List.Sorted.{IsStrictlySortedBy}
 use Rattle.std.specs.Map.{keys_of}
-use Rattle.std.specs.Option.{option_or}
-use Rattle.std.proofs.lemmas.Bool.Decides.{nat_tests}
 use Rattle.std.proofs.lemmas.Map.Keys.{sorted_head, sorted_tail}
-use Rattle.std.proofs.lemmas.Option.{IfSome_then}
 use Rattle.list_laws.proofs.PositionLemmas.{position_first}
-use Rattle.list_laws.proofs.RowLemmas.{past_all}
-use Rattle.document_buf.specs.Document.{Document}
-use Rattle.document_buf.specs.DocsView.{HeldDoc, document_of}
-use Rattle.vfs_core.specs.declared.row.FileRow.{FileRow}
+use Rattle.ide_world.specs.Unready.{first_unready_from}
+use Rattle.ide_world.proofs.WorldLemmas.{none_first, length-files_from}
 use Rattle.vfs_core.specs.Row as rows
 use Rattle.vfs_core.specs.FilesView as files
-use Rattle.write_history.specs.World.{World, File, file_of, id_at, has_path, ids_from, is_unready, unready_ids, lowest_unready}
-use Rattle.history_laws.proofs.PutLemmas.{id_is_place}
-use Rattle.ide_world.specs.IdSet.{IdSet, mark_in, is_on}
-use Rattle.ide_world.specs.Step.{joined}
-use Rattle.ide_world.specs.Unready.{first_unready_from}
-use Rattle.ide_world.specs.declared.state.State.TheInside.{Inside}
-use Rattle.ide_world.specs.State.{files_from, world_of, IsSound}
-use Rattle.ide_world.proofs.WorldLemmas.{none_first, length-files_from}
 
 -- as many files are live as rows
 pub live-files_from : (document : ℕ → Option Document) (id : ℕ) (all : List (Option FileRow))

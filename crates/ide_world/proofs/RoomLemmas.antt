@@ -1,36 +1,21 @@
 -- What room is left after a step.
-use Rattle.std.proofs.Common.{◌≡◌, ℕ, ◌+◌, ◌*◌, ◌<◌, ◌≤◌, false, eqb, List, [], ◌∷◌, length, get_or, take, refl, sym, ap, ◌∙◌, subst, arith}
-use Rattle.std.specs.Prelude.{is_some, IsSome}
-use Rattle.std.specs.List.{AllByRecursion}
+use Rattle.ide_world.proofs.Words.{◌≡◌, ℕ, ◌+◌, ◌*◌, ◌<◌, ◌≤◌, false, eqb, List, [], ◌∷◌, length, get_or, take, refl, sym, ap, ◌∙◌, subst, arith, is_some}
+use Rattle.ide_world.proofs.Words.{IsSome, AllByRecursion, nat_tests, IfSome_then, World, counted, DocEdit, Step, put_row, edited_document, IsWide}
+use Rattle.ide_world.proofs.Words.{inserted_by, after_step, after_steps, AreLawfulFrom, AreLawful, one_if, Room, HasStepRoom, HasEachRoom, HasRoomIn}
+use Rattle.ide_world.proofs.Words.{KeepsRoom, KeepsCounts, room_before, room_before_step, room_needed, rows_of, brought, IsReady, one_if_le}
 use Rattle.std.proofs.lemmas.List.Elements.{All-weaker, All-more, All-from_recursion, recursion_from_All}
-use Rattle.std.proofs.lemmas.Bool.Decides.{nat_tests}
-use Rattle.std.proofs.lemmas.Option.{IfSome_then}
+use Rattle.ide_world.specs.StateView.{StateView, HasRoom}
 use Rattle.vfs_core.specs.FilesView as files
 use Rattle.document_buf.specs.DocsView as docs
-use Rattle.write_history.specs.World.{World}
-use Rattle.write_history.specs.Fold.{counted}
-use Rattle.ide_world.specs.declared.step.DocEdit.{DocEdit}
-use Rattle.ide_world.specs.declared.step.Step.{Step}
-use Rattle.ide_world.specs.RowEdits.{put_row}
-use Rattle.ide_world.specs.DocEdits.{edited_document, IsWide, inserted_by}
-use Rattle.ide_world.specs.Step.{after_step, after_steps}
-use Rattle.ide_world.specs.Lawful.{AreLawfulFrom, AreLawful}
-use Rattle.list_laws.specs.Rows.{one_if}
-use Rattle.ide_world.specs.Room.{Room, HasStepRoom, HasEachRoom, HasRoomIn, KeepsRoom, KeepsCounts, room_before, room_before_step, room_needed, rows_of, brought}
-use Rattle.ide_world.specs.StateView.{StateView, HasRoom}
-use Rattle.ide_world.specs.StepsReady.{IsReady}
-use Rattle.list_laws.proofs.RowLemmas.{one_if_le}
 
 -- the room for characters that is left after the document of a file was edited
-pub chars_left : (old new : docs.DocsView) (step : Step)
-    → docs.Becomes old new step.id (edited_document step.doc (docs.document_of old step.id))
+pub chars_left : (old new : docs.DocsView) (step : Step) → docs.Becomes old new step.id (edited_document step.doc (docs.document_of old step.id))
     → ((other : ℕ) → eqb step.id other ≡ false → docs.room_of old other ≤ docs.room_of new other)
     → ((n : ℕ) → IsWide n step.doc → (IsSome (docs.document_of old step.id) → room_before step.doc n ≤ docs.room_of old step.id)
     → IsSome (edited_document step.doc (docs.document_of old step.id)) → n ≤ docs.room_of new step.id)
     → (id n : ℕ) → (step.id ≡ id → IsWide n step.doc) → (IsSome (docs.document_of old id) → room_before_step id step n ≤ docs.room_of old id)
     → IsSome (docs.document_of new id) → n ≤ docs.room_of new id
-chars_left old new step becomes others here id n wide room open' =
-    grind (arith, nat_tests, becomes id, others id, here n, wide, room, open')
+chars_left old new step becomes others here id n wide room open' = grind (arith, nat_tests, becomes id, others id, here n, wide, room, open')
 
 -- what had room for what steps bring still has it
 step_room_kept : (old new : Room) (step : Step) → KeepsRoom old new → HasStepRoom old step → HasStepRoom new step

@@ -1,23 +1,9 @@
 -- What a lawful step makes of each file, and that the files stay sound.
-use Rattle.std.proofs.Common.{ℕ, ◌≡◌, ◌+◌, List, [], ◌∷◌, refl, ap, ◌∙◌, arith, Some, None}
-use Rattle.std.specs.Prelude.{Option, IfSome, is_some, if◌then◌else◌, ◌==◌}
-use Rattle.list_laws.specs.Rows.{one_if}
-use Rattle.std.specs.List.{fold}
-use Rattle.std.proofs.lemmas.Bool.Decides.{nat_tests}
-use Rattle.std.proofs.lemmas.Option.{IfSome_then, same_Some}
-use Rattle.list_laws.proofs.RowLemmas.{row_in-here, row_in-with_row, count-with_row}
-use Rattle.vfs_core.specs.declared.row.FileRow.{FileRow}
-use Rattle.document_buf.specs.Document.{Document}
-use Rattle.write_history.specs.World.{World, File, file_of, is_open, count_of}
-use Rattle.history_laws.proofs.PutLemmas.{by_place}
-use Rattle.ide_world.specs.declared.step.Step.{Step}
-use Rattle.ide_world.specs.declared.step.RowEdit.{RowEdit}
+use Rattle.ide_world.proofs.Words.{ℕ, ◌≡◌, ◌+◌, List, [], ◌∷◌, refl, ap, ◌∙◌, arith, Some, None, Option, IfSome, is_some, if◌then◌else◌, ◌==◌, one_if, fold}
+use Rattle.ide_world.proofs.Words.{nat_tests, IfSome_then, same_Some, row_in-here, row_in-with_row, count-with_row, FileRow, Document, World, File, file_of}
+use Rattle.ide_world.proofs.Words.{is_open, count_of, by_place, Step, RowEdit, edited_row, put_row, edited_document, joined, row_part, document_part, stepped}
+use Rattle.ide_world.proofs.Words.{drawn_by, after_step, after_steps, IsSoundFile, AreSoundFiles, IsPathFree, IsLawfulStep, AreLawfulFrom}
 use Rattle.ide_world.specs.declared.step.RowEdit.TheVariants.{Keep, Put as PutRow}
-use Rattle.ide_world.specs.RowEdits.{edited_row, put_row}
-use Rattle.ide_world.specs.DocEdits.{edited_document}
-use Rattle.ide_world.specs.Step.{joined, row_part, document_part, stepped, drawn_by, after_step, after_steps}
-use Rattle.ide_world.specs.Sound.{IsSoundFile, AreSoundFiles}
-use Rattle.ide_world.specs.Lawful.{IsPathFree, IsLawfulStep, AreLawfulFrom}
 
 -- a step changes what has its id
 pub file_here : (w : World) (s : Step) → IsLawfulStep w s → file_of (after_step w s) s.id ≡ stepped s (file_of w s.id)
@@ -80,8 +66,7 @@ sound_after_step w s sound l = record {
 pub is_open-part : (file : Option File) → is_open file ≡ is_some (document_part file)
 is_open-part file = grind arith
 
-pub open_count-step : (w : World) (s : Step) → IsLawfulStep w s
-    → count_of is_open (after_step w s) + one_if (is_some (document_part (file_of w s.id)))
+pub open_count-step : (w : World) (s : Step) → IsLawfulStep w s → count_of is_open (after_step w s) + one_if (is_some (document_part (file_of w s.id)))
     ≡ count_of is_open w + one_if (is_some (edited_document s.doc (document_part (file_of w s.id))))
 open_count-step w s l =
     let counted = count-with_row is_open refl s.id (stepped s (file_of w s.id)) w.files l.some l.within in

@@ -1,27 +1,15 @@
 -- What the readers of a draft see, as folds over its steps; and a draft with one step more.
-use Rattle.std.proofs.Common.{ℕ, ◌≡◌, ◌+◌, ◌<◌, ◌≤◌, Bool, true, false, List, [], ◌∷◌, ◌++◌, length, refl, ap, sym, ◌∙◌, subst, arith, length-append}
-use Rattle.std.specs.Prelude.{Option, option_map, is_some, if◌then◌else◌, ◌==◌}
-use Rattle.std.specs.List.{fold, list_any}
-use Rattle.std.proofs.lemmas.Bool.{eqb-true}
-use Rattle.std.proofs.lemmas.Bool.Decides.{nat_tests}
-use Rattle.list_laws.specs.Rows.{one_if}
-use Rattle.list_laws.proofs.RowLemmas.{counted_in, one_if_le}
-use Rattle.document_buf.specs.Document.{Document}
-use Rattle.write_history.specs.World.{World, file_of, id_at, is_open, count_of}
-use Rattle.write_history.specs.Effect.{is_uncommitted}
-use Rattle.ide_world.specs.declared.step.Step.{Step}
-use Rattle.ide_world.specs.declared.step.DocEdit.{DocEdit}
-use Rattle.ide_world.specs.RowEdits.{edited_row}
-use Rattle.ide_world.specs.DocEdits.{edited_document, IsDocEditFit}
-use Rattle.ide_world.specs.Step.{row_part, document_part, after_step, after_steps}
-use Rattle.ide_world.specs.Sound.{AreSoundFiles}
-use Rattle.ide_world.specs.Lawful.{IsLawfulStep, AreLawfulFrom}
-use Rattle.ide_world.specs.declared.summary.Summary.{Summary}
-use Rattle.ide_world.specs.Drafted.{Drafted, IsDraft, drafted_world, drafted, IsKept}
+use Rattle.ide_world.proofs.Words.{ℕ, ◌≡◌, ◌+◌, ◌<◌, ◌≤◌, Bool, true, false, List, [], ◌∷◌, ◌++◌, length, refl, ap, sym, ◌∙◌, subst, arith, length-append}
+use Rattle.ide_world.proofs.Words.{Option, option_map, is_some, if◌then◌else◌, ◌==◌, fold, list_any, eqb-true, nat_tests, one_if, counted_in, one_if_le}
+use Rattle.ide_world.proofs.Words.{Document, World, file_of, id_at, is_open, count_of, is_uncommitted, Step, DocEdit, edited_row, edited_document}
+use Rattle.ide_world.proofs.Words.{IsDocEditFit, row_part, document_part, after_step, after_steps, AreSoundFiles, IsLawfulStep, AreLawfulFrom, Summary}
+use Rattle.ide_world.proofs.Words.{Drafted, IsDraft, drafted_world, drafted, IsKept, row_after, summary_of, edited_committed, edited_text, id_after}
+use Rattle.ide_world.proofs.Words.{edits_texts, keeps_texts, AreTextEditsFit, is_open_after}
 use Rattle.ide_world.specs.declared.draft.Draft.TheInside.{Inside}
-use Rattle.ide_world.specs.Walk.{row_after, summary_of, edited_committed, edited_text, id_after, edits_texts, keeps_texts, AreTextEditsFit, is_open_after}
-use Rattle.ide_world.proofs.StepLemmas.{is_open-part, open_count-step, part-after_step, row_part-stepped, document_part-stepped, reads_steps, sound_after_step}
-use Rattle.ide_world.proofs.EditLemmas.{text_of_document, committed_of, committed-edited, text-edited, text_edit_fits, is_some-edited, kept_text, kept_committed}
+use Rattle.ide_world.proofs.StepLemmas.{is_open-part, open_count-step, part-after_step, row_part-stepped, document_part-stepped, reads_steps}
+use Rattle.ide_world.proofs.StepLemmas.{sound_after_step}
+use Rattle.ide_world.proofs.EditLemmas.{text_of_document, committed_of, committed-edited, text-edited, text_edit_fits, is_some-edited, kept_text}
+use Rattle.ide_world.proofs.EditLemmas.{kept_committed}
 use Rattle.ide_world.proofs.PathLemmas.{id_at-after_step}
 
 -- ---- the parts of a file
@@ -107,8 +95,7 @@ open_count-after w s opened result was is summary kept l looked w' i e =
 
 pub some_open : (w : World) (id opened : ℕ) (was : Bool) (summary : Option Summary) → opened ≡ count_of is_open w
     → summary ≡ option_map summary_of (document_part (file_of w id)) → was ≡ is_some summary → one_if was ≤ opened
-some_open w id opened was summary kept looked w' =
-    grind (arith, kept, looked, w', counted_in is_open refl id w.files, is_open-part (file_of w id))
+some_open w id opened was summary kept looked w' = grind (arith, kept, looked, w', counted_in is_open refl id w.files, is_open-part (file_of w id))
 
 -- the fields after a step
 pub kept_after : (inside new : Inside) (s : Step) → IsKept inside → IsLawfulStep (drafted_world (drafted inside)) s → length inside.steps < 64

@@ -1,30 +1,16 @@
 -- The world of a state, and what one step makes of it.
-use Rattle.std.proofs.Common.{◌≡◌, ℕ, ◌+◌, ◌*◌, ◌<◌, ◌≤◌, zero, suc, Bool, false, List, [], ◌∷◌, length, get_or, Some, None, refl, sym, ap, ◌∙◌, arith, inl, inr}
-use Rattle.std.specs.Prelude.{Option, is_some, IsSome, IfSome, if◌then◌else◌, ◌==◌, option_map, position, nat_lt, unwrap_or}
-use Rattle.std.proofs.lemmas.Bool.{cases_Bool}
-use Rattle.std.proofs.lemmas.Bool.Decides.{nat_tests}
+use Rattle.ide_world.proofs.Words.{◌≡◌, ℕ, ◌+◌, ◌*◌, ◌<◌, ◌≤◌, zero, suc, Bool, false, List, [], ◌∷◌, length, get_or, Some, None, refl, sym, ap, ◌∙◌, arith}
+use Rattle.ide_world.proofs.Words.{inl, inr, Option, is_some, IsSome, IfSome, if◌then◌else◌, ◌==◌, option_map, position, nat_lt, unwrap_or, cases_Bool}
+use Rattle.ide_world.proofs.Words.{nat_tests, bytes_decides, row_in, with_row, one_if, length-with_row, same_rows, count-with_row, counted_in, count_le}
+use Rattle.ide_world.proofs.Words.{one_if_le, Document, FileRow, World, File, file_of, is_unready, max_files, Inside, Step, edited_row, put_row}
+use Rattle.ide_world.proofs.Words.{edited_document, edited_index, file_with, joined, row_part, document_part, stepped, after_step, IsLawfulStep, IsPathFree}
+use Rattle.ide_world.proofs.Words.{is_on, files_from, world_of, indexed_in, IsSound}
 use Rattle.std.proofs.lemmas.List.Sums.{position_or_len_is}
-use Rattle.std.specs.Cmp.Lexicographic.{bytes_decides}
-use Rattle.list_laws.specs.Rows.{row_in, with_row, one_if}
-use Rattle.list_laws.proofs.RowLemmas.{length-with_row, same_rows, count-with_row, counted_in, count_le, one_if_le}
-use Rattle.document_buf.specs.Document.{Document}
-use Rattle.vfs_core.specs.declared.row.FileRow.{FileRow}
+use Rattle.ide_world.proofs.StepLemmas.{row_part-joined, document_part-joined, file_after, sound_after_step, open_count-step}
 use Rattle.vfs_core.specs.Row as rows
 use Rattle.vfs_core.specs.FilesView as files
 use Rattle.document_buf.specs.DocsView as docs
 use Rattle.overlay_index.specs.Layers as layers
-use Rattle.write_history.specs.World.{World, File, file_of, is_unready}
-use Rattle.write_history.specs.Effect.{max_files}
-use Rattle.ide_world.specs.declared.state.State.TheInside.{Inside}
-use Rattle.ide_world.specs.declared.step.Step.{Step}
-use Rattle.ide_world.specs.RowEdits.{edited_row, put_row}
-use Rattle.ide_world.specs.DocEdits.{edited_document}
-use Rattle.ide_world.specs.IndexEdits.{edited_index}
-use Rattle.ide_world.specs.Step.{file_with, joined, row_part, document_part, stepped, after_step}
-use Rattle.ide_world.specs.Lawful.{IsLawfulStep, IsPathFree}
-use Rattle.ide_world.specs.IdSet.{is_on}
-use Rattle.ide_world.specs.State.{files_from, world_of, indexed_in, IsSound}
-use Rattle.ide_world.proofs.StepLemmas.{row_part-joined, document_part-joined, file_after, sound_after_step, open_count-step}
 
 -- so many files as rows
 pub length-files_from : (document : ℕ → Option Document) (id : ℕ) (all : List (Option FileRow)) → length (files_from document id all) ≡ length all
@@ -139,8 +125,7 @@ module _ (old : Inside) (step : Step) (sound : IsSound old) (lawful : IsLawfulSt
       let owner = λ (e : file_of world id ≡ Some file). free id file e in
       grind (arith, nat_tests, lacks, file_of-world old id, (bytes_decides file.path r.path).0, owner))
 
-  pub may_have : (drawn : files.FilesView) → drawn.rows ≡ old.files.rows
-      → ((path : List ℕ) → files.HasPathRoom old.files path → files.HasPathRoom drawn path)
+  pub may_have : (drawn : files.FilesView) → drawn.rows ≡ old.files.rows → ((path : List ℕ) → files.HasPathRoom old.files path → files.HasPathRoom drawn path)
       → IfSome (put_row step.row) (λ r. files.HasPathRoom old.files r.path) → IfSome (put_row step.row) (λ r. files.MayHave drawn step.id r.path)
   may_have drawn same keeps room = by (put_row step.row) lawful.path room
     where

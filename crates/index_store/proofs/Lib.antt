@@ -1,6 +1,4 @@
-pub mod PastLemmas
 pub mod FormatLemmas
 pub mod DataLemmas
 pub mod HeldLemmas
-pub mod WrongLemmas
-pub mod TakenLemmas
+pub mod Words

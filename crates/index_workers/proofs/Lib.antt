@@ -1,3 +1,1 @@
-pub mod ReadyLemmas
 pub mod WorkLemmas
-pub mod PassLemmas

@@ -1,194 +1,200 @@
--- What one step more makes of a worker's run.
-use Rattle.std.proofs.Common.{rules, ℕ, ◌≡◌, ◌≢◌, ◌+◌, ◌≤◌, List, [], ◌∷◌, ◌++◌, length, get_or, All, refl, ap}
-use Rattle.std.proofs.Common.{◌∙◌, arith, Some, append_assoc, append-nil, length-append}
-use Rattle.std.specs.Prelude.{Option}
-use Rattle.std.proofs.lemmas.List.Elements.{All-append, All-nil, All-push, All-weaker}
+-- What one step more makes of a worker's pass and of its run.
+use Rattle.std.proofs.Common.{rules, ℕ, ◌≡◌, ◌≢◌, ◌<◌, ◌≤◌, ◌+◌, true, List, [], ◌∷◌, ◌++◌, length, get_or, All, Option, Some, None, IfSome, IfNone}
+use Rattle.std.proofs.Common.{refl, ap, arith, eq-eqb, eqb-true, append_assoc, append-nil, length-append}
+use Rattle.std.proofs.lemmas.Bool.{not-false}
+use Rattle.std.proofs.lemmas.List.Elements.{All-nil, All-push, All-weaker}
 use Rattle.std.proofs.lemmas.List.Quantifiers.{all_pairs_push}
 use Rattle.list_laws.specs.Prefixes.{IsPrefix}
-use Rattle.action_lock.specs.declared.view.View.{View}
-use Rattle.action_lock.specs.Advances.{Advances}
-use Rattle.lock_laws.proofs.AdvanceLemmas.{advances_not, advances_on}
+use Rattle.list_laws.proofs.PrefixLemmas.{front_self, front_trans, front_length}
 use Rattle.write_history.specs.declared.change.Change.TheVariants.{Intake}
 use Rattle.write_history.specs.declared.entry.Entry.{Entry}
-use Rattle.write_history.specs.Fold.{IsLegal}
-use Rattle.history_laws.proofs.FoldLemmas.{IsLegal-split}
+use Rattle.write_history.specs.World.{World, File, file_of, is_unready}
+use Rattle.write_history.specs.Effect.{put_of, refusal_of, stamp_of}
+use Rattle.write_history.specs.Fold.{after_list, fold, IsLegal}
+use Rattle.write_history.specs.Settle.{entry_of}
+use Rattle.history_laws.proofs.PutLemmas.{accepted_reasons, some_of}
+use Rattle.history_laws.proofs.ChangeLemmas.{by_change}
+use Rattle.history_laws.proofs.FoldLemmas.{along, list_accepted, fold-append, IsLegal-split}
+use Rattle.history_laws.proofs.SoundLemmas.{stamp_below}
+use Rattle.action_lock.specs.declared.view.View.{View}
+use Rattle.action_lock.specs.Advances.{Advances}
+use Rattle.action_lock.specs.Passes.{IsPassOf}
+use Rattle.lock_laws.proofs.AdvanceLemmas.{advances_not, advances_on}
 use Rattle.job_queue.specs.declared.hint.Hint.{Hint}
 use Rattle.job_queue.specs.declared.view.QueueView.{QueueView}
-use Rattle.ide_calls.specs.Made.{HasMade}
-use Rattle.write_history.specs.Settle.{entry_of}
+use Rattle.job_queue.specs.Fifo.{Held}
+use Rattle.job_queue.specs.Passes.{queue_view, IsQueuePassOf}
+use Rattle.job_queue.specs.Rule.{Stood}
+use Rattle.job_queue.specs.Views.{taking}
 use Rattle.ide_calls.specs.declared.step.Stepped.{Stepped}
 use Rattle.ide_calls.specs.declared.step.Stepped.TheVariants.{Idle, Gone, Stale, Refused, Taken}
+use Rattle.ide_calls.specs.Made.{HasMade}
 use Rattle.ide_calls.specs.Step.{HasStepped, HasTried}
+use Rattle.index_workers.specs.declared.pass.IdePass.{IdePass}
 use Rattle.index_workers.specs.declared.worked.End.{End}
 use Rattle.index_workers.specs.declared.worked.End.TheVariants as end
-use Rattle.index_workers.specs.Hints.{HasPopped, IsFirstTried}
 use Rattle.index_workers.specs.declared.worked.Worked.{Worked}
-use Rattle.index_workers.specs.Work.{WorkStep, Leads, taken_by, Sayings, any_answer, GoesOn, IsEndOf, WentOn, WorkEnds, EndsBy, IsAtEnd, IsIntakeBy, AreApart}
-use Rattle.index_workers.specs.Work.{StandsIn, HasGone, HasGoneOn, HasWorked, HasWorkedSo}
-use Rattle.index_workers.proofs.ReadyLemmas.{not_unready}
+use Rattle.index_workers.specs.Hints.{HasPopped, HasOnlyPopped, IsFirstTried}
+use Rattle.index_workers.specs.Passes.{ide_view, IsIdePassOf, IsSameIdePass}
+use Rattle.index_workers.specs.Work.{WorkStep, Leads, taken_by, Sayings, any_answer, GoesOn, IsEndOf, WentOn, EndsBy, IsAtEnd, IsIntakeBy, StandsIn}
+use Rattle.index_workers.specs.Work.{HasGone, HasGoneOn, HasWorked, HasWorkedSo}
 
--- ---- lists
+-- ---- a pass that goes on is the same pass, and has only taken hints
+
+pub same_on : (p q r : IdePass) → IsSameIdePass p q → IsSameIdePass q r → IsSameIdePass p r
+same_on p q r a b = search (rules, a, b, a.of_lock, b.of_lock, a.of_queue, b.of_queue)
+
+pub none_taken : (q : QueueView) → HasOnlyPopped q q
+none_taken q = record { same = refl; took = front_self q.took }
+
+-- after one more step
+pub only_taken : (q r s : QueueView) (hint : Option Hint) → HasOnlyPopped q r → HasPopped hint r s → HasOnlyPopped q s
+only_taken q r s hint a takes = grind (arith, a, takes, front_trans q.took r.took s.took a.took)
+
+-- what `take` answers
+pub has_taken : (q r : QueueView) (hint : Option Hint) → IfSome hint (λ h. (r ≡ taking h q) × ((rest : List Hint) × Stood q (h ∷ rest)))
+    → IfNone hint ((r ≡ q) × Held 0 (Stood q)) → HasOnlyPopped q r
+has_taken q r hint some none = grind (arith, some, none, none_taken q)
+
+-- a pass that has gone on with the lock and put no hint is one of the two still
+pub rests_on : (l : _) (j : _) (p p' : IdePass) → IsIdePassOf l j p → IsPassOf l p'.lock → IsQueuePassOf j p'.queue
+    → Advances (ide_view p) (ide_view p') → HasOnlyPopped (queue_view p.queue) (queue_view p'.queue) → IsIdePassOf l j p'
+rests_on l j p p' old rests queued advances taken =
+    let few : length (queue_view p'.queue).put ≤ length (ide_view p').mine =
+    omega (arith, old.few, front_length (ide_view p).mine (ide_view p').mine advances.mine, ap (λ (q : QueueView). length q.put) taken.same) in
+    search (rules, rests, queued, old, advances, taken.same, few)
+
+-- ---- a file that was taken in at a stamp is ready while it has that stamp
+
+-- a file that is live with this stamp is indexed at it
+abbrev IsReadyAt : ℕ → Option File → Type 0
+IsReadyAt stamp file = IfSome file (λ f. f.stamp ≡ stamp → f.indexed ≡ Some stamp)
+
+-- the stamp was drawn, and the file with the id is ready at it
+abbrev StaysReady : ℕ → ℕ → World → Type 0
+StaysReady id stamp world = (stamp < world.next_stamp) × IsReadyAt stamp (file_of world id)
+
+-- what an intake leaves
+ready_after : (before : List Entry) (id stamp : ℕ) → IsLegal before → refusal_of (fold before) (Intake id stamp) ≡ None
+    → StaysReady id stamp (after_list (fold before) (Intake id stamp ∷ []))
+ready_after before id stamp legal accepted =
+    let none = accepted_reasons (fold before) (Intake id stamp) accepted in
+    let live = some_of (file_of (fold before) id) none.0 in
+    let same : stamp ≡ live.0.stamp = eqb-true stamp live.0.stamp (not-false _ (rw live.1 at none.1.0)) in
+    let ready = by_change (fold before) (Intake id stamp) accepted (λ i file. i ≡ id → IsReadyAt stamp file)
+    (λ a e. rw live.1 (λ s. refl)) (λ i n e. absurd (n e)) id refl in
+    (omega (arith, same, stamp_below before id live.0 legal live.1), ready)
+
+-- a file that was taken in at a stamp isn't unready at it
+pub not_unready : (history : List Entry) (e : Entry) (id stamp : ℕ) → IsLegal history → StandsIn history e → e.changes ≡ Intake id stamp ∷ []
+    → stamp_of (file_of (fold history) id) ≡ stamp → is_unready (file_of (fold history) id) ≡ true → ⊥
+not_unready history e id stamp legal at is same unready =
+    let parts = IsLegal-split at.before (e ∷ at.behind) (rw at.are at legal) in
+    let here = ready_after at.before id stamp parts.0 (list_accepted (fold at.before) (Intake id stamp) [] (rw is at parts.1.0)).0 in
+    let there : StaysReady id stamp (fold history) = rw (at.are, fold-append at.before (e ∷ at.behind)) (along (StaysReady id stamp)
+    (λ world change accepted h. let ready = by_change world change accepted (λ i file. i ≡ id → IsReadyAt stamp file)
+    (λ a e. let was : IsReadyAt stamp (file_of world (put_of world change).id) = rw e h.1 in grind (arith, a, h.0, was))
+    (λ i n e. rw e h.1) id refl in (omega (arith, h.0), ready)) (λ world h. h) at.behind _ parts.1.1 (rw is here)) in
+    grind (arith, there.1, same, unready, eq-eqb stamp stamp refl)
+
+-- ---- what one step more makes of a worker's run
 
 -- an entry of a history stands in each longer one
 stands_on : (earlier later : List Entry) (e : Entry) → IsPrefix earlier later → StandsIn earlier e → StandsIn later e
-stands_on earlier later e front at = record {
-  before = at.before;
-  behind = at.behind ++ front.0;
-  are = cc (front.1, at.are, append_assoc at.before (e ∷ at.behind) front.0);
-}
+stands_on earlier later e front at =
+    record { before = at.before; behind = at.behind ++ front.0; are = cc (front.1, at.are, append_assoc at.before (e ∷ at.behind) front.0) }
 
 leads_more : (v w : View Entry) (q r : QueueView) (steps : List WorkStep) (d : WorkStep) → Leads v q steps w r → HasPopped d.hint r d.queue
     → IsFirstTried d.hint d.file → HasStepped (Some d.file) w d.after d.answer → Leads v q (steps ++ d ∷ []) d.after d.queue
-leads_more v w q r [] d same takes first stepped = (rw same.1 at takes, first, rw same.0 at stepped, (refl, refl))
+leads_more v w q r [] d same takes first stepped = rw (← same.0, ← same.1) (takes, first, stepped, (refl, refl))
 leads_more v w q r (c ∷ cs) d leads takes first stepped = (leads.0, leads.1, leads.2, leads_more c.after w c.queue r cs d leads.3 takes first stepped)
-
--- ---- one step
-
--- The step made these entries, or none: each takes a file in, which no entry that had been seen did at the same stamp
-record HasAdded (seat : ℕ) (v w : View Entry) (answer : Stepped) : Type 0 where
-  more : List Entry
-  count : length more ≡ taken_by answer
-  mine : w.mine ≡ v.mine ++ more
-  intakes : All (IsIntakeBy seat) more
-  stand : All (StandsIn w.seen) more
-  apart : (own : List Entry) → All (StandsIn v.seen) own → AreApart own → AreApart (own ++ more)
-  advances : Advances v w
-
-none_added : (seat : ℕ) (v w : View Entry) (before own : List Entry) (answer : Stepped) → HasMade v w before own → own ≡ [] → taken_by answer ≡ 0
-    → HasAdded seat v w answer
-none_added seat v w before own answer made empty count =
-    let apart : (own : List Entry) → All (StandsIn v.seen) own → AreApart own → AreApart (own ++ []) = λ own stand apart. rw (append-nil own) apart in
-    search (rules, count, rw empty at made.mine, All-nil (IsIntakeBy seat), All-nil (StandsIn w.seen), apart, made.advances)
-
-one_added : (seat : ℕ) (v w : View Entry) (hint : Option ℕ) (place : ℕ) → v.number ≡ Some seat → HasTried hint v w (Taken place)
-    → HasAdded seat v w (Taken place)
-one_added seat v w hint place number t =
-    let entry : Entry = entry_of t.seat 0 (Intake t.file t.stamp ∷ []) in
-    let same : t.seat ≡ seat = cc (t.number, number) in
-    let seen : w.seen ≡ t.last ++ entry ∷ [] = rw t.answer.1 at t.made.seen in
-    let legal_last : IsLegal t.last = (IsLegal-split t.last (entry ∷ []) (rw seen at t.made.legal)).0 in
-    let legal : IsLegal t.first = (IsLegal-split t.first t.longer.0 (rw t.longer.1 at legal_last)).0 in
-    record {
-      more = entry ∷ [];
-      count = refl;
-      mine = rw t.answer.1 at t.made.mine;
-      intakes = All-push (IsIntakeBy seat) [] entry (All-nil (IsIntakeBy seat))
-          (record { file = t.file; stamp = t.stamp; is = ap (λ (s : ℕ). entry_of s 0 (Intake t.file t.stamp ∷ [])) same });
-      stand = All-push (StandsIn w.seen) [] entry (All-nil (StandsIn w.seen)) (record { before = t.last; behind = []; are = seen });
-      apart = λ own stand apart. all_pairs_push (λ (e f : Entry). e.changes ≢ f.changes) own entry apart (λ k e l is. not_unready t.first (get_or own k e)
-          t.file t.stamp legal (stands_on v.seen t.first (get_or own k e) t.known (stand k e l)) is t.stamped t.unready);
-      advances = t.made.advances;
-    }
-
-added_by : (seat : ℕ) (v w : View Entry) (hint : Option ℕ) (answer : Stepped) → v.number ≡ Some seat → HasStepped hint v w answer → HasAdded seat v w answer
-added_by seat v w hint (Idle len) number s = none_added seat v w w.seen [] (Idle len) s.found refl refl
-added_by seat v w hint (Gone id) number t = none_added seat v w t.last t.own (Gone id) t.made t.answer.1 refl
-added_by seat v w hint (Stale id made present) number t = none_added seat v w t.last t.own (Stale id made present) t.made t.answer.2 refl
-added_by seat v w hint (Refused len) number t = none_added seat v w t.last t.own (Refused len) t.made t.answer.2 refl
-added_by seat v w hint (Taken place) number t = one_added seat v w hint place number t
-
--- ---- the run
-
--- a run with one step more, and its entries
-record GoneFurther (seat : ℕ) (v u : View Entry) (q s : QueueView) (steps : List WorkStep) (own : List Entry) (taken : ℕ) : Type 0 where
-  all : List Entry
-  count : length all ≡ length own + taken
-  gone : HasGone seat v u q s steps all
-
-gone_further : (seat : ℕ) (v w u : View Entry) (q r s : QueueView) (steps : List WorkStep) (own : List Entry) (hint : Option Hint) (file : ℕ) (answer : Stepped)
-    → HasGone seat v w q r steps own → HasPopped hint r s → IsFirstTried hint file → HasStepped (Some file) w u answer
-    → GoneFurther seat v u q s (steps ++ record { hint = hint; file = file; answer = answer; after = u; queue = s } ∷ []) own (taken_by answer)
-gone_further seat v w u q r s steps own hint file answer gone takes first stepped =
-    let d : WorkStep = record { hint = hint; file = file; answer = answer; after = u; queue = s } in
-    let a = added_by seat w u (Some file) answer (gone.advances.number ∙ gone.number) stepped in
-    record {
-      all = own ++ a.more;
-      count = omega (arith, length-append own a.more, a.count);
-      gone =
-          let mine : u.mine ≡ v.mine ++ (own ++ a.more) = cc (a.mine, gone.mine, append_assoc v.mine own a.more) in
-          let intakes = All-append (IsIntakeBy seat) own a.more gone.intakes a.intakes in
-          let stand = All-append (StandsIn u.seen) own a.more
-          (All-weaker (StandsIn w.seen) (StandsIn u.seen) (λ e. stands_on w.seen u.seen e a.advances.seen) own gone.stand) a.stand in
-          search (
-            rules,
-            leads_more v w q r steps d gone.leads takes first stepped,
-            gone.number,
-            advances_on v w u gone.advances a.advances,
-            mine,
-            intakes,
-            stand,
-            a.apart own gone.stand gone.apart,
-          );
-    }
 
 -- before the first step
 pub not_yet : (said : Sayings) (seat : ℕ) (v : View Entry) (q : QueueView) → v.number ≡ Some seat → HasGoneOn said seat 0 0 v v q q
 not_yet said seat v q number =
-    let leads : Leads v q [] v q = (refl, refl) in
-    let apart : AreApart [] = λ i j e less l. absurd (omega arith) in
     let gone : HasGone seat v v q q [] [] = search (rules, number, advances_not v, All-nil (IsIntakeBy seat), All-nil (StandsIn v.seen)) in
     search (rules, gone, All-nil (λ (d : WorkStep). GoesOn said seat d.answer))
 
-taken_few : (answer : Stepped) → taken_by answer ≤ 1
-taken_few (Taken place) = omega arith
-taken_few answer = omega arith
+module _ (said : Sayings) (seat turns taken : ℕ) (v w u : View Entry) (q r s : QueueView) (hint : Option Hint) (file : ℕ) (answer : Stepped)
+    (on : HasGoneOn said seat turns taken v w q r) (takes : HasPopped hint r s) (first : IsFirstTried hint file)
+    (stepped : HasStepped (Some file) w u answer) where
+  abbrev last : WorkStep
+  last = record { hint = hint; file = file; answer = answer; after = u; queue = s }
 
--- after a step with which the worker goes on
-pub goes_on : (said : Sayings) (seat turns taken : ℕ) (v w u : View Entry) (q r s : QueueView) (hint : Option Hint) (file : ℕ) (answer : Stepped)
-    → HasGoneOn said seat turns taken v w q r → HasPopped hint r s → IsFirstTried hint file → HasStepped (Some file) w u answer → GoesOn said seat answer
-    → HasGoneOn said seat (turns + 1) (taken + taken_by answer) v u q s
-goes_on said seat turns taken v w u q r s hint file answer on takes first stepped going =
-    let d : WorkStep = record { hint = hint; file = file; answer = answer; after = u; queue = s } in
-    let further = gone_further seat v w u q r s on.steps on.own hint file answer on.gone takes first stepped in
-    record {
-      steps = on.steps ++ d ∷ [];
-      own = further.all;
-      gone = further.gone;
-      going = All-push (λ (e : WorkStep). GoesOn said seat e.answer) on.steps d on.going going;
-      turns_are = omega (arith, length-append on.steps (d ∷ []), on.turns_are);
-      taken_are = omega (arith, further.count, on.taken_are);
-      few = omega (arith, on.few, taken_few answer);
-    }
+  -- the run with this step, and its entries
+  record Further : Type 0 where
+    own : List Entry
+    gone : HasGone seat v u q s (on.steps ++ last ∷ []) own
+    taken_are : length own ≡ taken + taken_by answer
+    few : taken + taken_by answer ≤ turns + 1
 
-ends_by : (said : Sayings) (seat : ℕ) (end : End) (steps : List WorkStep) → WorkEnds said seat end steps → (answer : Stepped) → IsEndOf said seat answer end
-    → EndsBy said seat end steps
-ends_by said seat end.Turns steps ends answer is = absurd is
-ends_by said seat why steps ends answer is = ends
+  leads : Leads v q (on.steps ++ last ∷ []) u s
+  leads = leads_more v w q r on.steps last on.gone.leads takes first stepped
 
-at_end : (said : Sayings) (seat : ℕ) (v w : View Entry) (hint : Option ℕ) (answer : Stepped) (why : End) → HasStepped hint v w answer
-    → IsEndOf said seat answer why → IsAtEnd why w
-at_end said seat v w hint answer (end.Idle len) stepped is = let idle = rw is.0 at stepped in (idle.whole, idle.smart)
-at_end said seat v w hint answer (end.Refused len) stepped is =
-    let t = rw is at stepped in
-    (cc (t.answer.0, t.made.seen, t.answer.2, append-nil t.last), t.answer.1)
-at_end said seat v w hint answer end.Turns stepped is = absurd is
+  turns_are : length (on.steps ++ last ∷ []) ≡ turns + 1
+  turns_are = omega (arith, length-append on.steps (last ∷ []), on.turns_are)
 
--- after a step with which the worker ends
-pub ends : (said : Sayings) (seat turns taken : ℕ) (v w u : View Entry) (q r s : QueueView) (hint : Option Hint) (file : ℕ) (answer : Stepped) (why : End)
-    → HasGoneOn said seat turns taken v w q r → HasPopped hint r s → IsFirstTried hint file → HasStepped (Some file) w u answer → IsEndOf said seat answer why
-    → HasWorked said v u q s (record { seat = seat; turns = turns + 1; taken = taken + taken_by answer; end = why })
-ends said seat turns taken v w u q r s hint file answer why on takes first stepped is =
-    let d : WorkStep = record { hint = hint; file = file; answer = answer; after = u; queue = s } in
-    let further = gone_further seat v w u q r s on.steps on.own hint file answer on.gone takes first stepped in
-    record {
-      steps = on.steps ++ d ∷ [];
-      own = further.all;
-      gone = further.gone;
-      turns = omega (arith, length-append on.steps (d ∷ []), on.turns_are);
-      taken = omega (arith, further.count, on.taken_are);
-      ends = ends_by said seat why (on.steps ++ d ∷ []) (record { before = on.steps; last = d; are = refl; ends = is; going = on.going }) answer is;
-      at_end = at_end said seat w u (Some file) answer why stepped is;
-    }
+  stand_still : Advances w u → All (StandsIn u.seen) on.own
+  stand_still more = All-weaker (StandsIn w.seen) (StandsIn u.seen) (λ e. stands_on w.seen u.seen e more.seen) on.own on.gone.stand
+
+  -- nothing was made
+  none_more : (before made : List Entry) → HasMade w u before made → made ≡ [] → taken_by answer ≡ 0 → Further
+  none_more before made m empty count =
+      let mine : u.mine ≡ v.mine ++ on.own = cc (m.mine, empty, append-nil w.mine, on.gone.mine) in
+      let gone : HasGone seat v u q s (on.steps ++ last ∷ []) on.own =
+      search (rules, on.gone, leads, advances_on v w u on.gone.advances m.advances, mine, stand_still m.advances) in
+      record { own = on.own; gone = gone; taken_are = omega (arith, on.taken_are, count); few = omega (arith, on.few, count) }
+
+  -- a file was taken in, which no entry that had been seen did at the same stamp
+  one_more : (place : ℕ) → answer ≡ Taken place → HasTried (Some file) w u (Taken place) → Further
+  one_more place is t =
+      let entry : Entry = entry_of t.seat 0 (Intake t.file t.stamp ∷ []) in
+      let same : t.seat ≡ seat = cc (t.number, on.gone.advances.number, on.gone.number) in
+      let seen : u.seen ≡ t.last ++ entry ∷ [] = rw t.answer.1 at t.made.seen in
+      let legal = (IsLegal-split t.first t.longer.0 (rw t.longer.1 at (IsLegal-split t.last (entry ∷ []) (rw seen at t.made.legal)).0)).0 in
+      let mine : u.mine ≡ v.mine ++ (on.own ++ entry ∷ []) = cc (t.made.mine, t.answer.1, on.gone.mine, append_assoc v.mine on.own (entry ∷ [])) in
+      let advances = advances_on v w u on.gone.advances t.made.advances in
+      let intakes = All-push (IsIntakeBy seat) on.own entry on.gone.intakes (rw same (record { file = t.file; stamp = t.stamp; is = refl })) in
+      let stand = All-push (StandsIn u.seen) on.own entry (stand_still t.made.advances) (record { before = t.last; behind = []; are = seen }) in
+      let apart = all_pairs_push (λ (e f : Entry). e.changes ≢ f.changes) on.own entry on.gone.apart (λ k e l same. not_unready t.first (get_or on.own k e)
+      t.file t.stamp legal (stands_on w.seen t.first (get_or on.own k e) t.known (on.gone.stand k e l)) same t.stamped t.unready) in
+      let gone : HasGone seat v u q s (on.steps ++ last ∷ []) (on.own ++ entry ∷ []) =
+      search (rules, leads, on.gone.number, advances, mine, intakes, stand, apart) in
+      let more = length-append on.own (entry ∷ []) in
+      record { own = on.own ++ entry ∷ []; gone = gone; taken_are = rw is (omega (arith, more, on.taken_are)); few = rw is (omega (arith, on.few)) }
+
+  further : Further
+  further = by answer refl
+    where
+      by : (a : Stepped) → answer ≡ a → Further
+      by (Idle len) is = let t = rw is at stepped in none_more u.seen [] t.found refl (rw is refl)
+      by (Gone id) is = let t = rw is at stepped in none_more t.last t.own t.made t.answer.1 (rw is refl)
+      by (Stale id made present) is = let t = rw is at stepped in none_more t.last t.own t.made t.answer.2 (rw is refl)
+      by (Refused len) is = let t = rw is at stepped in none_more t.last t.own t.made t.answer.2 (rw is refl)
+      by (Taken place) is = one_more place is (rw is at stepped)
+
+  -- after a step with which the worker goes on
+  pub goes_on : GoesOn said seat answer → HasGoneOn said seat (turns + 1) (taken + taken_by answer) v u q s
+  goes_on going = search (rules, further, turns_are, All-push (λ (e : WorkStep). GoesOn said seat e.answer) on.steps last on.going going)
+
+  end_here : (why : End) → IsEndOf said seat answer why → EndsBy said seat why (on.steps ++ last ∷ []) × IsAtEnd why u
+  end_here (end.Idle len) is =
+      let idle = rw is.0 at stepped in (record { before = on.steps; last = last; are = refl; ends = is; going = on.going }, (idle.whole, idle.smart))
+  end_here (end.Refused len) is =
+      let t = rw is at stepped in
+      let whole : len ≡ length u.seen = cc (t.answer.0, t.made.seen, t.answer.2, append-nil t.last) in
+      (record { before = on.steps; last = last; are = refl; ends = is; going = on.going }, (whole, t.answer.1))
+  end_here end.Turns is = absurd is
+
+  -- after a step with which the worker ends
+  pub ends : (why : End) → IsEndOf said seat answer why
+      → HasWorked said v u q s (record { seat = seat; turns = turns + 1; taken = taken + taken_by answer; end = why })
+  ends why is = search (rules, further, turns_are, (end_here why is).0, (end_here why is).1)
 
 -- ---- a run, whatever the gate may say
 
-whatever_goes : (said : Sayings) (seat : ℕ) (answer : Stepped) → GoesOn said seat answer → GoesOn any_answer seat answer
-whatever_goes said seat (Refused len) goes = absurd goes
-whatever_goes said seat answer goes = tt
-
 whatever_went : (said : Sayings) (seat : ℕ) (steps : List WorkStep) → WentOn said seat steps → WentOn any_answer seat steps
-whatever_went said seat steps all =
-    All-weaker (λ (d : WorkStep). GoesOn said seat d.answer) (λ (d : WorkStep). GoesOn any_answer seat d.answer) (λ d. whatever_goes said seat d.answer) steps all
+whatever_went said seat steps went = λ k d l. let h = went k d l in grind (arith, h)
 
 whatever_ends : (said : Sayings) (seat : ℕ) (why : End) (steps : List WorkStep) → EndsBy said seat why steps → EndsBy any_answer seat why steps
 whatever_ends said seat (end.Idle len) steps h = search (rules, h, h.ends.0, whatever_went said seat h.before h.going)

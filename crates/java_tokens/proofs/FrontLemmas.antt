@@ -1,14 +1,9 @@
 -- The fronts of names: names are in the order of their fronts, where these differ.
-use Rattle.std.proofs.Common.{◌≡◌, ℕ, suc, ◌+◌, ◌*◌, ◌<◌, ◌≤◌, false, ◌⊎◌, List, [], ◌∷◌, ◌++◌, length, refl, ap, arith, lit<, inl, inr, length-append}
-use Rattle.std.proofs.Common.{Less, Greater, encode_utf8_all}
-use Rattle.std.specs.Prelude.{nat_lt}
-use Rattle.std.specs.Char.{encode_utf8}
-use Rattle.std.proofs.Math.Nat.{suc-mul, mul-le-mul_right}
-use Rattle.std.proofs.lemmas.Bool.{cases_Bool, cases_lt, lt-ltb, eq-eqb, le-ltb, ltb-true, ltb-false}
-use Rattle.std.proofs.lemmas.Str.{char_from_byte, encode_ascii, length-encode, len_utf8_bounds}
+use Rattle.java_tokens.proofs.Common.{nat_tests, ◌≡◌, ℕ, suc, ◌+◌, ◌*◌, ◌<◌, ◌≤◌, List, [], ◌∷◌, ◌++◌, length, refl, ap, arith, lit<, length-append, Less}
+use Rattle.java_tokens.proofs.Common.{Greater, encode_utf8_all, encode_utf8, char_from_byte, encode_ascii, length-encode, len_utf8_bounds, name_cmp}
 use Rattle.java_tokens.specs.Front.{front_of, weights}
-use Rattle.java_tokens.specs.Words.{name_cmp}
 use Rattle.java_tokens.proofs.MaskLemmas.{reversed}
+use Rattle.std.proofs.Math.Nat.{suc-mul, mul-le-mul_right}
 
 -- what the digits of some weights come to at most
 abbrev top : List ℕ → ℕ
@@ -28,28 +23,17 @@ falls = (lit< tt, (lit< tt, (lit< tt, (lit< tt, (lit< tt, (lit< tt, (lit< tt, (l
 below : (c d w : ℕ) → c < d → c * w + w ≤ d * w
 below c d w less = rw (← suc-mul c w) (mul-le-mul_right {m = suc c} {n = d} w (omega (arith, less)))
 
--- the front where the first is an ASCII character, and where it isn't
-front_by : (w c : ℕ) (ws cs : List ℕ) → ((c < 128) × (front_of (w ∷ ws) (c ∷ cs) ≡ c * w + front_of ws cs)) ⊎ ((128 ≤ c) × (front_of (w ∷ ws) (c ∷ cs) ≡ 128 * w))
-unfolding front_of
-front_by w c ws cs = elim (cases_Bool (nat_lt c 128)) [
-  | inl ascii ↦ inl (ltb-true c 128 ascii, rw ascii refl)
-  | inr other ↦ inr (ltb-false c 128 other, rw other refl)
-]
-
 bounded : (ws cs : List ℕ) → Falls ws → front_of ws cs ≤ top ws
 unfolding front_of
 bounded [] cs down = omega arith
 bounded (w ∷ ws) [] down = omega arith
-bounded (w ∷ ws) (c ∷ cs) down = elim (front_by w c ws cs) [
-  | inl ascii ↦ omega (arith, ascii, bounded ws cs down.1, down.0, below c 128 w ascii.0)
-  | inr other ↦ omega (arith, other)
-]
+bounded (w ∷ ws) (c ∷ cs) down = grind (arith, nat_tests, bounded ws cs down.1, down.0, below c 128 w)
 
 -- a first character that isn't lower gives a front that isn't lower, unless the fronts of the others do
 not_lower : (w a b : ℕ) (ws xs ys : List ℕ) → Falls (w ∷ ws) → b ≤ a → front_of (w ∷ ws) (a ∷ xs) < front_of (w ∷ ws) (b ∷ ys)
     → (a ≡ b) × (front_of ws xs < front_of ws ys)
-not_lower w a b ws xs ys down le less =
-    grind (arith, front_by w a ws xs, front_by w b ws ys, bounded ws ys down.1, down.0, below b a w, below b 128 w)
+unfolding front_of
+not_lower w a b ws xs ys down le less = grind (arith, nat_tests, bounded ws ys down.1, down.0, below b a w, below b 128 w)
 
 -- a name with a lower front is lower
 lower : (ws xs ys : List ℕ) → Falls ws → front_of ws xs < front_of ws ys → name_cmp xs ys ≡ Less
@@ -57,12 +41,7 @@ unfolding front_of
 lower [] xs ys down less = absurd (omega arith)
 lower (w ∷ ws) xs [] down less = absurd (omega arith)
 lower (w ∷ ws) [] (b ∷ ys) down less = refl
-lower (w ∷ ws) (a ∷ xs) (b ∷ ys) down less = elim (cases_lt a b) [
-  | inl before ↦ rw (lt-ltb a b before) refl
-  | inr le ↦
-      let rest = not_lower w a b ws xs ys down le less in
-      rw (rest.0, le-ltb b b (omega arith), eq-eqb b b refl) (lower ws xs ys down.1 rest.1)
-]
+lower (w ∷ ws) (a ∷ xs) (b ∷ ys) down less = grind (arith, nat_tests, not_lower w a b ws xs ys down, less, lower ws xs ys down.1)
 
 -- names with different fronts are in the order of these
 pub front_less : (xs ys : List ℕ) → front_of weights xs < front_of weights ys → name_cmp xs ys ≡ Less
@@ -81,17 +60,9 @@ pub front-encodes : (ws cs : List ℕ) → front_of ws (encode_utf8_all cs) ≡ 
 unfolding front_of
 front-encodes [] cs = refl
 front-encodes (w ∷ ws) [] = refl
-front-encodes (w ∷ ws) (c ∷ cs) = by_bytes (encode_utf8 c ++ encode_utf8_all cs) refl (front-encodes ws cs)
-  where
-    by_bytes : (bytes : List ℕ) → bytes ≡ encode_utf8 c ++ encode_utf8_all cs → front_of ws (encode_utf8_all cs) ≡ front_of ws cs → front_of (w ∷ ws) bytes ≡ front_of (w ∷ ws) (c ∷ cs)
-    by_bytes [] is rest = absurd (omega (arith, ap length is, length-append (encode_utf8 c) (encode_utf8_all cs), length-encode c, len_utf8_bounds c))
-    by_bytes (b ∷ bs) is rest = elim (cases_Bool (nat_lt c 128)) [
-      | inl ascii ↦
-          let one = encode_ascii c (ltb-true c 128 ascii) in
-          let first : b ≡ c = cc in
-          let others : bs ≡ encode_utf8_all cs = cc in
-          rw (first, ascii, others, rest) refl
-      | inr other ↦
-          let high : nat_lt b 128 ≡ false = le-ltb b 128 (grind (arith, ltb-false c 128 other, char_from_byte (b ∷ bs) (encode_utf8_all cs) c is)) in
-          rw (other, high) refl
-    ]
+front-encodes (w ∷ ws) (c ∷ cs) =
+    let all = encode_utf8 c ++ encode_utf8_all cs in
+    elim all as (λ bytes. bytes ≡ all → front_of (w ∷ ws) bytes ≡ front_of (w ∷ ws) (c ∷ cs)) [
+      | [] ↦ λ is. absurd (omega (arith, ap length is, length-append (encode_utf8 c) (encode_utf8_all cs), length-encode c, len_utf8_bounds c))
+      | b ∷ bs ↦ λ is. grind (arith, nat_tests, is, front-encodes ws cs, encode_ascii c, char_from_byte (b ∷ bs) (encode_utf8_all cs) c is)
+    ] refl

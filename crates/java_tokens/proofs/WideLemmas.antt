@@ -1,15 +1,8 @@
 -- What the mask of a comparison of sixteen bytes tells of them.
-use Rattle.std.proofs.Common.{◌≡◌, ℕ, zero, suc, ◌+◌, ◌%◌, ◌^◌, ◌<◌, ◌≤◌, Bool, true, false, not, leb, cond, eqb, List, [], ◌∷◌, map, length, get_or, drop, refl, ap₂, ◌∙◌, arith, w8, Fits}
-use Rattle.std.proofs.lemmas.Bool.{and_parts, ltb-true, not-false, agree_below, agree_below_at}
-use Rattle.std.proofs.lemmas.List.{length-map}
-use Rattle.std.proofs.lemmas.List.Sums.{prefix_len-drop_yes}
-use Rattle.std.proofs.lemmas.Simd.{mask_l-mod, run_in_chunk_fails, run_in_chunk_le, length-chunk, first_set_mask_l}
-use Rattle.std.specs.Int.Count.{count_trailing_zeros}
-use Rattle.std.specs.List.{prefix_len}
-use Rattle.std.specs.Simd.Lanes.{chunk, mask_l, top, Each1}
-use Rattle.unicode_ident.proofs.IdentLemmas.{is_xid_continue-ascii}
-use Rattle.java_tokens.specs.Chars.{continues_word}
-use Rattle.java_tokens.specs.Class.{is_no_ascii_word}
+use Rattle.java_tokens.proofs.Common.{nat_tests, ◌≡◌, ℕ, zero, suc, ◌+◌, ◌%◌, ◌^◌, ◌<◌, ◌≤◌, Bool, true, false, not, leb, cond, eqb, List, [], ◌∷◌, map}
+use Rattle.java_tokens.proofs.Common.{length, get_or, drop, refl, ap₂, ◌∙◌, arith, w8, Fits, agree_below, agree_below_at, length-map, prefix_len-drop_yes}
+use Rattle.java_tokens.proofs.Common.{mask_l-mod, run_in_chunk_fails, run_in_chunk_le, length-chunk, first_set_mask_l, count_trailing_zeros, prefix_len}
+use Rattle.java_tokens.proofs.Common.{chunk, mask_l, top, Each1, is_xid_continue-ascii, continues_word, is_no_ascii_word}
 
 -- bytes that pass begin a run
 run_on : (p : ℕ → Bool) (xs : List ℕ) (i r : ℕ) → i + r ≤ length xs → ((k : ℕ) → i ≤ k → k < i + r → p (get_or xs k 0) ≡ true)
@@ -22,12 +15,11 @@ run_on p xs i (suc r) room pass =
 
 -- a byte of which the bit isn't set goes on in a word
 goes_on : (c : ℕ) → is_no_ascii_word c ≡ false → continues_word c ≡ true
-goes_on c h =
-    let is = and_parts _ _ (not-false _ h) in
-    rw (is_xid_continue-ascii c (ltb-true c 128 is.0)) is.1
+goes_on c h = grind (arith, nat_tests, h, is_xid_continue-ascii c)
 
 -- as many bytes as stand before the first with its bit set go on in a word, all sixteen where none is set
-pub front_goes_on : (xs : List ℕ) (i m r : ℕ) → i + 16 ≤ length xs → m ≡ mask_l (map is_no_ascii_word (chunk i 16 xs)) → r ≡ cond (eqb m 0) 16 (count_trailing_zeros 64 m)
+pub front_goes_on : (xs : List ℕ) (i m r : ℕ) → i + 16 ≤ length xs → m ≡ mask_l (map is_no_ascii_word (chunk i 16 xs))
+    → r ≡ cond (eqb m 0) 16 (count_trailing_zeros 64 m)
     → (r ≤ 16) × (i + r + prefix_len continues_word (drop (i + r) xs) ≡ i + prefix_len continues_word (drop i xs))
 front_goes_on xs i m r room is counts =
     let counted : r ≡ prefix_len (λ x. not (is_no_ascii_word x)) (chunk i 16 xs) =

@@ -1,22 +1,11 @@
 -- What a name finds, file after file.
-use Rattle.std.proofs.Common.{◌≡◌, ℕ, zero, suc, ◌+◌, ◌<◌, ◌≤◌, Bool, true, false, cond, List, [], ◌∷◌, map, filter, refl, sym, ap, ◌∙◌, arith, Some}
-use Rattle.std.specs.Prelude.{option_to_list}
-use Rattle.std.specs.Ordering.{nat_cmp, is_eq}
-use Rattle.std.specs.Map.{keys_of}
-use Rattle.std.specs.Cmp.Lexicographic.{texts_ties, bytes_decides}
-use Rattle.std.proofs.lemmas.Map.Keys.{sorted_head, sorted_tail}
-use Rattle.java_tokens.specs.Words.{WordRow, name_cmp, mask_in, AreInOrder}
-use Rattle.std.specs.declared.cmp.Ordering.TheVariants.{Less}
-use Rattle.std.specs.Str.{bytes_eq}
-use Rattle.std.specs.List.{AllByRecursion}
+use Rattle.overlay_index.proofs.Words.{◌≡◌, ℕ, zero, suc, ◌+◌, ◌<◌, ◌≤◌, true, false, List, [], ◌∷◌, filter, refl, sym, ap, ◌∙◌, arith, option_to_list, nat_cmp}
+use Rattle.overlay_index.proofs.Words.{is_eq, keys_of, texts_ties, bytes_decides, sorted_head, sorted_tail, WordRow, name_cmp, mask_in, AreInOrder, Less}
+use Rattle.overlay_index.proofs.Words.{bytes_eq, AllByRecursion, nat_tests, has_id, rows_in_file, HasAllFiles, walked, nat_cmp_is, values_of, found_from, Parts}
+use Rattle.overlay_index.proofs.Words.{no_parts, inl, inr}
+use Rattle.std.proofs.lemmas.Simd.{map-map}
+use Rattle.std.proofs.lemmas.Bool.{cases_Bool}
 use Rattle.std.specs.List.Sorted.{IsStrictlySortedBy}
-use Rattle.std.proofs.lemmas.Bool.Decides.{nat_tests}
-use Rattle.file_index.specs.KeyRows.{rows_with}
-use Rattle.file_index.specs.Places.{has_id}
-use Rattle.file_index.specs.Rows.{rows_in_file}
-use Rattle.file_index.specs.Walk.{HasAllFiles, walked, shown}
-use Rattle.std.specs.Cmp.{nat_cmp_is}
-use Rattle.overlay_index.specs.Found.{values_of, with_id, found_from}
 
 -- so many ids from the first on
 pub ids_from : ℕ → ℕ → List ℕ
@@ -41,27 +30,28 @@ among id first zero low high = absurd (omega (arith, low, high))
 among id first (suc count) low high = grind (arith, nat_tests, among id (suc first) count)
 
 module _ {V : Type 0} (name : List ℕ) (files : List (ℕ × List (List ℕ × V))) where
-  shown_is_found : (id : ℕ) (rows : List (List ℕ × V)) → shown id rows ≡ with_id id (map (λ row. row.1) rows)
-  shown_is_found id [] = refl
-  shown_is_found id (r ∷ rs) = ap (λ l. (id, r.1) ∷ l) (shown_is_found id rs)
-
   walked_is_found : (first count : ℕ) → walked bytes_eq name files (ids_from first count)
       ≡ found_from (λ id. values_of name (rows_in_file id files)) first count
   unfolding ids_from
   walked_is_found first zero = refl
-  walked_is_found first (suc count) = cc (shown_is_found first (rows_with bytes_eq name (rows_in_file first files)), walked_is_found (suc first) count)
+  walked_is_found first (suc count) = rw (map-map, walked_is_found (suc first) count) refl
 
   -- where no other file has a row, the ids from 1 to the last are all files
   all_files : (last : ℕ) → rows_in_file 0 files ≡ [] → ((file : ℕ) → last < file → rows_in_file file files ≡ [])
       → HasAllFiles bytes_eq name files (ids_from 1 last)
   all_files last first rest file has = grind (arith, among file 1 last, rest file)
 
-  -- a walk over the rows under a name finds what each file shows under it
-  pub walk_finds : (result : List (ℕ × V)) → ((ids : List ℕ) → IsStrictlySortedBy nat_cmp ids → HasAllFiles bytes_eq name files ids
-      → result ≡ walked bytes_eq name files ids)
-      → (last : ℕ) → rows_in_file 0 files ≡ [] → ((file : ℕ) → last < file → rows_in_file file files ≡ [])
-      → result ≡ found_from (λ id. values_of name (rows_in_file id files)) 1 last
-  walk_finds result by_files last first rest = by_files (ids_from 1 last) (ids_rise 1 last) (all_files last first rest) ∙ walked_is_found 1 last
+-- a walk over the rows of a kind under a name finds what each file shows under it
+pub walk_finds : {V : Type 0} (name : List ℕ) (parts : ℕ → Parts) (kind : Parts → List (List ℕ × V)) (files : List (ℕ × List (List ℕ × V)))
+    → ((id : ℕ) → rows_in_file id files ≡ kind (parts id)) → kind no_parts ≡ [] → (result : List (ℕ × V))
+    → ((ids : List ℕ) → IsStrictlySortedBy nat_cmp ids → HasAllFiles bytes_eq name files ids → result ≡ walked bytes_eq name files ids)
+    → (last : ℕ) → (parts 0 ≡ no_parts) × ((file : ℕ) → last < file → parts file ≡ no_parts)
+    → result ≡ found_from (λ id. values_of name (kind (parts id))) 1 last
+walk_finds name parts kind files of none result by_files last full =
+    by_files (ids_from 1 last) (ids_rise 1 last)
+    (all_files name files last (of 0 ∙ ap kind full.0 ∙ none) (λ file past. of file ∙ ap kind (full.1 file past) ∙ none))
+    ∙ walked_is_found name files 1 last
+    ∙ (λ i. found_from (λ id. values_of name (of id i)) 1 last)
 
 module _ (name : List ℕ) where
   none_above : (word : List ℕ) (ws : List WordRow) → bytes_eq name word ≡ true → AllByRecursion (λ key. name_cmp word key ≡ Less) (keys_of ws)
@@ -75,10 +65,8 @@ module _ (name : List ℕ) where
   -- a word stands once among words in order
   pub mask_found : (ws : List WordRow) → AreInOrder ws → values_of name ws ≡ option_to_list (mask_in ws name)
   mask_found [] rise = refl
-  mask_found (w ∷ ws) rise = rw (← texts_ties name w.0) (by (bytes_eq name w.0) refl (mask_found ws (sorted_tail name_cmp w.0 (keys_of ws) rise)))
-    where
-      by : (b : Bool) → bytes_eq name w.0 ≡ b → values_of name ws ≡ option_to_list (mask_in ws name)
-          → map (λ (row : WordRow). row.1) (cond b (w ∷ rows_with bytes_eq name ws) (rows_with bytes_eq name ws))
-          ≡ option_to_list (cond b (Some w.1) (mask_in ws name))
-      by true same behind = rw (none_above w.0 ws same (sorted_head name_cmp w.0 (keys_of ws) rise))
-      by false other behind = behind
+  mask_found (w ∷ ws) rise =
+      rw (← texts_ties name w.0) (elim (cases_Bool (bytes_eq name w.0)) [
+        | inl same ↦ rw (same, none_above w.0 ws same (sorted_head name_cmp w.0 (keys_of ws) rise)) refl
+        | inr other ↦ rw other (mask_found ws (sorted_tail name_cmp w.0 (keys_of ws) rise))
+      ])

@@ -1,3 +1,4 @@
 pub mod LayerLemmas
 pub mod FoundLemmas
 pub mod SweepLemmas
+pub mod Words

@@ -5,11 +5,11 @@ use Rattle.action_lock.specs.Reads.{HasChecked}
 use Rattle.write_history.specs.declared.entry.Entry.{Entry}
 use Rattle.write_history.specs.declared.refusal.Refusal.TheVariants as why
 use Rattle.queries.specs.declared.query.Query.{Query}
-use Rattle.ide_calls.specs.declared.reply.Reply.{Reply}
-use Rattle.ide_calls.specs.declared.reply.Reply.TheVariants as reply
-use Rattle.ide_calls.specs.Made.{IsAnswered}
-use Rattle.ide_calls.specs.Sighting.{Sighting}
-use Rattle.ide_calls.specs.SoftRefusal.{HasSighted}
+use Rattle.shared_ide.specs.Reply.{Reply}
+use Rattle.shared_ide.specs.Reply.TheVariants as reply
+use Rattle.shared_ide.specs.Made.{IsAnswered}
+use Rattle.transcripts.specs.Sighting.{Sighting}
+use Rattle.shared_ide.specs.SoftRefusal.{HasSighted}
 use Rattle.script_lang.specs.declared.command.Command.{Command}
 use Rattle.script_lang.specs.declared.command.Command.TheVariants.{Soft}
 use Rattle.script_lang.specs.declared.line.Line.{Line}

@@ -10,9 +10,9 @@ use Rattle.action_lock.specs.Views.{fresh}
 use Rattle.write_history.specs.declared.entry.Entry.{Entry}
 use Rattle.script_lang.specs.declared.line.Line.{Line}
 use Rattle.script_lang.specs.Parts.{Parts}
-use Rattle.index_workers.specs.declared.worked.Worked.{Worked}
-use Rattle.index_workers.specs.Passes.{ide_view}
-use Rattle.index_workers.specs.Work.{HasWorkedSo}
+use Rattle.transcripts.specs.Worked.{Worked}
+use Rattle.shared_ide.specs.Passes.{ide_view}
+use Rattle.shared_ide.specs.Work.{HasWorkedSo}
 use Rattle.shared_ide.specs.declared.shared.SharedIde.{SharedIde}
 use Rattle.shared_ide.specs.Passes.{IsIdePassOf}
 use Rattle.transcripts.specs.declared.record.Record.{Record}

@@ -6,7 +6,7 @@ use Rattle.action_lock.specs.Steps.{KnowsItsLists}
 use Rattle.write_history.specs.declared.entry.Entry.{Entry}
 use Rattle.write_history.specs.Effect.{max_entries}
 use Rattle.script_lang.specs.declared.line.Line.{Line}
-use Rattle.index_workers.specs.declared.worked.Worked.{Worked}
+use Rattle.transcripts.specs.Worked.{Worked}
 use Rattle.transcripts.specs.declared.loaded.Loaded.{Loaded}
 use Rattle.transcripts.specs.declared.record.Record.{Record}
 use Rattle.transcripts.specs.Fits.{Progress, progress_at, SectionFits, LanesFit, WorkersFit, run_beside}

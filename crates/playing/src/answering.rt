@@ -2,7 +2,7 @@
 ghost use Rattle.std.specs.Prelude.{◌≡◌};
 ghost use Rattle.playing.specs.Answered.{reply_answer};
 
-use ide_calls::{Replied, Reply};
+use shared_ide::{Replied, Reply};
 use transcripts::Answer;
 use write_history::Refusal;
 

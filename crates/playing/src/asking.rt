@@ -1,17 +1,15 @@
 //! Questions of lines.
 ghost use Rattle.std.specs.Prelude.{◌≡◌, ◌<◌, ◌⊎◌, IfOk};
-ghost use Rattle.ide_calls.specs.Made.{IsAnswered};
-ghost use Rattle.index_workers.specs.Passes.{ide_view};
+ghost use Rattle.shared_ide.specs.Made.{IsAnswered};
+ghost use Rattle.shared_ide.specs.Passes.{ide_view};
 ghost use Rattle.shared_ide.specs.Passes.{IsIdePassOf, Continues};
 ghost use Rattle.transcripts.specs.Serial.{query_step};
 ghost use Rattle.playing.specs.Answered.{IsSoftlyAnswered};
 
 use crate::answering::answer_of;
 use action_lock::Gate;
-use ide_calls::SoftAskRefusal;
-use index_workers::IdePass;
 use queries::Query;
-use shared_ide::SharedIde;
+use shared_ide::{IdePass, SharedIde, SoftAskRefusal};
 use std::alloc::{AllocError, Global};
 use std::sync::Wait;
 use transcripts::Answer;

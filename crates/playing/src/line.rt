@@ -1,7 +1,7 @@
 //! The command of one line.
 ghost use Rattle.std.specs.Prelude.{◌≡◌, IfOk, OnOk};
 ghost use Rattle.script_lang.specs.Held.{IsOfLine};
-ghost use Rattle.index_workers.specs.Passes.{ide_view};
+ghost use Rattle.shared_ide.specs.Passes.{ide_view};
 ghost use Rattle.shared_ide.specs.Passes.{IsIdePassOf, Continues};
 ghost use Rattle.playing.specs.Answered.{IsLineAnswered, HasAnsweredLine};
 
@@ -9,9 +9,8 @@ use crate::asking::{do_ask, do_soft_ask};
 use crate::changing::{do_change, do_group, do_load};
 use crate::settling::do_settle;
 use action_lock::{Gate, Point};
-use index_workers::IdePass;
 use script_lang::{Command, Line};
-use shared_ide::SharedIde;
+use shared_ide::{IdePass, SharedIde};
 use std::alloc::{AllocError, Global};
 use std::sync::Wait;
 use std::thread::Threads;

@@ -3,7 +3,7 @@ ghost use Rattle.std.specs.Prelude.{◌≡◌, [], OnOk};
 ghost use Rattle.playing.specs.Players.{HasGathered};
 
 use crate::player::Outcome;
-use index_workers::Worked;
+use shared_ide::Worked;
 use std::alloc::{AllocError, Global};
 use transcripts::Records;
 

@@ -1,17 +1,16 @@
 //! A player of a round: a pass, and what is done with it on a thread of its own.
 ghost use Rattle.std.specs.Prelude.{◌≡◌, Some};
 ghost use Rattle.script_lang.specs.Held.{AreOfSection};
-ghost use Rattle.index_workers.specs.Passes.{ide_view};
+ghost use Rattle.shared_ide.specs.Passes.{ide_view};
 ghost use Rattle.shared_ide.specs.Passes.{IsIdePassOf, Continues};
 ghost use Rattle.playing.specs.Players.{CanRun, HasRun, MayHaveDone, MayHaveWorked};
 
 use crate::do_section;
 use action_lock::{Gate, Point};
 use crossbeam_utils::CachePadded;
-use index_workers::laws::workers_may_have_any_gate;
-use index_workers::{IdePass, Worked};
 use script_lang::{Line, Script};
-use shared_ide::SharedIde;
+use shared_ide::laws::workers_may_have_any_gate;
+use shared_ide::{IdePass, SharedIde, Worked};
 use std::alloc::{AllocError, Global};
 use std::sync::Wait;
 use std::thread::Threads;

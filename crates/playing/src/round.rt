@@ -1,7 +1,7 @@
 //! A round: all lanes of a script and some workers, each on a thread of its own, between prelude and last section.
 ghost use Rattle.std.specs.Prelude.{◌≡◌, ℕ, ◌+◌, ◌<◌, ◌≤◌, Some, IfOk, OnOk, OnErr, All, length, slice_index_or};
 ghost use Rattle.transcripts.specs.Fits.{run_beside};
-ghost use Rattle.index_workers.specs.Passes.{ide_view, IsSameIdePass};
+ghost use Rattle.shared_ide.specs.Passes.{ide_view, IsSameIdePass};
 ghost use Rattle.shared_ide.specs.Passes.{IsIdePassOf};
 ghost use Rattle.playing.specs.Players.{CanRun, HasRun, IsDutyAt, HasBegun, CanMeet, HasMet, HaveGathered};
 ghost use Rattle.playing.specs.Rounds.{IsAlone, HasPlayed};
@@ -10,10 +10,9 @@ use crate::outcomes::Outcomes;
 use crate::player::{Duty, Outcome, Player, run_player};
 use action_lock::Gate;
 use crossbeam_utils::CachePadded;
-use index_workers::IdePass;
-use index_workers::laws::passes_stay_the_same;
 use script_lang::Script;
-use shared_ide::SharedIde;
+use shared_ide::laws::passes_stay_the_same;
+use shared_ide::{IdePass, SharedIde};
 use std::alloc::{AllocError, Global};
 use std::sync::Wait;
 use std::thread::{Threads, for_each_mut};

@@ -1,7 +1,7 @@
 //! The lines of one section, done in order by one pass.
 ghost use Rattle.std.specs.Prelude.{◌≡◌, Some, OnOk, All};
 ghost use Rattle.script_lang.specs.Held.{IsOfLine};
-ghost use Rattle.index_workers.specs.Passes.{ide_view};
+ghost use Rattle.shared_ide.specs.Passes.{ide_view};
 ghost use Rattle.shared_ide.specs.Passes.{IsIdePassOf, Continues};
 ghost use Rattle.transcripts.specs.declared.loaded.Loaded.TheVariants.{Nothing};
 ghost use Rattle.transcripts.specs.Serial.{first_load, later_loads};
@@ -9,10 +9,9 @@ ghost use Rattle.playing.specs.Done.{HasAdded};
 
 use crate::line::do_line;
 use action_lock::Gate;
-use index_workers::IdePass;
-use index_workers::laws::passes_stay_the_same;
 use script_lang::Line;
-use shared_ide::SharedIde;
+use shared_ide::laws::passes_stay_the_same;
+use shared_ide::{IdePass, SharedIde};
 use std::alloc::{AllocError, Global};
 use std::sync::Wait;
 use std::thread::Threads;

@@ -1,13 +1,11 @@
 //! Settles of lines.
 ghost use Rattle.std.specs.Prelude.{◌≡◌, IfOk};
-ghost use Rattle.ide_calls.specs.Made.{IsAnswered};
-ghost use Rattle.index_workers.specs.Passes.{ide_view};
+ghost use Rattle.shared_ide.specs.Made.{IsAnswered};
+ghost use Rattle.shared_ide.specs.Passes.{ide_view};
 ghost use Rattle.shared_ide.specs.Passes.{IsIdePassOf, Continues};
 ghost use Rattle.transcripts.specs.Serial.{settle_step};
 
-use ide_calls::SettleRefusal;
-use index_workers::IdePass;
-use shared_ide::SharedIde;
+use shared_ide::{IdePass, SettleRefusal, SharedIde};
 use std::alloc::{AllocError, Global};
 use std::sync::Wait;
 use std::thread::Threads;

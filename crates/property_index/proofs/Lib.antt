@@ -1,3 +1,3 @@
 pub mod LineLemmas
-pub mod ScanLemmas
 pub mod RiseLemmas
+pub mod Words

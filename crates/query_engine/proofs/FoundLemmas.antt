@@ -1,31 +1,100 @@
--- What is found in the files of a world.
-use Rattle.std.proofs.Common.{ℕ, suc, ◌≡◌, ◌≤◌, ◌<◌, ◌⊎◌, inl, inr, ◌+◌, ◌==◌, if◌then◌else◌, Bool, true, false, cond, List, [], ◌∷◌, ◌++◌, map, length, get_or, Option, Some, None, option_map, IsSome, All, refl, ap, ◌∙◌, le_refl, arith}
-use Rattle.std.specs.List.{AllPairs}
-use Rattle.std.proofs.lemmas.Grind.{common_steps}
-use Rattle.std.proofs.lemmas.List.{map-append}
+-- What is found in the files of a world: where it stands, its rows, the types and the uses of a name.
+pub use Rattle.query_engine.proofs.Words.{◌≢◌, ℕ, suc, ◌≡◌, ◌≤◌, ◌<◌, ◌+◌, true, Bool, List, [], ◌∷◌, map, filter, length, drop, get_or, Option, Some, None}
+pub use Rattle.query_engine.proofs.Words.{IsSome, option_map, position, All, refl, ap, sym, ◌∙◌, le_refl, le_trans, arith, option_map_or, bytes_eq, cond_both}
+pub use Rattle.query_engine.proofs.Words.{cases_Bool, ◌&&◌, fun_ext, drop_more, All-head, All-tail, Stub, IsLawfulList, IsLawfulAfter, listing_of, IsNamedIn}
+pub use Rattle.query_engine.proofs.Words.{RiseFrom, World, File, file_of, id_at, has_path, shown_text, AreFrom, text_at, itself, stub_at, IfSome, false, ◌++◌}
+pub use Rattle.query_engine.proofs.Words.{common_steps, map-append, All-nil, All-append, All-map, max_chars, Java, Properties, keys_of, places_of_key}
+pub use Rattle.query_engine.proofs.Words.{lowest_unready, found, found_from, stubs_in, masks_in, of_files, of_world, word_in, Listed, AreLive, AreAhead}
+pub use Rattle.query_engine.proofs.Words.{listed_at, offset_in, path_at, word_found, ◌/◌, sum, subst, inl, inr, AllPairs, filter-append, AllPairs-filter}
+pub use Rattle.query_engine.proofs.Words.{is_type, has_super, ListedType, StandsBefore, all_supers, rows_a_look, MayLook, types_in, types_of, take, IsSomeAnd}
+pub use Rattle.query_engine.proofs.Words.{option_to_list, Ok, append_assoc, flat_map, flat_map-append, length-append, Usages, AskRefusal, NotReady, PlaceRow}
+pub use Rattle.query_engine.proofs.Words.{place_row, uses_in, reply, LooksThrough, first_uses, has_code, uses_at, uses_found, not-true, not-false, rules}
+pub use Rattle.query_engine.proofs.Words.{eqb-true, nil_from_length, AskedEach, Finding, OutOfMemory}
+use Rattle.std.proofs.Math.ListN.{drop_of_length-le}
+use Rattle.std.proofs.Math.Seq.{take-nil}
+use Rattle.std.proofs.lemmas.List.Quantifiers.{position-Some}
+use Rattle.std.proofs.lemmas.Option.{IfSome_then}
+use Rattle.std.proofs.lemmas.Bool.Decides.{nat_tests}
 use Rattle.std.proofs.lemmas.Simd.{map-map}
-use Rattle.std.proofs.lemmas.List.Elements.{All-nil, All-head, All-tail, All-append, All-map}
-use Rattle.ide_text.specs.Text.{max_chars}
 use Rattle.dumb_mode.specs.declared.kind.FileKind.{FileKind}
-use Rattle.dumb_mode.specs.declared.kind.FileKind.TheVariants.{Java, Properties}
 use Rattle.dumb_mode.specs.Filter.{has_kind}
-use Rattle.stub_tree.specs.declared.stub.Stub.{Stub}
-use Rattle.stub_tree.specs.Lawful.{IsLawfulList}
-use Rattle.decl_parser.specs.Listing.{listing_of, IsNamedIn}
-use Rattle.property_index.specs.Keys.{RiseFrom, keys_of, places_of_key}
-use Rattle.write_history.specs.World.{World, File, file_of, lowest_unready, shown_text}
-use Rattle.ide_world.specs.Found.{found, found_from, stubs_in, masks_in}
 use Rattle.query_engine.specs.declared.answer.WordRow.{WordRow}
-use Rattle.query_engine.specs.Reply.{of_files, of_world, word_in}
-use Rattle.query_engine.specs.Listed.{Listed, AreLive, AreAhead, AreFrom, StandsIn, itself, listed_at, offset_in, path_at, stub_at, text_at, word_found}
-use Rattle.query_engine.proofs.AheadLemmas.{read_found, from_all, from_pairs, from_filter, from_lawful, from_keys}
-use Rattle.query_engine.proofs.MemberLemmas.{pairs_nil, pairs_head, pairs_tail, pairs_append, pairs_map}
+use Rattle.query_engine.proofs.MemberLemmas.{filter_all, filter_two, filter_of_map, pairs_nil, pairs_append, pairs_map}
+use Rattle.std.proofs.lemmas.List.Sums.{sum_by-cons}
+use Rattle.java_tokens.specs.Places.{places_of, is_in_code, RiseFrom as PlacesRise}
+use Rattle.java_tokens.specs.Words.{words_of, mask_in}
+use Rattle.query_engine.proofs.LookLemmas.{looked_through}
+use Rattle.queries.specs.declared.query.Query.TheVariants as query
+
+-- ---- where what is found stands in its files
+
+-- the next of a list, and those behind it
+pub next_left : {X : Type 0} (xs : List X) (i : ℕ) {x : X} → i < length xs → x ≡ get_or xs i x → drop i xs ≡ x ∷ drop (i + 1) xs
+next_left xs i {x} inside is = drop_more xs i x inside ∙ ap (λ y. y ∷ drop (i + 1) xs) (sym is)
+
+module _ {X : Type 0} (at_of : X → ℕ) (len : ℕ) where
+  -- what stands at rising offsets from one on does so from a lower one
+  pub from_lower : (low at : ℕ) (xs : List X) → low ≤ at → AreFrom at_of len at xs → AreFrom at_of len low xs
+  from_lower low at [] le h = tt
+  from_lower low at (x ∷ xs) le h = (le_trans le h.0, h.1, h.2)
+
+  -- of what stands so those that pass a test do
+  pub from_filter : (fits : X → Bool) (low at : ℕ) (xs : List X) → low ≤ at → AreFrom at_of len at xs → AreFrom at_of len low (filter fits xs)
+  from_filter fits low at [] le h = tt
+  from_filter fits low at (x ∷ xs) le h =
+      cond_both (fits x) (x ∷ filter fits xs) (filter fits xs) (AreFrom at_of len low)
+      (λ fit. (le_trans le h.0, h.1, from_filter fits (at_of x) (at_of x) xs (le_refl (at_of x)) h.2))
+      (λ unfit. from_filter fits low (at_of x) xs (le_trans le h.0) h.2)
+
+-- the declarations of a lawful list that are named in a text: a name that isn't empty stands inside
+pub from_lawful : (text : List ℕ) (before : Option Stub) (stubs : List Stub) → IsLawfulAfter before stubs → All (IsNamedIn text) stubs
+    → AreFrom stub_at (length text) (option_map_or stub_at before 0) stubs
+from_lawful text before [] lawful named = tt
+from_lawful text before (s ∷ stubs) lawful named =
+    let it = All-head (IsNamedIn text) s stubs named in
+    let beyond = drop_of_length-le text {i = it.token.at} in
+    let inside : s.at ≤ length text = grind (arith, it.place, it.name, lawful.0.named.some, beyond, take-nil {A = ℕ} it.token.len) in
+    (grind (arith, lawful.1), inside, from_lawful text (Some s) stubs lawful.2 (All-tail (IsNamedIn text) s stubs named))
+
+-- the places of a property key among keys that rise, from an offset that isn't behind them
+pub from_keys : (key : List ℕ) (low from len : ℕ) (rows : List (List ℕ × ℕ)) → low ≤ from → RiseFrom from len rows
+    → AreFrom itself len low (map (λ row. row.1) (filter (λ row. bytes_eq key row.0) rows))
+from_keys key low from len [] h rise = tt
+from_keys key low from len (row ∷ rows) h (some, behind, inside, rest) =
+    let others : List (List ℕ × ℕ) = filter (λ row. bytes_eq key row.0) rows in
+    cond_both (bytes_eq key row.0) (row ∷ others) others (λ rows. AreFrom itself len low (map (λ row. row.1) rows))
+    (λ this. (le_trans h behind, omega arith, from_keys key row.1 (suc row.1) len rows (omega arith) rest))
+    (λ other. from_keys key low (suc row.1) len rows (omega arith) rest)
+
+-- what a reader gives of a file is what the file has
+pub read_found : (read : File → List ℕ) (o : Option File) {x : List ℕ} → Some x ≡ option_map read o → x ≡ option_map_or read o []
+read_found read None is = absurd cc
+read_found read (Some file) is = cc
+
+-- the file with the id of a path is live
+pub id_live : (world : World) (path : List ℕ) {id : ℕ} → Some id ≡ id_at world path → IsSome (file_of world id)
+id_live world path {id} is =
+    let there = λ (i : ℕ) (at : position (has_path path) world.files ≡ Some i). (position-Some (has_path path) world.files i None at).1 in
+    grind (arith, is, there)
+
+-- so its text is there
+pub text_there : (o : Option File) → None ≡ option_map shown_text o → IsSome o → ⊥
+text_there None none some = absurd cc
+text_there (Some file) none some = absurd cc
+
+-- the declarations of a file stand in its text
+pub listing_from : ((text : List ℕ) → All (IsNamedIn text) (listing_of text)) → (world : World) (id : ℕ) {text : List ℕ} {stubs shown : List Stub}
+    → Some text ≡ option_map shown_text (file_of world id) → shown ≡ stubs → IsLawfulList stubs → stubs ≡ listing_of text
+    → AreFrom stub_at (length (text_at world id)) 0 shown
+listing_from named world id {text} {stubs} is same lawful listed =
+    rw (same, sym (read_found shown_text (file_of world id) is)) (from_lawful text None stubs lawful (rw listed (named text)))
+
+-- ---- what is found in the files of a world
 
 -- the row that is made for a word
 pub word_row_made : (world : World) {id mask : ℕ} {path copy : List ℕ} → Some path ≡ option_map (λ file. file.path) (file_of world id) → copy ≡ path
     → ◌≡◌ {A = WordRow} (record { file = id; path = copy; mask = mask }) (word_found world (id, mask))
-word_row_made world {id} {mask} is same =
-    ap (λ p. record { file = id; path = p; mask = mask }) (same ∙ read_found (λ file. file.path) (file_of world id) is)
+word_row_made world {id} {mask} is same = ap (λ p. record { file = id; path = p; mask = mask }) (same ∙ read_found (λ file. file.path) (file_of world id) is)
 
 -- what is left is of live files
 pub live_rest : {X : Type 0} (world : World) {x : ℕ × X} {left left' : List (ℕ × X)} → left ≡ x ∷ left' → AreLive world left → AreLive world left'
@@ -36,24 +105,19 @@ module _ {X R : Type 0} (kind : FileKind) (read : List ℕ → List X) (rows : �
     (none : (id : ℕ) → P id [] []) (skip : (id : ℕ) (xs : List (ℕ × X)) (rs : List R) → P (id + 1) xs rs → P id xs rs)
     (more : (id : ℕ) (file : File) (xs : List (ℕ × X)) (rs : List R) → file_of world id ≡ Some file → P (id + 1) xs rs
     → P id (map (λ x. (id, x)) (read (shown_text file)) ++ xs) (rows id file ++ rs)) where
-  law_from : (id : ℕ) (files : List (Option File)) → ((k : ℕ) → file_of world (id + k) ≡ get_or files k None)
+  law_from : (id : ℕ) (files : List (Option File)) → ((k place : ℕ) → place ≡ id + k → file_of world place ≡ get_or files k None)
       → P id (found_from kind read id files) (of_files kind rows id files)
   law_from id [] at = none id
-  law_from id (file ∷ files) at =
-      of file (at 0) (law_from (id + 1) files (λ k. let e : id + 1 + k ≡ id + suc k = omega arith in ap (file_of world) e ∙ at (suc k)))
-    where
-      of : (file : Option File) → file_of world (id + 0) ≡ file → P (id + 1) (found_from kind read (id + 1) files) (of_files kind rows (id + 1) files)
-          → P id (found_from kind read id (file ∷ files)) (of_files kind rows id (file ∷ files))
-      of None is rest = skip id _ _ rest
-      of (Some file) is rest = by_kind (has_kind kind file.path)
-        where
-          by_kind : (b : Bool) → P id (map (λ x. (id, x)) (cond b (read (shown_text file)) []) ++ found_from kind read (id + 1) files)
-              (cond b (rows id file) [] ++ of_files kind rows (id + 1) files)
-          by_kind true = more id file _ _ (let e : id ≡ id + 0 = omega arith in ap (file_of world) e ∙ is) rest
-          by_kind false = skip id _ _ rest
+  law_from id (None ∷ files) at = skip id _ _ (law_from (id + 1) files (λ k place is. at (suc k) place (omega (arith, is))))
+  law_from id (Some file ∷ files) at =
+      let rest = law_from (id + 1) files (λ k place is. at (suc k) place (omega (arith, is))) in
+      elim (cases_Bool (has_kind kind file.path)) [
+        | inl has ↦ rw has (more id file _ _ (at 0 id (omega arith)) rest)
+        | inr not ↦ rw not (skip id _ _ rest)
+      ]
 
   pub found_law : P 1 (found kind read world) (of_world kind rows world)
-  found_law = law_from 1 world.files (λ k. let e : 1 + k ≡ suc k = omega arith in ap (file_of world) e)
+  found_law = law_from 1 world.files (λ k place is. let e : place ≡ suc k = omega (arith, is) in rw e refl)
 
 -- what is made of all that is found is what the files give, where of each file's it is what that file gives
 pub rows_found : {X R : Type 0} (kind : FileKind) (made : List (ℕ × X) → List R)
@@ -83,13 +147,6 @@ word_rows_found name world =
     placed_found Java (λ id path text mask. record { file = id; path = path; mask = mask }) (masks_in name) (word_in name) world
     (λ id file. grind (arith, common_steps))
 
--- what holds of what each file gives, with its id, holds of all that is found
-found_each : {X : Type 0} (kind : FileKind) (read : List ℕ → List X) (world : World) (P : ℕ × X → Type 0)
-    → ((id : ℕ) (file : File) → file_of world id ≡ Some file → All (λ x. P (id, x)) (read (shown_text file))) → All P (found kind read world)
-found_each kind read world P each =
-    found_law {R = ℕ} kind read (λ id file. []) world (λ id xs rs. All P xs) (λ id. All-nil P) (λ id xs rs h. h)
-    (λ id file xs rs is h. All-append P (map (λ x. (id, x)) (read (shown_text file))) xs (All-map P (λ x. (id, x)) (read (shown_text file)) (each id file is)) h)
-
 -- what a walk finds where no file is unready
 abbrev pub Finds : {X : Type 0} → World → List (ℕ × X) → List (ℕ × X) → Type 0
 Finds world walk found = lowest_unready world ≡ None → walk ≡ found
@@ -98,87 +155,170 @@ Finds world walk found = lowest_unready world ≡ None → walk ≡ found
 pub live_found : {X : Type 0} (read : List ℕ → List X) (world : World) {walk : List (ℕ × X)} → Finds world walk (found Java read world)
     → lowest_unready world ≡ None → AreLive world walk
 live_found {X} read world ready smart =
-    rw (ready smart) (found_each Java read world (λ (f : ℕ × X). IsSome (file_of world f.0)) (λ id file is k d inside. rw is refl))
+    let live = λ (f : ℕ × X). IsSome (file_of world f.0) in
+    rw (ready smart) (found_law {R = ℕ} Java read (λ id file. []) world (λ id xs rs. All live xs) (λ id. All-nil live) (λ id xs rs h. h)
+    (λ id file xs rs is h. All-append live (map (λ x. (id, x)) (read (shown_text file))) xs (All-map live _ _ (λ k d inside. rw is refl)) h))
 
--- one stands before the other: in a file with a lower id, or in one file as a relation says
-abbrev pub Stands : {X : Type 0} → (ℕ → X → X → Type 0) → ℕ × X → ℕ × X → Type 0
-Stands R a b = (a.0 < b.0) ⊎ ((a.0 ≡ b.0) × R a.0 a.1 b.1)
+-- what is read of texts that aren't too long stands there at rising offsets: so what is found of it, and passes a test, stands one ahead of another
+module _ {X : Type 0} (at_of : X → ℕ) (world : World) (kept : ℕ × X → Bool) where
+  -- what one file gives, in front of what stands ahead in those behind it
+  ahead_more : (id : ℕ) (here : List X) (xs : List (ℕ × X)) (before : Option Listed) → IsSome (file_of world id) → IfSome before (λ l. l.id ≤ id)
+      → (length (text_at world id) ≤ max_chars → AreFrom at_of (length (text_at world id)) (offset_in before id) here)
+      → ((last : Option Listed) → IfSome last (λ l. l.id ≤ id) → AreAhead at_of world last (filter kept xs))
+      → AreAhead at_of world before (filter kept (map (λ x. (id, x)) here ++ xs))
+  ahead_more id [] xs before live low stand rest = rest before low
+  ahead_more id (x ∷ here) xs before live low stand rest =
+      let this : Option Listed = Some (listed_at world id (at_of x)) in
+      let there : offset_in this id ≡ at_of x = grind (arith, nat_tests) in
+      let len : ℕ = length (text_at world id) in
+      cond_both (kept (id, x)) _ _ (AreAhead at_of world before)
+      (λ fit. (live, (λ short. ((stand short).0, (stand short).1)), ahead_more id here xs this live (le_refl id) (λ short. rw there (stand short).2) rest))
+      (λ unfit. ahead_more id here xs before live low
+      (λ short. from_lower at_of len (offset_in before id) (at_of x) here (stand short).0 (stand short).2) rest)
 
--- what is found stands in order where it does in each file
-pub found_sorted : {X : Type 0} (kind : FileKind) (R : ℕ → X → X → Type 0) (read : List ℕ → List X) (world : World)
-    → ((id : ℕ) (file : File) → file_of world id ≡ Some file → AllPairs (R id) (read (shown_text file))) → AllPairs (Stands R) (found kind read world)
-found_sorted {X} kind R read world each =
-    (found_law {R = ℕ} kind read (λ id file. []) world (λ id xs rs. AllPairs (Stands R) xs × ((low : ℕ) → low ≤ id → All (λ f. low ≤ f.0) xs))
-    (λ id. (pairs_nil (Stands R), (λ low le. All-nil (λ (f : ℕ × X). low ≤ f.0)))) (λ id xs rs h. (h.0, (λ low le. h.1 low (omega arith))))
-    (λ id file xs rs is h. let here : List X = read (shown_text file) in (
-      pairs_append (Stands R) (map (λ x. (id, x)) here) xs (pairs_map (R id) (Stands R) (λ x. (id, x)) (λ a b h. inr (refl, h)) here (each id file is)) h.0
-          (All-map (λ t. All (Stands R t) xs) (λ x. (id, x)) here (λ i e within k d inside. inl (omega (arith, h.1 (id + 1) (le_refl (id + 1)) k d inside)))),
-      (λ low le. All-append (λ f. low ≤ f.0) (map (λ x. (id, x)) here) xs (All-map (λ (f : ℕ × X). low ≤ f.0) (λ x. (id, x)) here (λ k d inside. le))
-          (h.1 low (omega arith))),
-    ))).0
-
-module _ {X : Type 0} (at_of : X → ℕ) (world : World) where
-  -- it is in a live file, and stands in its text
-  abbrev pub IsPlaced : ℕ × X → Type 0
-  IsPlaced f = IsSome (file_of world f.0) × StandsIn (text_at world f.0) 0 (at_of f.1)
-
-  -- one doesn't stand before the other in a text that isn't too long
-  abbrev pub IsBehind : ℕ → X → X → Type 0
-  IsBehind id a b = length (text_at world id) ≤ max_chars → at_of a ≤ at_of b
-
-  ahead_from : (before : Option Listed) (xs : List (ℕ × X)) → AllPairs (Stands IsBehind) xs → All IsPlaced xs
-      → All (λ f. length (text_at world f.0) ≤ max_chars → offset_in before f.0 ≤ at_of f.1) xs → AreAhead at_of world before xs
-  ahead_from before [] sorted placed above = tt
-  ahead_from before (x ∷ xs) sorted placed above =
-      let here = All-head IsPlaced x xs placed in (
-        here.0,
-        (λ short. (above 0 x (omega arith) short, (here.1 short).1)),
-        ahead_from (Some (listed_at world x.0 (at_of x.1))) xs (pairs_tail (Stands IsBehind) x xs sorted) (All-tail IsPlaced x xs placed)
-            (λ k d inside. behind (get_or xs k d) (pairs_head (Stands IsBehind) x xs sorted k d inside)),
-      )
-    where
-      behind : (f : ℕ × X) → Stands IsBehind x f → length (text_at world f.0) ≤ max_chars → (if x.0 == f.0 then at_of x.1 else 0) ≤ at_of f.1
-      behind f (inl less) short = grind (arith, common_steps, less)
-      behind f (inr (file, rise)) short = let under : at_of x.1 ≤ at_of f.1 = rise (rw file short) in grind (arith, common_steps, under)
-
-  -- what stands in order, and in its texts, stands one ahead of another
-  pub ahead_sorted : (xs : List (ℕ × X)) → AllPairs (Stands IsBehind) xs → All IsPlaced xs → AreAhead at_of world None xs
-  ahead_sorted xs sorted placed = ahead_from None xs sorted placed (λ k d inside short. omega arith)
-
-  -- what is read of a text that isn't too long stands there at rising offsets
-  module _ (kind : FileKind) (read : List ℕ → List X) (rise : (text : List ℕ) → length text ≤ max_chars → AreFrom at_of (length text) 0 (read text)) where
-    pub found_placed : All IsPlaced (found kind read world)
-    found_placed =
-        found_each kind read world IsPlaced
-        (λ id file is k d within. (
-          rw is refl,
-          (λ short. rw is (
-              from_all at_of (length (shown_text file)) 0 (read (shown_text file)) (rise (shown_text file) (rw is at short)) k d within)),
-        ))
-
-    -- so what is found stands one ahead of another
-    pub found_ahead : AreAhead at_of world None (found kind read world)
-    found_ahead =
-        ahead_sorted (found kind read world) (found_sorted kind IsBehind read world (λ id file is i j d less within short.
-        from_pairs at_of (length (shown_text file)) 0 (read (shown_text file)) (rise (shown_text file) (rw is at short)) i j d less within)) found_placed
+  pub found_ahead : (kind : FileKind) (read : List ℕ → List X) → ((text : List ℕ) → length text ≤ max_chars → AreFrom at_of (length text) 0 (read text))
+      → AreAhead at_of world None (filter kept (found kind read world))
+  found_ahead kind read rise =
+      found_law {R = ℕ} kind read (λ id file. []) world
+      (λ id xs rs. (before : Option Listed) → IfSome before (λ l. l.id < id) → AreAhead at_of world before (filter kept xs))
+      (λ id before low. tt) (λ id xs rs h before low. h before (IfSome_then before low (λ l less. omega (arith, less))))
+      (λ id file xs rs is h before low.
+      let first : offset_in before id ≡ 0 = grind (arith, nat_tests, low) in
+      ahead_more id (read (shown_text file)) xs before (rw is refl) (IfSome_then before low (λ l less. omega (arith, less)))
+      (λ short. rw (first, is) (rise (shown_text file) (rw is at short))) (λ last le. h last (IfSome_then last le (λ l le. omega (arith, le)))))
+      None tt
 
 -- the declarations that are found stand in their texts, one ahead of another
 module _ (lawful : (text : List ℕ) → length text ≤ max_chars → IsLawfulList (listing_of text))
     (named : (text : List ℕ) → All (IsNamedIn text) (listing_of text)) (fits : Stub → Bool) (world : World) where
-  rise : (text : List ℕ) → length text ≤ max_chars → AreFrom stub_at (length text) 0 (stubs_in fits text)
+  pub rise : (text : List ℕ) → length text ≤ max_chars → AreFrom stub_at (length text) 0 (stubs_in fits text)
   rise text short =
       from_filter stub_at (length text) fits 0 0 (listing_of text) (le_refl 0) (from_lawful text None (listing_of text) (lawful text short) (named text))
 
-  pub stubs_placed : All (IsPlaced stub_at world) (found Java (stubs_in fits) world)
-  stubs_placed = found_placed stub_at world Java (stubs_in fits) rise
-
   pub stubs_ahead : {walk : List (ℕ × Stub)} → Finds world walk (found Java (stubs_in fits) world) → lowest_unready world ≡ None
       → AreAhead stub_at world None walk
-  stubs_ahead ready smart = rw (ready smart) (found_ahead stub_at world Java (stubs_in fits) rise)
+  stubs_ahead ready smart = rw (ready smart, ← filter_all (found Java (stubs_in fits) world)) (found_ahead stub_at world (λ f. true) Java (stubs_in fits) rise)
 
 -- and so do the places of a property key
 pub keys_ahead : ((text : List ℕ) → RiseFrom 0 (length text) (keys_of text)) → (key : List ℕ) (world : World) {walk : List (ℕ × ℕ)}
     → Finds world walk (found Properties (places_of_key key) world) → lowest_unready world ≡ None → AreAhead itself world None walk
 keys_ahead rise key world ready smart =
-    rw (ready smart)
-    (found_ahead itself world Properties (places_of_key key) (λ text short. from_keys key 0 0 (length text) (keys_of text) (le_refl 0) (rise text)))
+    rw (ready smart, ← filter_all (found Properties (places_of_key key) world))
+    (found_ahead itself world (λ f. true) Properties (places_of_key key)
+    (λ text short. from_keys key 0 0 (length text) (keys_of text) (le_refl 0) (rise text)))
+
+-- ---- the types that the files of a world list
+
+-- the types of a world stand in order
+pub types_sorted : ((text : List ℕ) → AllPairs (λ a b. a.at < b.at) (listing_of text)) → (world : World) → AllPairs StandsBefore (types_of world)
+types_sorted rising world =
+    subst (AllPairs StandsBefore) (found_is Java (stubs_in is_type) world)
+    (found_law {R = ℕ} Java (stubs_in is_type) (λ id file. []) world
+    (λ id xs rs. AllPairs StandsBefore xs × ((low : ℕ) → low ≤ id → All (λ f. low ≤ f.0) xs))
+    (λ id. (pairs_nil StandsBefore, (λ low le. All-nil (λ (f : ListedType). low ≤ f.0)))) (λ id xs rs h. (h.0, (λ low le. h.1 low (omega arith))))
+    (λ id file xs rs is h.
+    let listed : List Stub = listing_of (shown_text file) in
+    let here : List Stub = filter is_type listed in (
+      pairs_append StandsBefore (map (λ s. (id, s)) here) xs
+          (pairs_map (λ a b. a.at < b.at) StandsBefore (λ s. (id, s)) (λ a b less. inr (refl, less)) here
+          (AllPairs-filter (λ a b. a.at < b.at) is_type listed (rising (shown_text file))))
+          h.0 (All-map (λ t. All (StandsBefore t) xs) (λ s. (id, s)) here (λ i e within k d inside. inl (omega (arith, h.1 (id + 1) (le_refl (id + 1)) k d inside)))),
+      (λ low le. All-append (λ f. low ≤ f.0) (map (λ s. (id, s)) here) xs (All-map (λ (f : ListedType). low ≤ f.0) (λ s. (id, s)) here (λ k d inside. le))
+          (h.1 low (omega arith))),
+    ))).0
+
+-- what the walk over the types that name a name finds
+pub namers_are : (name : List ℕ) (world : World)
+    → found Java (stubs_in (has_super name)) world ≡ filter (λ (t : ListedType). has_super name t.1) (types_of world)
+namers_are name world =
+    let it = λ (t : ListedType). has_super name t.1 in
+    let one : has_super name ≡ (λ (s : Stub). is_type s && has_super name s) = fun_ext (λ s. grind arith) in
+    found_law Java (stubs_in (has_super name)) types_in world (λ id xs rs. xs ≡ filter it rs) (λ id. refl) (λ id xs rs h. h)
+    (λ id file xs rs is h. simp (filter-append, filter_of_map, filter_two, h)
+    (ap (λ p. map (λ s. (id, s)) (filter p (listing_of (shown_text file))) ++ filter it rs) one))
+
+-- the names of supers, counted
+supers_counted : (types : List ListedType) → all_supers types ≡ sum (map (λ t. length t.1.supers) types)
+supers_counted [] = refl
+supers_counted (t ∷ ts) = grind (arith, supers_counted ts, sum_by-cons (λ (n : ℕ). n) (length t.1.supers) (map (λ t. length t.1.supers) ts))
+
+-- as many looks as there are full 256 names of supers, at most
+pub few_may : (world : World) (name : List ℕ) {number : ℕ} → lowest_unready world ≡ None → number ≤ all_supers (types_of world) / rows_a_look
+    → MayLook world (query.Inheritors name) (1 + number)
+few_may world name {number} smart few = (omega arith, rw (smart, sym (supers_counted (types_of world))) (omega (arith, few)))
+
+-- ---- where a name is used in the files of a world, with a look after each file that uses it
+
+-- Rows are made of the first of all, and others are left; there was a look for each of the first.
+pub record IsUsed {W F R : Type 0} (l s : W → ℕ) (uses : F → List R) (all : List F) (rows : List R) (left : List F) (old new : W) : Type 0 where
+  pub number : ℕ
+  pub looked : LooksThrough l s number old new
+  pub counted : number + length left ≡ length all
+  pub made : rows ++ flat_map uses left ≡ flat_map uses all
+
+-- the rows of one more that passes a test, and the look behind them saw nothing
+pub used_more : {W F R : Type 0} {l s : W → ℕ} {uses : F → List R} {all : List F} {rows rows' : List R} {x : F} {left left' : List F} {old mid new : W}
+    (p : F → Bool) → left ≡ x ∷ left' → p x ≡ true → rows' ≡ rows ++ uses x → IsUsed l s uses all rows (filter p left) old mid → LooksThrough l s 1 mid new
+    → IsUsed l s uses all rows' (filter p left') old new
+used_more {uses = uses} {rows = rows} {x = x} {left} {left'} p next passes grown h q =
+    let here : filter p left ≡ x ∷ filter p left' = rw (next, passes) refl in
+    record {
+      number = h.number + 1;
+      looked = looked_through refl h.looked q;
+      counted = omega (arith, h.counted, ap length here);
+      made = cc (append_assoc rows (uses x) (flat_map uses (filter p left')), ap (λ xs. rows ++ flat_map uses xs) here, h.made);
+    }
+
+-- places that rise, none of them before an offset
+abbrev pub StandBehind : ℕ → ℕ → List ℕ → Type 0
+StandBehind at len ats = (from : ℕ) × (at ≤ from) × PlacesRise from len ats
+
+-- where a file is unready, no file's uses are looked for
+pub dumb_uses : (world : World) (name : List ℕ) (e : AskRefusal) → IsSomeAnd (lowest_unready world) (λ file. e ≡ NotReady file)
+    → MayLook world (query.Usages name) (1 + 0)
+dumb_uses world name e h = grind (arith, h)
+
+module _ (unused : (name text : List ℕ) → is_in_code (mask_in (words_of text) name) ≡ false → places_of name text ≡ [])
+    (used : (name text : List ℕ) → is_in_code (mask_in (words_of text) name) ≡ true → places_of name text ≢ []) (world : World) (name : List ℕ) where
+  -- the rows of the mask of a file are those of the file
+  uses_of : (id : ℕ) (file : File) → file_of world id ≡ Some file → (mask : Option ℕ) → mask_in (words_of (shown_text file)) name ≡ mask
+      → flat_map (uses_found world name) (filter has_code (map (λ m. (id, m)) (option_to_list mask))) ≡ uses_in name id file
+  uses_of id file is mask same =
+      let none : is_in_code mask ≡ false → places_of name (shown_text file) ≡ [] = λ off. unused name (shown_text file) (ap is_in_code same ∙ off) in
+      let there : uses_at world name id ≡ uses_in name id file = rw is refl in
+      grind (arith, common_steps, none, there)
+
+  -- the rows of the files in whose code the name is found are those of all files
+  uses_told : flat_map (uses_found world name) (filter has_code (found Java (masks_in name) world)) ≡ of_world Java (uses_in name) world
+  uses_told =
+      rows_found Java (λ xs. flat_map (uses_found world name) (filter has_code xs))
+      (λ xs ys. ap (flat_map (uses_found world name)) (filter-append has_code xs ys)
+      ∙ flat_map-append (uses_found world name) (filter has_code xs) (filter has_code ys))
+      refl (masks_in name) (uses_in name) world (λ id file is. uses_of id file is (mask_in (words_of (shown_text file)) name) refl)
+
+  -- a file has a first row where the name has a place, and so where its mask has the bit
+  first_there : (id : ℕ) (row : ℕ → PlaceRow) (mask : Option ℕ) (ps : List ℕ) → (is_in_code mask ≡ false → ps ≡ []) → (is_in_code mask ≡ true → ps ≢ [])
+      → length (filter has_code (map (λ m. (id, m)) (option_to_list mask))) ≡ length (take 1 (map row ps))
+  first_there id row mask ps none some = grind (arith, common_steps, none, some)
+
+  -- as many files have the name in their code as have a first row
+  uses_counted : length (filter has_code (found Java (masks_in name) world)) ≡ length (first_uses name world)
+  uses_counted =
+      found_law Java (masks_in name) (λ id file. take 1 (uses_in name id file)) world (λ id xs rs. length (filter has_code xs) ≡ length rs)
+      (λ id. refl) (λ id xs rs h. h)
+      (λ id file xs rs is h. let here : List (ℕ × ℕ) = map (λ m. (id, m)) (masks_in name (shown_text file)) in
+      let first = first_there id (place_row id file.path (shown_text file)) (mask_in (words_of (shown_text file)) name) (places_of name (shown_text file))
+      (unused name (shown_text file)) (used name (shown_text file)) in
+      ap length (filter-append has_code here xs) ∙ length-append (filter has_code here) (filter has_code xs)
+      ∙ omega (arith, h, first, length-append (take 1 (uses_in name id file)) rs))
+
+  -- as many files as use the name are looked after
+  pub uses_may : {walk : List (ℕ × ℕ)} → Finds world walk (found Java (masks_in name) world) → lowest_unready world ≡ None
+      → MayLook world (query.Usages name) (1 + length (filter has_code walk))
+  uses_may ready smart = rw (ready smart, smart) (ap (λ n. 1 + n) uses_counted)
+
+  -- the answer that is given
+  pub used_reply : {walk : List (ℕ × ℕ)} {copy : List ℕ} {rows : List PlaceRow} → Finds world walk (found Java (masks_in name) world)
+      → lowest_unready world ≡ None → copy ≡ name → rows ≡ flat_map (uses_found world name) (filter has_code walk)
+      → reply world (query.Usages name) ≡ Ok (Usages copy rows)
+  used_reply ready smart same made = rw (smart, same, made, ready smart) (ap (λ rs. Ok (Usages name rs)) (sym uses_told))

@@ -1,15 +1,13 @@
 -- Levels are the lengths of the shortest chains.
-use Rattle.std.proofs.Common.{◌≡◌, ◌≤◌, ◌<◌, ◌⊎◌, inl, inr, ℕ, zero, suc, ◌+◌, true, ◌&&◌, List, [], ◌∷◌, length, filter, get_or, Some, All, refl, ap, sym, ◌∙◌, arith}
-use Rattle.std.specs.Prelude.{not, unwrap_or}
-use Rattle.std.specs.List.{AllPairs, AllByRecursion, Contains, list_any}
-use Rattle.std.proofs.lemmas.Bool.{cases_Bool, not_from_false, and_parts}
-use Rattle.std.proofs.lemmas.List.Elements.{All-nil, All-cons, All-append, All-map, All-weaker, recursion_from_All, All-filter, All-contains, All-contains_itself, filter_passes, Contains-append_left, Contains-append_right}
+use Rattle.query_engine.proofs.Words.{◌≡◌, ◌≤◌, ◌<◌, ◌⊎◌, inl, inr, ℕ, zero, suc, ◌+◌, true, ◌&&◌, List, [], ◌∷◌, length, filter, get_or, Some, All, refl, ap}
+use Rattle.query_engine.proofs.Words.{sym, ◌∙◌, arith, not, AllPairs, AllByRecursion, Contains, list_any, cases_Bool, not_from_false, and_parts, All-nil}
+use Rattle.query_engine.proofs.Words.{All-cons, All-append, All-map, All-weaker, recursion_from_All, All-filter, All-contains, All-contains_itself}
+use Rattle.query_engine.proofs.Words.{filter_passes, Contains-append_left, Contains-append_right, Any-from_list_any, list_any_at, AllPairs-filter, has_super}
+use Rattle.query_engine.proofs.Words.{ListedType, names_any, names_of, inheritors_of, IsOnLevel, IsChain, last_of, EndsChain, IsLeast, StandsBefore, Precedes}
+use Rattle.query_engine.proofs.Words.{tagged}
 use Rattle.std.proofs.lemmas.List.Filters.{length-filter_both}
-use Rattle.std.proofs.lemmas.List.Folds.{Any-from_list_any, list_any_at}
-use Rattle.std.proofs.lemmas.List.Kept.{AllPairs-filter}
-use Rattle.query_engine.specs.Fits.{has_super}
-use Rattle.query_engine.specs.Inheritors.{ListedType, names_any, names_of, levels_from, inheritors_of, IsOnLevel, IsChain, last_of, EndsChain, IsLeast, StandsBefore, Precedes}
-use Rattle.query_engine.specs.Search.{tagged}
+use Rattle.std.specs.Prelude.{unwrap_or}
+use Rattle.query_engine.specs.Inheritors.{levels_from}
 use Rattle.query_engine.proofs.MemberLemmas.{has_filter, filter_has, any_made, has_map, pairs_nil, pairs_append, pairs_map}
 
 -- the types of a level, and those that are left behind it
@@ -87,13 +85,10 @@ module _ (names : List (List ℕ)) (left : List ListedType) where
     ]
   ]
 
-  ends_there : {n : ℕ} {t : ListedType} → Ends left names n t → Contains left t
-  ends_there (begins there named) = there
-  ends_there (goes_on e there link) = there
-
-  fewer : {n : ℕ} {t : ListedType} → Ends left names n t → length (left_by names left) < length left
-  fewer {t = t} (begins there named) = let found = has_filter (names_any names) left t there named in left_fewer names left (omega (arith, found.1))
-  fewer (goes_on e there link) = fewer e
+  -- it ends at one of these types, and fewer are left behind the level
+  ends_there : {n : ℕ} {t : ListedType} → Ends left names n t → Contains left t × (length (left_by names left) < length left)
+  ends_there {t = t} (begins there named) = (there, left_fewer names left (omega (arith, (has_filter (names_any names) left t there named).1)))
+  ends_there (goes_on e there link) = (there, (ends_there e).1)
 
 -- a type that was found ends a chain of its level, and no shorter one; its level is within
 abbrev IsShortest : ℕ → ℕ → List (List ℕ) → List ListedType → ℕ × ListedType → Type 0
@@ -115,7 +110,7 @@ found_sound (suc more) level names left =
       omega (arith, r.2),
       longer names left r.3,
       λ m e. elim (shorter names left e) [
-        | inl now ↦ let gone = (filter_has (λ t. not (names_any names t)) left f.1 (ends_there next (left_by names left) r.3)).1 in grind (arith, gone, now.1)
+        | inl now ↦ let gone = (filter_has (λ t. not (names_any names t)) left f.1 (ends_there next (left_by names left) r.3).0).1 in grind (arith, gone, now.1)
         | inr s ↦ omega (arith, s.1, r.4 s.0 s.2)
       ],
     )) (levels_behind more level names left) (found_sound more (level + 1) next (left_by names left)))
@@ -124,7 +119,7 @@ found_sound (suc more) level names left =
 found_whole : (more level : ℕ) (names : List (List ℕ)) (left : List ListedType) (n : ℕ) (t : ListedType) → length left ≤ more → Ends left names n t
     → (j : ℕ) × (j ≤ level + n) × IsOnLevel (levels_from more level names left) j t
 unfolding levels_from
-found_whole zero level names left n t few e = absurd (omega (arith, (ends_there names left e).1))
+found_whole zero level names left n t few e = absurd (omega (arith, (ends_there names left e).0.1))
 found_whole (suc more) level names left n t few e =
     elim (shorter names left e) [
       | inl now ↦ (
@@ -133,7 +128,7 @@ found_whole (suc more) level names left n t few e =
         Contains-append_left _ _ _ (has_map (λ (t : ListedType). (level, t)) _ t (has_filter (names_any names) left t now.0 now.1)),
       )
       | inr s ↦
-          let r = found_whole more (level + 1) (names_of (found_in names left)) (left_by names left) s.0 t (omega (arith, fewer names left e)) s.2 in
+          let r = found_whole more (level + 1) (names_of (found_in names left)) (left_by names left) s.0 t (omega (arith, (ends_there names left e).1)) s.2 in
           (r.0, omega (arith, r.1, s.1), Contains-append_right (tagged level (found_in names left)) _ _ r.2)
     ]
 

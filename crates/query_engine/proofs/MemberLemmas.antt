@@ -1,10 +1,7 @@
 -- What lists have, through a filter and a map, and lists in order.
-use Rattle.std.proofs.Common.{◌≡◌, ◌≤◌, zero, suc, Bool, true, false, ◌&&◌, List, [], ◌∷◌, ◌++◌, map, length, filter, All, refl, ap, ◌∙◌, arith}
-use Rattle.std.specs.List.{AllPairs, Contains, list_any}
-use Rattle.std.proofs.lemmas.Bool.{cond_both}
-use Rattle.std.proofs.lemmas.List.{get_or-map, length-map}
-use Rattle.std.proofs.lemmas.List.Elements.{All-head, All-tail, All-append, All-map, All-filter, All-weaker, All-contains, All-contains_itself, filter_passes, Contains-append_right}
-use Rattle.std.proofs.lemmas.List.Kept.{AllPairs-cons}
+use Rattle.query_engine.proofs.Words.{◌≡◌, ◌≤◌, zero, suc, Bool, true, false, ◌&&◌, List, [], ◌∷◌, ◌++◌, map, length, filter, All, refl, ap, ◌∙◌, arith}
+use Rattle.query_engine.proofs.Words.{AllPairs, Contains, list_any, cond_both, get_or-map, length-map, All-head, All-tail, All-append, All-map, All-filter}
+use Rattle.query_engine.proofs.Words.{All-weaker, All-contains, All-contains_itself, filter_passes, Contains-append_right, AllPairs-cons}
 
 module _ {X : Type 0} where
   -- what stays was there, and passes the test

@@ -1,10 +1,5 @@
-pub mod CharLemmas
-pub mod QuoteLemmas
 pub mod FieldLemmas
-pub mod GrammarLines
-pub mod GrammarForms
 pub mod GrammarContents
-pub mod GrammarReading
 pub mod GrammarScript
-pub mod HeldLemmas
 pub mod PrintLemmas
+pub mod Words

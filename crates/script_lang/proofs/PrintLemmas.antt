@@ -1,31 +1,17 @@
 -- Scripts that are printed line by line are read back.
-use Rattle.std.proofs.Common.{◌≡◌, arith, inl, inr, ℕ, ◌+◌, true, List, [], ◌∷◌, ◌++◌, codes, None, refl, ap, sym, subst}
-use Rattle.std.specs.List.{list_all}
-use Rattle.std.proofs.lemmas.List.Folds.{list_all-append}
-use Rattle.std.proofs.lemmas.Str.{chars-IsAscii, IsUtf8-from_ascii}
-use Rattle.ide_text.specs.Text.{repaired}
-use Rattle.script_lang.specs.Forms.{AreSpelled}
-use Rattle.script_lang.specs.Grammar.{IsCommandLine, DropsReturn, IsLine, Rest, HoldRest, HoldScript}
-use Rattle.script_lang.specs.Lines.{line_feed, carriage_return}
-use Rattle.script_lang.specs.Printed.{is_ink, is_plain, SpellRest, IsReadBack}
-use Rattle.script_lang.specs.declared.command.Command.{Command}
-use Rattle.script_lang.specs.declared.content.Content.{Content}
-use Rattle.script_lang.specs.declared.content.Content.TheVariants.{Holds, Lane}
+use Rattle.script_lang.proofs.Words.{◌≡◌, arith, inl, inr, ℕ, ◌+◌, true, List, [], ◌∷◌, ◌++◌, codes, None, refl, ap, sym, subst, list_all, list_all-append}
+use Rattle.script_lang.proofs.Words.{chars-IsAscii, IsUtf8-from_ascii, repaired, AreSpelled, IsCommandLine, DropsReturn, IsLine, Rest, HoldRest, line_feed}
+use Rattle.script_lang.proofs.Words.{carriage_return, is_ink, SpellRest, IsReadBack, Command, Content, Holds, Section, Finally}
+use Rattle.script_lang.specs.Printed.{is_plain}
+use Rattle.script_lang.proofs.FieldLemmas.{none_of, ascii_of}
 use Rattle.script_lang.specs.declared.content.Content.TheVariants as content
-use Rattle.script_lang.specs.declared.line.Section.{Section}
-use Rattle.script_lang.specs.declared.line.Section.TheVariants.{Finally}
-use Rattle.script_lang.proofs.CharLemmas.{none_of, ascii_of}
-
--- ---- a text between quotes
 
 -- plain characters stand for themselves, and no line break among them is repaired
 plain_text : (cs : List ℕ) → list_all is_plain cs ≡ true → AreSpelled cs cs × (repaired cs ≡ cs)
 plain_text [] all = (refl, refl)
 plain_text (c ∷ cs) all = let rest = plain_text cs (grind arith) in ((c ∷ [], cs, refl, grind arith, rest.0), grind arith)
 
--- ---- a line of ink
-
--- it keeps all that it has
+-- a line of ink keeps all that it has
 kept_whole : (line : List ℕ) → list_all is_ink line ≡ true → DropsReturn line line
 kept_whole line ink = inr (refl, λ front e. grind (arith, list_all-append is_ink front (carriage_return ∷ []), ap (list_all is_ink) e))
 
@@ -35,8 +21,7 @@ ink_holds line command ink is =
     let ascii = ascii_of is_ink (λ c low. grind arith) line ink in
     (line, kept_whole line ink, (IsUtf8-from_ascii line ascii, subst (λ l. IsCommandLine l command) (sym (chars-IsAscii line ascii)) is))
 
--- ---- a line before others
-
+-- a line before others spells what it holds before what they spell
 spells_line : (section other : Section) (number : ℕ) (line bytes : List ℕ) (first : Content) (rest all : Rest) → list_all is_ink line ≡ true
     → IsLine line first → (spelled : SpellRest other (number + 1) bytes rest) → HoldRest section None number (first ∷ spelled.contents) all
     → SpellRest section number (line ++ line_feed ∷ bytes) all
@@ -57,12 +42,11 @@ is_read_back = record {
   command = λ section number line bytes command rest ink is stands spelled.
       spells_line section section number line bytes (Holds command) rest _ ink (ink_holds line command ink is) spelled (stands, (rest, refl, spelled.held));
   lane = λ section lane number bytes rest next spelled.
-      spells_line section lane number (codes "lane") bytes Lane rest _ refl (codes "lane", kept_whole (codes "lane") refl, refl) spelled
+      spells_line section lane number (codes "lane") bytes content.Lane rest _ refl (codes "lane", kept_whole (codes "lane") refl, refl) spelled
       (lane, next, (rest, refl, spelled.held));
   finally = λ section number bytes rest ends spelled.
       spells_line section Finally number (codes "finally") bytes content.Finally rest _ refl (codes "finally", kept_whole (codes "finally") refl, refl) spelled
       (ends, (rest, refl, spelled.held));
   script = λ bytes script few spelled.
-      let held : HoldScript spelled.lines script = record { contents = spelled.contents; read = spelled.read; held = spelled.held } in
-      record { few = few; lines = spelled.lines; cut = spelled.cut; held = held };
+      record { few = few; lines = spelled.lines; cut = spelled.cut; held = record { contents = spelled.contents; read = spelled.read; held = spelled.held } };
 }

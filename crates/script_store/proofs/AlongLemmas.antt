@@ -1,72 +1,101 @@
--- Lines one after another, and lanes one after another, behind every history that leads to a world.
-use Rattle.std.proofs.Common.{ℕ, ◌≡◌, ◌+◌, ◌<◌, ◌≤◌, List, [], ◌∷◌, length, refl, sym, ap, ◌∙◌, subst, get_or, drop, suc, zero, add-one, Some, None, Option}
-use Rattle.std.specs.Prelude.{unwrap_or, slice_get, slice_index_or, MatchOption, IfSome, option_map}
-use Rattle.std.specs.List.{HoldsAt}
-use Rattle.std.proofs.Math.Seq.{drop-cons}
-use Rattle.std.proofs.lemmas.Option.{slice_get_past, slice_get_read}
-use Rattle.write_history.specs.World.{World}
+-- Changes, settles, lines and lanes, one after another, behind every history that leads to a world.
+use Rattle.std.proofs.Common.{ℕ, ◌≡◌, ◌+◌, ◌<◌, ◌≤◌, List, [], ◌∷◌, ◌++◌, length, refl, sym, append_assoc, append-nil, get_or, drop, suc, zero, add-one}
+use Rattle.std.proofs.Common.{arith, Bor, Option, Some, unwrap_or, slice_get, slice_index_or, MatchOption, IfSome, option_map, HoldsAt, drop-cons}
+use Rattle.std.proofs.lemmas.Option.{slice_get_past, slice_get_read, slice_get_within, get_or_from_slice_get}
+use Rattle.write_history.specs.declared.change.Change.{Change}
+use Rattle.write_history.specs.declared.entry.Entry.{Entry}
+use Rattle.write_history.specs.declared.refusal.Refusal.TheVariants.{HistoryFull}
+use Rattle.write_history.specs.World.{World, unready_ids}
+use Rattle.write_history.specs.Fold.{fold}
+use Rattle.write_history.specs.Settle.{settled, intake_entry}
+use Rattle.history_laws.proofs.FoldLemmas.{fold-append}
+use Rattle.history_laws.proofs.UnreadyLemmas.{fewer-intake}
+use Rattle.history_laws.proofs.SettleLemmas.{settled-over, settled-ends, settled-goes_on}
+use Rattle.replay.specs.declared.settling.Settling.{Settling}
+use Rattle.replay.specs.declared.settling.Settling.TheVariants.{Over, Full, Taken}
+use Rattle.replay.specs.Steps.{Settles}
+use Rattle.script_lang.specs.declared.command.Command.{Command}
+use Rattle.script_lang.specs.declared.command.Command.TheVariants as command
 use Rattle.script_lang.specs.declared.line.Line.{Line}
 use Rattle.transcripts.specs.declared.loaded.Loaded.{Loaded}
 use Rattle.transcripts.specs.declared.loaded.Loaded.TheVariants as loaded
-use Rattle.transcripts.specs.Serial.{after_step, done_from, step_of, first_load, later_loads}
-use Rattle.script_store.specs.Along.{HasGone, HasGoneAlong, HasGoneLanes}
+use Rattle.transcripts.specs.Serial.{first_load, later_loads}
+use Rattle.script_store.specs.Along.{HasEntered, HasSettled, HasGone, HasGoneAlong, HasGoneLanes}
+
+-- ---- changes and settles
+
+-- what was read for a line, where there is anything
+abbrev pub read_for : Option (Bor Loaded) → Loaded
+read_for load = unwrap_or (option_map (λ (l : Bor Loaded). l.now) load) loaded.Nothing
+
+-- a change of a line goes in, or doesn't
+pub change_goes : (load : Option (Bor Loaded)) (given : Command) (change copied : Change) (changes : List Change) (world after : World)
+    → given ≡ command.Change change → copied ≡ change → changes ≡ copied ∷ [] → HasEntered changes world after → HasGone (read_for load) given world after
+change_goes load given change copied changes world after is copies one entered =
+    let goes : HasEntered (change ∷ []) world after = rw (one, copies) at entered in rw is (record { is = goes.is })
+
+-- no file is unready
+pub settle_over : (world after : World) (answer : Settling) → answer ≡ Over → Settles world after answer → HasSettled world after
+settle_over world after answer over step =
+    let none = rw over at step in
+    record { is = λ history seat line is. rw (none.1, settled-over history seat line (rw is none.0), append-nil history) (sym is) }
+
+-- the history is full
+pub settle_full : (world after : World) (answer : Settling) (id : ℕ) → answer ≡ Full id → Settles world after answer → HasSettled world after
+settle_full world after answer id full step =
+    let ends = rw full at step in
+    record {
+      is = λ history seat line is. (
+          let so = settled-ends history seat line id HistoryFull (rw is ends.0) (rw (is, ends.1) refl) in rw (ends.2, so, append-nil history) (sym is));
+    }
+
+-- the file with the lowest id goes in, and a settle goes on from there
+pub settle_goes_on : (world after final : World) (answer : Settling) (id : ℕ) → answer ≡ Taken id → Settles world after answer
+    → HasSettled after final → HasSettled world final
+settle_goes_on world after final answer id taken step rest = record {
+  is = λ history seat line is. (
+      let goes = rw taken at step in
+      let added : List Entry = intake_entry history seat line id ∷ [] in
+      let there : fold (history ++ added) ≡ after = rw (fold-append history added, is, goes.1.after_is) refl in
+      let on = settled-goes_on history seat line id (rw is goes.0) (rw is goes.1.accepted) in
+      rw on (rw (append_assoc history added (settled (history ++ added) seat line).added) at (rest.is (history ++ added) seat line there))
+      );
+}
+
+-- and fewer files are unready then
+pub fewer_unready : (world after : World) (answer : Settling) (id : ℕ) → answer ≡ Taken id → Settles world after answer
+    → length (unready_ids after) < length (unready_ids world)
+fewer_unready world after answer id taken step = let goes = rw taken at step in rw goes.1.after_is (fewer-intake world id goes.0)
 
 -- ---- lines
 
--- one line, and then the others
-one_line : (line : Line) (lines : List Line) (loads : List Loaded) (world after final : World) → HasGone (first_load loads) line.command world after
-    → HasGoneAlong lines (later_loads loads) after final → HasGoneAlong (line ∷ lines) loads world final
-one_line line lines loads world after final gone rest = record {
-  is = λ done seat is. rest.is (after_step done seat line.number (step_of (first_load loads) done.history seat line.number line.command)) seat
-      (sym (gone.is done.history seat line.number is));
-}
-
 -- what was read for the first of the lines from a place on, and for the others
-load_first : (loads : List Loaded) (at : ℕ) → first_load (drop at loads) ≡ unwrap_or (slice_get loads at) loaded.Nothing
-load_first [] zero = refl
-load_first [] (suc at) = refl
-load_first (load ∷ loads) zero = refl
-load_first (load ∷ loads) (suc at) = load_first loads at
-
-loads_later : (loads : List Loaded) (at : ℕ) → later_loads (drop at loads) ≡ drop (suc at) loads
-loads_later [] zero = refl
-loads_later [] (suc at) = refl
-loads_later (load ∷ loads) zero = refl
-loads_later (load ∷ loads) (suc at) = loads_later loads at
+loads_left : (loads : List Loaded) (at : ℕ) → (first_load (drop at loads) ≡ unwrap_or (slice_get loads at) loaded.Nothing)
+    × (later_loads (drop at loads) ≡ drop (suc at) loads)
+loads_left [] zero = (refl, refl)
+loads_left [] (suc at) = (refl, refl)
+loads_left (load ∷ loads) zero = (refl, refl)
+loads_left (load ∷ loads) (suc at) = loads_left loads at
 
 -- going on from a place of the lines leads where going on from the start does
 abbrev pub GoesFrom : List Line → List Loaded → World → ℕ → World → Type 0
 GoesFrom lines loads world at now = (final : World) → HasGoneAlong (drop at lines) (drop at loads) now final → HasGoneAlong lines loads world final
 
 -- the next line
-pub next_line : (lines : List Line) (loads : List Loaded) (world : World) (at : ℕ) (line : Line) (load : Option Loaded) (now after : World)
-    → at < length lines → line ≡ get_or lines at line → slice_get loads at ≡ load
-    → HasGone (unwrap_or load loaded.Nothing) line.command now after
+pub next_line : (lines : List Line) (loads : List Loaded) (world : World) (at : ℕ) (line : Line) (load : Option (Bor Loaded)) (now after : World)
+    → at < length lines → line ≡ get_or lines at line → MatchOption load (length loads ≤ at) (λ l. (at < length loads) × HoldsAt (λ y. l.now ≡ y) loads at)
+    → IfSome load (λ l. l.now ≡ slice_index_or loads at l.now) → HasGone (read_for load) line.command now after
     → GoesFrom lines loads world at now → GoesFrom lines loads world (at + 1) after
-next_line lines loads world at line load now after within line_is load_is gone goes =
-    subst (λ (n : ℕ). GoesFrom lines loads world n after) (sym (add-one at)) (λ final rest. goes final
-    (subst (λ (ls : List Line). HasGoneAlong ls (drop at loads) now final)
-    (sym (drop-cons lines at line within ∙ ap (λ (l : Line). l ∷ drop (suc at) lines) (sym line_is)))
-    (one_line line (drop (suc at) lines) (drop at loads) now after final
-    (subst (λ (l : Loaded). HasGone l line.command now after)
-    (sym (load_first loads at ∙ ap (λ (o : Option Loaded). unwrap_or o loaded.Nothing) load_is)) gone)
-    (subst (λ (ls : List Loaded). HasGoneAlong (drop (suc at) lines) ls after final) (sym (loads_later loads at)) rest))))
+next_line lines loads world at line load now after within line_is read load_is gone goes = λ final rest.
+    let left = loads_left loads at in
+    let found : slice_get loads at ≡ option_map (λ (l : Bor Loaded). l.now) load =
+    grind (arith, read, load_is, slice_get_past loads at, λ (l : Bor Loaded). slice_get_read loads (length loads) at l.now refl) in
+    let first : HasGone (first_load (drop at loads)) line.command now after = rw (left.0, found) gone in
+    let here : drop at lines ≡ line ∷ drop (suc at) lines = rw (← line_is) at (drop-cons lines at line within) in
+    let later : HasGoneAlong (drop (suc at) lines) (later_loads (drop at loads)) after final = rw (left.1, ← add-one at) rest in
+    goes final (rw here (record { is = λ done seat is. later.is _ seat (sym (first.is done.history seat line.number is)) }))
 
 -- ---- lanes
-
--- one lane, and then the others
-one_lane : (lane : List Line) (lanes : List (List Line)) (world after final : World) → HasGoneAlong lane [] world after
-    → HasGoneLanes lanes after final → HasGoneLanes (lane ∷ lanes) world final
-one_lane lane lanes world after final gone rest = record {
-  is = λ done seat is. rest.is (done_from seat done lane []) (seat + 1) (sym (gone.is done seat is));
-}
-
--- the lanes from a place on begin with the one there
-lane_from : (lanes : List (List Line)) (place : ℕ) (lane : List Line) → slice_get lanes place ≡ Some lane
-    → drop place lanes ≡ lane ∷ drop (suc place) lanes
-lane_from [] place lane is = absurd (cc)
-lane_from (first ∷ lanes) zero lane is = let same : first ≡ lane = cc in λ i. same i ∷ lanes
-lane_from (first ∷ lanes) (suc place) lane is = lane_from lanes place lane is
 
 -- going on from a lane leads where going on from the first does
 abbrev pub GoesFromLane : List (List Line) → World → ℕ → World → Type 0
@@ -75,14 +104,8 @@ GoesFromLane lanes world place now = (final : World) → HasGoneLanes (drop plac
 -- the next lane
 pub next_lane : (lanes : List (List Line)) (world : World) (place : ℕ) (lane : List Line) (now after : World) → slice_get lanes place ≡ Some lane
     → HasGoneAlong lane [] now after → GoesFromLane lanes world place now → GoesFromLane lanes world (place + 1) after
-next_lane lanes world place lane now after is gone goes =
-    subst (λ (n : ℕ). GoesFromLane lanes world n after) (sym (add-one place)) (λ final rest. goes final
-    (subst (λ (ls : List (List Line)). HasGoneLanes ls now final) (sym (lane_from lanes place lane is))
-    (one_lane lane (drop (suc place) lanes) now after final gone rest)))
-
--- what `get` gave, as an option of the list
-pub got : {R X : Type 0} (now : R → X) (xs : List X) (i : ℕ) (r : Option R)
-    → MatchOption r (length xs ≤ i) (λ x. (i < length xs) × HoldsAt (λ y. now x ≡ y) xs i)
-    → IfSome r (λ x. now x ≡ slice_index_or xs i (now x)) → slice_get xs i ≡ option_map now r
-got now xs i None past is = slice_get_past xs i past
-got now xs i (Some x) within is = slice_get_read xs (length xs) i (now x) refl within.0 is
+next_lane lanes world place lane now after is gone goes = λ final rest.
+    let here : drop place lanes ≡ lane ∷ drop (suc place) lanes =
+    rw (get_or_from_slice_get lanes place lane lane is) at (drop-cons lanes place lane (slice_get_within lanes place lane is)) in
+    let later : HasGoneLanes (drop (suc place) lanes) after final = rw (← add-one place) rest in
+    goes final (rw here (record { is = λ done seat is. later.is _ (seat + 1) (sym (gone.is done seat is)) }))

@@ -1,5 +1,2 @@
-mod ChangeLemmas
-mod SettleLemmas
 mod AlongLemmas
-mod KeptLemmas
 mod HadLemmas

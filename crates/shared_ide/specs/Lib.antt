@@ -7,6 +7,7 @@ pub use Rattle.ide_calls.specs.Made
 pub use Rattle.write_history.specs.Settle
 pub use Rattle.ide_calls.specs.Change
 pub use Rattle.ide_calls.specs.Replied
+pub use Rattle.ide_calls.specs.declared.reply.Reply
 pub use Rattle.ide_calls.specs.SoftRefusal
 pub use Rattle.ide_calls.specs.Settling
 pub use Rattle.ide_calls.specs.Step

@@ -12,6 +12,6 @@ pub use ide_calls::{
     ChangeRefusal, GroupChangeRefusal, Replied, Reply, SettleRefusal, SoftAskRefusal, Stepped,
     Store,
 };
-pub use index_workers::{End, IdePass, Worked};
+pub use index_workers::{End, IdePass, Worked, laws};
 pub use shared::SharedIde;
 pub use threads::may_go_to_threads;

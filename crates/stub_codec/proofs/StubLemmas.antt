@@ -1,20 +1,23 @@
--- A list that is read is spelled so, and what is spelled so is read.
-use Rattle.std.proofs.Common.{◌≡◌, ℕ, zero, suc, ◌+◌, ◌^◌, ◌<◌, ◌≤◌, Bool, true, false, ◌&&◌, ◌||◌, cond, eqb, ltb, leb, List, [], ◌∷◌, ◌++◌, length, get_or, All, Option, Some, None, Result, Ok, Err, refl, sym, ap, ◌∙◌, append_assoc, arith, ⊎_elim}
-use Rattle.std.specs.List.{list_all}
-use Rattle.std.specs.Str.{all_scalars}
-use Rattle.std.proofs.lemmas.Bool.{and_parts, and_from, or_cases, or_left, or_right, eqb-true, eq-eqb, leb-true, le-leb, ltb-true, lt-ltb, cases_lt}
+-- A list that is read is spelled so, and what is spelled so is read. The `pub use` lines are what invariants and answers take from outside.
+pub use Rattle.std.proofs.Common.{◌≡◌, ℕ, zero, suc, ◌+◌, ◌^◌, ◌<◌, ◌≤◌, Bool, true, false, ◌&&◌, ◌||◌, cond, eqb, ltb, leb, List, [], ◌∷◌, ◌++◌, length, get_or, All, Option, Some, None, Result, Ok, Err, refl, sym, ap, ◌∙◌, append_assoc, arith, inl, inr, ◌-◌, take}
+pub use Rattle.std.specs.List.{list_all, flat_map}
+pub use Rattle.std.specs.Str.{all_scalars}
+use Rattle.std.proofs.lemmas.Bool.{and_parts, and_from, cases_Bool, eqb-true, eq-eqb, leb-true, le-leb, ltb-true, lt-ltb, cases_lt}
+use Rattle.std.proofs.lemmas.Bool.Decides.{nat_tests}
 use Rattle.std.proofs.lemmas.List.{append-nil, nil_from_length}
 use Rattle.list_laws.proofs.PrefixLemmas.{All-cons}
 use Rattle.ide_text.specs.Text.{max_chars}
 use Rattle.stub_tree.specs.declared.stub.Stub.{Stub}
 use Rattle.stub_tree.specs.Stub.{is_type}
 use Rattle.stub_tree.specs.Lawful.{IsLawfulName, IsLawfulStub, MayFollow, IsLawfulAfter, IsLawfulList, max_depth}
-use Rattle.byte_fields.specs.Spelling.{number, name, counted}
-use Rattle.byte_fields.specs.Reading.{byte_at, number_at, name_at, many_at, counted_at, AllAfter}
-use Rattle.stub_codec.specs.Spelling.{supers, stub, version, has_scalars, IsStubBytes}
-use Rattle.stub_codec.specs.Reading.{supers_at, stub_at, all_of, is_kind, is_type_kind, may_be_depth, may_be_offset}
-use Rattle.field_laws.proofs.FieldLemmas.{IsBytes, step, passed, ok_is, Takes-then, Reads, ReadsBack, IsGoodName, byte_takes, number_takes, number_again, name_takes, name_again}
-use Rattle.field_laws.proofs.ManyLemmas.{many_takes, counted_takes, counted_again}
+pub use Rattle.byte_fields.specs.Spelling.{number, name, counted}
+pub use Rattle.byte_fields.specs.Reading.{byte_at, number_at, name_at, many_at, counted_at, AllAfter}
+pub use Rattle.stub_codec.specs.Spelling.{supers, stub, version, has_scalars, IsStubBytes}
+pub use Rattle.stub_codec.specs.Reading.{supers_at, stub_at, all_of, is_kind, is_type_kind, may_be_depth, may_be_offset}
+pub use Rattle.field_laws.proofs.FieldLemmas.{IsBytes, step, passed, ok_is, Takes-then, Reads, ReadsBack, IsGoodName, byte_takes, number_takes, number_again, name_takes, name_again, bytes_fit, bytes_below}
+pub use Rattle.field_laws.proofs.ManyLemmas.{many_takes, counted_takes, counted_again, with_front, last, goes_on, ends, is_done}
+pub use Rattle.std.proofs.lemmas.Result.{err_from_is_err_and}
+pub use Rattle.std.proofs.lemmas.Grind.{common_steps}
 
 -- a stub that may be written
 abbrev pub IsGoodStub : Option Stub → Stub → Type 0
@@ -24,28 +27,19 @@ IsGoodStub before s = IsLawfulStub s × MayFollow before s × (has_scalars s ≡
 
 depth_may : (before : Option Stub) (s : Stub) → may_be_depth before s.depth ≡ true → may_be_offset before s.at ≡ true → (s.depth ≤ max_depth) × (s.at < max_chars) × MayFollow before s
 depth_may None s depth at = let zero_depth = eqb-true s.depth 0 depth in (omega (arith, zero_depth), ltb-true s.at max_chars at, zero_depth)
-depth_may (Some before) s depth at =
-    let d = and_parts (leb s.depth max_depth) (leb s.depth before.depth || (eqb s.depth (before.depth + 1) && is_type before)) depth in
-    let o = and_parts (ltb s.at max_chars) (ltb before.at s.at) at in
-    let either = or_cases (leb s.depth before.depth) (eqb s.depth (before.depth + 1) && is_type before) d.1 in (
-      leb-true s.depth max_depth d.0,
-      ltb-true s.at max_chars o.0,
-      (
-        ⊎_elim (λ low. let l = leb-true s.depth before.depth low in omega (arith, l)) (λ more. let m = and_parts (eqb s.depth (before.depth + 1)) (is_type before) more in omega (arith, eqb-true s.depth (before.depth + 1) m.0)) either,
-        (λ deeper. ⊎_elim (λ low. let l = leb-true s.depth before.depth low in absurd (omega (arith, l, deeper))) (λ more. (and_parts (eqb s.depth (before.depth + 1)) (is_type before) more).1) either),
-        ltb-true before.at s.at o.1,
-      ),
-    )
+depth_may (Some before) s depth at = (
+  grind (arith, nat_tests, depth),
+  grind (arith, nat_tests, at),
+  (grind (arith, nat_tests, depth), (λ deeper. grind (arith, nat_tests, depth, deeper)), grind (arith, nat_tests, at)),
+)
 
 may_depth : (before : Option Stub) (s : Stub) → IsLawfulStub s → MayFollow before s → may_be_depth before s.depth ≡ true
 may_depth None s lawful may = eq-eqb s.depth 0 may
-may_depth (Some before) s lawful may = and_from (leb s.depth max_depth) (leb s.depth before.depth || (eqb s.depth (before.depth + 1) && is_type before)) (le-leb s.depth max_depth lawful.shallow)
-    (⊎_elim (λ deeper. or_right (leb s.depth before.depth) (eqb s.depth (before.depth + 1) && is_type before) (and_from (eqb s.depth (before.depth + 1)) (is_type before) (eq-eqb s.depth (before.depth + 1) (omega (arith, may.0, deeper))) (may.1 deeper)))
-    (λ low. or_left (leb s.depth before.depth) (eqb s.depth (before.depth + 1) && is_type before) (le-leb s.depth before.depth low)) (cases_lt before.depth s.depth))
+may_depth (Some before) s lawful may = grind (arith, nat_tests, cases_lt before.depth s.depth, lawful.shallow, may.0, may.1)
 
 may_offset : (before : Option Stub) (s : Stub) → IsLawfulStub s → MayFollow before s → may_be_offset before s.at ≡ true
 may_offset None s lawful may = lt-ltb s.at max_chars lawful.in_text
-may_offset (Some before) s lawful may = and_from (ltb s.at max_chars) (ltb before.at s.at) (lt-ltb s.at max_chars lawful.in_text) (lt-ltb before.at s.at may.2)
+may_offset (Some before) s lawful may = grind (arith, nat_tests, lawful.in_text, may.2)
 
 -- ---- supers
 
@@ -53,26 +47,24 @@ may_offset (Some before) s lawful may = and_from (ltb s.at max_chars) (ltb befor
 abbrev spelled : Bool → List (List ℕ) → List ℕ
 spelled of_type names = cond of_type (counted name names) []
 
--- what was read of supers
-record AreSupers (of_type : Bool) (names : List (List ℕ)) : Type 0 where
-  good : AllAfter (λ _. IsGoodName) None names
-  few : length names < 2 ^ 32
-  none : of_type ≡ false → names ≡ []
+-- what was read of supers: few good names, and none of what is no type
+abbrev AreSupers : Bool → List (List ℕ) → Type 0
+AreSupers of_type names = AllAfter (λ _. IsGoodName) None names × (length names < 2 ^ 32) × (of_type ≡ false → names ≡ [])
 
 supers_takes : (of_type : Bool) → Reads (supers_at of_type) (spelled of_type) (AreSupers of_type)
 unfolding supers_at
-supers_takes false bytes x fits e = rw (← ok_is ([], bytes) x e) (record { parts = refl; rest_fits = fits }, record { good = tt; few = omega arith; none = λ _. refl })
+supers_takes false bytes x fits e = rw (← ok_is ([], bytes) x e) (record { parts = refl; rest_fits = fits }, (tt, omega arith, λ _. refl))
 supers_takes true bytes x fits e =
     let read = counted_takes (λ _. name_at) (λ _. IsGoodName) name (λ _. name_takes) bytes x fits e in
-    (read.0, record { good = read.1.0; few = read.1.1; none = λ never. absurd (cc) })
+    (read.0, (read.1.0, read.1.1, λ never. absurd cc))
 
 supers_again : (s : Stub) (rest : List ℕ) → IsLawfulStub s → AllAfter (λ _. IsGoodName) None s.supers → supers_at (is_type s) (supers s ++ rest) ≡ Ok (s.supers, rest)
 unfolding supers_at
-supers_again s rest lawful good = by (is_type s) refl
-  where
-    by : (b : Bool) → is_type s ≡ b → supers_at b (spelled b s.supers ++ rest) ≡ Ok (s.supers, rest)
-    by false other = ap (λ names. Ok (names, rest)) (sym (lawful.supers_of_types other))
-    by true of_type = counted_again (λ _. name_at) (λ _. IsGoodName) name (λ _. name_again) s.supers rest (good, lawful.supers_few)
+supers_again s rest lawful good =
+    elim (cases_Bool (is_type s)) [
+      | inl of_type ↦ rw of_type (counted_again (λ _. name_at) (λ _. IsGoodName) name (λ _. name_again) s.supers rest (good, lawful.supers_few))
+      | inr other ↦ rw (other, lawful.supers_of_types other) refl
+    ]
 
 -- ---- names of supers, one by one and all together
 
@@ -102,11 +94,11 @@ stub_takes before bytes x fits e =
     let read : Stub = record { kind = k.0.0; depth = d.0.0; at = a.0.0; name = n.0.0; supers = s.0.0 } in
     let kind = and_parts (leb 1 k.0.0) (leb k.0.0 9) known.0 in
     let may = depth_may before read shallow.0 behind.0 in
-    let names = all_names None s.0.0 s.1.1.good in
+    let names = all_names None s.0.0 s.1.1.0 in
     rw (← ok_is (read, s.0.1) x s.2) (
       Takes-then {c = s.0.1} k.1.0 (Takes-then {c = s.0.1} d.1.0 (Takes-then {c = s.0.1} a.1.0 (Takes-then {c = s.0.1} n.1.0 s.1.0))),
       (
-        record { is_kind = (leb-true 1 k.0.0 kind.0, leb-true k.0.0 9 kind.1); shallow = may.0; in_text = may.1; named = n.1.1.0; supers_named = names.0; supers_few = s.1.1.few; supers_of_types = s.1.1.none },
+        record { is_kind = (leb-true 1 k.0.0 kind.0, leb-true k.0.0 9 kind.1); shallow = may.0; in_text = may.1; named = n.1.1.0; supers_named = names.0; supers_few = s.1.1.1; supers_of_types = s.1.1.2 },
         may.2,
         and_from (all_scalars n.0.0) (list_all all_scalars s.0.0) n.1.1.1 names.1,
       ),
@@ -118,10 +110,9 @@ stub_again before s rest good =
     let lawful = good.0 in
     let scalars = and_parts (all_scalars s.name) (list_all all_scalars s.supers) good.2 in
     let kind : is_kind s.kind ≡ true = and_from (leb 1 s.kind) (leb s.kind 9) (le-leb 1 s.kind lawful.is_kind.0) (le-leb s.kind 9 lawful.is_kind.1) in
-    let tail : (number s.at ++ (name s.name ++ supers s)) ++ rest ≡ number s.at ++ (name s.name ++ (supers s ++ rest)) =
-    append_assoc (number s.at) (name s.name ++ supers s) rest ∙ ap (λ (l : List ℕ). number s.at ++ l) (append_assoc (name s.name) (supers s) rest) in
-    ap (λ (l : List ℕ). stub_at before (s.kind ∷ s.depth ∷ l)) tail
-    ∙ rw (
+    rw (
+      append_assoc (number s.at) (name s.name ++ supers s) rest,
+      append_assoc (name s.name) (supers s) rest,
       kind,
       may_depth before s lawful good.1,
       number_again s.at (name s.name ++ (supers s ++ rest)) (omega (arith, lawful.in_text)),
@@ -143,10 +134,6 @@ lawful_from : (before : Option Stub) (stubs : List Stub) → AllAfter IsGoodStub
 lawful_from before [] good = (tt, refl)
 lawful_from before (s ∷ ss) good = let rest = lawful_from (Some s) ss good.1 in ((good.0.0, good.0.1, rest.0), and_from (has_scalars s) (list_all has_scalars ss) good.0.2 rest.1)
 
--- the version and what follows it, with nothing left
-spelled_whole : (bytes rest text : List ℕ) (v : ℕ) → bytes ≡ (v ∷ text) ++ rest → v ≡ version → rest ≡ [] → bytes ≡ version ∷ text
-spelled_whole bytes rest text v parts first nothing = parts ∙ rw (first, nothing) (append-nil (version ∷ text))
-
 -- what is read of all bytes is what they spell
 pub all_takes : (bytes : List ℕ) (stubs : List Stub) → IsBytes bytes → all_of bytes ≡ Ok stubs → IsStubBytes stubs bytes
 unfolding all_of
@@ -158,15 +145,15 @@ all_takes bytes stubs fits e =
     let good = lawful_from None m.0.0 m.1.1.0 in
     let whole = Takes-then {c = m.0.1} v.1.0 m.1.0 in
     let nothing : m.0.1 ≡ [] = nil_from_length m.0.1 (eqb-true (length m.0.1) 0 ended.0) in
-    rw (← ok_is m.0.0 stubs ended.1)
-    (record { lawful = good.0; scalars = good.1; spelled = spelled_whole bytes m.0.1 (counted stub m.0.0) v.0.0 whole.parts (eqb-true v.0.0 version known.0) nothing })
+    let spelled : bytes ≡ version ∷ counted stub m.0.0 = grind (arith, whole.parts, eqb-true v.0.0 version known.0, nothing, append-nil (counted stub m.0.0)) in
+    rw (← ok_is m.0.0 stubs ended.1) (record { lawful = good.0; scalars = good.1; spelled = spelled })
 
 -- what is spelled is read
 pub all_again : (stubs : List Stub) (bytes : List ℕ) → length stubs < 2 ^ 32 → IsStubBytes stubs bytes → all_of bytes ≡ Ok stubs
 unfolding all_of
 all_again stubs bytes few is =
-    let read : counted_at stub_at (counted stub stubs) ≡ Ok (stubs, []) = ap (counted_at stub_at) (sym (append-nil (counted stub stubs)))
-    ∙ counted_again stub_at IsGoodStub stub stub_again stubs [] (good_from None stubs is.lawful is.scalars, few) in
+    let read : counted_at stub_at (counted stub stubs) ≡ Ok (stubs, []) =
+    rw append-nil at (counted_again stub_at IsGoodStub stub stub_again stubs [] (good_from None stubs is.lawful is.scalars, few)) in
     ap all_of is.spelled ∙ rw read refl
 
 -- the stubs that are read behind the version and their number are a lawful list
@@ -181,8 +168,3 @@ pub lawful_at : (before : Option Stub) (stubs : List Stub) (i : ℕ) (d : Stub) 
 lawful_at before [] i d lawful inside = absurd (omega (arith, inside))
 lawful_at before (s ∷ ss) zero d lawful inside = lawful.0
 lawful_at before (s ∷ ss) (suc i) d lawful inside = lawful_at (Some s) ss i d lawful.2 (omega (arith, inside))
-
--- a fault is no list
-pub no_list : {A : Type 0} (left : ℕ) (x : A) (read : Result A ℕ) → read ≡ Err left → read ≡ Ok x → ⊥
-no_list left x (Ok y) e f = absurd cc
-no_list left x (Err y) e f = absurd cc

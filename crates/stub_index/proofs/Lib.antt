@@ -1,2 +1,3 @@
 pub mod NamedLemmas
 mod MentionLemmas
+pub mod Words

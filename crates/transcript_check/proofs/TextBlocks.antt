@@ -1,16 +1,18 @@
--- Each text of the transcript of a run is one block: the history's line, the lines of each entry, and each record with what a question found.
-use Rattle.transcript_check.proofs.Words.{◌≡◌, ◌≢◌, ℕ, zero, suc, ◌+◌, Bool, true, List, [], ◌∷◌, ◌++◌, length, map, refl, sym, ap, subst, arith}
-use Rattle.transcript_check.proofs.Words.{Some, None, codes, not, ◌∙◌, append_assoc, inl, inr, Option, IfOk, Result, Ok, Err, All, Contains, IfSome}
-use Rattle.transcript_check.proofs.Words.{slice_index_or, option_map_or, list_all, flat_map, concat, cond_both, and_parts, All-nil, All-cons}
-use Rattle.transcript_check.proofs.Words.{All-append, All-filter, All-map, All-head, All-tail, nat_tests, concat-append, flat_map-map, World, File}
-use Rattle.transcript_check.proofs.Words.{file_of, id_at, shown_text, lowest_unready, Entry, change_text, group_line, group_text, changes_text}
-use Rattle.transcript_check.proofs.Words.{entry_line, IsLegal, IsLegal-split, Query, Command, Line, Parts, word_line, indent, supers_text, super_text}
-use Rattle.transcript_check.proofs.Words.{found_line, outline_line, usage_line, key_line, level_line, count_line, found_text, prefix_text}
-use Rattle.transcript_check.proofs.Words.{answer_text, record_text, entry_lines, transcript_of, Worked, Loaded, Answer, Record, RunEnd, answer_of}
-use Rattle.transcript_check.proofs.Words.{step_of, Progress, Fits, RunFits, all_lines, blocks_of, IsBlock, entry_texts, record_texts, history_line}
-use Rattle.transcript_check.proofs.Words.{texts_of, Change, is_barred, is_path, fold, Finding, row_of, rows_in, word_row, word_in, of_files, of_world}
-use Rattle.transcript_check.proofs.Words.{place_row, uses_in, keys_in, types_in, types_of, level_row, unless_unready, all_rows, listing_reply}
-use Rattle.transcript_check.proofs.Words.{NoAnswer, reply, no_such_file, not_ready}
+-- Cutting bytes into blocks; and each text of the transcript of a run is one: the history's line, the lines of each entry, and each record.
+pub use Rattle.transcript_check.proofs.Words.{◌≡◌, ℕ, zero, suc, ◌<◌, ◌≤◌, Bool, true, false, not, ◌==◌, List, [], ◌∷◌, ◌++◌, length, take, drop, ap, refl}
+pub use Rattle.transcript_check.proofs.Words.{encode_utf8_all, sym, ◌∙◌, append-nil, append_assoc, arith, All, list_all, flat_map, if◌then◌else◌, concat, ◌≢◌}
+pub use Rattle.transcript_check.proofs.Words.{and_parts, cond_both, nat_tests, All-head, All-tail, fold_stays, line_break, space, begins_with_space, ◌+◌, map}
+pub use Rattle.transcript_check.proofs.Words.{first_len, EndsOnce, IsBlock, decimal, subst, Some, None, codes, inl, inr, Option, IfOk, Result, Contains, World}
+pub use Rattle.transcript_check.proofs.Words.{IfSome, slice_index_or, All-nil, All-cons, All-append, All-filter, All-map, File, id_at, concat-append, file_of}
+pub use Rattle.transcript_check.proofs.Words.{flat_map-map, shown_text, lowest_unready, Entry, Query, change_text, group_line, group_text, changes_text, Parts}
+pub use Rattle.transcript_check.proofs.Words.{entry_line, IsLegal, IsLegal-split, Command, indent, word_line, key_line, supers_text, super_text, found_line}
+pub use Rattle.transcript_check.proofs.Words.{outline_line, usage_line, level_line, count_line, Worked, found_text, prefix_text, answer_text, record_text}
+pub use Rattle.transcript_check.proofs.Words.{entry_lines, transcript_of, Loaded, Answer, Record, RunEnd, answer_of, step_of, RunFits, all_lines, blocks_of}
+pub use Rattle.transcript_check.proofs.Words.{entry_texts, record_texts, texts_of, Change, history_line, is_barred, is_path, fold, Finding, drop-drop, rules}
+pub use Rattle.transcript_check.proofs.Words.{length-append, take-append-drop}
+use Rattle.transcript_check.specs.Blocks.{blocks_of}
+use Rattle.std.specs.Char.{encode_utf8}
+use Rattle.std.proofs.lemmas.List.Sums.{fold-append}
 use Rattle.std.proofs.lemmas.List.Concat.{concat_is}
 use Rattle.std.proofs.lemmas.Grind.{flat_map-append}
 use Rattle.dumb_mode.specs.declared.kind.FileKind.{FileKind}
@@ -27,14 +29,154 @@ use Rattle.java_tokens.specs.Places.{places_of}
 use Rattle.decl_parser.specs.Listing.{listing_of, IsIdentifierOf, IsNamedIn}
 use Rattle.write_history.specs.Changes.{NamesPaths}
 use Rattle.history_laws.proofs.NamedLemmas.{named_lawful, live_lawful}
-use Rattle.query_engine.specs.declared.answer.Row.{Row}
 use Rattle.query_engine.specs.declared.answer.Finding.TheVariants.{Rows}
 use Rattle.query_engine.specs.Fits.{is_class, has_super, is_method}
 use Rattle.query_engine.specs.Inheritors.{ListedType, names_any, levels_from}
-use Rattle.transcript_check.proofs.Texts.{HoldsOfFitting, AreOfLines, of_both, of_section, of_lanes}
-use Rattle.transcript_check.proofs.ScanLemmas.{inside, closed, scan, scanned, IsPlain, IsShown, GoesOn, Ends, shown, each-stays, block, blocks-of-texts}
+use Rattle.transcript_check.proofs.CursorLemmas.{HoldsOfFitting, AreOfLines, of_both, of_section, of_lanes, decimal-by}
+use Rattle.query_engine.specs.Reply.{all_rows, keys_in, level_row, listing_reply, NoAnswer, of_files, of_world, place_row, reply, row_of, rows_in, types_in}
+use Rattle.query_engine.specs.Reply.{types_of, unless_unready, uses_in, word_in}
+use Rattle.std.proofs.Common as common
 use Rattle.queries.specs.declared.query.Query.TheVariants as query
 use Rattle.script_lang.specs.declared.command.Command.TheVariants as command
+
+-- ---- cutting
+
+-- the blocks of some bytes, joined, are the bytes
+pub blocks-joined : (bytes : List ℕ) → concat (blocks_of bytes) ≡ bytes
+unfolding blocks_of
+blocks-joined [] = refl
+blocks-joined (byte ∷ bytes) = grind (arith, blocks-joined bytes)
+
+-- the first block and the others
+pub blocks-first : (byte : ℕ) (bytes : List ℕ) → blocks_of (byte ∷ bytes)
+    ≡ take (first_len (byte ∷ bytes)) (byte ∷ bytes) ∷ blocks_of (drop (first_len (byte ∷ bytes)) (byte ∷ bytes))
+unfolding blocks_of
+blocks-first byte [] = grind arith
+blocks-first byte (next ∷ rest) = grind (arith, blocks-first next rest)
+
+-- a block isn't longer than the bytes that it begins
+pub first_len-within : (bytes : List ℕ) → first_len bytes ≤ length bytes
+first_len-within [] = omega arith
+first_len-within (byte ∷ bytes) = grind (arith, first_len-within bytes)
+
+-- the first block has a byte, where there is one
+pub first_len-some : (bytes : List ℕ) → 0 < length bytes → 0 < first_len bytes
+first_len-some [] some = absurd (omega arith)
+first_len-some (byte ∷ bytes) some = grind arith
+
+-- one block more: what was cut so far and what is left to cut are all
+pub cut-turn : (done more : List (List ℕ)) (block left later : List ℕ) (all : List (List ℕ)) {empty : Bool} → empty ≡ (length left == 0) → empty ≡ false
+    → more ≡ done ++ block ∷ [] → block ≡ take (first_len left) left → later ≡ drop (first_len left) left
+    → done ++ blocks_of left ≡ all → more ++ blocks_of later ≡ all
+cut-turn done more block [] later all none some grown first rest so_far = absurd cc
+cut-turn done more block (byte ∷ bytes) later all none some grown first rest so_far =
+    cc (append_assoc done (block ∷ []) (blocks_of later), blocks-first byte bytes)
+
+-- nothing is left to cut
+pub cut-end : (done : List (List ℕ)) (left : List ℕ) (all : List (List ℕ)) {empty : Bool} → empty ≡ (length left == 0) → empty ≡ true
+    → done ++ blocks_of left ≡ all → done ≡ all
+unfolding blocks_of
+cut-end done [] all nothing is so_far = sym (append-nil done) ∙ so_far
+cut-end done (byte ∷ bytes) all nothing is so_far = absurd (grind (arith, nat_tests))
+
+-- behind a text that ends once, where what follows doesn't begin with a space, a block ends
+pub blocks-behind : (text bytes : List ℕ) → EndsOnce text → begins_with_space bytes ≡ false → blocks_of (text ++ bytes) ≡ text ∷ blocks_of bytes
+unfolding blocks_of
+blocks-behind [] bytes never begins = absurd never
+blocks-behind (byte ∷ []) bytes ends begins = grind (arith, nat_tests)
+blocks-behind (byte ∷ next ∷ text) bytes ends begins = grind (arith, nat_tests, ends.0, blocks-behind (next ∷ text) bytes ends.1 begins)
+
+-- joined texts that are blocks don't begin with a space
+joined-begins : (texts : List (List ℕ)) → All IsBlock texts → begins_with_space (concat texts) ≡ false
+joined-begins [] blocks = refl
+joined-begins ([] ∷ texts) blocks = absurd (All-head IsBlock [] texts blocks).ends
+joined-begins ((byte ∷ bytes) ∷ texts) blocks = (All-head IsBlock (byte ∷ bytes) texts blocks).begins
+
+-- joined texts that are blocks are cut into these texts
+pub blocks-of-texts : (texts : List (List ℕ)) → All IsBlock texts → blocks_of (concat texts) ≡ texts
+unfolding blocks_of
+blocks-of-texts [] blocks = refl
+blocks-of-texts (text ∷ texts) blocks =
+    let later = All-tail IsBlock text texts blocks in
+    blocks-behind text (concat texts) (All-head IsBlock text texts blocks).ends (joined-begins texts later) ∙ ap (λ bs. text ∷ bs) (blocks-of-texts texts later)
+
+-- ---- the bytes of a block
+
+-- where one stands behind some bytes of a block: before the first, in a line, behind a line break, or they begin no block
+pub data Stand : Type 0 where
+  fresh : Stand
+  inside : Stand
+  closed : Stand
+  lost : Stand
+
+abbrev pub after : Stand → ℕ → Stand
+after fresh byte = if byte == space then lost else if byte == line_break then closed else inside
+after inside byte = if byte == line_break then closed else inside
+after closed byte = if byte == space then inside else lost
+after lost byte = lost
+
+abbrev pub scan : Stand → List ℕ → Stand
+scan stand bytes = common.fold after stand bytes
+
+-- a text behind which one still stands in a line
+abbrev pub IsPlain : List ℕ → Type 0
+IsPlain text = scan inside text ≡ inside
+
+-- a name, as it is printed
+abbrev pub IsShown : List ℕ → Type 0
+IsShown name = IsPlain (encode_utf8_all name)
+
+-- lines that go on with a block, or none
+abbrev pub GoesOn : List ℕ → Type 0
+GoesOn text = scan closed text ≡ closed
+
+-- the last line ends where a line has begun
+abbrev pub Ends : List ℕ → Type 0
+Ends text = scan inside text ≡ closed
+
+never_ends : (bytes : List ℕ) → scan lost bytes ≡ closed → ⊥
+never_ends bytes h = cc (fold_stays after lost (λ byte. refl) bytes)
+
+ends_once : (bytes : List ℕ) → Ends bytes → EndsOnce bytes
+ends_once [] h = cc
+ends_once (byte ∷ []) h = grind (arith, nat_tests)
+ends_once (byte ∷ next ∷ bytes) h =
+    ((λ broken. grind (arith, nat_tests, never_ends bytes)), ends_once (next ∷ bytes) (grind (arith, nat_tests, never_ends bytes)))
+
+-- a text is one block where its last line ends
+pub block : (text : List ℕ) → scan fresh text ≡ closed → IsBlock text
+block [] h = cc
+block (byte ∷ bytes) h =
+    record { begins = grind (arith, nat_tests, never_ends bytes); ends = ends_once (byte ∷ bytes) (grind (arith, nat_tests, never_ends bytes)) }
+
+-- ---- numbers and names
+
+pub decimal-plain : (n : ℕ) → IsPlain (decimal n)
+decimal-plain n = decimal-by IsPlain IsPlain refl (λ glyph bytes above plain. (grind (arith, nat_tests, plain), grind (arith, nat_tests, plain))) n
+
+pub decimal-first : (n : ℕ) → scan fresh (decimal n) ≡ inside
+decimal-first n =
+    decimal-by IsPlain (λ l. scan fresh l ≡ inside) refl (λ glyph bytes above plain. (grind (arith, nat_tests, plain), grind (arith, nat_tests, plain))) n
+
+pub character-plain : (c : ℕ) → not (c == line_break) ≡ true → IsPlain (encode_utf8 c)
+unfolding encode_utf8
+character-plain c other = grind (arith, nat_tests)
+
+-- a name of characters that aren't line breaks
+pub shown : (test : ℕ → Bool) → ((c : ℕ) → test c ≡ true → not (c == line_break) ≡ true) → (name : List ℕ) → list_all test name ≡ true → IsShown name
+shown test other [] all = refl
+shown test other (c ∷ cs) all =
+    let parts = and_parts _ _ all in
+    simp (fold-append, character-plain c (other c parts.0), shown test other cs parts.1)
+
+-- what a text is made of
+pub ruleset scanned = (fold-append, decimal-plain, decimal-first)
+
+-- a text for each of some things
+pub each-stays : (stand : Stand) {X : Type 0} (text : X → List ℕ) (xs : List X) → All (λ x. scan stand (text x) ≡ stand) xs
+    → scan stand (flat_map text xs) ≡ stand
+each-stays stand text [] all = refl
+each-stays stand text (x ∷ xs) all = simp (fold-append, all 0 x (omega arith), each-stays stand text xs (λ k d less. all (suc k) d (omega arith)))
 
 -- what holds below of words
 pub record Laws : Type 0 where
@@ -66,9 +208,6 @@ module _ (laws : Laws) where
 abbrev pub IsShownFile : Option File → Type 0
 IsShownFile file = IfSome file (λ f. IsShown f.path)
 
-path_or-shown : (file : Option File) → IsShownFile file → IsShown (option_map_or (λ (f : File). f.path) file [])
-path_or-shown file shown = grind (arith, shown)
-
 -- a property of lists that two have together holds of what all files give, where it holds of what each live file gives
 module _ {X : Type 0} (Q : List X → Type 0) (none : Q []) (both : (xs ys : List X) → Q xs → Q ys → Q (xs ++ ys)) (kind : FileKind)
     (rows : ℕ → File → List X) (each : (id : ℕ) (file : File) → IsShown file.path → Q (rows id file)) where
@@ -88,12 +227,6 @@ supers-plain (name ∷ names) shown = each-stays inside super_text (name ∷ nam
 indented : (depth : ℕ) → scan (scan closed (indent depth)) (codes "  ") ≡ inside
 indented zero = refl
 indented (suc depth) = simp (scanned, indented depth)
-
-found-goes_on : (row : Row) → IsShown row.path → IsShown row.name → GoesOn (found_line row)
-found-goes_on row path name = grind (arith, scanned, path, name)
-
-outline-goes_on : (row : Row) → IsShown row.path → IsShown row.name → All IsShown row.supers → GoesOn (outline_line row)
-outline-goes_on row path name supers = grind (arith, scanned, indented row.depth, path, name, supers-plain row.supers supers)
 
 -- ---- what is found
 
@@ -116,7 +249,7 @@ module _ (laws : Laws) (world : World) (live : (id : ℕ) → IsShownFile (file_
   types-go : All TypeGoes (types_of world)
   types-go = of_files-by (All TypeGoes) (All-nil TypeGoes) (All-append TypeGoes) Java types_in (λ id file shown.
       All-map TypeGoes (λ stub. (id, stub)) _ (λ k d less level.
-      grind (arith, scanned, path_or-shown (file_of world id) (live id), (All-filter is_type IsShownStub _ (stubs-shown laws _) k d less).name)))
+      grind (arith, scanned, live id, (All-filter is_type IsShownStub _ (stubs-shown laws _) k d less).name)))
       1 world.files (λ place. live (suc place))
 
   levels-go : (more level : ℕ) (names : List (List ℕ)) (left : List ListedType) → All TypeGoes left → All LevelGoes (levels_from more level names left)
@@ -141,21 +274,18 @@ module _ (laws : Laws) (world : World) (live : (id : ℕ) → IsShownFile (file_
 
   found-end : (fits : Stub → Bool) → FoundEnds (unless_unready (lowest_unready world) (Rows (of_world Java (rows_in fits) world)))
   found-end fits = unless-ends _ (files-end Java found_line (rows_in fits) (λ id file shown.
-      rows-go found_line (row_of id file.path _) IsShownStub (λ stub is. found-goes_on (row_of id file.path _ stub) shown is.name) _
+      rows-go found_line (row_of id file.path _) IsShownStub (λ stub is. grind (arith, scanned, shown, is.name)) _
       (All-filter fits IsShownStub _ (stubs-shown laws (shown_text file)))))
-
-  word-goes : (id : ℕ) (file : File) (mask : Option ℕ) → IsShown file.path → GoesOn (flat_map word_line (word_row id file mask))
-  word-goes id file mask shown = grind (arith, scanned, shown)
 
   all-go : (id : ℕ) (file : File) → IsShown file.path → GoesOn (flat_map outline_line (all_rows id file))
   all-go id file shown = rows-go outline_line (row_of id file.path _) IsShownStub
-      (λ stub is. outline-goes_on (row_of id file.path _ stub) shown is.name is.supers) _ (stubs-shown laws (shown_text file))
+      (λ stub is. grind (arith, scanned, indented stub.depth, shown, is.name, supers-plain stub.supers is.supers)) _ (stubs-shown laws (shown_text file))
 
   pub reply-ends : (q : Query) → FoundEnds (reply world q)
   reply-ends (query.Class name) = found-end (is_class name)
   reply-ends (query.Supers name) = found-end (has_super name)
   reply-ends (query.Method name) = found-end (is_method name)
-  reply-ends (query.Word name) = unless-ends _ (files-end Java word_line (word_in name) (λ id file. word-goes id file _))
+  reply-ends (query.Word name) = unless-ends _ (files-end Java word_line (word_in name) (λ id file shown. grind (arith, scanned, shown)))
   reply-ends (query.Usages name) = unless-ends _ (files-end Java (usage_line name) (uses_in name) (λ id file shown.
       rows-go (usage_line name) (place_row id file.path _) (λ place. IsShown name) (λ place is. simp (scanned, shown, is)) _
       (λ k d less. word-shown laws name (laws.place name (shown_text file) (λ none. omega (arith, less, ap length none))))))
@@ -177,8 +307,7 @@ module _ (laws : Laws) (world : World) (live : (id : ℕ) → IsShownFile (file_
 
 -- a lawful path
 path-shown : (path : List ℕ) → is_path path ≡ true → IsShown path
-path-shown path lawful =
-    shown (λ c. not (is_barred c)) (λ c free. grind (arith, nat_tests)) path (and_parts _ _ (and_parts _ _ lawful).0).1
+path-shown path lawful = shown (λ c. not (is_barred c)) (λ c free. grind (arith, nat_tests)) path (and_parts _ _ (and_parts _ _ lawful).0).1
 
 -- each path that a change names is lawful
 abbrev Named : Change → Type 0
@@ -209,10 +338,6 @@ entries-blocks position (entry ∷ entries) named =
 abbrev AnswerEnds : Answer → Type 0
 AnswerEnds answer = scan (scan inside (prefix_text answer)) (answer_text answer) ≡ closed
 
--- the path of a live file of a legal history has no line break
-live-shown : (entries : List Entry) → IsLegal entries → (id : ℕ) → IsShownFile (file_of (fold entries) id)
-live-shown entries legal id = grind (arith, path-shown, λ (file : File). live_lawful entries id file legal)
-
 -- the records of a run are those of the script's lines
 pub run-records : {loads : List Loaded} {script : Parts} {told : List Worked} {ended : RunEnd} (P : Record → Type 0)
     → ((beside : Bool) (history : List Entry) → IsLegal history → HoldsOfFitting P beside history)
@@ -227,11 +352,8 @@ run-records {script = script} P each fits =
 module _ (laws : Laws) where
   asked-ends : (start : List Entry) → IsLegal start → (query : Query) → AnswerEnds (answer_of (fold start) (length start) (reply (fold start) query))
   asked-ends start legal query =
-      elim (reply (fold start) query) as (λ result. FoundEnds result → AnswerEnds (answer_of (fold start) (length start) result)) [
-        | Ok finding ↦ λ ends. simp (scanned, ends)
-        | Err no_such_file ↦ λ ends. simp scanned
-        | Err (not_ready file) ↦ λ ends. simp (scanned, path_or-shown (file_of (fold start) file) (live-shown start legal file))
-      ] (reply-ends laws (fold start) (live-shown start legal) query)
+      let live : (id : ℕ) → IsShownFile (file_of (fold start) id) = λ id. grind (arith, path-shown, λ (file : File). live_lawful start id file legal) in
+      grind (arith, scanned, reply-ends laws (fold start) live query, live)
 
   step-ends : (load : Loaded) (start : List Entry) → IsLegal start → (seat line : ℕ) (command : Command)
       → AnswerEnds (step_of load start seat line command).answer
@@ -239,14 +361,11 @@ module _ (laws : Laws) where
   step-ends load start legal seat line (command.Soft attempts query) = asked-ends start legal query
   step-ends load start legal seat line command = grind (arith, scanned)
 
-  -- ---- sections
-
-  fits-end : {beside : Bool} {history : List Entry} {seat : ℕ} {line : Line} {load : Loaded} {low : Progress} {own : List Entry} {answer : Answer}
-      {high : Progress} → IsLegal history → Fits beside history seat line load low own answer high → AnswerEnds answer
-  fits-end {seat = seat} {line = line} {load = load} {own = own} legal (inl done) =
+  fits-end : {beside : Bool} {history : List Entry} → IsLegal history → HoldsOfFitting (λ reply. AnswerEnds reply.answer) beside history
+  fits-end legal seat line load low own answer high (inl done) =
       let start = (IsLegal-split done.start own (IsLegal-split (done.start ++ own) _ (subst IsLegal done.stands.1 legal)).0).0 in
       subst AnswerEnds (ap (λ step. step.answer) done.step) (step-ends load done.start start seat line.number line.command)
-  fits-end legal (inr (side, given)) = rw given.told (simp scanned)
+  fits-end legal seat line load low own answer high (inr (side, given)) = rw given.told (simp scanned)
 
   -- each text of the transcript of a run that fits is one block
   pub texts-blocks : (loads : List Loaded) (script : Parts) (told : List Worked) (ended : RunEnd) → RunFits loads script told ended
@@ -254,7 +373,7 @@ module _ (laws : Laws) where
   texts-blocks loads script told ended fits =
       All-cons IsBlock _ _ (block _ (simp scanned))
       (All-append IsBlock _ _ (entries-blocks 1 ended.history (named_lawful ended.history fits.legal)) (All-map IsBlock record_text _
-      (run-records (λ reply. IsBlock (record_text reply)) (λ _ _ legal _ _ _ _ _ _ _ fit. block _ (simp (scanned, fits-end legal fit))) fits).each))
+      (run-records (λ reply. IsBlock (record_text reply)) (λ _ _ law _ _ _ _ _ _ _ fit. block _ (simp (scanned, fits-end law _ _ _ _ _ _ _ fit))) fits).each))
 
 -- the texts of a transcript, joined, are it
 entries-joined : (position : ℕ) (entries : List Entry) → concat (entry_texts position entries) ≡ entry_lines position entries

@@ -10,7 +10,7 @@ use Rattle.transcript_check.specs.declared.stop.LineStop.{LineStop}
 use Rattle.transcript_check.specs.declared.stop.SideStop.{SideStop}
 use Rattle.transcript_check.specs.Phase.{Reached}
 use Rattle.transcript_check.specs.Checked.{Came}
-use Rattle.transcript_check.specs.Stops.{serial_or, phase_or}
+use Rattle.transcript_check.specs.Stops.{serial_from, phase_from}
 
 -- what sections side by side come to is told: the texts of entries that are left, and the world there, or where they stop
 abbrev pub IsReachedAs : List Entry → World → Result Reached SideStop → Result (List (List ℕ)) SideStop → Type 0
@@ -23,7 +23,7 @@ IsReachedAs before after (Ok reached) (Ok left) = (left ≡ reached.left) × (af
 pub record HasReached (beside : Bool) (lanes workers : ℕ) (cursors : List Cursor) (entries : List (List ℕ)) (world after : World)
     (left : Result (List (List ℕ)) SideStop) : Type 0 where
   pub is : (before : List Entry) → fold before ≡ world
-      → IsReachedAs before after (phase_or (record { beside = beside; lanes = lanes; workers = workers; before = before }) [] cursors entries) left
+      → IsReachedAs before after (phase_from (record { beside = beside; lanes = lanes; workers = workers; before = before }) [] cursors entries) left
 
 -- what a section alone comes to is told: the texts of entries and of records that are left, and the world there, or where it stops
 abbrev pub HasComeAs : World → Result Came LineStop → Result (List (List ℕ) × List (List ℕ)) LineStop → Type 0
@@ -35,4 +35,4 @@ HasComeAs after (Ok came) (Ok left) = (left.0 ≡ came.entries) × (left.1 ≡ c
 -- a section alone went from one world to another by these texts, or stopped
 pub record HasComeAlone (seat : ℕ) (lines : List Line) (loads : List Loaded) (entries records : List (List ℕ)) (world after : World)
     (left : Result (List (List ℕ) × List (List ℕ)) LineStop) : Type 0 where
-  pub is : (history : List Entry) → fold history ≡ world → HasComeAs after (serial_or seat history lines loads entries records) left
+  pub is : (history : List Entry) → fold history ≡ world → HasComeAs after (serial_from seat history lines loads entries records) left

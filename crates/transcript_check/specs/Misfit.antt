@@ -3,6 +3,7 @@
 use Rattle.std.specs.Prelude.{ℕ, ◌≡◌, ◌↔◌, ◌+◌, ◌-◌, List, [], ◌∷◌, ◌++◌, length, take, drop, Option, Some, None, Result, Ok, Err, if◌then◌else◌, bytes_eq}
 use Rattle.ide_io.specs.Files.{TreeFiles}
 use Rattle.write_history.specs.declared.entry.Entry.{Entry}
+use Rattle.script_lang.specs.Held.{all_lines}
 use Rattle.script_lang.specs.Parts.{Parts}
 use Rattle.transcripts.specs.declared.loaded.Loaded.{Loaded}
 use Rattle.transcripts.specs.Loads.{AreLoadsOf}
@@ -16,8 +17,7 @@ use Rattle.transcript_check.specs.Blocks.{blocks_of}
 use Rattle.transcript_check.specs.Texts.{history_line}
 use Rattle.transcript_check.specs.Phase.{Reached, cursors_of, after_lanes}
 use Rattle.transcript_check.specs.Checked.{Came, sides_of}
-use Rattle.transcript_check.specs.Verdict.{entries_among}
-use Rattle.transcript_check.specs.Stops.{serial_or, phase_or}
+use Rattle.transcript_check.specs.Stops.{serial_from, phase_from}
 
 -- the block of the first entry of those that are left of some
 abbrev pub entry_block : (entries : List (List ℕ)) → ℕ → ℕ
@@ -58,20 +58,24 @@ ends_or entries records (Ok came) = left_misfit entries records came.entries cam
 abbrev pub goes_on_or : Parts → (entries records : List (List ℕ)) → List Entry → List (List ℕ) → Result Reached SideStop → Option Misfit
 goes_on_or script entries records opening told (Err stop) = Some (side_misfit script entries records told stop)
 goes_on_or script entries records opening told (Ok reached) =
-    ends_or entries records (serial_or 0 (opening ++ reached.added) script.last [] reached.left (after_lanes script.lanes told))
+    ends_or entries records (serial_from 0 (opening ++ reached.added) script.last [] reached.left (after_lanes script.lanes told))
 
 -- lanes and workers go on from where the prelude came, or a line of it doesn't go
 abbrev pub begins_or : Parts → ℕ → (entries records : List (List ℕ)) → Result Came LineStop → Option Misfit
 begins_or script workers entries records (Err stop) = Some (line_misfit entries records 0 stop)
 begins_or script workers entries records (Ok came) =
     goes_on_or script entries records came.history came.records
-    (phase_or (sides_of script workers came.history) [] (cursors_of 1 script.lanes came.records) came.entries)
+    (phase_from (sides_of script workers came.history) [] (cursors_of 1 script.lanes came.records) came.entries)
 
--- The first misfit among the texts of entries and records, if there is one, as `are_checked` goes through them: prelude, then lanes and
--- workers side by side, then the last section
+-- The first misfit among the texts of entries and records of a run of the script with so many workers, if there is one, where this was read for
+-- its prelude: the prelude goes alone from the empty history, then lanes and workers side by side, then the last section alone
 abbrev pub misfit_among : List Loaded → Parts → ℕ → (entries records : List (List ℕ)) → Option Misfit
 misfit_among loads script workers entries records =
-    begins_or script workers entries records (serial_or 0 [] script.prelude loads entries records)
+    begins_or script workers entries records (serial_from 0 [] script.prelude loads entries records)
+
+-- how many of the blocks behind the first are those of entries: there is a record for each line of the script
+abbrev pub entries_among : Parts → List (List ℕ) → ℕ
+entries_among script others = length others - length (all_lines script)
 
 -- the first block tells so many entries, or is the misfit itself
 abbrev pub misfit_told : List Loaded → Parts → ℕ → (count : ℕ) (first : List ℕ) (others : List (List ℕ)) → Option Misfit

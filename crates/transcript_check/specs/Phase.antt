@@ -1,6 +1,6 @@
 -- Sections and workers side by side, entry by entry: each text of an entry says whose it is, and all else is computed.
 use Rattle.std.specs.Prelude.{ℕ, suc, ◌+◌, ◌==◌, ◌&&◌, nat_le, not, Bool, false, List, [], ◌∷◌, ◌++◌, map, length, take, drop, Option, Some, None, is_none, option_map, if◌then◌else◌, bytes_eq}
-use Rattle.std.specs.List.{list_any, list_all}
+use Rattle.std.specs.List.{list_any}
 use Rattle.std.specs.Option.{option_and_then}
 use Rattle.write_history.specs.declared.change.Change.{Change}
 use Rattle.write_history.specs.declared.change.Change.TheVariants.{Intake}
@@ -13,7 +13,7 @@ use Rattle.write_history.specs.Settle.{intake_entry}
 use Rattle.script_lang.specs.declared.line.Line.{Line}
 use Rattle.transcripts.specs.Fits.{made_by}
 use Rattle.transcript_check.specs.Reading.{seat_in, file_in}
-use Rattle.transcript_check.specs.Section.{Cursor, NextEntry, told_here, is_over, made_here}
+use Rattle.transcript_check.specs.Section.{Cursor, NextEntry, told_here, made_here}
 
 -- Who runs side by side behind a history: lanes with the seats from 1 on, workers with the seats behind them, and whether a lane has
 -- another lane or a worker beside it
@@ -98,19 +98,6 @@ all_told sides added cursors = map (told_here sides.beside (sides.before ++ adde
 pub record Reached : Type 0 where
   pub added : List Entry
   pub left : List (List ℕ)
-
--- all is over where each section has come to its end
-abbrev pub reached : List Entry → List Cursor → List (List ℕ) → Option Reached
-reached added cursors left = if list_all is_over cursors then Some (record { added = added; left = left }) else None
-
--- going on from these entries with the texts of the next ones, up to the first that is of no seat here
-abbrev pub phase_from : Sides → List Entry → List Cursor → List (List ℕ) → Option Reached
-phase_from sides added cursors [] = reached added (all_told sides added cursors) []
-phase_from sides added cursors (text ∷ texts) =
-    if is_seat sides (seat_in text)
-    then option_and_then (λ (w : Went). phase_from sides (added ++ w.entry ∷ []) w.cursors texts)
-    (next_went sides added (all_told sides added cursors) text)
-    else reached added (all_told sides added cursors) (text ∷ texts)
 
 -- lanes with their lines, the first of which has this seat, and with the texts of their records
 abbrev pub cursors_of : ℕ → List (List Line) → List (List ℕ) → List Cursor

@@ -1,4 +1,4 @@
--- Where going through a transcript stops: what `Checked` and `Phase` define, with a place where they give nothing.
+-- Going through a transcript, by a section alone or by sections and workers side by side: how far it comes, or where it stops.
 use Rattle.std.specs.Prelude.{ℕ, not, Bool, List, [], ◌∷◌, ◌++◌, length, Result, Ok, Err, if◌then◌else◌}
 use Rattle.std.specs.List.{find}
 use Rattle.std.specs.Option.{option_map_or}
@@ -18,14 +18,14 @@ use Rattle.transcript_check.specs.Checked.{Came, line_so}
 abbrev pub stops_at : ℕ → Line → (entries records : List (List ℕ)) → LineStop
 stops_at seat line entries records = record { seat = seat; line = line.number; entries = length entries; records = length records }
 
--- A section goes alone from a history on, line by line, as `serial_from` says; where that gives nothing, the first line that doesn't go
--- behind those before it
-abbrev pub serial_or : ℕ → List Entry → List Line → List Loaded → (entries records : List (List ℕ)) → Result Came LineStop
-serial_or seat history [] loads entries records = Ok (record { history = history; entries = entries; records = records })
-serial_or seat history (line ∷ lines) loads entries [] = Err (stops_at seat line entries [])
-serial_or seat history (line ∷ lines) loads entries (text ∷ records) =
+-- A section goes alone from a history on, line by line, where each record and each entry of it is printed so; else the first line that doesn't
+-- go behind those before it
+abbrev pub serial_from : ℕ → List Entry → List Line → List Loaded → (entries records : List (List ℕ)) → Result Came LineStop
+serial_from seat history [] loads entries records = Ok (record { history = history; entries = entries; records = records })
+serial_from seat history (line ∷ lines) loads entries [] = Err (stops_at seat line entries [])
+serial_from seat history (line ∷ lines) loads entries (text ∷ records) =
     option_map_or
-    (λ left. serial_or seat (history ++ (step_of (first_load loads) history seat line.number line.command).added) lines (later_loads loads) left records)
+    (λ left. serial_from seat (history ++ (step_of (first_load loads) history seat line.number line.command).added) lines (later_loads loads) left records)
     (line_so history seat line.number (step_of (first_load loads) history seat line.number line.command) text entries)
     (Err (stops_at seat line entries (text ∷ records)))
 
@@ -48,16 +48,16 @@ abbrev pub left_or : List Cursor → List (List ℕ) → Result (List (List ℕ)
 left_or cursors left = option_map_or (λ (c : Cursor). Err (side.Line (waits_at c left))) (find waits cursors) (Ok left)
 
 -- all is over where no section waits, else the first that does
-abbrev pub reached_or : List Entry → List Cursor → List (List ℕ) → Result Reached SideStop
-reached_or added cursors left =
+abbrev pub reached : List Entry → List Cursor → List (List ℕ) → Result Reached SideStop
+reached added cursors left =
     option_map_or (λ (c : Cursor). Err (side.Line (waits_at c left))) (find waits cursors) (Ok (record { added = added; left = left }))
 
--- Going on from these entries with the texts of the next ones, as `phase_from` says; where that gives nothing, the first entry that doesn't go
--- in behind those before it, or the first section that waits behind the last entry
-abbrev pub phase_or : Sides → List Entry → List Cursor → List (List ℕ) → Result Reached SideStop
-phase_or sides added cursors [] = reached_or added (all_told sides added cursors) []
-phase_or sides added cursors (text ∷ texts) =
+-- Going on from these entries with the texts of the next ones, up to the first that is of no seat here; else the first entry that doesn't go in
+-- behind those before it, or the first section that waits behind the last entry
+abbrev pub phase_from : Sides → List Entry → List Cursor → List (List ℕ) → Result Reached SideStop
+phase_from sides added cursors [] = reached added (all_told sides added cursors) []
+phase_from sides added cursors (text ∷ texts) =
     if is_seat sides (seat_in text)
-    then option_map_or (λ (w : Went). phase_or sides (added ++ w.entry ∷ []) w.cursors texts)
+    then option_map_or (λ (w : Went). phase_from sides (added ++ w.entry ∷ []) w.cursors texts)
     (next_went sides added (all_told sides added cursors) text) (Err (side.Entry (seat_in text) (length (text ∷ texts))))
-    else reached_or added (all_told sides added cursors) (text ∷ texts)
+    else reached added (all_told sides added cursors) (text ∷ texts)

@@ -11,14 +11,14 @@ ghost use Rattle.transcript_check.specs.Going.{HasReached};
 ghost use Rattle.transcript_check.specs.Phase.{cursors_of};
 ghost use Rattle.transcript_check.specs.Texts.{history_line};
 ghost use Rattle.transcripts.specs.Play.{IsTranscriptOf};
-ghost use Rattle.transcript_check.specs.Verdict.{Judges, entries_among, told_verdict};
-ghost use Rattle.transcript_check.specs.Misfit.{FindsMisfit, last_misfit, misfit_among, misfit_in, misfit_of};
+ghost use Rattle.transcript_check.specs.Verdict.{Judges, told_verdict};
+ghost use Rattle.transcript_check.specs.Misfit.{FindsMisfit, entries_among, last_misfit, misfit_among, misfit_in, misfit_of};
 
 use crate::alone::come_alone;
 use crate::block::Block;
 use crate::blocks::cut;
 use crate::lanes::{after_lanes, cursors_of};
-use crate::laws::a_verdict_is_good_for_transcripts_alone;
+use crate::laws::transcripts_alone_have_no_misfit;
 use crate::placing::{left_misfit, line_misfit, side_misfit};
 use crate::sides::reach;
 use crate::stop::{LineStop, SideStop};
@@ -111,7 +111,7 @@ fn judged(
     ensures none { IfOk result
         (λ found. (found ≡ None) ↔ IsTranscriptOf loads.now script.now workers bytes.now) }
 {
-    a_verdict_is_good_for_transcripts_alone();
+    transcripts_alone_have_no_misfit();
     script.is_of_script();
     misfit_of(alloc, script, workers, loads, bytes)
 }

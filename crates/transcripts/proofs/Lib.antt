@@ -1,4 +1,4 @@
 pub mod LoadsLemmas
 pub mod PrintLemmas
 pub mod SectionLemmas
-pub mod RunLemmas
+pub mod Words

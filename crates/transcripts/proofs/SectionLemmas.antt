@@ -1,74 +1,64 @@
--- A section that made all of a history behind its beginning was done as on one thread.
-use Rattle.std.proofs.Common.{ℕ, ◌≡◌, ◌+◌, ◌≤◌, ⊎_elim, true, false, List, [], ◌∷◌, ◌++◌, length, sym, ap, ◌∙◌, subst, append_assoc, length-append, arith}
-use Rattle.std.proofs.lemmas.List.{append-nil}
+-- A section that made all of a history behind its beginning was done as on one thread, and so was a run without lanes and workers.
+use Rattle.transcripts.proofs.Words.{ℕ, ◌≡◌, ◌⊎◌, inl, inr, ◌+◌, ◌≤◌, true, false, List, [], ◌∷◌, ◌++◌, length, All, refl, ap, ◌∙◌, append_assoc}
+use Rattle.transcripts.proofs.Words.{length-append, append-nil, arith, Entry, Line, Loaded}
+use Rattle.transcripts.specs.declared.record.Record.{Record}
+use Rattle.transcripts.specs.Serial.{RunEnd, done_from, later_loads, run_of}
+use Rattle.transcripts.specs.Fits.{Progress, progress_at, IsSeatOf, SectionFits, RunFits}
 use Rattle.list_laws.specs.Prefixes.{IsPrefix}
 use Rattle.list_laws.proofs.PrefixLemmas.{front_length, front_shorter, front_whole}
-use Rattle.write_history.specs.declared.entry.Entry.{Entry}
-use Rattle.script_lang.specs.declared.line.Line.{Line}
-use Rattle.transcripts.specs.declared.loaded.Loaded.{Loaded}
-use Rattle.transcripts.specs.declared.record.Answer.{Answer}
-use Rattle.transcripts.specs.declared.record.Record.{Record}
-use Rattle.transcripts.specs.Serial.{step_of, after_step, done_from, first_load, later_loads}
-use Rattle.transcripts.specs.Fits.{Progress, IsDone, IsGivenUp, Fits, SectionFits}
-
-false_true : false ≡ true → ⊥
-false_true h = cc
+use Rattle.script_lang.specs.Parts.{Parts}
 
 -- where nothing runs beside, each command was done
-pub done_alone : (history : List Entry) (seat : ℕ) (line : Line) (load : Loaded) (low : Progress) (own : List Entry) (answer : Answer) (high : Progress)
-    → Fits false history seat line load low own answer high → IsDone history seat line load low own answer high
-done_alone history seat line load low own answer high fits =
-    ⊎_elim (λ (done : IsDone history seat line load low own answer high). done)
-    (λ (given : (false ≡ true) × IsGivenUp seat line low own answer high). absurd (false_true given.0)) fits
+alone : {Done Other : Type 0} → Done ⊎ ((false ≡ true) × Other) → Done
+alone (inl done) = done
+alone (inr given) = absurd (cc (given.0))
 
 -- the entries of a section have room in the history behind what it had seen
-pub section_room : (history : List Entry) (seat : ℕ) (lines : List Line) (loads : List Loaded) (low high : Progress) (records : List Record) (own : List Entry)
+section_room : (history : List Entry) (seat : ℕ) (lines : List Line) (loads : List Loaded) (low high : Progress) (records : List Record) (own : List Entry)
     → low.seen ≤ length history → SectionFits false history seat low lines loads records own high → low.seen + length own ≤ length history
-section_room history seat [] loads low high records own within fits = let none : length own ≡ 0 = ap length fits.1 in omega arith
+section_room history seat [] loads low high records own within fits = rw fits.1 (omega arith)
 section_room history seat (line ∷ lines) loads low high records own within fits =
-    let done = done_alone history seat line (first_load loads) low fits.made fits.answer fits.between fits.first in
-    let own_is : length own ≡ length (fits.made ++ fits.made_later) = ap length fits.own_is in
-    let late : low.seen ≤ length done.start = done.late in
-    let seen : fits.between.seen ≡ length (done.start ++ fits.made) = done.seen in
+    let done = alone fits.first in
     let stands = front_length (done.start ++ fits.made) history done.stands in
-    let later = section_room history seat lines (later_loads loads) fits.between high fits.later fits.made_later (omega arith) fits.rest in
-    omega (arith, own_is, length-append fits.made fits.made_later, length-append done.start fits.made, later, late, seen)
-
--- the prefix behind which a command was done, where its section's entries are all that the history has behind `start`
-start_alone : (history start made later : List Entry) (prefix : List Entry) (seen : ℕ) → history ≡ start ++ (made ++ later) → IsPrefix (prefix ++ made) history
-    → length start ≤ length prefix → seen ≡ length (prefix ++ made) → seen + length later ≤ length history → prefix ≡ start
-start_alone history start made later prefix seen whole stands late is room =
-    let all : length history ≡ length (start ++ (made ++ later)) = ap length whole in
-    let same : length prefix ≡ length start =
-    omega (arith, all, length-append start (made ++ later), length-append made later, length-append prefix made, room, late, is) in
-    let front : IsPrefix prefix history = (made ++ stands.0, stands.1 ∙ append_assoc prefix made stands.0) in
-    front_whole prefix start (front_shorter prefix start history front (made ++ later, whole) (omega arith)) (omega arith)
+    let later = section_room history seat lines (later_loads loads) fits.between high fits.later fits.made_later (omega (arith, done.seen, stands)) fits.rest in
+    rw fits.own_is (omega (arith, length-append fits.made fits.made_later, length-append done.start fits.made, later, done.late, done.seen))
 
 -- a section whose entries are all that the history has behind `start`
 pub section_serial : (history : List Entry) (seat : ℕ) (lines : List Line) (loads : List Loaded) (low high : Progress) (earlier records : List Record)
     (start own : List Entry) → history ≡ start ++ own → low.seen ≡ length start → SectionFits false history seat low lines loads records own high
     → done_from seat (record { history = start; records = earlier }) lines loads ≡ record { history = history; records = earlier ++ records }
 section_serial history seat [] loads low high earlier records start own whole begins fits =
-    let same : start ≡ history = sym (whole ∙ (ap (λ es. start ++ es) fits.1 ∙ append-nil start)) in
-    let told : earlier ≡ earlier ++ records = sym (ap (λ rs. earlier ++ rs) fits.0 ∙ append-nil earlier) in
-    λ i. record { history = same i; records = told i }
+    rw (whole, fits.0, fits.1, append-nil start, append-nil earlier) refl
 section_serial history seat (line ∷ lines) loads low high earlier records start own whole begins fits =
-    let done = done_alone history seat line (first_load loads) low fits.made fits.answer fits.between fits.first in
+    let done = alone fits.first in
     let reply : Record = record { seat = seat; line = line.number; answer = fits.answer } in
-    let parts : history ≡ start ++ (fits.made ++ fits.made_later) = whole ∙ ap (λ es. start ++ es) fits.own_is in
-    let late : low.seen ≤ length done.start = done.late in
-    let seen : fits.between.seen ≡ length (done.start ++ fits.made) = done.seen in
+    let parts : history ≡ start ++ (fits.made ++ fits.made_later) = rw fits.own_is at whole in
     let stands = front_length (done.start ++ fits.made) history done.stands in
-    let room = section_room history seat lines (later_loads loads) fits.between high fits.later fits.made_later (omega arith) fits.rest in
-    let same : done.start ≡ start =
-    start_alone history start fits.made fits.made_later done.start fits.between.seen parts done.stands (omega arith) seen room in
-    let step : step_of (first_load loads) start seat line.number line.command ≡ record { added = fits.made; answer = fits.answer } =
-    subst (λ (es : List Entry). step_of (first_load loads) es seat line.number line.command ≡ record { added = fits.made; answer = fits.answer })
-    same done.step in
-    let between : fits.between.seen ≡ length (start ++ fits.made) = seen ∙ ap (λ (es : List Entry). length (es ++ fits.made)) same in
+    let room = section_room history seat lines (later_loads loads) fits.between high fits.later fits.made_later (omega (arith, done.seen, stands)) fits.rest in
+    let all : length history ≡ length start + (length fits.made + length fits.made_later) =
+    omega (arith, ap length parts, length-append start (fits.made ++ fits.made_later), length-append fits.made fits.made_later) in
+    let long : length done.start ≡ length start = omega (arith, all, length-append done.start fits.made, room, done.late, done.seen, begins) in
+    let front : IsPrefix done.start history = (fits.made ++ done.stands.0, done.stands.1 ∙ append_assoc done.start fits.made done.stands.0) in
+    let shorter = front_shorter done.start start history front (fits.made ++ fits.made_later, parts) (omega (arith, long)) in
+    let same : done.start ≡ start = front_whole done.start start shorter (omega (arith, long)) in
     let rest = section_serial history seat lines (later_loads loads) fits.between high (earlier ++ reply ∷ []) fits.later (start ++ fits.made) fits.made_later
-    (parts ∙ sym (append_assoc start fits.made fits.made_later)) between fits.rest in
-    let told : (earlier ++ reply ∷ []) ++ fits.later ≡ earlier ++ records =
-    append_assoc earlier (reply ∷ []) fits.later ∙ ap (λ rs. earlier ++ rs) (sym fits.records_are) in
-    ap (λ s. done_from seat (after_step (record { history = start; records = earlier }) seat line.number s) lines (later_loads loads)) step
-    ∙ (rest ∙ λ i. record { history = history; records = told i })
+    (rw (append_assoc start fits.made fits.made_later) parts) (rw same at done.seen) fits.rest in
+    rw (rw same at done.step, fits.records_are, ← append_assoc earlier (reply ∷ []) fits.later) rest
+
+-- where nobody has a seat there is no entry
+no_entry : (entries : List Entry) → All (λ (e : Entry). IsSeatOf 0 e.seat) entries → entries ≡ []
+no_entry [] seats = refl
+no_entry (entry ∷ entries) seats = let seat = seats 0 entry (omega arith) in absurd (omega (arith, seat.from, seat.to))
+
+-- a run with no lane and no worker
+pub run_serial : (loads : List Loaded) (script : Parts) (ended : RunEnd) → script.lanes ≡ [] → RunFits loads script [] ended → ended ≡ run_of loads script
+run_serial loads script ended none fits =
+    let middle = no_entry fits.middle (rw none at fits.seats) in
+    let opened : fits.opening ++ fits.middle ≡ fits.opening = rw middle (append-nil fits.opening) in
+    let lanes : fits.lanes_records ≡ [] = rw none at fits.lanes in
+    let told : ended.records ≡ fits.prelude_records = cc (fits.records, lanes, append-nil fits.prelude_records) in
+    let first =
+    section_serial fits.opening 0 script.prelude loads (progress_at 0) fits.prelude_end [] fits.prelude_records [] fits.opening refl refl fits.prelude in
+    let last = section_serial ended.history 0 script.last [] fits.last_begins fits.last_end [] ended.last fits.opening fits.closing
+    (rw opened at fits.history) (rw opened at fits.last_behind) fits.last in
+    rw (none, first, last, ← told) refl

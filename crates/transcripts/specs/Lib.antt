@@ -11,6 +11,7 @@ pub mod Play
 pub use Rattle.list_laws.specs.Prefixes
 pub use Rattle.script_lang.specs.Grammar
 pub use Rattle.query_engine.specs.Reply
+pub use Rattle.query_engine.specs.Inheritors
 pub use Rattle.write_history.specs.World
 pub use Rattle.write_history.specs.Effect
 pub use Rattle.write_history.specs.Fold

@@ -1,34 +1,15 @@
 -- The map from paths to ids against the rows, before and after a row took the place of another.
-use Rattle.std.proofs.Common.{◌≡◌, ℕ, ◌-◌, ◌<◌, zero, suc, Bool, true, false, cond, eqb, List, get_or, length, Some, None, refl, sym, ap, ◌∙◌, arith, ◌≤◌}
-use Rattle.std.proofs.Common.{ltb, ⊎_elim, set, subst}
-use Rattle.std.proofs.lemmas.Bool.Decides.{nat_tests}
-use Rattle.std.specs.Prelude.{Option, is_some, option_map, position, if◌then◌else◌, ◌==◌, IfSome}
-use Rattle.std.proofs.lemmas.Bool.{false≢true, eqb-true, eq-eqb, cases_lt, ltb-false}
-use Rattle.std.proofs.lemmas.List.Quantifiers.{position-Some}
-use Rattle.std.proofs.lemmas.List.Sums.{fails_before_first}
-use Rattle.std.specs.List.{position_or_len}
-use Rattle.std.specs.Cmp.Lexicographic.{same_text}
-use Rattle.std.proofs.lemmas.List.{set-set}
-use Rattle.list_laws.proofs.BoolLemmas.{bool_cases}
-use Rattle.vfs_core.specs.declared.row.FileRow.{FileRow}
-use Rattle.vfs_core.specs.Row.{row_in, has_path, id_in, IsStamped}
-use Rattle.vfs_core.specs.FilesView.{FilesView, row_of, id_at, MayHave}
-use Rattle.vfs_core.specs.Table.{id_kept, id_after}
-use Rattle.vfs_core.specs.Kept.{is_id}
-use Rattle.list_laws.proofs.RowLemmas.{past_all, live_inside}
+use Rattle.vfs_core.proofs.Words.{◌≡◌, ℕ, ◌-◌, zero, suc, Bool, true, false, cond, eqb, List, length, Some, None, refl, sym, ap, ◌∙◌, arith, ◌≤◌, ⊎_elim, set}
+use Rattle.vfs_core.proofs.Words.{subst, nat_tests, Option, is_some, option_map, position, if◌then◌else◌, ◌==◌, IfSome, false≢true, eqb-true, eq-eqb, cases_lt}
+use Rattle.vfs_core.proofs.Words.{position-Some, same_text, set-set, bool_cases, FileRow, row_in, has_path, id_in, IsStamped, MayHave, id_kept, id_after, is_id}
+use Rattle.vfs_core.proofs.Words.{past_all, live_inside, held, IsKept, Table}
+use Rattle.list_laws.proofs.PositionLemmas.{position-None}
+use Rattle.vfs_core.specs.declared.files.Files.TheInside.{Inside}
 
 -- an id is kept where it is the one
 pub is_id-Some : (id : ℕ) (kept : Option ℕ) → is_id id kept ≡ true → kept ≡ Some id
 is_id-Some id None is = absurd (false≢true is)
 is_id-Some id (Some k) is = ap Some (eqb-true k id is)
-
-none_of : (kept : Option ℕ) → ((id : ℕ) → is_id id kept ≡ false) → kept ≡ None
-none_of None all = refl
-none_of (Some k) all = absurd (false≢true (sym (all k) ∙ eq-eqb k k refl))
-
-option_cases : {X : Type 0} (o : Option X) {P : Type 0} → (o ≡ None → P) → ((x : X) → o ≡ Some x → P) → P
-option_cases None none some = none refl
-option_cases (Some x) none some = some x refl
 
 abbrev Rows : Type 0
 Rows = List (Option FileRow)
@@ -36,105 +17,65 @@ Rows = List (Option FileRow)
 abbrev IsFound : Rows → List ℕ → Option ℕ → Type 0
 IsFound rows path kept = (id : ℕ) → is_id id kept ≡ has_path path (row_in rows id)
 
--- no row has a path where none is the first
-none_has : (rows : Rows) (path : List ℕ) → position (has_path path) rows ≡ None
-    → (place : ℕ) → has_path path (get_or rows place None) ≡ false
-none_has rows path none place = ⊎_elim
-    (λ (inside : place < length rows). fails_before_first (has_path path) rows place None (omega (arith, inside, past)))
-    (λ (after : length rows ≤ place). ap (has_path path) (past_all rows place after))
-    (cases_lt place (length rows))
-  where
-    n : ℕ
-    n = position_or_len (has_path path) rows
+module _ (rows : Rows) (path : List ℕ) where
+  -- no row has a path where none is the first
+  none_has : position (has_path path) rows ≡ None → (id : ℕ) → has_path path (row_in rows id) ≡ false
+  none_has none zero = refl
+  none_has none (suc place) = ⊎_elim (position-None (has_path path) rows none place None) (λ past. ap (has_path path) (past_all rows place past))
+      (cases_lt place (length rows))
 
-    past : length rows ≤ n
-    past = bool_cases (ltb n (length rows)) (λ b. cond b (Some n) None ≡ None → length rows ≤ n)
-        (λ less some. absurd (false≢true (sym (ap is_some some))))
-        (λ not_less _. ltb-false n (length rows) not_less)
-        none
-
--- the id that is kept is that of the first row with the path
-pub kept_first : (rows : Rows) (path : List ℕ) (kept : Option ℕ) → IsFound rows path kept → kept ≡ id_in rows path
-kept_first rows path kept found = option_cases (position (has_path path) rows)
-    (λ none. none_of kept (λ id. found id ∙ by none id) ∙ sym (ap (option_map suc) none))
-    (λ place some.
-    is_id-Some (suc place) kept (found (suc place) ∙ (position-Some (has_path path) rows place None some).1) ∙ sym (ap (option_map suc) some))
-  where
-    by : position (has_path path) rows ≡ None → (id : ℕ) → has_path path (row_in rows id) ≡ false
-    by none zero = refl
-    by none (suc place) = none_has rows path none place
+  -- the id that is kept is that of the first row with the path
+  pub kept_first : (kept : Option ℕ) → IsFound rows path kept → kept ≡ id_in rows path
+  kept_first kept found = by kept found (position (has_path path) rows) refl
+    where
+      by : (kept : Option ℕ) → IsFound rows path kept → (first : Option ℕ) → position (has_path path) rows ≡ first → kept ≡ option_map suc first
+      by None found None none = refl
+      by (Some id) found None none = absurd (false≢true (sym (found id ∙ none_has none id) ∙ eq-eqb id id refl))
+      by kept found (Some place) some = is_id-Some (suc place) kept (found (suc place) ∙ (position-Some (has_path path) rows place None some).1)
 
 -- whether the id of a row is kept after a row took the place of another: where the new row's path is new, none was kept
-found_by : (kept : Option ℕ) (id other : ℕ) (come had has : Bool) → is_id id kept ≡ had → is_id other kept ≡ has
-    → (eqb id other ≡ true → had ≡ has) → (come ≡ true → had ≡ false → kept ≡ None)
-    → is_id other (cond come (Some id) (cond had None kept)) ≡ cond (eqb id other) come has
-found_by None id other come had has mine its same free = grind (arith, nat_tests, mine, its, same, free)
-found_by (Some k) id other come had has mine its same free = grind (arith, nat_tests, mine, its, same, free)
+found_by : (test : Option FileRow → Bool) (row old there : Option FileRow) (kept : Option ℕ) (id other : ℕ)
+    → is_id id kept ≡ test old → is_id other kept ≡ test there → (eqb id other ≡ true → test old ≡ test there)
+    → (test row ≡ true → test old ≡ false → kept ≡ None)
+    → is_id other (cond (test row) (Some id) (cond (test old) None kept)) ≡ test (cond (eqb id other) row there)
+found_by test row old there None id other mine its same free = grind (arith, nat_tests, mine, its, same, free)
+found_by test row old there (Some k) id other mine its same free = grind (arith, nat_tests, mine, its, same, free)
 
-abbrev Entries : Type 0
-Entries = List (List ℕ × Option ℕ)
+module _ (was : Inside) (rows : Table) (ids : List (List ℕ × Option ℕ)) (id : ℕ) where
+  -- what is free for a row, at each path that it has
+  free_path : (row : Option FileRow) (path : List ℕ) → IfSome row (λ r. MayHave (held was) id r.path)
+      → has_path path row ≡ true → has_path path (row_in was.rows.rows id) ≡ false → id_in was.rows.rows path ≡ None
+  free_path None path may has lacks = absurd (false≢true has)
+  free_path (Some r) path may has lacks = (subst (MayHave (held was) id) (same_text r.path path (sym has)) may lacks).0
 
--- all paths after a row took the place of another
-pub put_found : (rows rows' : Rows) (ids ids' : Entries) (id : ℕ) (row : Option FileRow)
-    → ((path : List ℕ) → IsFound rows path (id_kept path ids))
-    → ((other : ℕ) → row_in rows' other ≡ (if id == other then row else row_in rows other))
-    → ((path : List ℕ) → id_kept path ids' ≡ id_after id (row_in rows id) row path (id_kept path ids))
-    → ((path : List ℕ) → has_path path row ≡ true → has_path path (row_in rows id) ≡ false → id_in rows path ≡ None)
-    → (path : List ℕ) → IsFound rows' path (id_kept path ids')
-put_found rows rows' ids ids' id row found each kept free path other =
-    ap (is_id other) (kept path)
-    ∙ found_by (id_kept path ids) id other (has_path path row) _ _ (found path id) (found path other)
-    (λ e. ap (λ k. has_path path (row_in rows k)) (eqb-true id other e))
-    (λ has lacks. kept_first rows path (id_kept path ids) (found path) ∙ free path has lacks)
-    ∙ sym (ap (has_path path) (each other) ∙ by (eqb id other))
-  where
-    by : (b : Bool) → has_path path (cond b row (row_in rows other)) ≡ cond b (has_path path row) (has_path path (row_in rows other))
-    by true = refl
-    by false = refl
+  row_stamped : (row : Option FileRow) → IsKept was → IfSome row (λ r. IsStamped was.next_stamp (Some r)) → IsStamped was.next_stamp row
+  row_stamped None kept stamped = kept.stamped 0
+  row_stamped (Some r) kept stamped = stamped
 
--- what is free for a row, at each path that it has
-pub free_path : (held : FilesView) (id : ℕ) (row : Option FileRow) (path : List ℕ) → IfSome row (λ r. MayHave held id r.path)
-    → has_path path row ≡ true → has_path path (row_of held id) ≡ false → id_at held path ≡ None
-free_path held id None path may has lacks = absurd (false≢true has)
-free_path held id (Some r) path may has lacks = (subst (MayHave held id) (same_text r.path path (sym has)) may lacks).0
+  -- files are kept after a row took the place of another, and the paths followed
+  pub put_kept : (row : Option FileRow) → IsKept was → ((other : ℕ) → row_in rows.rows other ≡ (if id == other then row else row_in was.rows.rows other))
+      → ((path : List ℕ) → id_kept path ids ≡ id_after id (row_in was.rows.rows id) row path (id_kept path was.paths))
+      → IfSome row (λ r. MayHave (held was) id r.path) → IfSome row (λ r. IsStamped was.next_stamp (Some r))
+      → IsKept record { rows = rows; paths = ids; next_stamp = was.next_stamp }
+  put_kept row kept each follows may stamped = record {
+    found = λ path other. rw (follows path, each other) (found_by (has_path path) row _ _ (id_kept path was.paths) id other (kept.found path id)
+        (kept.found path other) (λ same. ap (λ k. has_path path (row_in was.rows.rows k)) (eqb-true id other same))
+        (λ has lacks. kept_first was.rows.rows path _ (kept.found path) ∙ free_path row path may has lacks));
+    stamped = λ other. rw (each other) (bool_cases (eqb id other) (λ b. IsStamped was.next_stamp (cond b row (row_in was.rows.rows other)))
+        (λ _. row_stamped row kept stamped) (λ _. kept.stamped other));
+  }
 
--- the stamps after a row took the place of another
-pub put_stamped : (rows rows' : Rows) (id next : ℕ) (row : Option FileRow)
-    → ((other : ℕ) → row_in rows' other ≡ (if id == other then row else row_in rows other))
-    → IsStamped next row → ((other : ℕ) → IsStamped next (row_in rows other)) → (other : ℕ) → IsStamped next (row_in rows' other)
-put_stamped rows rows' id next row each new all other =
-    subst (IsStamped next) (sym (each other)) (by (eqb id other))
-  where
-    by : (b : Bool) → IsStamped next (cond b row (row_in rows other))
-    by true = new
-    by false = all other
+module _ (rows between new : Rows) (id : ℕ) where
+  -- a row is taken out, and another put in its place
+  pub each_twice : (row : Option FileRow) → ((other : ℕ) → row_in between other ≡ (if id == other then None else row_in rows other))
+      → ((other : ℕ) → row_in new other ≡ (if id == other then row else row_in between other))
+      → (other : ℕ) → row_in new other ≡ (if id == other then row else row_in rows other)
+  each_twice row out into other = grind (arith, out other, into other)
 
-pub row_stamped : (next : ℕ) (row : Option FileRow) → 0 < next → IfSome row (λ r. IsStamped next (Some r)) → IsStamped next row
-row_stamped next None above some = record { stamp = above; indexed = above }
-row_stamped next (Some r) above some = some
-
--- a row is taken out, and another put in its place
-pub each_twice : (rows between rows' : Rows) (id : ℕ) (row : Option FileRow)
-    → ((other : ℕ) → row_in between other ≡ (if id == other then None else row_in rows other))
-    → ((other : ℕ) → row_in rows' other ≡ (if id == other then row else row_in between other))
-    → (other : ℕ) → row_in rows' other ≡ (if id == other then row else row_in rows other)
-each_twice rows between rows' id row out in' other = in' other ∙ ap (cond (eqb id other) row) (out other) ∙ by (eqb id other)
-  where
-    by : (b : Bool) → cond b row (cond b None (row_in rows other)) ≡ cond b row (row_in rows other)
-    by true = refl
-    by false = refl
-
--- the rows as they are then: those of before, with one changed
-pub set_twice : (seen rows between rows' : Rows) (id : ℕ) (change : FileRow → FileRow) (was new : FileRow)
-    → rows ≡ seen → row_in rows id ≡ Some was → new ≡ change was
-    → (id ≤ length rows → between ≡ set rows (id - 1) None) → (id ≤ length rows → length between ≡ length rows)
-    → (id ≤ length between → rows' ≡ set between (id - 1) (Some new))
-    → rows' ≡ set seen (id - 1) (option_map change (row_in seen id))
-set_twice seen rows between rows' id change was new same here made out long into =
-    let within = (live_inside rows id (ap is_some here)).1 in
-    into (omega (arith, within, long within))
-    ∙ ap (λ rs. set rs (id - 1) (Some new)) (out within)
-    ∙ set-set rows (id - 1) None (Some new)
-    ∙ ap (λ r. set rows (id - 1) (Some r)) made
-    ∙ ap (λ o. set rows (id - 1) (option_map change o)) (sym here)
-    ∙ ap (λ rs. set rs (id - 1) (option_map change (row_in rs id))) same
+  -- the rows as they are then: those of before, with one changed
+  pub set_twice : (change : FileRow → FileRow) (was : FileRow) → row_in rows id ≡ Some was
+      → (id ≤ length rows → between ≡ set rows (id - 1) None) → (id ≤ length rows → length between ≡ length rows)
+      → (id ≤ length between → new ≡ set between (id - 1) (Some (change was))) → new ≡ set rows (id - 1) (option_map change (row_in rows id))
+  set_twice change was here out long into =
+      let within = (live_inside rows id (ap is_some here)).1 in
+      rw here (into (omega (arith, within, long within)) ∙ rw (out within) (set-set rows (id - 1) None (Some (change was))))

@@ -1,3 +1,4 @@
 pub mod PutLemmas
 pub mod PathLemmas
 pub mod KeptLemmas
+pub mod Words

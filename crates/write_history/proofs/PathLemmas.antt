@@ -47,16 +47,14 @@ onto-one x (part ∷ parts) = refl
 split-front : (xs ys : List ℕ) → 0 < length xs → list_any (λ b. b == 47) xs ≡ false
     → slice_split (λ b. eqb b 47) (xs ++ ys) ≡ onto xs (slice_split (λ b. eqb b 47) ys)
 split-front [] ys some none = absurd (omega arith)
-split-front (x ∷ []) ys some none =
-    slice_split-cons_no (λ b. eqb b 47) x ys (or_parts _ _ none).0 ∙ onto-one x (slice_split (λ b. eqb b 47) ys)
+split-front (x ∷ []) ys some none = slice_split-cons_no (λ b. eqb b 47) x ys (or_parts _ _ none).0 ∙ onto-one x (slice_split (λ b. eqb b 47) ys)
 split-front (x ∷ x' ∷ xs) ys some none =
     slice_split-cons_no (λ b. eqb b 47) x ((x' ∷ xs) ++ ys) (or_parts _ _ none).0
     ∙ ap (onto_first x) (split-front (x' ∷ xs) ys (omega arith) (or_parts _ _ none).1)
     ∙ onto-onto_first x (x' ∷ xs) (slice_split (λ b. eqb b 47) ys)
 
 -- a part with one character more, in UTF-8
-map-onto_first : (c : ℕ) (parts : List (List ℕ))
-    → onto (encode_utf8 c) (map encode_utf8_all parts) ≡ map encode_utf8_all (onto_first c parts)
+map-onto_first : (c : ℕ) (parts : List (List ℕ)) → onto (encode_utf8 c) (map encode_utf8_all parts) ≡ map encode_utf8_all (onto_first c parts)
 map-onto_first c [] = ap (λ bs. bs ∷ []) (sym (append-nil (encode_utf8 c)))
 map-onto_first c (part ∷ parts) = refl
 

@@ -1,6 +1,4 @@
-use Rattle.std.proofs.Common.{◌≡◌, length}
-use Rattle.decl_parser.specs.Header.{without_annotations}
-use Rattle.decl_parser.specs.Rule.{first_identifier}
+use Rattle.decl_parser.proofs.Words.{◌≡◌, length, without_annotations, first_identifier}
 use Rattle.decl_parser.proofs.annotation.first_plain_identifier.Given as goal
 
 -- the nodes that are left decide

@@ -1,7 +1,4 @@
-use Rattle.std.proofs.Common.{◌≡◌, drop}
-use Rattle.std.specs.List.{list_any}
-use Rattle.decl_parser.specs.declared.role.Role.TheVariants.{At}
-use Rattle.decl_parser.specs.Forest.{is}
+use Rattle.decl_parser.proofs.Words.{◌≡◌, drop, list_any, At, is}
 use Rattle.decl_parser.proofs.annotation.has_at.Given as goal
 
 -- the nodes that are left decide

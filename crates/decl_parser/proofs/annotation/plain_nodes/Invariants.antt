@@ -1,5 +1,4 @@
-use Rattle.std.proofs.Common.{◌≡◌, ◌++◌, length}
-use Rattle.decl_parser.specs.Header.{without_annotations}
+use Rattle.decl_parser.proofs.Words.{◌≡◌, ◌++◌, length, without_annotations}
 use Rattle.decl_parser.proofs.annotation.plain_nodes.Given as goal
 
 -- the nodes so far and those that the rest leaves are all

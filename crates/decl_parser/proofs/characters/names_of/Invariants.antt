@@ -1,6 +1,4 @@
-use Rattle.std.proofs.Common.{◌≡◌, ◌++◌, drop}
-use Rattle.std.specs.Prelude.{map}
-use Rattle.decl_parser.specs.Node.{name_of}
+use Rattle.decl_parser.proofs.Words.{◌≡◌, ◌++◌, drop, map, name_of}
 use Rattle.decl_parser.proofs.characters.names_of.Given as goal
 
 -- the names so far and those of the rest are all

@@ -1,7 +1,4 @@
-use Rattle.std.proofs.Common.{◌≡◌, ◌≤◌, ◌-◌, drop}
-use Rattle.std.specs.Str.{bytes_eq}
-use Rattle.ide_text.specs.Text.{max_chars}
-use Rattle.decl_parser.specs.Node.{name_of}
+use Rattle.decl_parser.proofs.Words.{◌≡◌, ◌≤◌, ◌-◌, drop, bytes_eq, max_chars, name_of}
 use Rattle.decl_parser.proofs.characters.same_characters.Given as goal
 
 -- the characters that are left decide

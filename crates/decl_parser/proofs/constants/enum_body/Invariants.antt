@@ -1,6 +1,4 @@
-use Rattle.std.proofs.Common.{◌≡◌, ◌++◌, [], length}
-use Rattle.decl_parser.specs.Unit.{units_of, behind_semicolon}
-use Rattle.decl_parser.specs.Rule.{constants_after}
+use Rattle.decl_parser.proofs.Words.{◌≡◌, ◌++◌, [], length, units_of, behind_semicolon, constants_after}
 use Rattle.decl_parser.proofs.constants.enum_body.Given as goal
 
 -- the constants so far and those of the rest are all

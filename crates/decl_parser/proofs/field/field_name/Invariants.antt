@@ -1,6 +1,5 @@
-use Rattle.std.proofs.Common.{◌≡◌, drop, None}
-use Rattle.decl_parser.specs.declared.role.Role.TheVariants.{Other}
-use Rattle.decl_parser.specs.Rule.{field_after}
+use Rattle.decl_parser.proofs.Words.{◌≡◌, drop, Other, field_after}
+use Rattle.std.proofs.Common.{None}
 use Rattle.decl_parser.proofs.field.field_name.Given as goal
 
 -- the nodes that are left decide

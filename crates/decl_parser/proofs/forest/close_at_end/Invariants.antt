@@ -1,6 +1,4 @@
-use Rattle.std.proofs.Common.{◌≡◌, length}
-use Rattle.std.specs.Prelude.{vec_len}
-use Rattle.decl_parser.specs.Forest.{close_rest}
+use Rattle.decl_parser.proofs.Words.{◌≡◌, length, vec_len, close_rest}
 use Rattle.decl_parser.proofs.forest.close_at_end.Given as goal
 
 -- closing goes on as it began

@@ -1,6 +1,4 @@
-use Rattle.std.proofs.Common.{◌≡◌, length}
-use Rattle.std.specs.Prelude.{vec_len, vec_capacity}
-use Rattle.decl_parser.specs.Forest.{close}
+use Rattle.decl_parser.proofs.Words.{◌≡◌, length, vec_len, vec_capacity, close}
 use Rattle.decl_parser.proofs.forest.close_group.Given as goal
 
 -- closing goes on as it began, and changes nodes in place

@@ -1,7 +1,4 @@
-use Rattle.std.proofs.Common.{◌≡◌, ◌+◌, ◌≤◌, drop, length}
-use Rattle.std.specs.Prelude.{fold, vec_len, vec_capacity}
-use Rattle.ide_text.specs.Text.{max_chars}
-use Rattle.decl_parser.specs.Forest.{step, scan_of}
+use Rattle.decl_parser.proofs.Words.{◌≡◌, ◌+◌, ◌≤◌, drop, length, fold, vec_len, vec_capacity, max_chars, step, scan_of}
 use Rattle.decl_parser.proofs.forest.forest.Given as goal
 
 -- what the tokens that are left make of the nodes so far is the whole, and there is room for a node of each

@@ -1,11 +1,10 @@
-use Rattle.std.proofs.Common.{◌≡◌, ◌-◌, length, arith}
-use Rattle.decl_parser.proofs.ForestLemmas.{changed-set, changed-beyond}
+use Rattle.decl_parser.proofs.Words.{sized, common_steps, arith}
+use Rattle.decl_parser.proofs.Parts.{changed-set, changed-beyond}
 use Rattle.decl_parser.proofs.forest.set_size.Goals as goal
 
 pub returns-then-place-len-clause-size : goal.returns-then-place-len-clause-size
 returns-then-place-len-clause-size c =
-    let size : c.saturating_sub-size.result ≡ length c.args.nodes.now.items - c.args.place - 1 = omega arith in
-    rw (c.with_size.ensures, size) (changed-set _ c.args.nodes.now.items c.args.place _ c.index.ensures (omega arith))
+    grind (arith, common_steps, changed-set (sized c.saturating_sub-size.result) c.args.nodes.now.items c.args.place _ c.index.ensures)
 
 pub returns-else-place-len-clause-size : goal.returns-else-place-len-clause-size
 returns-else-place-len-clause-size c = changed-beyond _ c.args.nodes.now.items c.args.place (omega arith)

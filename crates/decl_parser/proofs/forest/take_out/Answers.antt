@@ -1,7 +1,5 @@
-use Rattle.std.proofs.Common.{arith}
-use Rattle.decl_parser.specs.declared.role.Role.TheVariants.{Lone}
-use Rattle.decl_parser.specs.Node.{in_role}
-use Rattle.decl_parser.proofs.ForestLemmas.{changed-set, changed-beyond}
+use Rattle.decl_parser.proofs.Words.{arith, Lone, in_role}
+use Rattle.decl_parser.proofs.Parts.{changed-set, changed-beyond}
 use Rattle.decl_parser.proofs.forest.take_out.Goals as goal
 
 pub returns-then-place-len-clause-role : goal.returns-then-place-len-clause-role

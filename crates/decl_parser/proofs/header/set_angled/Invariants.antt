@@ -1,5 +1,4 @@
-use Rattle.std.proofs.Common.{◌≡◌, ◌≤◌, ◌++◌, take, drop, length}
-use Rattle.decl_parser.specs.Header.{angled_after}
+use Rattle.decl_parser.proofs.Words.{◌≡◌, ◌≤◌, ◌++◌, take, drop, length, angled_after}
 use Rattle.decl_parser.proofs.header.set_angled.Given as goal
 
 -- the nodes so far and what becomes of the rest are all

@@ -1,5 +1,4 @@
-use Rattle.std.proofs.Common.{◌≡◌, ◌≤◌, ◌+◌, length}
-use Rattle.decl_parser.specs.Unit.{units_of, items_of, items_from}
+use Rattle.decl_parser.proofs.Words.{◌≡◌, ◌≤◌, ◌+◌, length, units_of, items_of, items_from}
 use Rattle.decl_parser.proofs.item.first_item.Given as goal
 
 -- the header so far and the units that are left give the items

@@ -1,4 +1,4 @@
-use Rattle.decl_parser.proofs.ForestLemmas.{forest-comments}
+use Rattle.decl_parser.proofs.Parts.{forest-comments}
 use Rattle.decl_parser.proofs.laws.comments_count_for_nothing.Goals as goal
 
 pub returns : goal.returns

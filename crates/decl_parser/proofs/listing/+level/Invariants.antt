@@ -1,8 +1,4 @@
-use Rattle.std.proofs.Common.{◌≡◌, ◌++◌, ◌+◌, ◌-◌, ◌*◌, length}
-use Rattle.std.specs.List.{flat_map}
-use Rattle.stub_tree.specs.Lawful.{max_depth}
-use Rattle.decl_parser.specs.Unit.{units_of, items_of}
-use Rattle.decl_parser.specs.Listing.{item_stubs, stubs_at}
+use Rattle.decl_parser.proofs.Words.{◌≡◌, ◌++◌, ◌+◌, ◌-◌, ◌*◌, length, flat_map, max_depth, units_of, items_of, item_stubs, stubs_at}
 use Rattle.decl_parser.proofs.listing.+level.Given as goal
 
 abbrev pub decreases-add_item : goal.decreases-add_item

@@ -1,6 +1,4 @@
-use Rattle.std.proofs.Common.{◌≡◌, ◌++◌, drop}
-use Rattle.std.specs.Prelude.{map}
-use Rattle.decl_parser.specs.Listing.{constant_stub}
+use Rattle.decl_parser.proofs.Words.{◌≡◌, ◌++◌, drop, map, constant_stub}
 use Rattle.decl_parser.proofs.listing.push_constants.Given as goal
 
 -- the stubs so far and those of the rest are all

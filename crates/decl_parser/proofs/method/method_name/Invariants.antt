@@ -1,5 +1,4 @@
-use Rattle.std.proofs.Common.{◌≡◌, length, true}
-use Rattle.decl_parser.specs.Rule.{method_after}
+use Rattle.decl_parser.proofs.Words.{◌≡◌, length, true, method_after}
 use Rattle.decl_parser.proofs.method.method_name.Given as goal
 
 -- the nodes that are left decide

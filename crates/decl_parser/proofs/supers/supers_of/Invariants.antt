@@ -1,5 +1,4 @@
-use Rattle.std.proofs.Common.{◌≡◌, ◌++◌, drop}
-use Rattle.decl_parser.specs.Rule.{supers_of, supers_after}
+use Rattle.decl_parser.proofs.Words.{◌≡◌, ◌++◌, drop, supers_of, supers_after}
 use Rattle.decl_parser.proofs.supers.supers_of.Given as goal
 
 -- the supers so far and those of the rest are all

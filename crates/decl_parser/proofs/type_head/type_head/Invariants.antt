@@ -1,5 +1,4 @@
-use Rattle.std.proofs.Common.{◌≡◌, length}
-use Rattle.decl_parser.specs.Rule.{type_head, type_after}
+use Rattle.decl_parser.proofs.Words.{◌≡◌, length, type_head, type_after}
 use Rattle.decl_parser.proofs.type_head.type_head.Given as goal
 
 -- the nodes that are left decide

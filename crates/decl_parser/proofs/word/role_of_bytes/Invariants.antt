@@ -1,5 +1,4 @@
-use Rattle.std.proofs.Common.{◌≡◌, drop}
-use Rattle.decl_parser.specs.Role.{role_among}
+use Rattle.decl_parser.proofs.Words.{◌≡◌, drop, role_among}
 use Rattle.decl_parser.proofs.word.role_of_bytes.Given as goal
 
 -- the words that are left decide

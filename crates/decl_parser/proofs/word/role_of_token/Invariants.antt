@@ -1,6 +1,4 @@
-use Rattle.std.proofs.Common.{◌≡◌, drop}
-use Rattle.java_tokens.specs.Tokens.{characters_of}
-use Rattle.decl_parser.specs.Role.{role_among}
+use Rattle.decl_parser.proofs.Words.{◌≡◌, drop, characters_of, role_among}
 use Rattle.decl_parser.proofs.word.role_of_token.Given as goal
 
 -- the words that are left decide

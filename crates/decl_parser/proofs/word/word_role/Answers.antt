@@ -1,5 +1,4 @@
-use Rattle.std.proofs.Common.{◌≡◌, ◌+◌, [], ◌∙◌, refl, arith}
-use Rattle.list_laws.proofs.PartLemmas.{drop-part}
+use Rattle.decl_parser.proofs.Words.{◌≡◌, ◌+◌, [], ◌∙◌, refl, arith, drop-part}
 use Rattle.decl_parser.specs.Role.{is_marked}
 use Rattle.decl_parser.proofs.RoleLemmas.{word_role-plain, role_among-word_role}
 use Rattle.decl_parser.proofs.word.word_role.Goals as goal

@@ -5,5 +5,4 @@ use Rattle.demo.proofs.commands.create_commands.Given as goal
 
 -- the commands so far, and the state after their draws
 abbrev pub invariant-loop-before : goal.invariant-loop-before
-invariant-loop-before l =
-    (l.commands.items ≡ creates l.fn.draws.state l.before) × (l.draws.state ≡ state_after l.fn.draws.state l.before)
+invariant-loop-before l = (l.commands.items ≡ creates l.fn.draws.state l.before) × (l.draws.state ≡ state_after l.fn.draws.state l.before)

@@ -1,4 +1,4 @@
-use Rattle.demo.proofs.LengthLemmas.{length-creates, length-edits}
+use Rattle.demo.proofs.ScriptLemmas.{length-creates, length-edits}
 use Rattle.demo.proofs.laws.demos_have_their_commands.Goals as goal
 
 pub returns : goal.returns

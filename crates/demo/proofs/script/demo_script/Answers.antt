@@ -1,4 +1,4 @@
-use Rattle.demo.proofs.LengthLemmas.{demo-short}
+use Rattle.demo.proofs.ScriptLemmas.{demo-short}
 use Rattle.demo.proofs.script.demo_script.Goals as goal
 
 pub returns-clause-fits : goal.returns-clause-fits

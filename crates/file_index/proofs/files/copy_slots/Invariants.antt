@@ -1,4 +1,4 @@
-use Rattle.std.proofs.Common.{◌≡◌, ◌++◌, drop}
+use Rattle.file_index.proofs.Words.{◌≡◌, ◌++◌, drop}
 use Rattle.file_index.proofs.files.copy_slots.Given as goal
 
 -- the copies so far and the rest are all

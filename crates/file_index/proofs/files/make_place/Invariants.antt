@@ -1,5 +1,4 @@
-use Rattle.std.proofs.Common.{◌≡◌, length}
-use Rattle.file_index.specs.Slots.{standing}
+use Rattle.file_index.proofs.Words.{◌≡◌, length, standing}
 use Rattle.file_index.proofs.files.make_place.Given as goal
 
 -- nothing stands anywhere else, and there are as many places as were counted

@@ -1,5 +1,4 @@
-use Rattle.std.proofs.lemmas.List.Sorted.{searched}
-use Rattle.std.proofs.lemmas.Map.Keys.{non_decreasing_from_sorted}
+use Rattle.file_index.proofs.Words.{searched, non_decreasing_from_sorted}
 use Rattle.file_index.proofs.ids.place_among.Goals as goal
 
 pub returns : goal.returns

@@ -1,8 +1,4 @@
-use Rattle.std.proofs.Common.{◌≡◌, ℕ, ◌&&◌, take}
-use Rattle.std.specs.Prelude.{not, ◌==◌}
-use Rattle.file_index.specs.KeyRows.{has_key}
-use Rattle.file_index.specs.Rows.{rows_in_file}
-use Rattle.file_index.specs.Places.{is_placed}
+use Rattle.file_index.proofs.Words.{◌≡◌, ℕ, ◌&&◌, take, not, ◌==◌, has_key, rows_in_file, is_placed}
 use Rattle.file_index.proofs.inverted.take_out_all.Given as goal
 
 -- the file was taken out from under the keys of the rows so far

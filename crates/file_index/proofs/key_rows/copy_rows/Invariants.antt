@@ -1,4 +1,4 @@
-use Rattle.std.proofs.Common.{◌≡◌, take}
+use Rattle.file_index.proofs.Words.{◌≡◌, take}
 use Rattle.file_index.proofs.key_rows.copy_rows.Given as goal
 
 -- the copies so far are the first rows

@@ -1,11 +1,8 @@
-use Rattle.std.proofs.Common.{rules, arith}
-use Rattle.std.specs.Ordering.{is_le}
-use Rattle.std.proofs.lemmas.List.Sorted.{IsPartitionPoint-from_clause}
+use Rattle.file_index.proofs.Words.{rules, arith, is_le, IsPartitionPoint-from_clause}
 use Rattle.file_index.proofs.KeyRowLemmas.{parted}
 use Rattle.file_index.proofs.key_rows.first_after.Goals as goal
 
 pub returns-clause-parts : goal.returns-clause-parts
 returns-clause-parts g c =
     let parts = parted g.K.Ord.cmp g.V.Rank.rank_of g.met.K.Ord.total c.args.rows.now c.args.key.now is_le (λ r s le e. grind arith) c.requires in
-    IsPartitionPoint-from_clause (λ row. is_le (g.K.Ord.cmp row.0 c.args.key.now)) c.args.rows.now c.partition_point.result
-    c.partition_point.ensures.partitioned parts (λ a r f called. search rules)
+    IsPartitionPoint-from_clause (λ row. is_le (g.K.Ord.cmp row.0 c.args.key.now)) _ _ c.partition_point.ensures.partitioned parts (λ a r f call. search rules)

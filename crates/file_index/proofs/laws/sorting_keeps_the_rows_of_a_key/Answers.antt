@@ -1,4 +1,4 @@
-use Rattle.file_index.proofs.SortLemmas.{by_keys_under}
+use Rattle.file_index.proofs.KeyRowLemmas.{by_keys_under}
 use Rattle.file_index.proofs.laws.sorting_keeps_the_rows_of_a_key.Goals as goal
 
 pub returns : goal.returns

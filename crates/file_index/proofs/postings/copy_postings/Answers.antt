@@ -1,12 +1,5 @@
-use Rattle.std.proofs.Common.{◌≡◌, [], ◌∷◌, None, map, refl, ap, ◌∙◌, rules}
-use Rattle.std.specs.Map.{lookup}
-use Rattle.std.specs.Map.Iter.{deref_pair}
-use Rattle.std.specs.Option.{unwrap_or}
-use Rattle.std.proofs.lemmas.List.{map-append}
-use Rattle.std.proofs.lemmas.Map.{update_all_push}
-use Rattle.std.proofs.lemmas.Map.Iter.{iter_end}
-use Rattle.std.proofs.lemmas.Map.Made.{update_all_none}
-use Rattle.file_index.specs.Places.{has_id}
+use Rattle.file_index.proofs.Words.{◌≡◌, [], ◌∷◌, None, map, refl, ap, ◌∙◌, rules, lookup, deref_pair, unwrap_or, map-append, update_all_push, iter_end}
+use Rattle.file_index.proofs.Words.{update_all_none, has_id}
 use Rattle.file_index.proofs.postings.copy_postings.Goals as goal
 
 pub loop-key-preserved : goal.loop-key-preserved

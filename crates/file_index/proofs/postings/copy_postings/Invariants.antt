@@ -1,6 +1,4 @@
-use Rattle.std.proofs.Common.{◌≡◌, None, map}
-use Rattle.std.specs.Map.{update_all, lookup}
-use Rattle.std.specs.Map.Iter.{deref_pair}
+use Rattle.file_index.proofs.Words.{◌≡◌, None, map, update_all, lookup, deref_pair}
 use Rattle.file_index.proofs.postings.copy_postings.Given as goal
 
 -- the keys so far were put in, one after another

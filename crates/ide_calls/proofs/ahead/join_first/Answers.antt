@@ -1,6 +1,5 @@
-use Rattle.std.proofs.Common.{map}
-use Rattle.ide_calls.specs.Intake.{task_of_made}
-use Rattle.ide_calls.proofs.AheadLemmas.{joined}
+use Rattle.ide_calls.proofs.Words.{map, task_of_made}
+use Rattle.ide_calls.proofs.SettleLemmas.{joined}
 use Rattle.ide_calls.proofs.ahead.join_first.Goals as goal
 
 pub returns : goal.returns

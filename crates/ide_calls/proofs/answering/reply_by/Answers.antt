@@ -1,4 +1,4 @@
-use Rattle.std.proofs.Common.{ℕ, subst}
+use Rattle.ide_calls.proofs.Words.{ℕ, subst}
 use Rattle.action_lock.specs.Counts.{HasRisen}
 use Rattle.ide_calls.proofs.answering.reply_by.Goals as goal
 

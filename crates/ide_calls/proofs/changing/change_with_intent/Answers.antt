@@ -1,17 +1,16 @@
-use Rattle.std.proofs.Common.{rules}
-use Rattle.action_lock.specs.Passes.{view_of}
+use Rattle.ide_calls.proofs.Words.{rules, view_of}
 use Rattle.ide_calls.proofs.ChangeLemmas.{has_accepted, has_left, one_made, is_refused}
 use Rattle.ide_calls.proofs.changing.change_with_intent.Goals as goal
 
 pub returns-in-Ok-clause-accepted : goal.returns-in-Ok-clause-accepted
 returns-in-Ok-clause-accepted g c =
     let planned = c.in_ok-planned.ensures.ok in
-    has_accepted _ (view_of c.plan.new.pass) _ c.args.entry.seat _ _ _ c.requires.own
-    planned.read planned.is.makes.accepted planned.is.is_at c.in-Ok.ensures.ok c.in-Ok.ensures.legal c.in-Ok.ensures.advances
+    has_accepted _ (view_of c.plan.new.pass) _ c.args.entry planned.read c.in-Ok.ensures.ok _ c.requires.own planned.is.makes.accepted planned.is.is_at
+    c.in-Ok.ensures.legal c.in-Ok.ensures.advances
 
 pub returns-in-Ok-clause-unready : goal.returns-in-Ok-clause-unready
 returns-in-Ok-clause-unready g c =
-    has_left (view_of c.plan.new.pass) _ c.args.entry.seat _ _ _ c.in-Ok.ensures.ok c.in-Ok.ensures.unready
+    has_left _ (view_of c.plan.new.pass) _ c.args.entry c.in_ok-planned.ensures.ok.read c.in-Ok.ensures.ok _ c.in-Ok.ensures.unready
 
 pub returns-in_err-planned-clause-refused : goal.returns-in_err-planned-clause-refused
 returns-in_err-planned-clause-refused g c =

@@ -1,17 +1,11 @@
-use Rattle.std.proofs.Common.{◌≡◌, sym, ap, ◌∙◌}
-use Rattle.std.specs.Prelude.{option_map}
-use Rattle.std.specs.Option.{option_and_then}
-use Rattle.std.proofs.lemmas.Result.{IfOk-weaker}
-use Rattle.write_history.specs.World.{World}
-use Rattle.ide_world.specs.Task.{task_with_id}
-use Rattle.ide_world.specs.Unready.{first_unready_from}
-use Rattle.ide_calls.specs.Choice.{IsChoice, task_of_job}
-use Rattle.ide_calls.proofs.ChoiceLemmas.{hint_taken, hint_passed, next_chosen}
+use Rattle.ide_calls.proofs.Words.{◌≡◌, sym, ap, ◌∙◌, option_map, option_and_then, IfOk-weaker, World, task_with_id, first_unready_from, IsChoice, task_of_job}
+use Rattle.ide_calls.proofs.StepLemmas.{hint_taken, hint_passed, next_chosen}
 use Rattle.ide_calls.proofs.choice.find_work.Goals as goal
 
 pub returns-in-Some : goal.returns-in-Some
 returns-in-Some c =
-    hint_taken c.args.state.now.world c.args.seat c.args.hint (task_of_job c.in-Some.found) (ap (option_map task_of_job) (sym c.in-Some.is) ∙ c.in_ok-found.ensures)
+    hint_taken c.args.state.now.world c.args.seat c.args.hint (task_of_job c.in-Some.found)
+    (ap (option_map task_of_job) (sym c.in-Some.is) ∙ c.in_ok-found.ensures)
 
 pub returns : goal.returns
 returns c =

@@ -1,6 +1,5 @@
-use Rattle.std.proofs.Common.{◌∙◌}
-use Rattle.ide_calls.specs.Intake.{task_of_made}
-use Rattle.ide_calls.proofs.ReadLemmas.{work_stays}
+use Rattle.ide_calls.proofs.Words.{◌∙◌, task_of_made}
+use Rattle.ide_calls.proofs.MadeLemmas.{work_stays}
 use Rattle.ide_calls.proofs.intake.judge_with_intent.Goals as goal
 
 pub judge-judged-requires : goal.judge-judged-requires

@@ -1,4 +1,4 @@
-use Rattle.ide_calls.proofs.AheadLemmas.{goes_not}
+use Rattle.ide_calls.proofs.SettleLemmas.{goes_not}
 use Rattle.ide_calls.proofs.lowest.prepare_lowest.Goals as goal
 
 pub returns-in_default-clause-ahead : goal.returns-in_default-clause-ahead

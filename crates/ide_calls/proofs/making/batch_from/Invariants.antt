@@ -1,7 +1,4 @@
-use Rattle.std.proofs.Common.{map}
-use Rattle.std.specs.List.{All}
-use Rattle.ide_calls.specs.Ahead.{IsTask}
-use Rattle.ide_calls.specs.Choice.{task_of_job}
+use Rattle.ide_calls.proofs.Words.{map, All, IsTask, task_of_job}
 use Rattle.ide_calls.proofs.making.batch_from.Given as goal
 
 abbrev pub invariant-loop : goal.invariant-loop

@@ -1,7 +1,5 @@
-use Rattle.std.proofs.Common.{◌≡◌, ◌++◌, map}
+use Rattle.ide_calls.proofs.Words.{◌≡◌, ◌++◌, map, task_of_job, task_of_made}
 use Rattle.std.specs.Vec.Iter.{into_iter_items}
-use Rattle.ide_calls.specs.Choice.{task_of_job}
-use Rattle.ide_calls.specs.Intake.{task_of_made}
 use Rattle.ide_calls.proofs.making.make_all.Given as goal
 
 abbrev pub invariant-loop-job : goal.invariant-loop-job

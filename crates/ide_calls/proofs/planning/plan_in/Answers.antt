@@ -1,7 +1,5 @@
-use Rattle.std.proofs.Common.{rules, ◌≡◌, ap, subst}
+use Rattle.ide_calls.proofs.Words.{rules, ◌≡◌, ap, subst, is_want_of_memory, IsFirstAccepted}
 use Rattle.write_history.specs.declared.refusal.Refusal.TheVariants.{OutOfMemory}
-use Rattle.write_history.specs.Effect.{is_want_of_memory}
-use Rattle.ide_world.specs.Ready.{IsFirstAccepted}
 use Rattle.ide_calls.proofs.planning.plan_in.Goals as goal
 
 pub returns-in-Err-clause-refused : goal.returns-in-Err-clause-refused

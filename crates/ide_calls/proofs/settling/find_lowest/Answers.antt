@@ -1,7 +1,5 @@
-use Rattle.std.proofs.Common.{rules, ◌∙◌, ap}
-use Rattle.action_lock.specs.declared.view.View.{View}
-use Rattle.write_history.specs.declared.entry.Entry.{Entry}
-use Rattle.ide_calls.proofs.AheadLemmas.{still_ahead}
+use Rattle.ide_calls.proofs.Words.{rules, ◌∙◌, ap, View, Entry}
+use Rattle.ide_calls.proofs.SettleLemmas.{still_ahead}
 use Rattle.ide_calls.proofs.settling.find_lowest.Goals as goal
 
 pub returns-clause-ahead : goal.returns-clause-ahead

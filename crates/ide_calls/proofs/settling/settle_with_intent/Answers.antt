@@ -1,7 +1,6 @@
-use Rattle.std.proofs.Common.{◌∙◌, Some, None}
-use Rattle.lock_laws.proofs.AdvanceLemmas.{advances_on}
+use Rattle.ide_calls.proofs.Words.{◌∙◌, Some, None, advances_on}
+use Rattle.ide_calls.proofs.SettleLemmas.{smart_on, end_on, nothing_yet, turn_on, part_on}
 use Rattle.write_history.specs.declared.refusal.Refusal.TheVariants as why
-use Rattle.ide_calls.proofs.TurnLemmas.{smart_on, end_on, nothing_yet, turn_on, part_on}
 use Rattle.ide_calls.proofs.settling.settle_with_intent.Goals as goal
 
 pub loop-preserved : goal.loop-preserved

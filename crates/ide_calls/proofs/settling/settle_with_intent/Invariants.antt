@@ -1,12 +1,4 @@
-use Rattle.std.proofs.Common.{◌≡◌, Some, Option}
-use Rattle.std.specs.List.{All}
-use Rattle.action_lock.specs.declared.view.View.{View}
-use Rattle.action_lock.specs.Advances.{Advances}
-use Rattle.action_lock.specs.Passes.{view_of, IsSamePass, Intends}
-use Rattle.write_history.specs.declared.entry.Entry.{Entry}
-use Rattle.write_history.specs.declared.refusal.Refusal.{Refusal}
-use Rattle.ide_calls.specs.Ahead.{StaysOfWorld}
-use Rattle.ide_calls.specs.Turn.{HasGoneOn, HasGonePartly}
+use Rattle.ide_calls.proofs.Words.{◌≡◌, Some, Option, All, View, Advances, view_of, IsSamePass, Intends, Entry, Refusal, StaysOfWorld, HasGoneOn, HasGonePartly}
 use Rattle.ide_calls.proofs.settling.settle_with_intent.Given as goal
 
 -- what a settle from here leads to is what it leads to from the start

@@ -1,4 +1,4 @@
-use Rattle.ide_calls.proofs.ReadLemmas.{found_softly, is_replied}
+use Rattle.ide_calls.proofs.MadeLemmas.{found_softly, is_replied}
 use Rattle.ide_calls.proofs.soft_asking.soft_ask.Goals as goal
 
 pub returns-in-Ok-clause-ok : goal.returns-in-Ok-clause-ok

@@ -1,7 +1,4 @@
-use Rattle.std.proofs.Common.{◌≡◌, rules, ap, sym, subst, ◌∙◌}
-use Rattle.write_history.specs.Fold.{IsLegal}
-use Rattle.action_lock.specs.Passes.{view_of}
-use Rattle.action_lock.specs.Steps.{finished}
+use Rattle.ide_calls.proofs.Words.{◌≡◌, rules, ap, sym, subst, ◌∙◌, IsLegal, view_of, finished}
 use Rattle.ide_calls.proofs.ChangeLemmas.{few_own}
 use Rattle.ide_calls.proofs.writing.write_entry.Given.{Over}
 use Rattle.ide_calls.proofs.writing.write_entry.Goals as goal

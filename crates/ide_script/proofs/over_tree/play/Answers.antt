@@ -1,5 +1,5 @@
-use Rattle.std.proofs.Common.{rules}
-use Rattle.ide_script.proofs.RunLemmas.{plays_so}
+use Rattle.std.proofs.lemmas.List.{nil_from_length}
+use Rattle.ide_script.proofs.RunLemmas.{◌∙◌, PlaysWith, rules}
 use Rattle.ide_script.proofs.over_tree.play.Goals as goal
 
 pub returns-in_err-loads-clause-asks_some : goal.returns-in_err-loads-clause-asks_some
@@ -7,4 +7,8 @@ returns-in_err-loads-clause-asks_some g c = λ failed. c.read_loads_of.ensures.a
 
 pub returns-clause-plays : goal.returns-clause-plays
 returns-clause-plays g c =
-    plays_so c.a_run_alone_is_serial.ensures _ c.deref.result.now _ _ _ _ (search rules) (search rules) (search rules)
+    let count = c.in_ok-play.ensures.workers in
+    let fits = c.in_ok-play.ensures.fits in
+    let leads : PlaysWith _ _ _ _ _ =
+    record { count = count; fits = fits; alone = λ lanes none. c.a_run_alone_is_serial.ensures _ _ _ lanes (rw (nil_from_length _ (count ∙ none)) at fits) } in
+    record { loads = _; read = search rules; leads = leads }

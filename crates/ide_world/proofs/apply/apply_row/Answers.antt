@@ -1,5 +1,4 @@
-use Rattle.std.proofs.Common.{ap, length, ◌∙◌}
-use Rattle.list_laws.proofs.RowLemmas.{length-with_row}
+use Rattle.ide_world.proofs.Words.{ap, length, ◌∙◌, length-with_row}
 use Rattle.ide_world.proofs.apply.apply_row.Goals as goal
 
 pub returns-in-Put-clause-made : goal.returns-in-Put-clause-made

@@ -1,5 +1,4 @@
-use Rattle.ide_world.proofs.BuildLemmas.{is_file_at}
-use Rattle.ide_world.proofs.KindLemmas.{close_builds}
+use Rattle.ide_world.proofs.KindLemmas.{is_file_at, close_builds}
 use Rattle.ide_world.proofs.documents.closed.Goals as goal
 
 pub returns : goal.returns

@@ -1,5 +1,4 @@
-use Rattle.ide_world.proofs.BuildLemmas.{is_file_at}
-use Rattle.ide_world.proofs.KindLemmas.{open_builds}
+use Rattle.ide_world.proofs.KindLemmas.{is_file_at, open_builds}
 use Rattle.ide_world.proofs.documents.opened.Goals as goal
 
 pub returns : goal.returns

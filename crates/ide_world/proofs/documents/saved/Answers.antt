@@ -1,6 +1,5 @@
-use Rattle.std.proofs.Common.{◌∙◌, sym}
-use Rattle.ide_world.proofs.BuildLemmas.{is_file_at}
-use Rattle.ide_world.proofs.KindLemmas.{save_builds}
+use Rattle.ide_world.proofs.Words.{◌∙◌, sym}
+use Rattle.ide_world.proofs.KindLemmas.{is_file_at, save_builds}
 use Rattle.ide_world.proofs.documents.saved.Goals as goal
 
 pub returns : goal.returns

@@ -1,5 +1,4 @@
-use Rattle.ide_world.proofs.BuildLemmas.{is_file_at}
-use Rattle.ide_world.proofs.KindLemmas.{move_builds}
+use Rattle.ide_world.proofs.KindLemmas.{is_file_at, move_builds}
 use Rattle.ide_world.proofs.files.moved.Goals as goal
 
 pub returns : goal.returns

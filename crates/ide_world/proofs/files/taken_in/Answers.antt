@@ -1,5 +1,4 @@
-use Rattle.std.proofs.Common.{◌∙◌, sym, ap}
-use Rattle.std.specs.Option.{option_copied}
+use Rattle.ide_world.proofs.Words.{◌∙◌, sym, ap, option_copied}
 use Rattle.ide_world.proofs.KindLemmas.{intake_builds, intake_kind}
 use Rattle.ide_world.proofs.files.taken_in.Goals as goal
 

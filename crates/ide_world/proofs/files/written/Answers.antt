@@ -1,9 +1,7 @@
-use Rattle.std.proofs.Common.{◌∙◌, sym, refl, Some, None}
-use Rattle.document_buf.specs.Document.{opened}
-use Rattle.ide_world.proofs.BuildLemmas.{is_file_at}
-use Rattle.ide_world.proofs.KindLemmas.{write_builds}
-use Rattle.ide_world.proofs.files.written.Goals as goal
+use Rattle.ide_world.proofs.Words.{◌∙◌, sym, refl, Some, None, opened}
+use Rattle.ide_world.proofs.KindLemmas.{is_file_at, write_builds}
 use Rattle.ide_world.proofs.files.written.Goals.{in-Some-summary+in_ok-open-in-Some-summary, in-None}
+use Rattle.ide_world.proofs.files.written.Goals as goal
 
 pub returns : goal.returns
 returns c =

@@ -1,4 +1,4 @@
-use Rattle.std.proofs.lemmas.Result.{on_ok_weaker}
+use Rattle.ide_world.proofs.Words.{on_ok_weaker}
 use Rattle.ide_world.proofs.GroupLemmas.{extended}
 use Rattle.ide_world.proofs.group.add.Goals as goal
 

@@ -1,6 +1,5 @@
-use Rattle.std.proofs.Common.{arith}
-use Rattle.ide_world.proofs.GroupLemmas.{refused_here, turn_at, whole_list}
-use Rattle.ide_world.proofs.FirstLemmas.{first_accepted, first_at_want}
+use Rattle.ide_world.proofs.Words.{arith, rules}
+use Rattle.ide_world.proofs.GroupLemmas.{refused_here, turn_at, whole_list, first_accepted, first_at_want}
 use Rattle.ide_world.proofs.group.prepare_group.Goals as goal
 
 pub loop-index-preserved : goal.loop-index-preserved
@@ -23,12 +22,8 @@ returns-in-Err-clause-refused c =
           c.loop-index.invariant.so_far c.loop-index.invariant.first c.extend.ensures.first c.in-Err.is;
     }
 
-pub returns-in-Ok-clause-ready : goal.returns-in-Ok-clause-ready
-returns-in-Ok-clause-ready c =
-    (whole_list _ _ _ _ c.in-Ok.ready c.requires.few.some (omega (arith, c.loop-index-test.false))
-    c.loop-index.invariant.so_far c.made_ready.ensures.draft c.in-Ok.ensures.alike c.in-Ok.ensures.wide).0
-
-pub returns-in-Ok-clause-makes : goal.returns-in-Ok-clause-makes
-returns-in-Ok-clause-makes c =
-    (whole_list _ _ _ _ c.in-Ok.ready c.requires.few.some (omega (arith, c.loop-index-test.false))
-    c.loop-index.invariant.so_far c.made_ready.ensures.draft c.in-Ok.ensures.alike c.in-Ok.ensures.wide).1
+pub returns-in-Ok : goal.returns-in-Ok
+returns-in-Ok c =
+    let (ready, makes) = whole_list _ _ _ _ c.in-Ok.ready c.requires.few.some (omega (arith, c.loop-index-test.false))
+    c.loop-index.invariant.so_far c.made_ready.ensures.draft c.in-Ok.ensures.alike c.in-Ok.ensures.wide in
+    search (rules, ready, makes)

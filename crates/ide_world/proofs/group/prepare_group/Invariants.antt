@@ -1,7 +1,4 @@
-use Rattle.std.proofs.Common.{◌≡◌, ◌≤◌, drop, true}
-use Rattle.std.specs.List.{list_all}
-use Rattle.write_history.specs.Changes.{is_edit}
-use Rattle.ide_world.specs.Ready.{IsFirstAccepted}
+use Rattle.ide_world.proofs.Words.{◌≡◌, ◌≤◌, drop, true, list_all, is_edit, IsFirstAccepted}
 use Rattle.ide_world.proofs.GroupLemmas.{IsSoFar}
 use Rattle.ide_world.proofs.group.prepare_group.Given as goal
 

@@ -1,12 +1,7 @@
-use Rattle.std.proofs.Common.{ℕ, ◌≡◌, ◌++◌, arith, refl, Some, None}
-use Rattle.std.specs.Prelude.{Option, IfSome, if◌then◌else◌}
-use Rattle.std.specs.Option.{option_and_then}
-use Rattle.dumb_mode.specs.Filter.{kind_of}
-use Rattle.write_history.specs.World.{File, file_of, is_unready}
+use Rattle.ide_world.proofs.Words.{ℕ, ◌≡◌, ◌++◌, arith, refl, Some, None, Option, IfSome, if◌then◌else◌, option_and_then, kind_of, File, file_of, is_unready}
+use Rattle.ide_world.proofs.Words.{same_stamp-fold, Task, work_of}
 use Rattle.write_history.specs.Stamps.{IsAsStamped}
 use Rattle.write_history.specs.Fold.{fold}
-use Rattle.history_laws.proofs.SoundLemmas.{same_stamp-fold}
-use Rattle.ide_world.specs.Task.{Task, work_of}
 use Rattle.ide_world.proofs.laws.a_task_stays_of_the_world.Goals as goal
 
 -- where a file has work, and has its stamp at a later time only as it was, the work is of it then

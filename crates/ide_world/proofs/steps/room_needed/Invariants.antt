@@ -1,5 +1,4 @@
-use Rattle.std.proofs.Common.{◌≡◌, ◌≤◌, drop, length}
-use Rattle.ide_world.specs.Room.{room_needed}
+use Rattle.ide_world.proofs.Words.{◌≡◌, ◌≤◌, drop, length, room_needed}
 use Rattle.ide_world.proofs.steps.room_needed.Given as goal
 
 -- the count is what is needed before the steps from a place on

@@ -1,7 +1,4 @@
-use Rattle.std.proofs.Common.{◌≡◌, drop}
-use Rattle.std.specs.List.{fold}
-use Rattle.std.specs.Option.{option_copied}
-use Rattle.ide_world.specs.Walk.{committed_after}
+use Rattle.ide_world.proofs.Words.{◌≡◌, drop, fold, option_copied, committed_after}
 use Rattle.ide_world.proofs.walk.committed.Given as goal
 
 abbrev pub invariant-loop-step : goal.invariant-loop-step

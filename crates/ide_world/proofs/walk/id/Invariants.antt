@@ -1,6 +1,4 @@
-use Rattle.std.proofs.Common.{◌≡◌, drop}
-use Rattle.std.specs.List.{fold}
-use Rattle.ide_world.specs.Walk.{id_after}
+use Rattle.ide_world.proofs.Words.{◌≡◌, drop, fold, id_after}
 use Rattle.ide_world.proofs.walk.id.Given as goal
 
 abbrev pub invariant-loop-step : goal.invariant-loop-step

@@ -1,8 +1,5 @@
-use Rattle.std.proofs.Common.{◌≡◌, ◌≤◌, ◌+◌, ◌*◌, drop}
-use Rattle.std.specs.Prelude.{IfSome}
-use Rattle.std.specs.List.{fold}
+use Rattle.ide_world.proofs.Words.{◌≡◌, ◌≤◌, ◌+◌, ◌*◌, drop, IfSome, fold, summary_after}
 use Rattle.ide_text.specs.Text.{max_chars}
-use Rattle.ide_world.specs.Walk.{summary_after}
 use Rattle.ide_world.proofs.walk.summary.Given as goal
 
 abbrev pub invariant-loop-step : goal.invariant-loop-step

@@ -1,6 +1,4 @@
-use Rattle.std.proofs.Common.{◌≡◌, drop}
-use Rattle.std.specs.List.{fold}
-use Rattle.ide_world.specs.Walk.{text_after, AreTextEditsFit}
+use Rattle.ide_world.proofs.Words.{◌≡◌, drop, fold, text_after, AreTextEditsFit}
 use Rattle.ide_world.proofs.walk.text.Given as goal
 
 abbrev pub invariant-loop-step : goal.invariant-loop-step

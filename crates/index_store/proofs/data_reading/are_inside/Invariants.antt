@@ -1,7 +1,4 @@
-use Rattle.std.proofs.Common.{◌≡◌, drop}
-use Rattle.std.specs.Prelude.{nat_lt}
-use Rattle.std.specs.List.{list_all}
-use Rattle.stub_tree.specs.declared.stub.Stub.{Stub}
+use Rattle.index_store.proofs.Words.{◌≡◌, drop, nat_lt, list_all, Stub}
 use Rattle.index_store.proofs.data_reading.are_inside.Given as goal
 
 abbrev pub invariant-loop-stub : goal.invariant-loop-stub

@@ -1,6 +1,4 @@
-use Rattle.std.proofs.Common.{◌≡◌, ◌-◌, None}
-use Rattle.byte_fields.specs.Reading.{many_at}
-use Rattle.index_store.specs.Reading.{behind, word_at}
+use Rattle.index_store.proofs.Words.{◌≡◌, ◌-◌, None, many_at, behind, word_at}
 use Rattle.index_store.proofs.reading.past_so_many_words.Given as goal
 
 -- what is left behind the rest is what is left behind all

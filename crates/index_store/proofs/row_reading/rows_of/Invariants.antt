@@ -1,7 +1,4 @@
-use Rattle.std.proofs.Common.{◌≡◌, ◌-◌, None}
-use Rattle.byte_fields.specs.Reading.{many_at}
-use Rattle.field_laws.proofs.ManyLemmas.{with_front, last}
-use Rattle.index_store.specs.Reading.{row_at}
+use Rattle.index_store.proofs.Words.{◌≡◌, ◌-◌, None, many_at, with_front, last, row_at}
 use Rattle.index_store.proofs.row_reading.rows_of.Given as goal
 
 -- the entries so far, and what the rest gives behind the last of them

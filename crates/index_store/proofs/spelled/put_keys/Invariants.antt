@@ -1,11 +1,8 @@
-use Rattle.std.proofs.Common.{◌≡◌, true, ◌++◌, length, take}
-use Rattle.std.specs.List.{flat_map}
-use Rattle.byte_fields.specs.Spelling.{number}
-use Rattle.index_store.specs.Lawful.{are_spelled}
-use Rattle.index_store.specs.Spelling.{key}
+use Rattle.index_store.proofs.Words.{◌≡◌, true, ◌++◌, length, take, flat_map, number, are_spelled, key}
 use Rattle.index_store.proofs.spelled.put_keys.Given as goal
 
 -- the number and those so far stand at the end, and their names can be spelled
 abbrev pub invariant-loop-name : goal.invariant-loop-name
 invariant-loop-name l =
-    (l.out.items ≡ l.fn.out.items ++ (number (length l.fn.keys) ++ flat_map key (take l.name-index l.fn.keys))) × (are_spelled (take l.name-index l.fn.keys) ≡ true)
+    (l.out.items ≡ l.fn.out.items ++ (number (length l.fn.keys) ++ flat_map key (take l.name-index l.fn.keys)))
+    × (are_spelled (take l.name-index l.fn.keys) ≡ true)

@@ -1,7 +1,4 @@
-use Rattle.std.proofs.Common.{◌≡◌, ◌++◌, map}
-use Rattle.std.specs.List.{flat_map}
-use Rattle.std.specs.Map.Iter.{deref_pair}
-use Rattle.index_store.specs.Held.{held_bytes}
+use Rattle.index_store.proofs.Words.{◌≡◌, ◌++◌, map, flat_map, deref_pair, held_bytes}
 use Rattle.index_store.proofs.store.put_held.Given as goal
 
 -- the entries so far stand at the end

@@ -1,5 +1,4 @@
-use Rattle.std.proofs.Common.{◌≡◌, ◌++◌, drop}
-use Rattle.index_store.specs.Spelling.{rows_of}
+use Rattle.index_store.proofs.Words.{◌≡◌, ◌++◌, drop, rows_of}
 use Rattle.index_store.proofs.store_reading.store_of.Given as goal
 
 -- the entries so far and the rows that are left are all rows

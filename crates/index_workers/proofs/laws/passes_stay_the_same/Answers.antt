@@ -1,4 +1,4 @@
-use Rattle.index_workers.proofs.PassLemmas.{same_on}
+use Rattle.index_workers.proofs.WorkLemmas.{same_on}
 use Rattle.index_workers.proofs.laws.passes_stay_the_same.Goals as goal
 
 pub returns : goal.returns

@@ -1,6 +1,5 @@
 use Rattle.std.proofs.Common.{rules}
-use Rattle.index_workers.proofs.PassLemmas.{same_on, none_taken, only_taken}
-use Rattle.index_workers.proofs.WorkLemmas.{not_yet, goes_on, ends}
+use Rattle.index_workers.proofs.WorkLemmas.{same_on, none_taken, only_taken, not_yet, goes_on, ends}
 use Rattle.index_workers.proofs.working.worker.Goals as goal
 
 pub loop-turn-init : goal.loop-turn-init
@@ -20,7 +19,7 @@ returns-in-Some-clause-hints g c = only_taken _ _ _ _ c.loop-turn.invariant.hint
 pub returns-in-Some-clause-ok : goal.returns-in-Some-clause-ok
 returns-in-Some-clause-ok g c =
     let step = c.in_ok-step.ensures.step in
-    rw c.taken-entries.ensures (ends _ _ _ _ _ _ _ _ _ _ _ _ _ _ c.loop-turn.invariant.on step.2 step.3 step.4 c.in-Some.ensures)
+    rw c.taken-entries.ensures (ends _ _ _ _ _ _ _ _ _ _ _ _ _ c.loop-turn.invariant.on step.2 step.3 step.4 _ c.in-Some.ensures)
 
 pub loop-turn-preserved : goal.loop-turn-preserved
 loop-turn-preserved g c =

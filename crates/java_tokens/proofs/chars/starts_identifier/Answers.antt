@@ -1,6 +1,4 @@
-use Rattle.std.proofs.Common.{arith}
-use Rattle.std.proofs.lemmas.Bool.Decides.{nat_tests}
-use Rattle.unicode_ident.proofs.IdentLemmas.{is_xid_start-ascii}
+use Rattle.java_tokens.proofs.Common.{arith, nat_tests, is_xid_start-ascii}
 use Rattle.java_tokens.proofs.chars.starts_identifier.Goals as goal
 
 -- of ASCII only letters start an identifier

@@ -1,5 +1,4 @@
-use Rattle.std.proofs.Common.{◌≡◌, ◌+◌, length}
-use Rattle.java_tokens.specs.Front.{front_of}
+use Rattle.java_tokens.proofs.Common.{◌≡◌, ◌+◌, length, front_of}
 use Rattle.java_tokens.proofs.fronted.front_of.Given as goal
 
 -- the digits so far and those of the bytes that are left are all

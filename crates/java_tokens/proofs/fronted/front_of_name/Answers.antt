@@ -1,4 +1,4 @@
-use Rattle.std.proofs.Common.{◌∙◌}
+use Rattle.java_tokens.proofs.Common.{◌∙◌}
 use Rattle.java_tokens.specs.Front.{weights}
 use Rattle.java_tokens.proofs.FrontLemmas.{front_fits, front-encodes}
 use Rattle.java_tokens.proofs.fronted.front_of_name.Goals as goal

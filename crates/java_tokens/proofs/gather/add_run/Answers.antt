@@ -1,6 +1,4 @@
-use Rattle.std.proofs.Common.{drop, sym, ◌∙◌, arith, length-drop}
-use Rattle.std.proofs.lemmas.List.Sums.{prefix_len-le-length}
-use Rattle.java_tokens.specs.Chars.{begins_word, continues_word}
+use Rattle.java_tokens.proofs.Common.{drop, sym, ◌∙◌, arith, length-drop, prefix_len-le-length, begins_word, continues_word}
 use Rattle.java_tokens.proofs.WordLemmas.{first_passes-inside, added_run}
 use Rattle.java_tokens.proofs.gather.add_run.Goals as goal
 

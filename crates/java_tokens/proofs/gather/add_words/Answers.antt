@@ -1,14 +1,12 @@
-use Rattle.std.proofs.Common.{◌≡◌, ◌+◌, drop, refl, ◌∙◌}
-use Rattle.std.proofs.lemmas.List.{drop-drop}
-use Rattle.java_tokens.specs.Words.{marked, words_at}
+use Rattle.java_tokens.proofs.Common.{◌≡◌, ◌+◌, drop, refl, ◌∙◌, drop-drop, marked, words_at}
 use Rattle.java_tokens.proofs.WordLemmas.{turn, words_behind}
 use Rattle.java_tokens.proofs.gather.add_words.Goals as goal
 
 -- the last run is added
 pub returns-in_default : goal.returns-in_default
 returns-in_default c =
-    let piece = c.args.piece.now in
-    let added = turn c.loop-c.masks c.add_run.new.masks c.args.place c.run_start-start.result _ piece c.run_end-end.ensures c.in_ok-add_run.ensures in
+    let added = turn c.loop-c.masks c.add_run.new.masks c.args.place c.run_start-start.result _ c.args.piece.now
+    c.run_end-end.ensures c.in_ok-add_run.ensures in
     rw c.in_default.ensures.none at added ∙ rw c.run_start-start.ensures.same c.loop-c.invariant
 
 -- a run is added, and those behind it are left

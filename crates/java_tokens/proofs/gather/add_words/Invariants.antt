@@ -1,6 +1,4 @@
-use Rattle.std.proofs.Common.{◌≡◌, ◌+◌, ◌-◌, length, drop}
-use Rattle.std.specs.Prelude.{fold}
-use Rattle.java_tokens.specs.Words.{with_occurrence, words_at}
+use Rattle.java_tokens.proofs.Common.{◌≡◌, ◌+◌, ◌-◌, length, drop, fold, with_occurrence, words_at}
 use Rattle.java_tokens.proofs.gather.add_words.Given as goal
 
 -- the words so far with those of the rest are those of the piece

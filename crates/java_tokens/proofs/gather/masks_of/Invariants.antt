@@ -1,7 +1,4 @@
-use Rattle.std.proofs.Common.{◌≡◌, drop}
-use Rattle.std.specs.Prelude.{fold}
-use Rattle.std.specs.List.{flat_map}
-use Rattle.java_tokens.specs.Words.{with_occurrence, occurrences_at, words_of}
+use Rattle.java_tokens.proofs.Common.{◌≡◌, drop, fold, flat_map, with_occurrence, occurrences_at, words_of}
 use Rattle.java_tokens.proofs.gather.masks_of.Given as goal
 
 -- the words so far with those of the tokens that are left are those of the text

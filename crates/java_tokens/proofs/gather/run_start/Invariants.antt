@@ -1,5 +1,4 @@
-use Rattle.std.proofs.Common.{◌≡◌, ◌+◌, ◌-◌, ◌≤◌, length, drop}
-use Rattle.java_tokens.specs.Words.{words_at}
+use Rattle.java_tokens.proofs.Common.{◌≡◌, ◌+◌, ◌-◌, ◌≤◌, length, drop, words_at}
 use Rattle.java_tokens.proofs.gather.run_start.Given as goal
 
 -- what was passed by adds no word

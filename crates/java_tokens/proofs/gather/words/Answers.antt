@@ -1,6 +1,4 @@
-use Rattle.std.proofs.Common.{◌≡◌}
-use Rattle.std.proofs.lemmas.Result.{IfOk-weaker}
-use Rattle.java_tokens.specs.Words.{HasMasksOf, occurrences_of}
+use Rattle.java_tokens.proofs.Common.{◌≡◌, IfOk-weaker, HasMasksOf, occurrences_of}
 use Rattle.java_tokens.proofs.MaskLemmas.{has_masks-words_of, in_order-words_of}
 use Rattle.java_tokens.proofs.gather.words.Goals as goal
 

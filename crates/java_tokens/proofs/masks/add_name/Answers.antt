@@ -1,7 +1,4 @@
-use Rattle.std.proofs.Common.{refl, rules}
-use Rattle.std.specs.Prelude.{bit_or}
-use Rattle.indexmap.specs.Entry.{map_with_value}
-use Rattle.java_tokens.specs.Words.{bit_of}
+use Rattle.java_tokens.proofs.Common.{refl, rules, bit_or, map_with_value, bit_of}
 use Rattle.java_tokens.proofs.MaskLemmas.{gathered_more}
 use Rattle.java_tokens.proofs.masks.add_name.Goals as goal
 

@@ -1,7 +1,4 @@
-use Rattle.std.proofs.Common.{refl, ap, sym, ◌∙◌}
-use Rattle.std.specs.Prelude.{bit_or, is_some}
-use Rattle.std.specs.Int.Bits.{or_zero_l}
-use Rattle.java_tokens.specs.Words.{bit_of}
+use Rattle.java_tokens.proofs.Common.{refl, ap, sym, ◌∙◌, bit_or, is_some, or_zero_l, bit_of}
 use Rattle.java_tokens.proofs.MaskLemmas.{gathered_more}
 use Rattle.java_tokens.proofs.masks.add_spelt.Goals as goal
 

@@ -1,4 +1,4 @@
-use Rattle.std.proofs.Common.{◌≡◌, ◌++◌}
+use Rattle.java_tokens.proofs.Common.{◌≡◌, ◌++◌}
 use Rattle.java_tokens.proofs.masks.all_rows.Given as goal
 
 -- the rows so far and those that are left are all

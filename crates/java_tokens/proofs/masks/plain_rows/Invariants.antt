@@ -1,5 +1,4 @@
-use Rattle.std.proofs.Common.{◌≡◌, ◌++◌}
-use Rattle.std.specs.Vec.Iter.{into_iter_items}
+use Rattle.java_tokens.proofs.Common.{◌≡◌, ◌++◌, into_iter_items}
 use Rattle.java_tokens.proofs.masks.plain_rows.Given as goal
 
 -- the rows so far and those that are left are all

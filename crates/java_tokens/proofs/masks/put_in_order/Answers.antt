@@ -1,13 +1,5 @@
-use Rattle.std.proofs.Common.{rules}
-use Rattle.std.specs.Ordering.{is_lt}
-use Rattle.std.specs.Cmp.Lexicographic.{nat_list_cmp_total, nat_list_eq_equiv}
-use Rattle.std.specs.Map.{keys_of}
-use Rattle.std.specs.Str.{bytes_eq}
-use Rattle.std.proofs.lemmas.Fn.{always_returns_same}
-use Rattle.std.proofs.lemmas.List.MinMax.{ranks_by}
-use Rattle.std.proofs.lemmas.List.Sorted.{IsPermutation-map}
-use Rattle.indexmap.proofs.MapLemmas.{distinct_permutation, lookup_permutation, sorted_keys}
-use Rattle.java_tokens.specs.Words.{name_cmp}
+use Rattle.java_tokens.proofs.Common.{rules, is_lt, nat_list_cmp_total, nat_list_eq_equiv, keys_of, bytes_eq, always_returns_same, ranks_by}
+use Rattle.java_tokens.proofs.Common.{IsPermutation-map, distinct_permutation, lookup_permutation, sorted_keys, name_cmp}
 use Rattle.java_tokens.proofs.MaskLemmas.{gathered_sorted}
 use Rattle.java_tokens.proofs.masks.put_in_order.Goals as goal
 

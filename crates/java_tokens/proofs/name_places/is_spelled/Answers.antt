@@ -1,7 +1,4 @@
-use Rattle.std.proofs.Common.{◌≡◌, ◌∙◌, Some, arith, rules}
-use Rattle.std.specs.Prelude.{is_none}
-use Rattle.std.proofs.lemmas.Str.{IsUtf8-past_char, chars_past_char}
-use Rattle.std.proofs.StrCases.{chars_of_empty}
+use Rattle.java_tokens.proofs.Common.{◌≡◌, ◌∙◌, Some, arith, rules, is_none, IsUtf8-past_char, chars_past_char, chars_of_empty}
 use Rattle.java_tokens.proofs.PlaceLemmas.{spelled-next, spelled-end}
 use Rattle.java_tokens.proofs.name_places.is_spelled.Goals as goal
 
@@ -11,11 +8,11 @@ loop-c-preserved c =
     let held = c.loop-c.invariant in
     let parts = c.in-Some.ensures.steps.0 in
     let same : c.get.result ≡ Some c.in-Some.c = search rules in
-    let inside = rw same at c.get.ensures.inside in
     record {
       utf8 = IsUtf8-past_char _ _ c.in-Some.c held.utf8 parts;
-      inside = omega (arith, inside);
-      rest = spelled-next _ _ c.args.piece.now c.loop-c.at c.in-Some.c (chars_past_char _ _ c.in-Some.c held.utf8 parts) (rw same at c.get.ensures.some) ∙ held.rest;
+      inside = omega (arith, (rw same at c.get.ensures.inside));
+      rest = spelled-next _ _ c.args.piece.now c.loop-c.at c.in-Some.c
+          (chars_past_char _ _ c.in-Some.c held.utf8 parts) (rw same at c.get.ensures.some) ∙ held.rest;
     }
 
 -- the name has no more characters

@@ -1,6 +1,4 @@
-use Rattle.std.proofs.Common.{◌≡◌, ◌≤◌, IsUtf8, drop, length}
-use Rattle.std.specs.Str.Iter.{chars_rest}
-use Rattle.std.specs.Str.{bytes_eq, chars}
+use Rattle.java_tokens.proofs.Common.{◌≡◌, ◌≤◌, IsUtf8, drop, length, chars_rest, bytes_eq, chars}
 use Rattle.java_tokens.proofs.name_places.is_spelled.Given as goal
 
 -- the rest of the name against the rest of the piece decides

@@ -1,5 +1,4 @@
-use Rattle.std.proofs.Common.{◌≡◌, append-nil, sym, ◌∙◌}
-use Rattle.java_tokens.specs.Places.{places_of}
+use Rattle.java_tokens.proofs.Common.{◌≡◌, append-nil, sym, ◌∙◌, places_of}
 use Rattle.java_tokens.proofs.PlaceLemmas.{places-rise}
 use Rattle.java_tokens.proofs.name_places.places.Goals as goal
 

@@ -1,6 +1,4 @@
-use Rattle.std.proofs.Common.{◌≡◌, ◌≤◌, ◌++◌, length, drop, ◌-◌}
-use Rattle.java_tokens.specs.Tokens.{tokens_past}
-use Rattle.java_tokens.specs.Places.{places_among, places_of}
+use Rattle.java_tokens.proofs.Common.{◌≡◌, ◌≤◌, ◌++◌, length, drop, ◌-◌, tokens_past, places_among, places_of}
 use Rattle.java_tokens.proofs.name_places.places.Given as goal
 
 -- the places so far and those among the tokens that are left are those of the text

@@ -1,6 +1,4 @@
-use Rattle.std.proofs.Common.{◌≡◌, drop}
-use Rattle.std.specs.List.{list_any}
-use Rattle.std.specs.Str.{bytes_eq}
+use Rattle.java_tokens.proofs.Common.{◌≡◌, drop, list_any, bytes_eq}
 use Rattle.java_tokens.proofs.reserved.is_any_of.Given as goal
 
 -- the words that are left decide

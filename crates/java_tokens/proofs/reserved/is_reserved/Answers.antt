@@ -1,4 +1,4 @@
-use Rattle.std.proofs.Common.{drop, ◌∙◌}
+use Rattle.java_tokens.proofs.Common.{drop, ◌∙◌}
 use Rattle.java_tokens.proofs.reserved.is_reserved.Goals as goal
 
 -- the words that begin as the piece does decide

@@ -1,6 +1,4 @@
-use Rattle.std.proofs.Common.{sym, ◌∙◌}
-use Rattle.std.specs.Str.{chars}
-use Rattle.std.proofs.lemmas.Str.{chars_past_char}
+use Rattle.java_tokens.proofs.Common.{sym, ◌∙◌, chars, chars_past_char}
 use Rattle.java_tokens.proofs.reserved.is_reserved_text.Goals as goal
 
 -- the words that begin as the text does decide

@@ -1,5 +1,4 @@
-use Rattle.std.proofs.Common.{◌≡◌, drop}
-use Rattle.std.specs.Str.{bytes_eq}
+use Rattle.java_tokens.proofs.Common.{◌≡◌, drop, bytes_eq}
 use Rattle.java_tokens.proofs.reserved.spells.Given as goal
 
 -- the rest of the word against the rest of the piece decides

@@ -1,5 +1,4 @@
-use Rattle.std.proofs.Common.{◌≡◌, ◌+◌, length, drop, ◌-◌}
-use Rattle.java_tokens.specs.TokenKind.{comment_rest}
+use Rattle.java_tokens.proofs.Common.{◌≡◌, ◌+◌, length, drop, ◌-◌, comment_rest}
 use Rattle.java_tokens.proofs.scan.comment_end.Given as goal
 
 abbrev pub invariant-loop-c : goal.invariant-loop-c

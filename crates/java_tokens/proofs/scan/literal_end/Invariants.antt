@@ -1,5 +1,4 @@
-use Rattle.std.proofs.Common.{◌≡◌, ◌+◌, length, drop, ◌-◌}
-use Rattle.java_tokens.specs.TokenKind.{literal_rest}
+use Rattle.java_tokens.proofs.Common.{◌≡◌, ◌+◌, length, drop, ◌-◌, literal_rest}
 use Rattle.java_tokens.proofs.scan.literal_end.Given as goal
 
 abbrev pub invariant-loop-c : goal.invariant-loop-c

@@ -1,6 +1,4 @@
-use Rattle.std.proofs.Common.{◌≡◌, ◌+◌, length, drop, ◌-◌}
-use Rattle.std.specs.List.{prefix_len}
-use Rattle.java_tokens.specs.Class.{is_in}
+use Rattle.java_tokens.proofs.Common.{◌≡◌, ◌+◌, length, drop, ◌-◌, prefix_len, is_in}
 use Rattle.java_tokens.proofs.scan.run_end_in_bytes.Given as goal
 
 abbrev pub invariant-loop-byte : goal.invariant-loop-byte

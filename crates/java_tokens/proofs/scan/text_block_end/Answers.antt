@@ -1,5 +1,5 @@
-use Rattle.std.proofs.Common.{sym, ◌∙◌}
-use Rattle.java_tokens.proofs.KindLemmas.{text_block_rest-goes_on}
+use Rattle.java_tokens.proofs.Common.{sym, ◌∙◌}
+use Rattle.java_tokens.proofs.TokenLemmas.{text_block_rest-goes_on}
 use Rattle.java_tokens.proofs.scan.text_block_end.Goals as goal
 
 pub loop-c-preserved : goal.loop-c-preserved

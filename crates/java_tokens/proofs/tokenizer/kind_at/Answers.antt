@@ -1,4 +1,4 @@
-use Rattle.std.proofs.Common.{add-one, refl, ◌∙◌}
+use Rattle.java_tokens.proofs.Common.{add-one, refl, ◌∙◌}
 use Rattle.java_tokens.proofs.tokenizer.kind_at.Goals as goal
 
 -- the first character and those behind it are what is left

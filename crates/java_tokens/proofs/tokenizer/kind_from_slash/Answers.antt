@@ -1,6 +1,4 @@
-use Rattle.std.proofs.Common.{lit<, refl}
-use Rattle.unicode_ident.proofs.IdentLemmas.{is_xid_start-ascii}
-use Rattle.java_tokens.specs.Chars.{slash}
+use Rattle.java_tokens.proofs.Common.{lit<, refl, is_xid_start-ascii, slash}
 use Rattle.java_tokens.specs.TokenKind.{kind_at}
 use Rattle.java_tokens.proofs.tokenizer.kind_from_slash.Goals as goal
 

@@ -1,9 +1,7 @@
-use Rattle.std.proofs.Common.{◌≡◌, ◌-◌, drop, refl, ap, ◌∙◌, arith}
-use Rattle.java_tokens.specs.TokenKind.{length_of}
-use Rattle.java_tokens.specs.Tokens.{token_len, token_at}
+use Rattle.java_tokens.proofs.Common.{◌≡◌, ◌-◌, drop, refl, ap, ◌∙◌, arith, length_of, token_len, token_at}
 use Rattle.java_tokens.proofs.TokenLemmas.{tokens_past-none, tokens_past-next, token_len-inside}
-use Rattle.java_tokens.proofs.tokenizer.next_token.Goals as goal
 use Rattle.java_tokens.proofs.tokenizer.next_token.Goals.{After-of}
+use Rattle.java_tokens.proofs.tokenizer.next_token.Goals as goal
 
 -- the token that is built is the definition's
 made_is : (c : After-of) → c.of.result ≡ token_at c.run_end-at.result (drop c.run_end-at.result c.args.piece.now)

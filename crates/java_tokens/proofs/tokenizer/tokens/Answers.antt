@@ -1,5 +1,4 @@
-use Rattle.std.proofs.Common.{◌≡◌, append-nil, sym, ◌∙◌}
-use Rattle.java_tokens.specs.Tokens.{tokens_of}
+use Rattle.java_tokens.proofs.Common.{◌≡◌, append-nil, sym, ◌∙◌, tokens_of}
 use Rattle.java_tokens.proofs.TokenLemmas.{are_tokens_of, inside_tokens_of}
 use Rattle.java_tokens.proofs.tokenizer.tokens.Goals as goal
 

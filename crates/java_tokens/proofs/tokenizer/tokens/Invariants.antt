@@ -1,5 +1,4 @@
-use Rattle.std.proofs.Common.{◌≡◌, ◌≤◌, ◌++◌, length, drop, ◌-◌}
-use Rattle.java_tokens.specs.Tokens.{tokens_past, tokens_of}
+use Rattle.java_tokens.proofs.Common.{◌≡◌, ◌≤◌, ◌++◌, length, drop, ◌-◌, tokens_past, tokens_of}
 use Rattle.java_tokens.proofs.tokenizer.tokens.Given as goal
 
 -- the tokens so far and those of the rest are those of the text

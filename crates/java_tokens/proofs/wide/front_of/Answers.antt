@@ -1,6 +1,4 @@
-use Rattle.std.proofs.Common.{refl, sym}
-use Rattle.std.specs.Int.Count.{count_trailing_zeros}
-use Rattle.std.proofs.lemmas.Bool.{cond-false, ne_eqb}
+use Rattle.java_tokens.proofs.Common.{refl, sym, count_trailing_zeros, cond-false, ne_eqb}
 use Rattle.java_tokens.proofs.WideLemmas.{front_goes_on}
 use Rattle.java_tokens.proofs.wide.front_of.Goals as goal
 

@@ -1,9 +1,7 @@
-use Rattle.std.proofs.Common.{◌+◌, ◌-◌, ◌%◌, refl, arith}
-use Rattle.std.proofs.lemmas.Simd.{splat_is_map, zip2_of_maps, zip2_splat}
-use Rattle.java_tokens.specs.Class.{is_no_ascii_word}
+use Rattle.java_tokens.proofs.Common.{◌+◌, ◌-◌, ◌%◌, refl, arith, splat_is_map, zip2_of_maps, zip2_splat, is_no_ascii_word}
 use Rattle.java_tokens.proofs.WideLemmas.{at_most, differ, masked}
+use lib.Bits.{bit_or, bit_and}
 use Rattle.java_tokens.proofs.wide.others.Goals as goal
-use lib.Bits.{bit_and, bit_or}
 
 -- at each of the 256 bytes the comparisons tell what the test does
 pub returns : goal.returns

@@ -1,6 +1,4 @@
-use Rattle.std.proofs.Common.{◌≡◌, ◌+◌, ◌-◌, ◌≤◌, max, length, drop}
-use Rattle.std.specs.List.{prefix_len}
-use Rattle.java_tokens.specs.Chars.{continues_word}
+use Rattle.java_tokens.proofs.Common.{◌≡◌, ◌+◌, ◌-◌, ◌≤◌, max, length, drop, prefix_len, continues_word}
 use Rattle.java_tokens.proofs.wide.word_front.Given as goal
 
 -- what was passed by goes on in the word

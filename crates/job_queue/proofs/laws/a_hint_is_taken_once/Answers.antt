@@ -1,4 +1,4 @@
-use Rattle.job_queue.proofs.Ends.{knows}
+use Rattle.job_queue.proofs.Kept.{knows}
 use Rattle.job_queue.proofs.laws.a_hint_is_taken_once.Goals as goal
 
 pub returns : goal.returns

@@ -1,18 +1,8 @@
-use Rattle.std.proofs.Common.{rules, refl, inl, arith}
-use Rattle.nonblocking_read.proofs.SoftLemmas.{risen_after, cancelled_after, only_not, only_on, last_on, same_meaning}
+use Rattle.nonblocking_read.proofs.SoftLemmas.{rules, risen_after, cancelled_after, only_not, only_on, last_on, same_meaning}
 use Rattle.nonblocking_read.proofs.soft_read.soft.Goals as goal
 
 pub loop-init : goal.loop-init
-loop-init g c = record {
-  can = tt;
-  ends = tt;
-  pass = c.requires.pass;
-  same = record { table = refl; seat = refl };
-  view = only_not _;
-  less = c.requires.some;
-  risen = inl (omega arith);
-  meaning = λ out entries. (λ fits. fits, λ fits. fits);
-}
+loop-init g c = search (rules, only_not, c.requires)
 
 pub returns-in-Ok-clause-pass : goal.returns-in-Ok-clause-pass
 returns-in-Ok-clause-pass g c = (c.attempt.ensures.pass.0, search rules)
@@ -38,18 +28,12 @@ returns-in_err-spent-in-Err-clause-meaning g c = same_meaning _ _ _ c.loop.invar
 
 pub returns-in_err-spent-in-Err-clause-cancelled : goal.returns-in_err-spent-in-Err-clause-cancelled
 returns-in_err-spent-in-Err-clause-cancelled g c =
-    let told = cancelled_after _ _ _ _ _ c.in-Err.miss _ c.in_err-spent-in-Err.ensures.cancelled c.loop.invariant.risen c.in-Err.ensures.seen c.attempt.ensures.view.advances.sights in
+    let told = cancelled_after _ _ _ _ _ c.in-Err.miss _ c.in_err-spent-in-Err.ensures.cancelled c.loop.invariant.risen c.in-Err.ensures.seen
+    c.attempt.ensures.view.advances.sights in
     search (rules, told)
 
 pub loop-preserved : goal.loop-preserved
-loop-preserved g c = let told = c.in_ok-spent-in-Err.ensures.ok in
-    record {
-      can = tt;
-      ends = tt;
-      pass = c.attempt.ensures.pass.0;
-      same = search rules;
-      view = only_on _ _ _ c.loop.invariant.view c.attempt.ensures.view;
-      less = told.0;
-      risen = risen_after _ _ _ _ _ c.in-Err.miss told.1 c.loop.invariant.risen c.in-Err.ensures.seen c.attempt.ensures.view.advances.sights;
-      meaning = same_meaning _ _ _ c.loop.invariant.meaning c.attempt.ensures.meaning;
-    }
+loop-preserved g c = let told = c.in_ok-spent-in-Err.ensures.ok in let before = c.loop.invariant in let attempt = c.attempt.ensures in
+    let risen = risen_after _ _ _ _ _ c.in-Err.miss told.1 before.risen c.in-Err.ensures.seen attempt.view.advances.sights in
+    let view = only_on _ _ _ before.view attempt.view in let meaning = same_meaning _ _ _ before.meaning attempt.meaning in
+    search (rules, told, view, risen, meaning)

@@ -1,4 +1,4 @@
-use Rattle.std.proofs.Common.{◌∙◌}
+use Rattle.overlay_index.proofs.Words.{◌∙◌}
 use Rattle.overlay_index.proofs.hidden.put_copy.Goals as goal
 
 pub returns : goal.returns

@@ -1,4 +1,4 @@
-use Rattle.std.proofs.Common.{rules}
+use Rattle.overlay_index.proofs.Words.{rules}
 use Rattle.overlay_index.specs.Parts.{parts_of}
 use Rattle.overlay_index.proofs.laws.a_name_finds_its_methods.Goals as goal
 

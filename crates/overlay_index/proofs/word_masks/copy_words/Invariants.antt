@@ -1,4 +1,4 @@
-use Rattle.std.proofs.Common.{◌≡◌, take}
+use Rattle.overlay_index.proofs.Words.{◌≡◌, take}
 use Rattle.overlay_index.proofs.word_masks.copy_words.Given as goal
 
 -- the copies so far are the first words

@@ -1,4 +1,4 @@
-use Rattle.std.proofs.Common.{inl, inr, refl}
+use Rattle.playing.proofs.Words.{inl, inr, refl}
 use Rattle.playing.proofs.SectionLemmas.{replies}
 use Rattle.playing.proofs.asking.do_soft_ask.Goals as goal
 

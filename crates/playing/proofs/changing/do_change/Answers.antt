@@ -1,5 +1,4 @@
-use Rattle.std.proofs.Common.{ℕ, None}
-use Rattle.transcripts.specs.Serial.{changes_answer}
+use Rattle.playing.proofs.Words.{ℕ, None, changes_answer}
 use Rattle.playing.proofs.SectionLemmas.{told_so}
 use Rattle.playing.proofs.changing.do_change.Goals as goal
 

@@ -1,5 +1,4 @@
-use Rattle.std.proofs.Common.{Some}
-use Rattle.transcripts.specs.Serial.{changes_answer}
+use Rattle.playing.proofs.Words.{Some, changes_answer}
 use Rattle.playing.proofs.SectionLemmas.{told_so}
 use Rattle.playing.proofs.changing.do_group.Goals as goal
 

@@ -1,5 +1,4 @@
-use Rattle.std.proofs.Common.{rules, ◌≡◌, true, false, refl}
-use Rattle.write_history.specs.Path.{is_path}
+use Rattle.playing.proofs.Words.{rules, ◌≡◌, true, false, refl, is_path}
 use Rattle.playing.proofs.SectionLemmas.{not_called}
 use Rattle.playing.proofs.changing.do_load.Goals as goal
 

@@ -1,5 +1,4 @@
-use Rattle.std.proofs.Common.{◌≡◌, false}
-use Rattle.write_history.specs.Path.{is_path}
+use Rattle.playing.proofs.Words.{◌≡◌, false, is_path}
 use Rattle.playing.proofs.changing.refuse_path.Goals as goal
 
 pub returns-clause-answer : goal.returns-clause-answer

@@ -1,6 +1,6 @@
-use Rattle.std.proofs.Common.{refl, ap, sym, ◌∙◌}
-use Rattle.script_lang.specs.declared.command.Command.TheVariants as command
+use Rattle.playing.proofs.Words.{refl, ap, sym, ◌∙◌}
 use Rattle.playing.proofs.SectionLemmas.{line_done, line_softly}
+use Rattle.script_lang.specs.declared.command.Command.TheVariants as command
 use Rattle.playing.proofs.line.answer_line.Goals as goal
 
 pub do_group-requires-clause-edits : goal.do_group-requires-clause-edits

@@ -1,13 +1,10 @@
-use Rattle.std.proofs.Common.{◌≡◌, [], ◌∷◌, ◌++◌, length, ap, arith, length-append}
-use Rattle.playing.specs.declared.player.Outcome.TheVariants.{Nothing}
-use Rattle.playing.specs.declared.player.Player.{Player}
+use Rattle.playing.proofs.Words.{◌≡◌, [], ◌∷◌, ◌++◌, length, ap, arith, length-append, Nothing, Player}
 use Rattle.playing.proofs.RoundLemmas.{begun_more, pushed}
 use Rattle.playing.proofs.round.begin_players.Goals as goal
 
 pub loop-place-preserved : goal.loop-place-preserved
 loop-place-preserved c =
-    let before = c.loop-place.invariant in
-    let split = c.in-Ok.ensures in
+    let before = c.loop-place.invariant in let split = c.in-Ok.ensures in
     let player : Player = record { pass = c.in-Ok.pass; duty = c.duty-duty.result; outcome = Nothing; apart = c.new-apart.result } in
     let room = c.loop-place.players.ok in
     let items : c.push.new.self.items ≡ c.loop-place.players.items ++ player ∷ [] =

@@ -1,7 +1,4 @@
-use Rattle.std.proofs.Common.{◌≡◌, ◌≤◌, length}
-use Rattle.index_workers.specs.Passes.{ide_view, IsSameIdePass}
-use Rattle.shared_ide.specs.Passes.{IsIdePassOf}
-use Rattle.playing.specs.Players.{HasBegun}
+use Rattle.playing.proofs.Words.{◌≡◌, ◌≤◌, length, ide_view, IsIdePassOf, IsSameIdePass, HasBegun}
 use Rattle.playing.proofs.round.begin_players.Given as goal
 
 -- so many players were begun, and there is room for all

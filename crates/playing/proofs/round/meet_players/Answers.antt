@@ -1,8 +1,5 @@
-use Rattle.std.proofs.Common.{◌≡◌, List, [], ◌∷◌, ◌++◌, sym, ◌∙◌, arith, append_assoc}
-use Rattle.std.proofs.lemmas.Bool.{and_parts}
-use Rattle.playing.specs.declared.player.Player.{Player}
-use Rattle.playing.specs.Players.{CanMeet}
-use Rattle.playing.proofs.RoundLemmas.{met_more, taken_more, first_removed, holds_of_removed, where_ok}
+use Rattle.playing.proofs.Words.{◌≡◌, List, [], ◌∷◌, ◌++◌, sym, ◌∙◌, arith, append_assoc, and_parts, Player, CanMeet}
+use Rattle.playing.proofs.RoundLemmas.{met_more, taken_more, first_removed, holds_of_removed}
 use Rattle.playing.proofs.round.meet_players.Goals as goal
 
 pub meet-requires : goal.meet-requires
@@ -13,9 +10,7 @@ meet-requires c =
 
 pub loop-left-preserved : goal.loop-left-preserved
 loop-left-preserved c =
-    let before = c.loop-left.invariant in
-    let left = c.loop-left.left in
-    let ok = left.ok in
+    let before = c.loop-left.invariant in let left = c.loop-left.left in let ok = left.ok in
     let player : Player = c.remove-other.result in
     let rest : List Player = c.remove-other.new.self.items in
     let first : left.items ≡ player ∷ rest = first_removed left.items rest player (omega arith) c.remove-other.ensures.value c.remove-other.ensures.items in
@@ -26,5 +21,5 @@ loop-left-preserved c =
       are = rw append_assoc (rw first at before.are);
       learned = met_more _ player before.learned c.meet.ensures.view c.meet.ensures.keeps c.meet.ensures.learns;
       taken = λ whole. let both = and_parts c.loop-left.whole c.is_ok-whole.result whole in
-          taken_more player (before.taken both.0) (where_ok c.take.result (sym c.is_ok-whole.ensures.value ∙ both.1) c.take.ensures);
+          taken_more player c.take.result (before.taken both.0) (sym c.is_ok-whole.ensures.value ∙ both.1) c.take.ensures;
     }

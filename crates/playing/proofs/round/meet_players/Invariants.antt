@@ -1,8 +1,4 @@
-use Rattle.std.proofs.Common.{◌≡◌, true, List, ◌++◌}
-use Rattle.index_workers.specs.Passes.{ide_view, IsSameIdePass}
-use Rattle.shared_ide.specs.Passes.{IsIdePassOf}
-use Rattle.playing.specs.declared.player.Player.{Player}
-use Rattle.playing.specs.Players.{HasMet, HaveGathered}
+use Rattle.playing.proofs.Words.{◌≡◌, true, List, ◌++◌, ide_view, IsIdePassOf, IsSameIdePass, Player, HasMet, HaveGathered}
 use Rattle.playing.proofs.round.meet_players.Given as goal
 
 -- the first players were met, and what they did is among the answers

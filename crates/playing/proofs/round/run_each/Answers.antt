@@ -1,4 +1,4 @@
-use Rattle.std.proofs.Common.{rules}
+use Rattle.playing.proofs.Words.{rules}
 use Rattle.playing.proofs.round.run_each.Goals as goal
 
 pub returns-clause-run : goal.returns-clause-run

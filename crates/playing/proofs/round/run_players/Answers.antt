@@ -1,4 +1,4 @@
-use Rattle.std.proofs.Common.{length, ap, ◌∙◌}
+use Rattle.playing.proofs.Words.{length, ap, ◌∙◌}
 use Rattle.playing.proofs.RoundLemmas.{given_back}
 use Rattle.playing.proofs.round.run_players.Goals as goal
 

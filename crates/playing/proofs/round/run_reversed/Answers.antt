@@ -1,4 +1,4 @@
-use Rattle.playing.specs.Players.{HasRun}
+use Rattle.playing.proofs.Words.{HasRun}
 use Rattle.playing.proofs.RoundLemmas.{turned_round}
 use Rattle.playing.proofs.round.run_reversed.Goals as goal
 

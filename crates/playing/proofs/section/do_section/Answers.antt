@@ -1,6 +1,4 @@
-use Rattle.std.proofs.Common.{rules, arith, refl}
-use Rattle.lock_laws.proofs.AdvanceLemmas.{advances_not, advances_on}
-use Rattle.index_workers.specs.Passes.{ide_view}
+use Rattle.playing.proofs.Words.{rules, arith, refl, advances_not, advances_on, ide_view}
 use Rattle.playing.proofs.SectionLemmas.{section_begins, section_turn, section_over}
 use Rattle.playing.proofs.section.do_section.Goals as goal
 
@@ -13,14 +11,11 @@ loop-line-init g c = record {
 
 pub loop-line-preserved : goal.loop-line-preserved
 loop-line-preserved g c =
-    let before = c.loop-line.invariant in
-    let done = c.in_ok-do_line.ensures in
+    let before = c.loop-line.invariant in let done = c.in_ok-do_line.ensures in
+    let same = c.passes_stay_the_same.ensures _ _ _ before.pass.same done.pass.same in
+    let advances = advances_on _ _ _ before.pass.advances done.pass.advances in
     record {
-      pass = record {
-        rests = done.pass.rests;
-        same = c.passes_stay_the_same.ensures _ _ _ before.pass.same done.pass.same;
-        advances = advances_on _ _ _ before.pass.advances done.pass.advances;
-      };
+      pass = record { rests = done.pass.rests; same = same; advances = advances };
       nothing = before.nothing;
       under_way = section_turn _ _ _ _ _ _ _ _ _ _ c.loop-line.line-index _ _ _ _ c.requires.seat c.loop-line-test.true c.line-item.is
           c.first_load-load.ensures c.later_loads-left.ensures before.pass.advances done.pass.advances before.under_way done.answered;

@@ -1,6 +1,4 @@
-use Rattle.std.proofs.Common.{◌≡◌, drop}
-use Rattle.index_workers.specs.Passes.{ide_view}
-use Rattle.shared_ide.specs.Passes.{Continues}
+use Rattle.playing.proofs.Words.{◌≡◌, drop, ide_view, Continues}
 use Rattle.transcripts.specs.declared.loaded.Loaded.TheVariants.{Nothing}
 use Rattle.playing.proofs.SectionLemmas.{IsUnderWay}
 use Rattle.playing.proofs.section.do_section.Given as goal

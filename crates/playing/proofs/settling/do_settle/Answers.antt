@@ -1,4 +1,4 @@
-use Rattle.transcripts.specs.Serial.{settle_answer}
+use Rattle.playing.proofs.Words.{settle_answer}
 use Rattle.playing.proofs.SectionLemmas.{told_so}
 use Rattle.playing.proofs.settling.do_settle.Goals as goal
 

@@ -1,6 +1,5 @@
-use Rattle.std.proofs.Common.{◌∙◌, append_assoc, arith, rules}
-use Rattle.std.proofs.lemmas.Str.{chars-nil, IsUtf8-string_bytes}
-use Rattle.property_index.proofs.ScanLemmas.{chars-push}
+use Rattle.property_index.proofs.Words.{◌∙◌, append_assoc, arith, rules, chars-nil, IsUtf8-string_bytes}
+use Rattle.property_index.proofs.LineLemmas.{chars-push}
 use Rattle.property_index.proofs.key_scan.read_key.Goals as goal
 
 pub loop-meant-init : goal.loop-meant-init

@@ -1,8 +1,4 @@
-use Rattle.std.proofs.Common.{◌≡◌, ◌≤◌, ◌++◌, false, length, ◌-◌}
-use Rattle.std.specs.Str.{chars}
-use Rattle.std.specs.String.{string_bytes}
-use Rattle.property_index.specs.Keys.{key_in}
-use Rattle.property_index.specs.Rest.{left_of, inside_from, is_join}
+use Rattle.property_index.proofs.Words.{◌≡◌, ◌≤◌, ◌++◌, false, length, ◌-◌, chars, string_bytes, key_in, left_of, inside_from, is_join}
 use Rattle.property_index.proofs.key_scan.read_key.Given as goal
 
 -- the key so far and what is left of it are the key

@@ -1,5 +1,5 @@
-use Rattle.std.proofs.Common.{ℕ, List, map, ap}
-use Rattle.property_index.specs.Keys.{keys_of, key_rows}
+use Rattle.property_index.proofs.Words.{ℕ, List, map, ap, keys_of}
+use Rattle.property_index.specs.Keys.{key_rows}
 use Rattle.property_index.proofs.laws.keys_are_found_by_their_characters.Goals as goal
 
 pub returns : goal.returns

@@ -1,4 +1,4 @@
-use Rattle.property_index.proofs.ScanLemmas.{keys-added}
+use Rattle.property_index.proofs.LineLemmas.{keys-added}
 use Rattle.property_index.proofs.listing.add_key.Goals as goal
 
 pub returns-clause-added : goal.returns-clause-added

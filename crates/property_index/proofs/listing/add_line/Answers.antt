@@ -1,12 +1,10 @@
-use Rattle.std.proofs.Common.{sym, ◌∙◌}
-use Rattle.property_index.proofs.LineLemmas.{keys-blank, keys-comment, keys-visible}
-use Rattle.property_index.proofs.ScanLemmas.{left_on}
+use Rattle.property_index.proofs.Words.{sym, ◌∙◌}
+use Rattle.property_index.proofs.LineLemmas.{left_on, keys-blank, keys-comment, keys-visible}
 use Rattle.property_index.proofs.listing.add_line.Goals as goal
 
 pub returns-then-is_blank-clause-added : goal.returns-then-is_blank-clause-added
 returns-then-is_blank-clause-added c =
-    let blank = sym c.is_blank.ensures ∙ c.if-is_blank.true in
-    rw (left_on c.args.text.now c.args.at 1, c.requires.stands, keys-blank)
+    rw (left_on c.args.text.now c.args.at 1, c.requires.stands, keys-blank _ _ (sym c.is_blank.ensures ∙ c.if-is_blank.true))
 
 pub returns-then-begins_comment-clause-added : goal.returns-then-begins_comment-clause-added
 returns-then-begins_comment-clause-added c =
@@ -18,4 +16,4 @@ pub returns-else-begins_comment-clause-added : goal.returns-else-begins_comment-
 returns-else-begins_comment-clause-added c =
     let visible = sym c.is_blank.ensures ∙ c.if-is_blank.false in
     let other = sym c.begins_comment.ensures ∙ c.if-begins_comment.false in
-    rw (keys-visible _ _ _ c.requires.stands visible other) c.add_key.ensures.added
+    rw (c.requires.stands, keys-visible _ _ visible other, ← c.requires.stands) c.add_key.ensures.added

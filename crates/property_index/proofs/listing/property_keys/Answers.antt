@@ -1,4 +1,4 @@
-use Rattle.std.proofs.Common.{append-nil}
+use Rattle.property_index.proofs.Words.{append-nil}
 use Rattle.property_index.specs.Lines.{logical_lines}
 use Rattle.property_index.proofs.listing.property_keys.Goals as goal
 

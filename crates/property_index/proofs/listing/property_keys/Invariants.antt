@@ -1,6 +1,4 @@
-use Rattle.std.proofs.Common.{◌≡◌, ◌++◌, length, ◌-◌}
-use Rattle.property_index.specs.Keys.{keys_left, keys_of}
-use Rattle.property_index.specs.Rest.{left_of}
+use Rattle.property_index.proofs.Words.{◌≡◌, ◌++◌, length, ◌-◌, keys_left, keys_of, left_of}
 use Rattle.property_index.proofs.listing.property_keys.Given as goal
 
 -- the keys so far and those of what is left are those of the text

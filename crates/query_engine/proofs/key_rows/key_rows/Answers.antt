@@ -1,5 +1,4 @@
-use Rattle.std.proofs.Common.{rules}
-use Rattle.query_engine.proofs.LookLemmas.{made_more, made_stopped}
+use Rattle.query_engine.proofs.LookLemmas.{made_more, made_stopped, rules}
 use Rattle.query_engine.proofs.key_rows.key_rows.Goals as goal
 
 pub loop-id-preserved : goal.loop-id-preserved

@@ -1,6 +1,4 @@
-use Rattle.std.proofs.Common.{◌≡◌, IfSome}
-use Rattle.query_engine.specs.Listed.{AreAhead, IsListed, itself, place_found}
-use Rattle.query_engine.proofs.LookLemmas.{IsMade}
+use Rattle.query_engine.proofs.LookLemmas.{IsMade, ◌≡◌, IfSome, AreAhead, IsListed, itself, place_found}
 use Rattle.query_engine.proofs.key_rows.key_rows.Given as goal
 
 -- rows are made of the first that was found, and what is left stands behind them

@@ -1,7 +1,5 @@
-use Rattle.std.proofs.Common.{[], ◌∷◌}
+use Rattle.query_engine.proofs.FoundLemmas.{types_sorted, [], ◌∷◌, types_of}
 use Rattle.query_engine.proofs.LevelLemmas.{inheritors_sound, inheritors_whole, levels_sorted}
-use Rattle.query_engine.proofs.TypesLemmas.{types_sorted}
-use Rattle.query_engine.specs.Reply.{types_of}
 use Rattle.query_engine.proofs.laws.inheritors_are_the_ends_of_chains.Goals as goal
 
 pub returns : goal.returns

@@ -1,9 +1,6 @@
-use Rattle.std.proofs.Common.{ap, ◌∙◌, rules}
+use Rattle.query_engine.proofs.SearchLemmas.{lower, sorted_rise, stable_levels, ap, ◌∙◌, rules, LevelRow, with_row_level}
 use Rattle.std.proofs.lemmas.Cmp.{nat_cmp_total}
 use Rattle.std.proofs.lemmas.List.Sorted.{IsNonDecreasingBy-from_sort, answers_always, length_permutation, ranks_by}
-use Rattle.query_engine.specs.declared.answer.LevelRow.{LevelRow}
-use Rattle.query_engine.specs.Leveled.{with_row_level}
-use Rattle.query_engine.proofs.LevelRowLemmas.{lower, sorted_rise, stable_levels}
 use Rattle.query_engine.proofs.level_rows.level_rows.Goals as goal
 
 pub returns : goal.returns

@@ -1,6 +1,4 @@
-use Rattle.std.proofs.Common.{◌≡◌, ◌++◌, map, IfSome}
-use Rattle.query_engine.specs.Listed.{AreAhead, IsListed, stub_at}
-use Rattle.query_engine.specs.Leveled.{seen_listing, seen_row}
+use Rattle.query_engine.proofs.Words.{◌≡◌, ◌++◌, map, IfSome, AreAhead, IsListed, stub_at, seen_listing, seen_row}
 use Rattle.query_engine.proofs.level_rows.placed_rows.Given as goal
 
 -- rows are made of the first that were found, and the others stand behind them

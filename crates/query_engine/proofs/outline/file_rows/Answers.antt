@@ -1,6 +1,5 @@
-use Rattle.std.proofs.Common.{rules}
-use Rattle.query_engine.proofs.AheadLemmas.{next_left}
-use Rattle.query_engine.proofs.LookLemmas.{made_more, made_stopped}
+use Rattle.query_engine.proofs.LookLemmas.{made_more, made_stopped, rules}
+use Rattle.query_engine.proofs.FoundLemmas.{next_left}
 use Rattle.query_engine.proofs.outline.file_rows.Goals as goal
 
 pub loop-stub-preserved : goal.loop-stub-preserved

@@ -1,7 +1,4 @@
-use Rattle.std.proofs.Common.{◌≡◌, drop, length}
-use Rattle.query_engine.specs.Reply.{row_of}
-use Rattle.query_engine.specs.Listed.{listed_at, path_at, stub_at, text_at, AreFrom}
-use Rattle.query_engine.proofs.LookLemmas.{IsMade}
+use Rattle.query_engine.proofs.LookLemmas.{IsMade, ◌≡◌, drop, length, row_of, listed_at, path_at, stub_at, text_at, AreFrom}
 use Rattle.query_engine.proofs.outline.file_rows.Given as goal
 
 -- rows are made of the first declarations, and the others stand behind them

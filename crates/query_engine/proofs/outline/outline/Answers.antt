@@ -1,4 +1,4 @@
-use Rattle.query_engine.proofs.AheadLemmas.{id_live, text_there, listing_from}
+use Rattle.query_engine.proofs.FoundLemmas.{id_live, text_there, listing_from}
 use Rattle.query_engine.proofs.outline.outline.Goals as goal
 
 pub unreachable-requires : goal.unreachable-requires

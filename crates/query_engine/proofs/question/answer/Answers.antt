@@ -1,17 +1,8 @@
-use Rattle.std.proofs.Common.{◌≡◌, List, ℕ, Bool, refl, sym}
-use Rattle.dumb_mode.specs.declared.kind.FileKind.TheVariants.{Java, Properties}
-use Rattle.property_index.specs.Keys.{places_of_key}
-use Rattle.stub_tree.specs.declared.stub.Stub.{Stub}
-use Rattle.write_history.specs.World.{World, lowest_unready}
-use Rattle.ide_world.specs.Found.{found, stubs_in, masks_in}
-use Rattle.query_engine.specs.declared.answer.Finding.TheVariants.{Rows, Words, Keys}
-use Rattle.query_engine.specs.Fits.{is_class, has_super, is_method}
-use Rattle.query_engine.specs.Given.{declared_reply}
-use Rattle.query_engine.specs.Reply.{of_world, place_row, row_of, rows_in, unless_unready}
-use Rattle.query_engine.specs.Listed.{row_found, word_found, place_found}
+use Rattle.query_engine.proofs.Words.{◌≡◌, List, ℕ, Bool, refl, sym, Java, Properties, places_of_key, Stub, World, lowest_unready, found, stubs_in, masks_in}
+use Rattle.query_engine.proofs.Words.{Rows, Words, Keys, is_class, has_super, is_method, declared_reply, of_world, place_row, row_of, rows_in, unless_unready}
+use Rattle.query_engine.proofs.Words.{row_found, word_found, place_found}
 use Rattle.query_engine.proofs.FoundLemmas.{Finds, placed_found, word_rows_found, stubs_ahead, keys_ahead, live_found}
-use Rattle.query_engine.proofs.LookLemmas.{looked_not}
-use Rattle.query_engine.proofs.ReplyLemmas.{replied, replied_as, told}
+use Rattle.query_engine.proofs.LookLemmas.{looked_not, replied, replied_as, told}
 use Rattle.query_engine.proofs.question.answer.Goals as goal
 
 -- the reply by the declarations that a walk finds is the one by the files
@@ -79,5 +70,4 @@ returns-in-Outline-clause-replied g c =
     replied c.in-Outline.is refl refl record { looked = outline.looked; answer = outline.answer; refused = outline.refused }
 
 pub returns-in-Status-clause-replied : goal.returns-in-Status-clause-replied
-returns-in-Status-clause-replied g c =
-    replied c.in-Status.is refl refl record { looked = looked_not refl; answer = sym c.counts.ensures; refused = tt }
+returns-in-Status-clause-replied g c = replied c.in-Status.is refl refl record { looked = looked_not refl; answer = sym c.counts.ensures; refused = tt }

@@ -1,4 +1,4 @@
-use Rattle.query_engine.proofs.ReplyLemmas.{stopped_first, looked_first, counted_first}
+use Rattle.query_engine.proofs.LookLemmas.{stopped_first, looked_first, counted_first}
 use Rattle.query_engine.proofs.question.ask.Goals as goal
 
 pub returns-in_err-look-clause-looked : goal.returns-in_err-look-clause-looked

@@ -1,5 +1,4 @@
-use Rattle.std.proofs.Common.{refl}
-use Rattle.query_engine.proofs.ReplyLemmas.{never_stopped}
+use Rattle.query_engine.proofs.LookLemmas.{never_stopped, refl}
 use Rattle.query_engine.proofs.question.ask_unwatched.Goals as goal
 
 pub returns-clause-not_stopped : goal.returns-clause-not_stopped

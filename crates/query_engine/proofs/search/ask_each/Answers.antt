@@ -1,8 +1,5 @@
-use Rattle.std.proofs.Common.{length, refl, ap, sym, le_refl, ◌∙◌, arith, rules}
-use Rattle.std.proofs.lemmas.List.{nil_from_length}
-use Rattle.query_engine.specs.Reply.{types_of}
-use Rattle.query_engine.specs.Search.{asked_supers}
-use Rattle.query_engine.proofs.PaceLemmas.{paces_none, paces_on, paces_stopped}
+use Rattle.query_engine.proofs.Words.{length, refl, ap, sym, le_refl, ◌∙◌, arith, rules, nil_from_length, types_of, asked_supers}
+use Rattle.query_engine.proofs.LookLemmas.{paces_none, paces_on, paces_stopped}
 use Rattle.query_engine.proofs.search.ask_each.Goals as goal
 
 pub loop-name-init : goal.loop-name-init

@@ -1,8 +1,5 @@
-use Rattle.std.proofs.Common.{◌≡◌, List, ℕ, length, Ok}
+use Rattle.query_engine.proofs.Words.{◌≡◌, List, ℕ, length, Ok, types_of, AskedEach, Reached, Paces}
 use Rattle.std.specs.Vec.Iter.{into_iter_items, into_iter_len}
-use Rattle.query_engine.specs.Reply.{types_of}
-use Rattle.query_engine.specs.Search.{AskedEach, Reached}
-use Rattle.query_engine.specs.Paces.{Paces}
 use Rattle.query_engine.proofs.search.ask_each.Given as goal
 
 -- whatever the names that are left lead to, all names lead to

@@ -1,9 +1,6 @@
-use Rattle.std.proofs.Common.{length, refl, sym, ◌∙◌}
-use Rattle.std.proofs.lemmas.Bool.{not-true, not-false}
+use Rattle.query_engine.proofs.FoundLemmas.{namers_are, length, refl, sym, ◌∙◌, not-true, not-false, types_of}
 use Rattle.std.proofs.lemmas.Result.{on_ok_weaker}
-use Rattle.query_engine.specs.Reply.{types_of}
-use Rattle.query_engine.proofs.PaceLemmas.{cost_more, cost_same, paces_none, paces_wanting, paces_met}
-use Rattle.query_engine.proofs.TypesLemmas.{namers_are}
+use Rattle.query_engine.proofs.LookLemmas.{cost_more, cost_same, paces_none, paces_wanting, paces_met}
 use Rattle.query_engine.proofs.search.ask_types.Goals as goal
 
 pub returns-in_err-add-clause-paced : goal.returns-in_err-add-clause-paced

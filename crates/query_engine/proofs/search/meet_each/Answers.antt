@@ -1,5 +1,4 @@
-use Rattle.std.proofs.Common.{arith}
-use Rattle.query_engine.proofs.LookLemmas.{met_next, met_stop}
+use Rattle.query_engine.proofs.LookLemmas.{met_next, met_stop, arith}
 use Rattle.query_engine.proofs.search.meet_each.Goals as goal
 
 pub loop-file-preserved : goal.loop-file-preserved

@@ -1,6 +1,4 @@
-use Rattle.std.proofs.Common.{◌≡◌}
-use Rattle.query_engine.specs.Search.{meet_all}
-use Rattle.query_engine.proofs.LookLemmas.{HasMet}
+use Rattle.query_engine.proofs.LookLemmas.{HasMet, ◌≡◌, meet_all}
 use Rattle.query_engine.proofs.search.meet_each.Given as goal
 
 -- types were met, with a look after each 256, and others are left

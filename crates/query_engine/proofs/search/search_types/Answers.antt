@@ -1,13 +1,7 @@
-use Rattle.std.proofs.Common.{◌≡◌, [], length, sym, ◌∙◌, le_refl, rules}
+use Rattle.query_engine.proofs.FoundLemmas.{types_sorted, ◌≡◌, [], length, sym, ◌∙◌, le_refl, rules, eqb-true, nil_from_length, types_of, AskedEach}
 use Rattle.std.specs.Vec.{vec_len}
-use Rattle.std.proofs.lemmas.Bool.{eqb-true}
-use Rattle.std.proofs.lemmas.List.{nil_from_length}
-use Rattle.query_engine.specs.Reply.{types_of}
-use Rattle.query_engine.specs.Search.{AskedEach}
-use Rattle.query_engine.proofs.FinishLemmas.{before_first, before_next, found_all}
-use Rattle.query_engine.proofs.LookLemmas.{looked_unseen}
-use Rattle.query_engine.proofs.PaceLemmas.{paces_none, paces_wanting, paces_on, paces_stopped, looks_few}
-use Rattle.query_engine.proofs.TypesLemmas.{types_sorted}
+use Rattle.query_engine.proofs.SearchLemmas.{before_first, before_next, found_all}
+use Rattle.query_engine.proofs.LookLemmas.{looked_unseen, paces_none, paces_wanting, paces_on, paces_stopped, looks_few}
 use Rattle.query_engine.proofs.search.search_types.Goals as goal
 
 pub loop-level-init : goal.loop-level-init

@@ -1,7 +1,4 @@
-use Rattle.std.proofs.Common.{[], Ok}
-use Rattle.query_engine.specs.Reply.{types_of}
-use Rattle.query_engine.specs.Paces.{Paces}
-use Rattle.query_engine.proofs.FinishLemmas.{IsBefore}
+use Rattle.query_engine.proofs.SearchLemmas.{IsBefore, [], Ok, types_of, Paces}
 use Rattle.query_engine.proofs.search.search_types.Given as goal
 
 -- before each level, what was found and what the levels from here on give are all types that come from the name

@@ -1,6 +1,4 @@
-use Rattle.std.proofs.Common.{◌≡◌, IfSome}
-use Rattle.query_engine.specs.Listed.{AreAhead, IsListed, row_found, stub_at}
-use Rattle.query_engine.proofs.LookLemmas.{IsMade}
+use Rattle.query_engine.proofs.LookLemmas.{IsMade, ◌≡◌, IfSome, AreAhead, IsListed, row_found, stub_at}
 use Rattle.query_engine.proofs.stub_rows.stub_rows.Given as goal
 
 -- rows are made of the first that was found, and what is left stands behind them

@@ -1,7 +1,4 @@
-use Rattle.std.proofs.Common.{◌≡◌, ◌++◌, drop, length, map}
-use Rattle.query_engine.specs.Reply.{place_row}
-use Rattle.query_engine.specs.Listed.{listed_at, path_at, text_at, uses_at}
-use Rattle.query_engine.proofs.UsageLemmas.{StandBehind}
+use Rattle.query_engine.proofs.FoundLemmas.{StandBehind, ◌≡◌, ◌++◌, drop, length, map, place_row, listed_at, path_at, text_at, uses_at}
 use Rattle.query_engine.proofs.usages.add_uses.Given as goal
 
 -- the rows so far and those of the places that are left are all, and these places stand behind the walk

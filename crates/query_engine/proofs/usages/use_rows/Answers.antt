@@ -1,7 +1,4 @@
-use Rattle.std.proofs.Common.{refl, sym, ◌∙◌}
-use Rattle.query_engine.specs.Listed.{has_code}
-use Rattle.query_engine.proofs.FoundLemmas.{live_rest}
-use Rattle.query_engine.proofs.UsageLemmas.{used_more}
+use Rattle.query_engine.proofs.FoundLemmas.{live_rest, used_more, refl, sym, ◌∙◌, has_code}
 use Rattle.query_engine.proofs.usages.use_rows.Goals as goal
 
 -- a file in whose code the name stands gives its rows, and is looked after

@@ -1,6 +1,4 @@
-use Rattle.std.proofs.Common.{◌≡◌, filter}
-use Rattle.query_engine.specs.Listed.{AreLive, has_code, uses_found}
-use Rattle.query_engine.proofs.UsageLemmas.{IsUsed}
+use Rattle.query_engine.proofs.FoundLemmas.{IsUsed, ◌≡◌, filter, AreLive, has_code, uses_found}
 use Rattle.query_engine.proofs.usages.use_rows.Given as goal
 
 -- rows are made of the first files in whose code the name stands, and what is left is of live files

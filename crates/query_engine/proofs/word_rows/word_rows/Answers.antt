@@ -1,6 +1,5 @@
-use Rattle.std.proofs.Common.{refl}
+use Rattle.query_engine.proofs.LookLemmas.{made_more, made_stopped, refl}
 use Rattle.query_engine.proofs.FoundLemmas.{word_row_made, live_rest}
-use Rattle.query_engine.proofs.LookLemmas.{made_more, made_stopped}
 use Rattle.query_engine.proofs.word_rows.word_rows.Goals as goal
 
 pub loop-file-preserved : goal.loop-file-preserved

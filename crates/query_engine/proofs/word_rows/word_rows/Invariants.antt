@@ -1,6 +1,4 @@
-use Rattle.std.proofs.Common.{◌≡◌}
-use Rattle.query_engine.specs.Listed.{AreLive, word_found}
-use Rattle.query_engine.proofs.LookLemmas.{IsMade}
+use Rattle.query_engine.proofs.LookLemmas.{IsMade, ◌≡◌, AreLive, word_found}
 use Rattle.query_engine.proofs.word_rows.word_rows.Given as goal
 
 -- rows are made of the first that was found, and what is left is of live files

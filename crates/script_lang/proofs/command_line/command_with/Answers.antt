@@ -1,4 +1,4 @@
-use Rattle.std.specs.Str.{chars}
+use Rattle.script_lang.proofs.Words.{chars}
 use Rattle.script_lang.proofs.GrammarContents.{command_with-chars}
 use Rattle.script_lang.proofs.command_line.command_with.Goals as goal
 

@@ -1,5 +1,4 @@
-use Rattle.std.proofs.Common.{arith}
-use Rattle.std.proofs.lemmas.Str.{is_utf8-from_IsUtf8, IsUtf8-from_is_utf8}
+use Rattle.script_lang.proofs.Words.{arith, is_utf8-from_IsUtf8, IsUtf8-from_is_utf8}
 use Rattle.script_lang.specs.Contents.{content_of}
 use Rattle.script_lang.proofs.content.content_of.Goals as goal
 

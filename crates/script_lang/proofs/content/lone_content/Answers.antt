@@ -1,4 +1,4 @@
-use Rattle.std.proofs.Common.{◌∙◌, sym}
+use Rattle.script_lang.proofs.Words.{◌∙◌, sym}
 use Rattle.script_lang.proofs.GrammarContents.{lone_content-chars}
 use Rattle.script_lang.proofs.content.lone_content.Goals as goal
 

@@ -1,4 +1,4 @@
-use Rattle.script_lang.proofs.CharLemmas.{parts_from_split}
+use Rattle.script_lang.proofs.FieldLemmas.{parts_from_split}
 use Rattle.script_lang.proofs.field.parts_at_space.Goals as goal
 
 pub returns : goal.returns

@@ -1,4 +1,4 @@
-use Rattle.std.specs.Str.{chars}
+use Rattle.script_lang.proofs.Words.{chars}
 use Rattle.script_lang.proofs.GrammarContents.{query_with-chars}
 use Rattle.script_lang.proofs.query_line.query_with.Goals as goal
 

@@ -1,5 +1,4 @@
-use Rattle.std.proofs.Common.{◌∙◌, sym}
-use Rattle.std.proofs.lemmas.Str.{chars_past_char}
+use Rattle.script_lang.proofs.Words.{◌∙◌, sym, chars_past_char}
 use Rattle.script_lang.proofs.quoted.first_char.Goals as goal
 
 pub returns-clause-cut : goal.returns-clause-cut

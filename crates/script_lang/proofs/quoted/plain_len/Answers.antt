@@ -1,6 +1,5 @@
-use Rattle.std.proofs.Common.{arith}
-use Rattle.std.proofs.lemmas.Str.{IsCharBoundary-start, chars-nil}
-use Rattle.script_lang.proofs.QuoteLemmas.{unquoted_from-found}
+use Rattle.script_lang.proofs.Words.{arith, IsCharBoundary-start, chars-nil}
+use Rattle.script_lang.proofs.FieldLemmas.{unquoted_from-found}
 use Rattle.script_lang.proofs.quoted.plain_len.Goals as goal
 
 pub returns-in-Inside-clause-cut : goal.returns-in-Inside-clause-cut

@@ -1,7 +1,5 @@
-use Rattle.std.proofs.Common.{◌∙◌, sym, arith}
-use Rattle.script_lang.proofs.GrammarScript.{refusal_passed}
-use Rattle.script_lang.proofs.HeldLemmas.{AreOfScript-script_of}
-use Rattle.script_lang.proofs.GrammarReading.{reads_line, reads_end}
+use Rattle.script_lang.proofs.Words.{◌∙◌, sym, arith}
+use Rattle.script_lang.proofs.GrammarScript.{AreOfScript-script_of, reads_line, reads_end}
 use Rattle.script_lang.proofs.script.script_of.Goals as goal
 
 pub returns-in_default-2-clause-err : goal.returns-in_default-2-clause-err
@@ -16,12 +14,11 @@ loop-line-preserved c = record {
 
 pub returns-in_err-finished-clause-err : goal.returns-in_err-finished-clause-err
 returns-in_err-finished-clause-err c =
-    refusal_passed _ _ _ _ (reads_end _ _ _ _ c.in_default.ensures.cut c.loop-line.invariant.read) c.in_err-finished.ensures.err
-    c.from_residual-in_err-finished.ensures.1
+    let end = reads_end _ _ _ _ c.in_default.ensures.cut c.loop-line.invariant.read in
+    grind (arith, end, c.in_err-finished.ensures.err, c.from_residual-in_err-finished.ensures.1)
 
 pub returns-clause-ok : goal.returns-clause-ok
-returns-clause-ok c =
-    reads_end _ _ _ _ c.in_default.ensures.cut c.loop-line.invariant.read ∙ c.in_ok-finished.ensures.ok
+returns-clause-ok c = reads_end _ _ _ _ c.in_default.ensures.cut c.loop-line.invariant.read ∙ c.in_ok-finished.ensures.ok
 
 pub invariant_of-result : goal.invariant_of-result
 invariant_of-result c =

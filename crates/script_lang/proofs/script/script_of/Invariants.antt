@@ -1,6 +1,4 @@
-use Rattle.std.proofs.Common.{◌≡◌, ◌≤◌, ◌+◌, length}
-use Rattle.script_lang.specs.Lines.{lines_of}
-use Rattle.script_lang.specs.Reading.{start, read_from}
+use Rattle.script_lang.proofs.Words.{◌≡◌, ◌≤◌, ◌+◌, length, lines_of, start, read_from}
 use Rattle.script_lang.proofs.script.script_of.Given as goal
 
 abbrev pub invariant-loop-line : goal.invariant-loop-line

@@ -1,8 +1,7 @@
-use Rattle.std.proofs.Common.{◌∙◌, ◌+◌, sym, add-one}
-use Rattle.std.proofs.lemmas.List.{take_rest}
-use Rattle.script_lang.proofs.GrammarLines.{lines_of-cut}
-use Rattle.script_lang.proofs.split.first_line.Goals as goal
+use Rattle.script_lang.proofs.Words.{◌∙◌, ◌+◌, sym, add-one, take_rest}
+use Rattle.script_lang.proofs.GrammarContents.{lines_of-cut}
 use Rattle.script_lang.proofs.split.first_line.Goals.{in-Some, in-None}
+use Rattle.script_lang.proofs.split.first_line.Goals as goal
 
 pub returns-clause-cut : goal.returns-clause-cut
 returns-clause-cut c =

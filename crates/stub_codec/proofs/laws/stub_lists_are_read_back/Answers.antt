@@ -1,12 +1,8 @@
-use Rattle.std.proofs.Common.{◌<◌, ◌^◌, length, arith}
-use Rattle.field_laws.proofs.FieldLemmas.{bytes_fit}
-use Rattle.stub_codec.proofs.StubLemmas.{all_takes, all_again}
+use Rattle.stub_codec.proofs.StubLemmas.{arith, bytes_fit, all_takes, all_again}
 use Rattle.stub_codec.proofs.laws.stub_lists_are_read_back.Goals as goal
 
 pub returns-clause-read : goal.returns-clause-read
 returns-clause-read c = λ bytes stubs fits e. all_takes bytes stubs (bytes_fit bytes fits) e
 
 pub returns-clause-again : goal.returns-clause-again
-returns-clause-again c = λ bytes stubs is.
-    let few : length stubs < 2 ^ 32 = omega (arith, c.lawful_lists_are_short.ensures stubs is.lawful) in
-    all_again stubs bytes few is
+returns-clause-again c = λ bytes stubs is. all_again stubs bytes (omega (arith, c.lawful_lists_are_short.ensures stubs is.lawful)) is

@@ -1,5 +1,4 @@
-use Rattle.std.proofs.Common.{arith}
-use Rattle.stub_codec.proofs.StubLemmas.{lawful_read}
+use Rattle.stub_codec.proofs.StubLemmas.{arith, lawful_read}
 use Rattle.stub_codec.proofs.reading.all.Goals as goal
 
 pub from_vec-requires : goal.from_vec-requires

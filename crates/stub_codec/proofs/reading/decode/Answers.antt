@@ -1,8 +1,4 @@
-use Rattle.std.proofs.Common.{◌∙◌, sym, subst, arith}
-use Rattle.byte_fields.specs.Answers.{Fails}
-use Rattle.field_laws.proofs.FieldLemmas.{ok_is, bytes_below}
-use Rattle.stub_codec.specs.Reading.{all_of}
-use Rattle.stub_codec.proofs.StubLemmas.{no_list}
+use Rattle.stub_codec.proofs.StubLemmas.{arith, sym, ◌∙◌, ok_is, bytes_below}
 use Rattle.stub_codec.proofs.reading.decode.Goals as goal
 
 pub returns-in-Ok-clause-found : goal.returns-in-Ok-clause-found
@@ -14,5 +10,5 @@ returns-in-Ok-clause-only c = λ stubs is. (ok_is c.in-Ok.stubs stubs (sym c.in-
 
 pub returns-in-Err-Unlawful-clause-only : goal.returns-in-Err-Unlawful-clause-only
 returns-in-Err-Unlawful-clause-only c = λ stubs is.
-    let bytes = c.args.bytes.now in
-    (tt, absurd (no_list c.in-Err-Unlawful.left stubs (all_of bytes) (subst (λ fault. Fails fault (all_of bytes)) c.in-Err-Unlawful.field-0-is c.in-Err-Unlawful.ensures) (c.stub_lists_are_read_back.ensures.again bytes stubs is)))
+    let fault = rw c.in-Err-Unlawful.field-0-is at c.in-Err-Unlawful.ensures in
+    (tt, absurd (grind (arith, fault, c.stub_lists_are_read_back.ensures.again c.args.bytes.now stubs is)))

@@ -1,6 +1,4 @@
-use Rattle.std.proofs.Common.{◌≡◌, ◌-◌, None}
-use Rattle.byte_fields.specs.Reading.{many_at, name_at}
-use Rattle.field_laws.proofs.ManyLemmas.{with_front, last}
+use Rattle.stub_codec.proofs.StubLemmas.{◌≡◌, ◌-◌, None, many_at, name_at, with_front, last}
 use Rattle.stub_codec.proofs.reading.names_of.Given as goal
 
 -- the names so far, and what the rest gives

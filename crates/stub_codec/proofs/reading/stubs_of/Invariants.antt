@@ -1,7 +1,4 @@
-use Rattle.std.proofs.Common.{◌≡◌, ◌-◌, None}
-use Rattle.byte_fields.specs.Reading.{many_at}
-use Rattle.stub_codec.specs.Reading.{stub_at}
-use Rattle.field_laws.proofs.ManyLemmas.{with_front, last}
+use Rattle.stub_codec.proofs.StubLemmas.{◌≡◌, ◌-◌, None, many_at, stub_at, with_front, last}
 use Rattle.stub_codec.proofs.reading.stubs_of.Given as goal
 
 -- the stubs so far, and what the rest gives behind the last of them

@@ -1,7 +1,4 @@
-use Rattle.std.proofs.Common.{◌≡◌, true, ◌++◌, ◌∷◌, take, length}
-use Rattle.std.specs.List.{flat_map, list_all}
-use Rattle.byte_fields.specs.Spelling.{number}
-use Rattle.stub_codec.specs.Spelling.{version, stub, has_scalars}
+use Rattle.stub_codec.proofs.StubLemmas.{◌≡◌, true, ◌++◌, ◌∷◌, take, length, flat_map, list_all, number, version, stub, has_scalars}
 use Rattle.stub_codec.proofs.writing.encode.Given as goal
 
 -- the version, the number of stubs and the stubs so far are written

@@ -1,7 +1,4 @@
-use Rattle.std.proofs.Common.{◌≡◌, true, ◌++◌, take}
-use Rattle.std.specs.List.{flat_map, list_all}
-use Rattle.std.specs.Str.{all_scalars}
-use Rattle.byte_fields.specs.Spelling.{name}
+use Rattle.stub_codec.proofs.StubLemmas.{◌≡◌, true, ◌++◌, take, flat_map, list_all, all_scalars, name}
 use Rattle.stub_codec.proofs.writing.put_names.Given as goal
 
 -- the names so far stand at the end, and are texts of Unicode

@@ -1,9 +1,4 @@
-use Rattle.std.proofs.Common.{◌≡◌, ℕ, List, length}
-use Rattle.std.specs.Option.{option_or}
-use Rattle.std.specs.Ordering.{nat_cmp}
-use Rattle.std.specs.Cmp.Lexicographic.{slice_cmp}
-use Rattle.std.specs.BTreeMap.{get_by}
-use Rattle.stub_index.specs.Mentions.{behind_last}
+use Rattle.stub_index.proofs.Words.{◌≡◌, ℕ, List, length, option_or, nat_cmp, slice_cmp, get_by, behind_last}
 use Rattle.stub_index.proofs.last_mentions.last_mentions.Given as goal
 
 -- a name is mentioned last among those that are left, or where it was found

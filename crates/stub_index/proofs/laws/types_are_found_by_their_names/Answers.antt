@@ -1,5 +1,7 @@
-use Rattle.stub_index.proofs.NamedLemmas.{types_values}
+use Rattle.stub_index.proofs.Words.{is_type_named, type_names, is_type}
+use Rattle.stub_index.proofs.NamedLemmas.{found_values, one_name}
 use Rattle.stub_index.proofs.laws.types_are_found_by_their_names.Goals as goal
 
 pub returns : goal.returns
-returns c = λ stubs name. types_values name c.sorting_keeps_the_rows_of_a_key.ensures stubs
+returns c = λ stubs key. found_values key type_names (is_type_named key) (λ s. one_name key s.name s (is_type s))
+    (c.sorting_keeps_the_rows_of_a_key.ensures key) stubs

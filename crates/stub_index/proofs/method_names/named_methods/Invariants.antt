@@ -1,5 +1,4 @@
-use Rattle.std.proofs.Common.{◌≡◌, ◌++◌, drop}
-use Rattle.stub_index.specs.Named.{method_names, rows_named}
+use Rattle.stub_index.proofs.Words.{◌≡◌, ◌++◌, drop, method_names, rows_named}
 use Rattle.stub_index.proofs.method_names.named_methods.Given as goal
 
 -- the rows so far and those of the stubs that are left are all

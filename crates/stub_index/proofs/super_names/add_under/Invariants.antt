@@ -1,9 +1,4 @@
-use Rattle.std.proofs.Common.{◌≡◌, ℕ, true, List, ◌++◌, length}
-use Rattle.std.specs.Ordering.{nat_cmp}
-use Rattle.std.specs.Cmp.Lexicographic.{slice_cmp}
-use Rattle.std.specs.BTreeMap.{get_by}
-use Rattle.stub_index.specs.Mentions.{behind_last}
-use Rattle.stub_index.specs.Named.{has_name, distinct_names, rows_under}
+use Rattle.stub_index.proofs.Words.{◌≡◌, ℕ, true, List, ◌++◌, length, nat_cmp, slice_cmp, get_by, behind_last, has_name, distinct_names, rows_under}
 use Rattle.stub_index.proofs.super_names.add_under.Given as goal
 
 -- the rows so far and those of the names that are left are all, and these are found where they are mentioned last

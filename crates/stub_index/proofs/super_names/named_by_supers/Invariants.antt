@@ -1,5 +1,4 @@
-use Rattle.std.proofs.Common.{◌≡◌, ◌++◌, drop}
-use Rattle.stub_index.specs.Named.{super_names, rows_named}
+use Rattle.stub_index.proofs.Words.{◌≡◌, ◌++◌, drop, super_names, rows_named}
 use Rattle.stub_index.proofs.super_names.named_by_supers.Given as goal
 
 -- the rows so far and those of the stubs that are left are all

@@ -1,5 +1,4 @@
-use Rattle.std.proofs.Common.{◌≡◌, ◌++◌, drop}
-use Rattle.stub_index.specs.Named.{type_names, rows_named}
+use Rattle.stub_index.proofs.Words.{◌≡◌, ◌++◌, drop, type_names, rows_named}
 use Rattle.stub_index.proofs.type_names.named_types.Given as goal
 
 -- the rows so far and those of the stubs that are left are all

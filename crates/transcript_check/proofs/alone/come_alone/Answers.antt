@@ -1,5 +1,4 @@
-use Rattle.transcript_check.proofs.Words.{◌≤◌, length, arith, Bor, Loaded}
-use Rattle.transcript_check.proofs.AloneLemmas.{next_line, other_line, no_record, all_lines_gone, got}
+use Rattle.transcript_check.proofs.StepLemmas.{next_line, other_line, no_record, all_lines_gone, got, ◌≤◌, length, arith, Bor, Loaded}
 use Rattle.transcript_check.proofs.alone.come_alone.Goals as goal
 
 pub loop-at-init : goal.loop-at-init

@@ -1,5 +1,4 @@
-use Rattle.transcript_check.proofs.Words.{◌≤◌, length}
-use Rattle.transcript_check.proofs.AloneLemmas.{ComesFrom}
+use Rattle.transcript_check.proofs.StepLemmas.{ComesFrom, ◌≤◌, length}
 use Rattle.transcript_check.proofs.alone.come_alone.Given as goal
 
 -- going on from here leads where going on from the start does, and each line so far had a record

@@ -1,5 +1,4 @@
-use Rattle.transcript_check.proofs.Words.{sym, ◌∙◌, IfOk-weaker}
-use Rattle.transcript_check.proofs.AloneLemmas.{told_gone, short_of_entries, changed_gone}
+use Rattle.transcript_check.proofs.StepLemmas.{told_gone, short_of_entries, changed_gone, sym, ◌∙◌, IfOk-weaker}
 use Rattle.transcript_check.proofs.alone.plain_so.Goals as goal
 
 pub returns-then-branch : goal.returns-then-branch

@@ -1,5 +1,4 @@
-use Rattle.transcript_check.proofs.Words.{None, sym, ◌∙◌, IfOk-weaker}
-use Rattle.transcript_check.proofs.AloneLemmas.{settle_next, settle_stops, settle_answered, fewer_unready}
+use Rattle.transcript_check.proofs.StepLemmas.{settle_next, settle_stops, settle_answered, fewer_unready, None, sym, ◌∙◌, IfOk-weaker}
 use Rattle.transcript_check.proofs.alone.settle_so.Goals as goal
 
 pub loop-alloc-init : goal.loop-alloc-init

@@ -1,5 +1,4 @@
-use Rattle.transcript_check.proofs.Words.{rules, arith, nat_tests}
-use Rattle.transcript_check.proofs.ScanLemmas.{cut-end, cut-turn, first_len-within, first_len-some}
+use Rattle.transcript_check.proofs.TextBlocks.{cut-end, cut-turn, first_len-within, first_len-some, rules, arith, nat_tests}
 use Rattle.transcript_check.proofs.blocks.cut.Goals as goal
 
 pub split_at-requires : goal.split_at-requires

@@ -1,8 +1,7 @@
-use Rattle.transcript_check.proofs.Words.{ℕ, ◌≡◌, ◌+◌, List, [], ◌∷◌, length, take, drop, ap, ◌∙◌, length-append, take-append-drop, arith, rules}
-use Rattle.transcript_check.proofs.Words.{concat, append-nil, drop-drop, concat-append, first_len}
+use Rattle.transcript_check.proofs.TextBlocks.{blocks-first, first_len-within, ℕ, ◌≡◌, ◌+◌, List, [], ◌∷◌, length, take, drop, ap, ◌∙◌, length-append, arith}
+use Rattle.transcript_check.proofs.TextBlocks.{take-append-drop, rules, concat, append-nil, drop-drop, concat-append, first_len}
 use Rattle.transcript_check.specs.Blocks.{blocks_of}
-use Rattle.std.proofs.Math.Seq.{take-add}
-use Rattle.transcript_check.proofs.ScanLemmas.{blocks-first, first_len-within}
+use Rattle.transcript_check.proofs.Words.{take-add}
 use Rattle.transcript_check.proofs.blocks.offset_of.Goals as goal
 
 -- one block is passed, if there is one

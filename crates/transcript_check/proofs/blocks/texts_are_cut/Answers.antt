@@ -1,4 +1,4 @@
-use Rattle.transcript_check.proofs.ScanLemmas.{blocks-of-texts}
+use Rattle.transcript_check.proofs.TextBlocks.{blocks-of-texts}
 use Rattle.transcript_check.proofs.blocks.texts_are_cut.Goals as goal
 
 pub returns : goal.returns

@@ -1,4 +1,4 @@
-use Rattle.transcript_check.proofs.ReadLemmas.{seat-read, file-read}
+use Rattle.transcript_check.proofs.CursorLemmas.{seat-read, file-read}
 use Rattle.transcript_check.proofs.blocks.what_was_printed_is_read.Goals as goal
 
 pub returns : goal.returns

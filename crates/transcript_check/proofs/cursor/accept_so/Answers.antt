@@ -1,5 +1,4 @@
-use Rattle.transcript_check.proofs.Words.{rules, IfOk-weaker}
-use Rattle.transcript_check.proofs.StepLemmas.{not_entered, entered_so}
+use Rattle.transcript_check.proofs.StepLemmas.{not_entered, entered_so, rules, IfOk-weaker}
 use Rattle.transcript_check.proofs.cursor.accept_so.Goals as goal
 
 pub returns-then-not-is : goal.returns-then-not-is

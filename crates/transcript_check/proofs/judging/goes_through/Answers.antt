@@ -1,5 +1,4 @@
-use Rattle.transcript_check.proofs.Words.{rules}
-use Rattle.transcript_check.proofs.JudgeLemmas.{prelude_stops, sides_stop, last_decides, after_all}
+use Rattle.transcript_check.proofs.MisfitLemmas.{prelude_stops, sides_stop, last_decides, after_all, rules}
 use Rattle.transcript_check.proofs.judging.goes_through.Goals as goal
 
 pub returns-in-Err : goal.returns-in-Err

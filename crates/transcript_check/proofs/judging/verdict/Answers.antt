@@ -1,5 +1,4 @@
-use Rattle.transcript_check.proofs.Words.{rules}
-use Rattle.transcript_check.proofs.VerdictLemmas.{judges}
+use Rattle.transcript_check.proofs.MisfitLemmas.{judges, rules}
 use Rattle.transcript_check.proofs.judging.verdict.Goals as goal
 
 pub returns-clause-verdict : goal.returns-clause-verdict

@@ -1,5 +1,4 @@
-use Rattle.transcript_check.proofs.Words.{◌≡◌, ◌+◌, suc, arith}
-use Rattle.transcript_check.proofs.JudgeLemmas.{lines_from}
+use Rattle.transcript_check.proofs.MisfitLemmas.{lines_from, ◌≡◌, ◌+◌, suc, arith}
 use Rattle.transcript_check.proofs.judging.without_lanes.Goals as goal
 
 pub loop-place-preserved : goal.loop-place-preserved

@@ -1,5 +1,4 @@
-use Rattle.transcript_check.proofs.Words.{◌∙◌, arith, ℕ, min, length, ap, List}
-use Rattle.transcript_check.proofs.JudgeLemmas.{after_turn}
+use Rattle.transcript_check.proofs.MisfitLemmas.{after_turn, ◌∙◌, arith, ℕ, min, length, ap, List}
 use Rattle.transcript_check.proofs.lanes.after_lanes.Goals as goal
 
 pub loop-place-preserved : goal.loop-place-preserved

@@ -1,6 +1,5 @@
-use Rattle.transcript_check.proofs.Words.{◌≡◌, suc, false, take, [], ◌∷◌, ◌+◌, ◌++◌, drop, ap, sym, ◌∙◌, append_assoc, arith, ℕ, min, length, List}
-use Rattle.transcript_check.proofs.Words.{Cursor, cursors_of}
-use Rattle.transcript_check.proofs.JudgeLemmas.{cursors_turn}
+use Rattle.transcript_check.proofs.MisfitLemmas.{cursors_turn, ◌≡◌, suc, false, take, [], ◌∷◌, ◌+◌, ◌++◌, drop, ap, sym, ◌∙◌, append_assoc, arith, ℕ, min}
+use Rattle.transcript_check.proofs.MisfitLemmas.{List, length, Cursor, cursors_of}
 use Rattle.transcript_check.proofs.lanes.cursors_of.Goals as goal
 
 pub loop-place-preserved : goal.loop-place-preserved
@@ -12,8 +11,7 @@ loop-place-preserved c =
     let turn =
     cursors_turn c.args.script.now.lanes c.loop-place.place c.lane-lines.result.now c.loop-place.at c.told_of-count.result c.args.records.now
     c.lane-lines.ensures.lines (c.told_of-count.ensures ∙ ap (λ (ts : List (List ℕ)). min (length c.lane-lines.result.now) (length ts)) c.split_at.ensures.back) in
-    let with : List (List ℕ) → Cursor =
-    λ own. record { seat = c.loop-place.place + 1; lines = c.lane-lines.result.now; texts = own; settling = false } in
+    let with : List (List ℕ) → Cursor = λ own. record { seat = c.loop-place.place + 1; lines = c.lane-lines.result.now; texts = own; settling = false } in
     let own : c.split_at-in-loop-place.result.0.now ≡ take c.told_of-count.result (drop c.loop-place.at c.args.records.now) =
     c.split_at-in-loop-place.ensures.front ∙ ap (λ (ts : List (List ℕ)). take c.told_of-count.result ts) c.split_at.ensures.back in
     record {

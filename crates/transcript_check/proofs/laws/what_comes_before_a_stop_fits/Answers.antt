@@ -1,5 +1,4 @@
-use Rattle.transcript_check.proofs.Words.{[]}
-use Rattle.transcript_check.proofs.MeaningLemmas.{stops_at_line, stops_beside}
+use Rattle.transcript_check.proofs.MisfitLemmas.{stops_at_line, stops_beside, []}
 use Rattle.transcript_check.proofs.laws.what_comes_before_a_stop_fits.Goals as goal
 
 pub returns : goal.returns

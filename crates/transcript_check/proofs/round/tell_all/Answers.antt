@@ -1,5 +1,4 @@
-use Rattle.transcript_check.proofs.Words.{rules, ◌<◌, length, told_here}
-use Rattle.transcript_check.proofs.ReachLemmas.{told_more}
+use Rattle.transcript_check.proofs.SideLemmas.{told_more, rules, ◌<◌, length, told_here}
 use Rattle.transcript_check.proofs.round.tell_all.Goals as goal
 
 pub loop-place-preserved : goal.loop-place-preserved

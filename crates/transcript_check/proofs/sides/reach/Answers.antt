@@ -1,5 +1,4 @@
-use Rattle.transcript_check.proofs.Words.{rules, ◌<◌, length, sym, length-drop, next_left}
-use Rattle.transcript_check.proofs.ReachLemmas.{begun, one_on, none_on}
+use Rattle.transcript_check.proofs.SideLemmas.{begun, one_on, none_on, rules, ◌<◌, length, sym, length-drop, next_left}
 use Rattle.transcript_check.proofs.sides.reach.Goals as goal
 
 pub loop-place-init : goal.loop-place-init

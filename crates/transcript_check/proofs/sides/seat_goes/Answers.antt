@@ -1,5 +1,4 @@
-use Rattle.transcript_check.proofs.Words.{IfOk-weaker}
-use Rattle.transcript_check.proofs.ReachLemmas.{lane_gone, worker_gone}
+use Rattle.transcript_check.proofs.SideLemmas.{lane_gone, worker_gone, IfOk-weaker}
 use Rattle.transcript_check.proofs.sides.seat_goes.Goals as goal
 
 pub returns-then-seat-lanes : goal.returns-then-seat-lanes

@@ -1,5 +1,4 @@
-use Rattle.transcript_check.proofs.Words.{rules, sym, ◌∙◌, IfOk-weaker}
-use Rattle.transcript_check.proofs.ReachLemmas.{none_gone, section_waits, section_made}
+use Rattle.transcript_check.proofs.SideLemmas.{none_gone, section_waits, section_made, rules, sym, ◌∙◌, IfOk-weaker}
 use Rattle.transcript_check.proofs.sides.section_goes.Goals as goal
 
 pub returns-in_default : goal.returns-in_default

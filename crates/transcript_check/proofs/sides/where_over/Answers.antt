@@ -1,5 +1,4 @@
-use Rattle.transcript_check.proofs.Words.{sym, ◌∙◌}
-use Rattle.transcript_check.proofs.ReachLemmas.{none_waits, one_waits}
+use Rattle.transcript_check.proofs.SideLemmas.{none_waits, one_waits, sym, ◌∙◌}
 use Rattle.transcript_check.proofs.sides.where_over.Goals as goal
 
 pub returns-in-None : goal.returns-in-None

@@ -1,5 +1,4 @@
-use Rattle.transcript_check.proofs.Words.{rules, ◌≡◌}
-use Rattle.transcript_check.proofs.StepLemmas.{cancelled_text}
+use Rattle.transcript_check.proofs.StepLemmas.{cancelled_text, rules, ◌≡◌}
 use Rattle.transcript_check.proofs.told.is_given_up.Goals as goal
 
 pub returns-in_ok-wanted-in-Soft : goal.returns-in_ok-wanted-in-Soft

@@ -1,5 +1,4 @@
-use Rattle.transcript_check.proofs.Words.{rules, sym, ◌∙◌, IfOk-weaker}
-use Rattle.transcript_check.proofs.StepLemmas.{not_told, told_so}
+use Rattle.transcript_check.proofs.StepLemmas.{not_told, told_so, rules, sym, ◌∙◌, IfOk-weaker}
 use Rattle.transcript_check.proofs.told.is_told_here.Goals as goal
 
 pub returns-then-not-branch : goal.returns-then-not-branch

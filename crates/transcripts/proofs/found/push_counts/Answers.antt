@@ -1,6 +1,5 @@
+use Rattle.transcripts.proofs.Words.{files_text, open_text, unready_text, string_bytes}
 use Rattle.std.proofs.lemmas.Result.{on_ok_weaker}
-use Rattle.std.specs.Prelude.{string_bytes}
-use Rattle.transcripts.specs.Transcript.{files_text, open_text, unready_text}
 use Rattle.transcripts.proofs.PrintLemmas.{three_pieces}
 use Rattle.transcripts.proofs.found.push_counts.Goals as goal
 

@@ -1,4 +1,4 @@
-use Rattle.std.proofs.Common.{◌++◌, refl}
+use Rattle.transcripts.proofs.Words.{◌++◌, refl}
 use Rattle.transcripts.proofs.SectionLemmas.{section_serial}
 use Rattle.transcripts.proofs.laws.a_section_alone_is_serial.Goals as goal
 

@@ -1,5 +1,4 @@
-use Rattle.std.proofs.Common.{arith, rules, subst}
-use Rattle.transcripts.specs.Loads.{IsLoadOf}
+use Rattle.transcripts.proofs.Words.{arith, rules, subst, IsLoadOf}
 use Rattle.transcripts.proofs.LoadsLemmas.{loads_end, loads_turn, has_asked_turn, has_asked_all, has_asked_front, has_asked_some, has_asked_so_far}
 use Rattle.transcripts.proofs.loads.read_loads.Goals as goal
 

@@ -1,6 +1,4 @@
-use Rattle.std.proofs.Common.{◌≡◌, ◌++◌, List, drop}
-use Rattle.transcripts.specs.declared.loaded.Loaded.{Loaded}
-use Rattle.transcripts.specs.Loads.{AreLoadsOf}
+use Rattle.transcripts.proofs.Words.{◌≡◌, ◌++◌, List, drop, Loaded, AreLoadsOf}
 use Rattle.transcripts.proofs.LoadsLemmas.{HasAsked}
 use Rattle.transcripts.proofs.loads.read_loads.Given as goal
 

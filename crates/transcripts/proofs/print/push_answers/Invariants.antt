@@ -1,6 +1,4 @@
-use Rattle.std.proofs.Common.{◌≡◌, ◌++◌, drop, string_bytes}
-use Rattle.std.specs.List.{flat_map}
-use Rattle.transcripts.specs.Transcript.{summary_text}
+use Rattle.transcripts.proofs.Words.{◌≡◌, ◌++◌, drop, string_bytes, flat_map, summary_text}
 use Rattle.transcripts.proofs.print.push_answers.Given as goal
 
 -- what was printed so far and what the rest gives is all

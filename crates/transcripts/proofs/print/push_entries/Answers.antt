@@ -1,4 +1,4 @@
-use Rattle.std.proofs.Common.{refl, string_bytes}
+use Rattle.transcripts.proofs.Words.{refl, string_bytes}
 use Rattle.transcripts.proofs.PrintLemmas.{entries_turn}
 use Rattle.transcripts.proofs.print.push_entries.Goals as goal
 

@@ -1,5 +1,4 @@
-use Rattle.std.proofs.Common.{◌≡◌, ◌+◌, ◌++◌, drop, string_bytes}
-use Rattle.transcripts.specs.Transcript.{entry_lines}
+use Rattle.transcripts.proofs.Words.{◌≡◌, ◌+◌, ◌++◌, drop, string_bytes, entry_lines}
 use Rattle.transcripts.proofs.print.push_entries.Given as goal
 
 -- the lines so far and those of the rest are all lines

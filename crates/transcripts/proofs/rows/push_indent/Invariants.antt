@@ -1,5 +1,4 @@
-use Rattle.std.proofs.Common.{◌≡◌, ◌++◌, string_bytes}
-use Rattle.transcripts.specs.Transcript.{indent}
+use Rattle.transcripts.proofs.Words.{◌≡◌, ◌++◌, string_bytes, indent}
 use Rattle.transcripts.proofs.rows.push_indent.Given as goal
 
 -- two spaces for each depth so far

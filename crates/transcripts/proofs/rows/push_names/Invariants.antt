@@ -1,6 +1,4 @@
-use Rattle.std.proofs.Common.{◌≡◌, ◌++◌, drop, string_bytes}
-use Rattle.std.specs.List.{flat_map}
-use Rattle.transcripts.specs.Transcript.{super_text}
+use Rattle.transcripts.proofs.Words.{◌≡◌, ◌++◌, drop, string_bytes, flat_map, super_text}
 use Rattle.transcripts.proofs.rows.push_names.Given as goal
 
 -- what was printed so far and what the rest gives is all

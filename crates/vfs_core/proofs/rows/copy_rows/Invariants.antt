@@ -1,4 +1,4 @@
-use Rattle.std.proofs.Common.{◌≡◌, ◌++◌, drop}
+use Rattle.vfs_core.proofs.Words.{◌≡◌, ◌++◌, drop}
 use Rattle.vfs_core.proofs.rows.copy_rows.Given as goal
 
 -- the rows so far and the rest are all

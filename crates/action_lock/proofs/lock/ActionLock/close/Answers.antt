@@ -36,8 +36,7 @@ loop-place-preserved g c =
     }
 
 pub into_home-home-requires : goal.into_home-home-requires
-into_home-home-requires g c = let ended = c.loop-place.invariant.ended in
-    (ended.home, some-injective _ _ (sym c.take-2.ensures.value ∙ ended.home_there))
+into_home-home-requires g c = let ended = c.loop-place.invariant.ended in (ended.home, some-injective _ _ (sym c.take-2.ensures.value ∙ ended.home_there))
 
 pub free-requires : goal.free-requires
 free-requires g c = λ k less.

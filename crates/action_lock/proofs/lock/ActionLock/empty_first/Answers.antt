@@ -1,5 +1,4 @@
-use Rattle.action_lock.proofs.Common.{◌≡◌, [], ◌∷◌, ap, ◌∙◌, sym, subst, rules, Home, shut_hand}
-use Rattle.action_lock.proofs.Hands.{in_front, both_set, hand_two}
+use Rattle.action_lock.proofs.Hands.{◌≡◌, [], ◌∷◌, ap, ◌∙◌, sym, subst, rules, Home, shut_hand, in_front, both_set, hand_two}
 use Rattle.action_lock.proofs.lock.ActionLock.empty_first.Goals as goal
 
 pub exchange-requires : goal.exchange-requires

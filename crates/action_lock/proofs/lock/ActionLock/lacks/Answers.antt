@@ -1,5 +1,4 @@
-use Rattle.action_lock.proofs.Common.{[], ◌∷◌, ap, ◌∙◌, sym, ⊎_elim, Share, Empty}
-use Rattle.action_lock.proofs.Hands.{in_front}
+use Rattle.action_lock.proofs.Hands.{[], ◌∷◌, ap, ◌∙◌, sym, ⊎_elim, Share, Empty, in_front}
 use Rattle.action_lock.proofs.lock.ActionLock.lacks.Goals as goal
 
 pub slot_mut-requires : goal.slot_mut-requires

@@ -1,20 +1,16 @@
-use Rattle.action_lock.proofs.Common.{rules, ◌≡◌, ◌≢◌, ℕ, zero, suc, ◌<◌, All, Option, Some, sym, ap, ◌∙◌, subst, arith, IsPrefix}
+use Rattle.action_lock.proofs.Common.{rules, ◌≢◌, ◌<◌, All, Some, sym, ap, ◌∙◌, subst, arith, IsPrefix}
 use Rattle.action_lock.proofs.Numbers.{joins, tells}
 use Rattle.action_lock.proofs.lock.ActionLock.meet.Goals as goal
-
-positive : (n : ℕ) (o : Option ℕ) → o ≡ Some n → o ≢ Some 0 → 0 < n
-positive zero o e apart = absurd (apart e)
-positive (suc n) o e apart = omega arith
 
 pub join_seat-requires : goal.join_seat-requires
 join_seat-requires g c =
     let mine = c.args.pass.now.numbered in let first = c.requires.pass.out.at.phase in let its = c.args.other.numbered in let other = c.requires.other in
-    let follows = positive _ _ its c.requires.follows in
+    let follows : 0 < c.args.other.number = let not_zero : c.args.other.number ≢ 0 = λ e. c.requires.follows (its ∙ ap Some e) in omega (arith, not_zero) in
     (search rules, search rules, search rules, search rules, joins _ _ _ _ _ _ _ _ _ _ mine first its follows other.out.at.phase other.no_intent)
 
 pub load-requires : goal.load-requires
 load-requires g c = let numbered = ap (λ m. m.0.number) c.join_seat.ensures.2 ∙ c.args.pass.now.numbered in
-    (search rules, search rules, tells _ _ _ numbered)
+    (search rules, search rules, tells _ _ _ _ _ _ _ numbered)
 
 -- what the other knows is the second of the lists that the join left to be told
 pub returns-clause-learns : goal.returns-clause-learns

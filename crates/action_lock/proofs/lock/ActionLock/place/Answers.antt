@@ -1,5 +1,4 @@
-use Rattle.action_lock.proofs.Common.{rules}
-use Rattle.action_lock.proofs.StepLemmas.{counts_entry}
+use Rattle.action_lock.proofs.StepLemmas.{rules, counts_entry}
 use Rattle.action_lock.proofs.lock.ActionLock.place.Goals as goal
 
 pub fetch_add-requires : goal.fetch_add-requires

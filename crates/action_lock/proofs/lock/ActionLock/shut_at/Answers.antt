@@ -1,5 +1,4 @@
-use Rattle.action_lock.proofs.Common.{◌+◌, ◌∷◌, ap, ◌∙◌, sym, rules, Empty, shut_hand}
-use Rattle.action_lock.proofs.Hands.{hand_after, hand_next}
+use Rattle.action_lock.proofs.Hands.{◌+◌, ◌∷◌, ap, ◌∙◌, sym, rules, Empty, shut_hand, hand_after, hand_next}
 use Rattle.action_lock.proofs.lock.ActionLock.shut_at.Goals as goal
 
 pub returns-then-shut-clause-shuts : goal.returns-then-shut-clause-shuts

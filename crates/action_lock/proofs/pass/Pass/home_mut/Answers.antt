@@ -1,10 +1,9 @@
-use Rattle.action_lock.proofs.Common.{◌≡◌, ℕ, ◌-◌, ◌<◌, ◌≤◌, ◌%◌, ◌∷◌, length, Some, Option, refl, ap, ◌∙◌, rest, Slot, Home, View}
 use Rattle.std.proofs.Props.{props}
 use Rattle.atomic_table.specs.Lent.{seat_with}
 use Rattle.atomic_table.specs.declared.shared.Seat.{Seat}
 use Rattle.action_lock.specs.declared.home.Home.{Ghosts}
 use Rattle.action_lock.specs.declared.pass.Pass.{Pass}
-use Rattle.action_lock.proofs.Hands.{in_front, hand_home, in_hand}
+use Rattle.action_lock.proofs.Hands.{◌≡◌, ℕ, ◌-◌, ◌<◌, ◌≤◌, ◌%◌, ◌∷◌, length, Some, Option, refl, ap, ◌∙◌, rest, Slot, Home, View, in_front, hand_home, in_hand}
 use Rattle.action_lock.proofs.pass.Pass.home_mut.Goals as goal
 
 module _ {H E S : Type 0} (seat : Seat (Slot H S) (View E)) (value : Slot H S) (number places place drawn met sights : ℕ) (share : Option S) where

@@ -1,15 +1,9 @@
-use Rattle.std.proofs.Common.{rules}
-use Rattle.std.specs.Prelude.{IsSome}
-use Rattle.document_buf.specs.DocsView.{document_of}
+use Rattle.document_buf.proofs.Words.{rules}
 use Rattle.document_buf.proofs.PlaceLemmas.{edited}
 use Rattle.document_buf.proofs.docs.Docs.commit.Goals as goal
 
 pub invariant_of-self : goal.invariant_of-self
-invariant_of-self c =
-    let is_open : IsSome (document_of c.args.self.now c.args.id) = search rules in
-    (edited _ _ _ _ c.in-Some.doc c.commit.new.self c.self.invariant c.self.view_is is_open c.index_mut.ensures.value c.in-Some.is).0
+invariant_of-self c = (edited c.args.id c.self.invariant c.self.view_is (search rules) c.index_mut.ensures.value c.in-Some.is c.commit.new.self).0
 
 pub returns-clause-count : goal.returns-clause-count
-returns-clause-count c =
-    let is_open : IsSome (document_of c.args.self.now c.args.id) = search rules in
-    (edited _ _ _ _ c.in-Some.doc c.commit.new.self c.self.invariant c.self.view_is is_open c.index_mut.ensures.value c.in-Some.is).1
+returns-clause-count c = (edited c.args.id c.self.invariant c.self.view_is (search rules) c.index_mut.ensures.value c.in-Some.is c.commit.new.self).1

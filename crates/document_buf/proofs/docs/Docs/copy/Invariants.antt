@@ -1,4 +1,4 @@
-use Rattle.std.proofs.Common.{◌≡◌, take}
+use Rattle.document_buf.proofs.Words.{◌≡◌, take}
 use Rattle.document_buf.proofs.PlaceLemmas.{documents}
 use Rattle.document_buf.proofs.docs.Docs.copy.Given as goal
 

@@ -2,7 +2,7 @@ use Rattle.document_buf.proofs.PlaceLemmas.{edited}
 use Rattle.document_buf.proofs.docs.Docs.replace_text.Goals as goal
 
 pub invariant_of-self : goal.invariant_of-self
-invariant_of-self c = (edited _ _ _ _ c.in-Some.doc c.replace_text.new.self c.self.invariant c.self.view_is c.requires c.index_mut.ensures.value c.in-Some.is).0
+invariant_of-self c = (edited _ c.self.invariant c.self.view_is c.requires c.index_mut.ensures.value c.in-Some.is c.replace_text.new.self).0
 
 pub returns-clause-count : goal.returns-clause-count
-returns-clause-count c = (edited _ _ _ _ c.in-Some.doc c.replace_text.new.self c.self.invariant c.self.view_is c.requires c.index_mut.ensures.value c.in-Some.is).1
+returns-clause-count c = (edited _ c.self.invariant c.self.view_is c.requires c.index_mut.ensures.value c.in-Some.is c.replace_text.new.self).1

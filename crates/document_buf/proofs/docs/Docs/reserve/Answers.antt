@@ -1,31 +1,23 @@
-use Rattle.std.proofs.Common.{ap, sym, subst, ◌∙◌}
-use Rattle.document_buf.specs.Places.{IsHeld, held_of}
-use Rattle.document_buf.specs.DocsView.{open_of}
-use Rattle.document_buf.proofs.PlaceLemmas.{IsHeld-kept, IsHeld-read, set_read, count, count_kept, made_at, read_at}
-use Rattle.document_buf.proofs.docs.Docs.reserve.Goals as goal
+use Rattle.document_buf.proofs.Words.{ap, ◌∙◌, Some, is_some, refl, open_of}
+use Rattle.document_buf.proofs.PlaceLemmas.{rewritten}
 use Rattle.document_buf.proofs.docs.Docs.reserve.Goals.{in-Some, in-None}
+use Rattle.document_buf.proofs.docs.Docs.reserve.Goals as goal
 
 pub invariant_of-self : goal.invariant_of-self
 invariant_of-self c =
-    let made = made_at c.self.inside c.make_place.new.self c.args.id c.self.view_is c.in_ok-make_place.ensures.place in
+    let place = rw (← c.self.view_is) at c.in_ok-make_place.ensures.place in
+    let write = rewritten c.self.inside c.args.id c.self.invariant c.index_mut.result.now in
     elim c.match-index_mut.branch [
-      | in-Some w ↦ subst IsHeld (sym w.self-inside-is)
-          (IsHeld-kept c.self.inside c.args.id w.in-Some.doc w.reserve.new.self c.self.invariant
-          (read_at c.self.inside.docs.items c.args.id c.index_mut.result.now w.in-Some.doc made c.index_mut.ensures.value w.in-Some.is))
-      | in-None w ↦ subst IsHeld (sym w.self-inside-is)
-          (IsHeld-read c.self.inside c.args.id c.index_mut.result.now c.self.invariant c.index_mut.ensures.value)
+      | in-Some w ↦ rw w.self-inside-is (write (Some w.reserve.new.self) place c.index_mut.ensures.value (ap is_some w.in-Some.is)).0
+      | in-None w ↦ rw w.self-inside-is (write c.index_mut.result.now place c.index_mut.ensures.value refl).0
     ]
 
 pub returns-clause-count : goal.returns-clause-count
 returns-clause-count c =
-    let made = made_at c.self.inside c.make_place.new.self c.args.id c.self.view_is c.in_ok-make_place.ensures.place in
+    let place = rw (← c.self.view_is) at c.in_ok-make_place.ensures.place in
+    let write = rewritten c.self.inside c.args.id c.self.invariant c.index_mut.result.now in
+    let before = ap open_of c.self.view_is ∙ c.in_ok-make_place.ensures.count in
     elim c.match-index_mut.branch [
-      | in-Some w ↦ ap (λ inside. open_of (held_of inside)) w.self-inside-is
-          ∙ count_kept c.self.inside.docs.items c.args.id w.in-Some.doc w.reserve.new.self
-          (read_at c.self.inside.docs.items c.args.id c.index_mut.result.now w.in-Some.doc made c.index_mut.ensures.value w.in-Some.is)
-          ∙ ap (λ held. count held.places) c.self.view_is
-          ∙ c.in_ok-make_place.ensures.count
-      | in-None w ↦ ap (λ inside. open_of (held_of inside)) w.self-inside-is
-          ∙ ap count (set_read c.self.inside.docs.items c.args.id c.index_mut.result.now c.index_mut.ensures.value)
-          ∙ ap (λ held. count held.places) c.self.view_is ∙ c.in_ok-make_place.ensures.count
+      | in-Some w ↦ rw w.self-inside-is ((write (Some w.reserve.new.self) place c.index_mut.ensures.value (ap is_some w.in-Some.is)).1 ∙ before)
+      | in-None w ↦ rw w.self-inside-is ((write c.index_mut.result.now place c.index_mut.ensures.value refl).1 ∙ before)
     ]

@@ -1,6 +1,4 @@
-use Rattle.std.proofs.Common.{arith}
-use Rattle.document_buf.specs.Gap.{joined_of}
-use Rattle.list_laws.proofs.PartLemmas.{same_to_end}
+use Rattle.document_buf.proofs.Words.{arith, joined_of, same_to_end}
 use Rattle.document_buf.proofs.gap.GapBuffer.is_text.Goals as goal
 
 pub returns : goal.returns

@@ -1,5 +1,4 @@
-use Rattle.std.proofs.Common.{◌≡◌, take}
-use Rattle.document_buf.specs.Gap.{joined_of}
+use Rattle.document_buf.proofs.Words.{◌≡◌, take, joined_of}
 use Rattle.document_buf.proofs.gap.GapBuffer.is_text.Given as goal
 
 -- up to the place the characters are the same

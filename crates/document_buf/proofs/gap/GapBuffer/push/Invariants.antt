@@ -1,5 +1,4 @@
-use Rattle.std.proofs.Common.{◌≡◌}
-use lib.Seq.{paste}
+use Rattle.document_buf.proofs.Words.{◌≡◌, paste}
 use Rattle.document_buf.proofs.gap.GapBuffer.push.Given as goal
 
 -- as many characters of the piece as the place tells stand from the start of the gap on, and nothing else changed

@@ -1,4 +1,4 @@
-use Rattle.std.proofs.Common.{◌≡◌, ◌+◌, take, length}
+use Rattle.document_buf.proofs.Words.{◌≡◌, ◌+◌, take, length}
 use Rattle.document_buf.proofs.gap.GapBuffer.with_spare.Given as goal
 
 -- the characters before the gap stand there, and then as many as were put into the gap

@@ -1,6 +1,4 @@
-use Rattle.std.proofs.Common.{ℕ, ◌≤◌, arith}
-use Rattle.std.specs.Prelude.{Err}
-use Rattle.file_index.specs.Places.{IsPlaceOf}
+use Rattle.file_index.proofs.Words.{ℕ, ◌≤◌, arith, Err, IsPlaceOf}
 use Rattle.file_index.proofs.IdLemmas.{insert_rises, all_inserted, found_has, has_id-insert}
 use Rattle.file_index.proofs.ids.Ids.add.Goals as goal
 

@@ -1,5 +1,4 @@
-use Rattle.std.proofs.Common.{◌<◌, ◌≤◌, length, ap, arith}
-use Rattle.std.specs.Ordering.{nat_cmp}
+use Rattle.file_index.proofs.Words.{◌≤◌, length, ap, arith, nat_cmp}
 use Rattle.file_index.proofs.IdLemmas.{parts_rise, goes_into_tail}
 use Rattle.file_index.proofs.ids.Ids.place_of.Goals as goal
 
@@ -13,9 +12,6 @@ place_among-requires-in-Err-eq0 c = rw (c.split_at.ensures.front, c.as_slice.ens
 
 pub returns-in-Err : goal.returns-in-Err
 returns-in-Err c =
-    let ids = c.self.inside.ids.items in
-    let near = c.saturating_sub.result in
-    let inside : near ≤ length ids = omega (arith, c.split_at.ensures.back_len, ap length c.as_slice.ensures) in
-    let some : 0 < c.in-Err.at = omega (arith, c.in-Err.at-test.1) in
-    rw (c.split_at.ensures.front_len, ← c.self.view_is)
-    (goes_into_tail ids near c.args.id c.in-Err.at c.self.invariant.0 inside some (rw (c.split_at.ensures.back, c.as_slice.ensures) at c.in-Err.ensures))
+    let inside : c.saturating_sub.result ≤ length c.self.inside.ids.items = omega (arith, c.split_at.ensures.back_len, ap length c.as_slice.ensures) in
+    let gap = rw (c.split_at.ensures.back, c.as_slice.ensures) at c.in-Err.ensures in
+    rw (c.split_at.ensures.front_len, ← c.self.view_is) (goes_into_tail _ _ c.args.id _ c.self.invariant.0 inside (omega (arith, c.in-Err.at-test.1)) gap)

@@ -1,6 +1,4 @@
-use Rattle.std.proofs.Common.{◌≡◌, arith}
-use Rattle.std.proofs.lemmas.Bool.Decides.{nat_tests}
-use Rattle.file_index.specs.Rows.{rows_in_file}
+use Rattle.file_index.proofs.Words.{◌≡◌, arith, nat_tests, rows_in_file}
 use Rattle.file_index.proofs.inverted.Inverted.replace.Goals as goal
 
 pub returns-clause-keeps_room : goal.returns-clause-keeps_room
@@ -10,6 +8,3 @@ pub returns-clause-room : goal.returns-clause-room
 returns-clause-room g c =
     let own : rows_in_file c.args.file c.swap-old.new.self.files ≡ c.args.new = grind (arith, nat_tests, c.swap-old.ensures.each c.args.file) in
     rw own at (c.release.ensures.room (rw own (c.swap-old.ensures.keeps_room c.args.file c.args.new c.requires)))
-
-pub returns-clause-given_up : goal.returns-clause-given_up
-returns-clause-given_up g c = λ key other. rw (← c.swap-old.ensures.places, ← c.swap-old.ensures.old) (c.release.ensures.given_up key other)

@@ -1,7 +1,4 @@
-use Rattle.std.proofs.Common.{◌≡◌, ℕ, ◌||◌, ◌&&◌, take}
-use Rattle.std.specs.Prelude.{◌==◌}
-use Rattle.file_index.specs.KeyRows.{has_key}
-use Rattle.file_index.specs.Places.{is_placed}
+use Rattle.file_index.proofs.Words.{◌≡◌, ℕ, ◌||◌, ◌&&◌, take, ◌==◌, has_key, is_placed}
 use Rattle.file_index.proofs.inverted.Inverted.reserve.Given as goal
 
 -- the file stands under the keys of the rows so far

@@ -1,4 +1,4 @@
-use Rattle.std.proofs.Common.{◌≡◌, rules}
+use Rattle.file_index.proofs.Words.{◌≡◌, rules}
 use Rattle.file_index.proofs.KeyRowLemmas.{in_order_by_key}
 use Rattle.file_index.proofs.key_rows.KeyRows.from_map.Goals as goal
 

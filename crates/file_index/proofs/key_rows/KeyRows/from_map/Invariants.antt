@@ -1,4 +1,4 @@
-use Rattle.std.proofs.Common.{◌≡◌, ◌++◌}
+use Rattle.file_index.proofs.Words.{◌≡◌, ◌++◌}
 use Rattle.file_index.proofs.key_rows.KeyRows.from_map.Given as goal
 
 -- the rows so far and those that are left are all

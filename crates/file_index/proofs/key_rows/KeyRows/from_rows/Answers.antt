@@ -1,6 +1,5 @@
-use Rattle.std.proofs.Common.{rules}
-use Rattle.std.proofs.lemmas.List.Sorted.{answers_always, ranks_by}
-use Rattle.file_index.proofs.SortLemmas.{sorted_by_keys, by_keys_in_order}
+use Rattle.file_index.proofs.Words.{rules, answers_always, ranks_by}
+use Rattle.file_index.proofs.KeyRowLemmas.{sorted_by_keys, by_keys_in_order}
 use Rattle.file_index.proofs.key_rows.KeyRows.from_rows.Goals as goal
 
 pub returns : goal.returns

@@ -1,5 +1,4 @@
-use Rattle.std.proofs.Common.{◌≡◌, length}
-use Rattle.file_index.specs.Walk.{left_to_walk}
+use Rattle.file_index.proofs.Words.{◌≡◌, length, left_to_walk}
 use Rattle.file_index.proofs.row_walk.RowWalkIterator.next.Given as goal
 
 -- only files without rows under the key were passed over

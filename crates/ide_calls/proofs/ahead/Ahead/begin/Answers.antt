@@ -1,8 +1,5 @@
-use Rattle.std.proofs.Common.{rules, map, ◌≡◌, ◌++◌, ◌∷◌, [], subst, sym}
-use Rattle.std.specs.List.{All}
-use Rattle.ide_calls.specs.Ahead.{IsTask, tasks_of}
-use Rattle.ide_calls.specs.Intake.{task_of_made}
-use Rattle.ide_calls.proofs.AheadLemmas.{begun}
+use Rattle.ide_calls.proofs.Words.{rules, map, ◌≡◌, ◌++◌, ◌∷◌, [], subst, sym, All, IsTask, tasks_of, task_of_made}
+use Rattle.ide_calls.proofs.SettleLemmas.{begun}
 use Rattle.ide_calls.proofs.ahead.Ahead.begin.Goals as goal
 
 pub returns-in-Some : goal.returns-in-Some

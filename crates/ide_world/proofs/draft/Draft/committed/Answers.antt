@@ -1,5 +1,4 @@
-use Rattle.ide_world.specs.Drafted.{drafted}
-use Rattle.ide_world.specs.Walk.{edited_committed}
+use Rattle.ide_world.proofs.Words.{drafted, edited_committed}
 use Rattle.ide_world.proofs.EditLemmas.{committed_of, committed-edited}
 use Rattle.ide_world.proofs.WalkLemmas.{part_now}
 use Rattle.ide_world.proofs.draft.Draft.committed.Goals as goal

@@ -1,6 +1,4 @@
-use Rattle.std.proofs.Common.{◌∙◌, sym, ap}
-use Rattle.std.specs.Option.{option_copied}
-use Rattle.ide_world.specs.Drafted.{drafted_world}
+use Rattle.ide_world.proofs.Words.{◌∙◌, sym, ap, option_copied, drafted_world}
 use Rattle.ide_world.proofs.PathLemmas.{row_at_path}
 use Rattle.ide_world.proofs.draft.Draft.find.Goals as goal
 

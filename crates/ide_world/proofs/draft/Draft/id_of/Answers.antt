@@ -1,4 +1,4 @@
-use Rattle.ide_world.specs.Drafted.{drafted}
+use Rattle.ide_world.proofs.Words.{drafted}
 use Rattle.ide_world.proofs.WalkLemmas.{id_now}
 use Rattle.ide_world.proofs.draft.Draft.id_of.Goals as goal
 

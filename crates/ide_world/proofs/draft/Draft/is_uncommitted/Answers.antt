@@ -1,4 +1,4 @@
-use Rattle.ide_world.specs.Drafted.{drafted}
+use Rattle.ide_world.proofs.Words.{drafted}
 use Rattle.ide_world.proofs.WalkLemmas.{uncommitted_as_before}
 use Rattle.ide_world.proofs.draft.Draft.is_uncommitted.Goals as goal
 

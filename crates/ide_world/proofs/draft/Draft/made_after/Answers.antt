@@ -1,7 +1,4 @@
-use Rattle.std.proofs.Common.{arith}
-use Rattle.std.proofs.lemmas.Bool.Decides.{nat_tests}
-use Rattle.list_laws.proofs.RowLemmas.{length-with_row}
-use Rattle.ide_world.specs.Drafted.{drafted_world, drafted}
+use Rattle.ide_world.proofs.Words.{arith, nat_tests, length-with_row, drafted_world, drafted}
 use Rattle.ide_world.proofs.draft.Draft.made_after.Goals as goal
 
 pub returns-then-step-self-clause-value : goal.returns-then-step-self-clause-value

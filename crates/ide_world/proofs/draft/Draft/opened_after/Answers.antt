@@ -1,7 +1,4 @@
-use Rattle.std.proofs.Common.{arith}
-use Rattle.list_laws.proofs.RowLemmas.{count_le}
-use Rattle.write_history.specs.World.{is_open}
-use Rattle.ide_world.specs.Drafted.{drafted, drafted_world}
+use Rattle.ide_world.proofs.Words.{arith, count_le, is_open, drafted, drafted_world}
 use Rattle.ide_world.proofs.WalkLemmas.{open_count-after, some_open}
 use Rattle.ide_world.proofs.draft.Draft.opened_after.Goals as goal
 

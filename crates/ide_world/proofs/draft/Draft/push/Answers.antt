@@ -1,4 +1,4 @@
-use Rattle.std.proofs.Common.{refl}
+use Rattle.ide_world.proofs.Words.{refl}
 use Rattle.ide_world.proofs.WalkLemmas.{kept_after}
 use Rattle.ide_world.proofs.draft.Draft.push.Goals as goal
 

@@ -1,6 +1,4 @@
-use Rattle.std.specs.Prelude.{option_map}
-use Rattle.ide_world.specs.Drafted.{drafted}
-use Rattle.ide_world.specs.Walk.{summary_of, edited_summary}
+use Rattle.ide_world.proofs.Words.{option_map, drafted, summary_of, edited_summary}
 use Rattle.ide_world.proofs.EditLemmas.{summary-edited}
 use Rattle.ide_world.proofs.WalkLemmas.{part_now}
 use Rattle.ide_world.proofs.draft.Draft.summary.Goals as goal

@@ -1,5 +1,4 @@
-use Rattle.ide_world.specs.Drafted.{drafted}
-use Rattle.ide_world.specs.Walk.{edited_text}
+use Rattle.ide_world.proofs.Words.{drafted, edited_text}
 use Rattle.ide_world.proofs.EditLemmas.{text_of_document, text-edited}
 use Rattle.ide_world.proofs.WalkLemmas.{part_now, texts_fit}
 use Rattle.ide_world.proofs.draft.Draft.text.Goals as goal

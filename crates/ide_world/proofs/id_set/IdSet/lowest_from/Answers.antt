@@ -1,5 +1,4 @@
-use Rattle.std.proofs.Common.{None, Some, ap, sym, ◌∙◌, rules, tests}
-use Rattle.std.specs.Prelude.{option_map}
+use Rattle.ide_world.proofs.Words.{None, Some, ap, sym, ◌∙◌, rules, tests, option_map}
 use Rattle.std.specs.Map.Iter.{deref_pair}
 use Rattle.std.proofs.lemmas.Iterator.Search.{find_from_yields_List}
 use Rattle.std.proofs.lemmas.Iterator.Consumers.{YieldsList-from_rest}

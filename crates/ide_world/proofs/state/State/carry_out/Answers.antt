@@ -1,4 +1,4 @@
-use Rattle.std.proofs.Common.{length, refl, ap, ◌∙◌, arith}
+use Rattle.ide_world.proofs.Words.{length, refl, ap, ◌∙◌, arith}
 use Rattle.ide_world.proofs.WorldLemmas.{rows_known, document_here, new_row_room, may_have, marks_some, marks_few, rows_left, world_after, kept_after}
 use Rattle.ide_world.proofs.RoomLemmas.{chars_left}
 use Rattle.ide_world.proofs.state.State.carry_out.Goals as goal

@@ -1,7 +1,4 @@
-use Rattle.std.proofs.Common.{◌≡◌, ◌+◌, ◌∷◌, append_assoc, length, ap, arith}
-use Rattle.std.proofs.lemmas.List.{map-append}
-use Rattle.std.specs.Prelude.{vec_len}
-use Rattle.std.specs.Vec.Iter.{into_iter_items}
+use Rattle.ide_world.proofs.Words.{◌≡◌, ◌+◌, ◌∷◌, append_assoc, length, ap, arith, map-append, vec_len, into_iter_items}
 use Rattle.ide_world.specs.declared.apply.Removed.{Removed}
 use Rattle.ide_world.proofs.RoomLemmas.{ready_after}
 use Rattle.ide_world.proofs.state.State.carry_out_all.Goals as goal

@@ -1,10 +1,5 @@
-use Rattle.std.proofs.Common.{◌≡◌, ◌+◌, ◌≤◌, ◌++◌, length}
-use Rattle.std.specs.Prelude.{vec_len}
+use Rattle.ide_world.proofs.Words.{◌≡◌, ◌+◌, ◌≤◌, ◌++◌, length, vec_len, into_iter_items, into_iter_len, after_steps, ids_of, IsReady, ids_of_gone}
 use Rattle.std.specs.Vec.{vec_capacity}
-use Rattle.std.specs.Vec.Iter.{into_iter_items, into_iter_len}
-use Rattle.ide_world.specs.Step.{after_steps}
-use Rattle.ide_world.specs.Ready.{ids_of}
-use Rattle.ide_world.specs.StepsReady.{IsReady, ids_of_gone}
 use Rattle.ide_world.proofs.state.State.carry_out_all.Given as goal
 
 -- what is left is ready, leads to the same world, is of the other files, and has a place for what it takes out

@@ -1,6 +1,4 @@
-use Rattle.std.proofs.Common.{ap, refl}
-use Rattle.ide_world.specs.IdSet.{is_on}
-use Rattle.ide_world.specs.State.{files_from}
+use Rattle.ide_world.proofs.Words.{ap, refl, is_on, files_from}
 use Rattle.ide_world.proofs.WorldLemmas.{kept_same}
 use Rattle.ide_world.proofs.state.State.copy.Goals as goal
 

@@ -1,6 +1,4 @@
-use Rattle.std.proofs.Common.{ap, ◌∙◌}
-use Rattle.std.specs.Prelude.{option_map}
-use Rattle.document_buf.specs.DocsView.{HeldDoc}
+use Rattle.ide_world.proofs.Words.{ap, ◌∙◌, option_map, HeldDoc}
 use Rattle.ide_world.proofs.StepLemmas.{document_part-joined}
 use Rattle.ide_world.proofs.WorldLemmas.{file_of-world}
 use Rattle.ide_world.proofs.ReaderLemmas.{document-copied}

@@ -1,6 +1,4 @@
-use Rattle.std.proofs.Common.{ℕ, zero, suc, ◌≡◌, None, refl, sym, ◌∙◌, arith}
-use Rattle.std.proofs.lemmas.Option.{none-some}
-use Rattle.write_history.specs.World.{empty_world, file_of}
+use Rattle.ide_world.proofs.Words.{ℕ, zero, suc, ◌≡◌, None, refl, sym, ◌∙◌, arith, none-some, empty_world, file_of}
 use Rattle.ide_world.proofs.state.State.empty.Goals as goal
 
 no_file : (id : ℕ) → file_of empty_world id ≡ None

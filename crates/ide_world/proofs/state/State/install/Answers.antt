@@ -1,4 +1,4 @@
-use Rattle.std.proofs.Common.{refl}
+use Rattle.ide_world.proofs.Words.{refl}
 use Rattle.ide_world.proofs.RoomLemmas.{ready_counted, after_steps-counted}
 use Rattle.ide_world.proofs.state.State.install.Goals as goal
 
@@ -11,5 +11,4 @@ returns-clause-world c = rw (c.sweep_all.ensures.world, c.carry_out_all.ensures.
     (after_steps-counted c.args.self.now.world c.args.steps)
 
 pub returns-clause-unready : goal.returns-clause-unready
-returns-clause-unready c =
-    rw (c.first_unready.ensures, c.deref-2.ensures.value, c.carry_out_all.ensures.ids, c.steps.invariant.0, c.steps.view_is) refl
+returns-clause-unready c = rw (c.first_unready.ensures, c.deref-2.ensures.value, c.carry_out_all.ensures.ids, c.steps.invariant.0, c.steps.view_is) refl

@@ -1,5 +1,4 @@
-use Rattle.std.proofs.Common.{refl}
-use Rattle.dumb_mode.specs.declared.kind.FileKind.TheVariants.{Properties}
+use Rattle.ide_world.proofs.Words.{refl, Properties}
 use Rattle.overlay_index.specs.Keys.{places_of_key}
 use Rattle.ide_world.proofs.FoundLemmas.{walked}
 use Rattle.ide_world.proofs.state.State.key_rows.Goals as goal

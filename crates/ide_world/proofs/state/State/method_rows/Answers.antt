@@ -1,7 +1,4 @@
-use Rattle.std.proofs.Common.{refl}
-use Rattle.dumb_mode.specs.declared.kind.FileKind.TheVariants.{Java}
-use Rattle.overlay_index.specs.Named.{is_method_named}
-use Rattle.ide_world.specs.Found.{stubs_in}
+use Rattle.ide_world.proofs.Words.{refl, Java, is_method_named, stubs_in}
 use Rattle.ide_world.proofs.FoundLemmas.{walked}
 use Rattle.ide_world.proofs.state.State.method_rows.Goals as goal
 

@@ -1,5 +1,4 @@
-use Rattle.std.proofs.Common.{length, ◌∙◌}
-use Rattle.std.proofs.lemmas.List.{take_all}
+use Rattle.ide_world.proofs.Words.{length, ◌∙◌, take_all}
 use Rattle.ide_world.proofs.RoomLemmas.{each_more, room_made}
 use Rattle.ide_world.proofs.state.State.reserve_all.Goals as goal
 

@@ -1,5 +1,4 @@
-use Rattle.std.proofs.Common.{◌≡◌, length, take}
-use Rattle.std.specs.List.{AllByRecursion}
+use Rattle.ide_world.proofs.Words.{◌≡◌, length, take, AllByRecursion}
 use Rattle.vfs_core.specs.FilesView.{HasRowRoom}
 use Rattle.ide_world.proofs.RoomLemmas.{HasRoomFor}
 use Rattle.ide_world.proofs.state.State.reserve_all.Given as goal

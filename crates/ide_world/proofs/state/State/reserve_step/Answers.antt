@@ -1,4 +1,4 @@
-use Rattle.std.proofs.Common.{rules}
+use Rattle.ide_world.proofs.Words.{rules}
 use Rattle.ide_world.proofs.WorldLemmas.{kept_same}
 use Rattle.ide_world.proofs.state.State.reserve_step.Goals as goal
 

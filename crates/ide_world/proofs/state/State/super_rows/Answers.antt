@@ -1,7 +1,4 @@
-use Rattle.std.proofs.Common.{refl}
-use Rattle.dumb_mode.specs.declared.kind.FileKind.TheVariants.{Java}
-use Rattle.overlay_index.specs.Named.{names_super}
-use Rattle.ide_world.specs.Found.{stubs_in}
+use Rattle.ide_world.proofs.Words.{refl, Java, names_super, stubs_in}
 use Rattle.ide_world.proofs.FoundLemmas.{walked}
 use Rattle.ide_world.proofs.state.State.super_rows.Goals as goal
 

@@ -1,5 +1,4 @@
-use Rattle.std.proofs.Common.{refl, ◌∙◌}
-use Rattle.ide_world.proofs.SweepLemmas.{swept_more, swept_all}
+use Rattle.ide_world.proofs.Words.{refl, ◌∙◌, drop_all, next_left}
 use Rattle.ide_world.proofs.state.State.sweep_all.Goals as goal
 
 pub loop-taken-init : goal.loop-taken-init
@@ -9,9 +8,8 @@ pub loop-taken-preserved : goal.loop-taken-preserved
 loop-taken-preserved c = record {
   world = c.sweep.ensures.world ∙ c.loop-taken.invariant.world;
   room = λ end rest. c.loop-taken.invariant.room end
-      (swept_more c.args.gone.now c.loop-taken.taken-index c.taken-item.result c.loop-taken-test.true c.taken-item.is
-      c.loop-taken.self.room c.sweep.new.self.room end c.sweep.ensures.room rest);
+      (rw (next_left _ c.loop-taken.taken-index c.loop-taken-test.true c.taken-item.is) (c.sweep.new.self.room, (c.sweep.ensures.room, rest)));
 }
 
 pub returns-clause-room : goal.returns-clause-room
-returns-clause-room c = c.loop-taken.invariant.room _ (swept_all c.args.gone.now c.loop-taken.taken-index c.loop-taken.self.room c.loop-taken-test.false)
+returns-clause-room c = c.loop-taken.invariant.room _ (rw (drop_all c.loop-taken.taken-index _ c.loop-taken-test.false) refl)

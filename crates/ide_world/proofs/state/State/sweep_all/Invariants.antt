@@ -1,5 +1,4 @@
-use Rattle.std.proofs.Common.{◌≡◌, drop}
-use Rattle.ide_world.specs.Room.{Room}
+use Rattle.ide_world.proofs.Words.{◌≡◌, drop, Room}
 use Rattle.ide_world.specs.Sweep.{SweepsAll}
 use Rattle.ide_world.proofs.state.State.sweep_all.Given as goal
 

@@ -1,6 +1,4 @@
-use Rattle.std.proofs.Common.{refl}
-use Rattle.dumb_mode.specs.declared.kind.FileKind.TheVariants.{Java}
-use Rattle.ide_world.specs.Found.{masks_in}
+use Rattle.ide_world.proofs.Words.{refl, Java, masks_in}
 use Rattle.ide_world.proofs.FoundLemmas.{walked}
 use Rattle.ide_world.proofs.state.State.word_rows.Goals as goal
 

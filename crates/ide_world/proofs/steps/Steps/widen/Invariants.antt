@@ -1,7 +1,5 @@
-use Rattle.std.proofs.Common.{◌≡◌, ◌≤◌, drop, length}
+use Rattle.ide_world.proofs.Words.{◌≡◌, ◌≤◌, drop, length, AreAlike, AreWide}
 use Rattle.std.specs.Vec.{vec_len}
-use Rattle.ide_world.specs.Alike.{AreAlike}
-use Rattle.ide_world.specs.Lawful.{AreWide}
 use Rattle.ide_world.proofs.steps.Steps.widen.Given as goal
 
 -- the steps are alike, those from a place on bring documents that are wide enough, and the place for what goes stays

@@ -1,4 +1,4 @@
-use Rattle.std.proofs.Common.{append_assoc}
+use Rattle.index_store.proofs.Words.{append_assoc}
 use Rattle.index_store.proofs.HeldLemmas.{held_store}
 use Rattle.index_store.proofs.store.Store.bytes.Goals as goal
 

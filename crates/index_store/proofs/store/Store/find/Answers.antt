@@ -1,8 +1,7 @@
-use Rattle.index_store.specs.Data.{StoreEntry}
 use Rattle.index_store.proofs.HeldLemmas.{found}
 use Rattle.index_store.proofs.store.Store.find.Goals as goal
 
 pub returns : goal.returns
 returns c =
-    let e : StoreEntry = record { text = c.args.text; kind = c.args.kind } in
-    rw (c.get.ensures.value, c.code_of.ensures, ← c.self.view_is) (found c.self.inside.held.entries e c.self.invariant.0)
+    rw (c.get.ensures.value, c.code_of.ensures, ← c.self.view_is)
+    (found c.self.inside.held.entries (record { text = c.args.text; kind = c.args.kind }) c.self.invariant.0)

@@ -1,4 +1,4 @@
-use Rattle.std.proofs.Common.{sym}
+use Rattle.java_tokens.proofs.Common.{sym}
 use Rattle.java_tokens.proofs.FrontLemmas.{front_less, front_greater}
 use Rattle.java_tokens.proofs.fronted.Fronted.order.Goals as goal
 

@@ -1,4 +1,4 @@
-use Rattle.list_laws.proofs.PartLemmas.{drop-part}
+use Rattle.java_tokens.proofs.Common.{drop-part}
 use Rattle.java_tokens.proofs.piece.Piece.get.Goals as goal
 
 -- the text's character is the piece's

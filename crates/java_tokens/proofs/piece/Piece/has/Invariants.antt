@@ -1,5 +1,4 @@
-use Rattle.std.proofs.Common.{◌≡◌, ◌+◌, drop}
-use Rattle.java_tokens.specs.Chars.{begins_with}
+use Rattle.java_tokens.proofs.Common.{◌≡◌, ◌+◌, drop, begins_with}
 use Rattle.java_tokens.proofs.piece.Piece.has.Given as goal
 
 abbrev pub invariant-loop-wanted : goal.invariant-loop-wanted

@@ -1,5 +1,4 @@
-use Rattle.std.proofs.Common.{◌≤◌, length, drop, ap, arith, length-take}
-use Rattle.list_laws.proofs.PartLemmas.{part-part}
+use Rattle.java_tokens.proofs.Common.{◌≤◌, length, drop, ap, arith, length-take, part-part}
 use Rattle.java_tokens.proofs.piece.Piece.name.Goals as goal
 
 -- the text's part is the piece's

@@ -1,6 +1,4 @@
-use Rattle.std.proofs.Common.{◌≡◌, ◌+◌, length, drop, ◌-◌}
-use Rattle.std.specs.List.{prefix_len}
-use Rattle.java_tokens.specs.Chars.{is_other}
+use Rattle.java_tokens.proofs.Common.{◌≡◌, ◌+◌, length, drop, ◌-◌, prefix_len, is_other}
 use Rattle.java_tokens.proofs.piece.Piece.walk_to.Given as goal
 
 abbrev pub invariant-loop-c : goal.invariant-loop-c

@@ -1,4 +1,4 @@
-use Rattle.std.proofs.Common.{◌≡◌, take}
+use Rattle.java_tokens.proofs.Common.{◌≡◌, take}
 use Rattle.java_tokens.proofs.word_list.WordList.copy.Given as goal
 
 -- the rows so far are the first rows

@@ -1,6 +1,5 @@
 use Rattle.std.proofs.Common.{length, ap, ◌∙◌, arith}
-use Rattle.job_queue.proofs.Steps.{joins}
-use Rattle.job_queue.proofs.Ends.{joined_met}
+use Rattle.job_queue.proofs.Kept.{joins, joined_met}
 use Rattle.job_queue.proofs.queue.JobQueue.meet.Goals as goal
 
 pub absorb-requires-clause-rule : goal.absorb-requires-clause-rule

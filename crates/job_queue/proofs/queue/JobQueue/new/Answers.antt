@@ -1,4 +1,4 @@
-use Rattle.job_queue.proofs.Steps.{begins}
+use Rattle.job_queue.proofs.Kept.{begins}
 use Rattle.job_queue.proofs.queue.JobQueue.new.Goals as goal
 
 pub ruled-requires-clause-rule : goal.ruled-requires-clause-rule

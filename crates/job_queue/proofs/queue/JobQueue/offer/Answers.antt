@@ -1,5 +1,5 @@
 use Rattle.std.proofs.Common.{◌+◌, ℕ, sym, ap}
-use Rattle.job_queue.proofs.Steps.{puts, stands}
+use Rattle.job_queue.proofs.Kept.{puts, stands}
 use Rattle.job_queue.proofs.queue.JobQueue.offer.Goals as goal
 
 pub push_as-requires-clause-rule : goal.push_as-requires-clause-rule

@@ -1,4 +1,4 @@
-use Rattle.job_queue.proofs.Steps.{splits}
+use Rattle.job_queue.proofs.Kept.{splits}
 use Rattle.job_queue.proofs.queue.JobQueue.split.Goals as goal
 
 pub another-seat-requires-clause-rule : goal.another-seat-requires-clause-rule

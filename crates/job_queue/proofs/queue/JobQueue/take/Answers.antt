@@ -1,4 +1,4 @@
-use Rattle.job_queue.proofs.Steps.{takes, stands}
+use Rattle.job_queue.proofs.Kept.{takes, stands}
 use Rattle.job_queue.proofs.queue.JobQueue.take.Goals as goal
 
 pub pop_as-requires-clause-rule : goal.pop_as-requires-clause-rule

@@ -1,8 +1,4 @@
-use Rattle.std.proofs.Common.{◌≡◌, ℕ, None, map}
-use Rattle.std.specs.Ordering.{nat_cmp, eq_by_cmp}
-use Rattle.std.specs.Map.{update_all}
-use Rattle.std.specs.Map.Iter.{deref_pair}
-use Rattle.std.specs.BTreeMap.{get}
+use Rattle.overlay_index.proofs.Words.{◌≡◌, ℕ, None, map, nat_cmp, eq_by_cmp, update_all, deref_pair, get}
 use Rattle.overlay_index.proofs.hidden.Hidden.copy.Given as goal
 
 -- the bases so far were put in, one after another

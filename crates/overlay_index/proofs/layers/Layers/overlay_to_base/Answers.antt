@@ -1,12 +1,15 @@
-use Rattle.std.proofs.Common.{refl}
-use Rattle.overlay_index.proofs.LayerLemmas as lemmas
+use Rattle.overlay_index.proofs.Words.{arith, nat_tests}
+use Rattle.overlay_index.specs.Layers.{base_of, overlay_of}
+use Rattle.overlay_index.proofs.LayerLemmas.{covered_is}
 use Rattle.overlay_index.proofs.layers.Layers.overlay_to_base.Goals as goal
 
 pub returns-clause-gone : goal.returns-clause-gone
-returns-clause-gone c = rw (← c.self.view_is, c.take.ensures.old) (lemmas.gone_covered _ c.args.file)
+returns-clause-gone c = rw (← c.self.view_is, c.take.ensures.old) (covered_is _ c.args.file)
 
 pub returns-clause-base : goal.returns-clause-base
-returns-clause-base c = rw (← c.self.view_is) (λ other. lemmas.base_from_overlay _ _ c.args.file other (c.take.ensures.each other) refl)
+unfolding base_of overlay_of
+returns-clause-base c = rw (← c.self.view_is) (λ other. grind (arith, nat_tests, c.take.ensures.each other))
 
 pub returns-clause-overlay : goal.returns-clause-overlay
-returns-clause-overlay c = rw (← c.self.view_is) (λ other. lemmas.overlay_turns _ _ c.args.file other (c.take.ensures.each other) refl)
+unfolding overlay_of
+returns-clause-overlay c = rw (← c.self.view_is) (λ other. grind (arith, c.take.ensures.each other))

@@ -1,10 +1,10 @@
-use Rattle.std.proofs.Common.{append-nil, rules}
+use Rattle.overlay_index.proofs.Words.{append-nil, rules}
 use Rattle.overlay_index.proofs.tables.Tables.release.Goals as goal
 
 pub returns-clause-keeps_room : goal.returns-clause-keeps_room
 returns-clause-keeps_room c =
-    rw (← c.self.view_is)
-    (λ other given apart has. search (rules, c.release.ensures.keeps_room, c.release-2.ensures.keeps_room, c.release-3.ensures.keeps_room, c.release-4.ensures.keeps_room, c.release-5.ensures.keeps_room))
+    let one = c.release.ensures.keeps_room in let two = c.release-2.ensures.keeps_room in let three = c.release-3.ensures.keeps_room in
+    rw (← c.self.view_is) (λ other given apart has. search (rules, one, two, three, c.release-4.ensures.keeps_room, c.release-5.ensures.keeps_room))
 
 pub returns-clause-given_up : goal.returns-clause-given_up
 returns-clause-given_up c = rw (← c.self.view_is, ← c.parts.view_is) (record {

@@ -1,4 +1,4 @@
-use Rattle.std.proofs.Common.{rules}
+use Rattle.overlay_index.proofs.Words.{rules}
 use Rattle.overlay_index.proofs.tables.Tables.swap.Goals as goal
 
 pub swap-requires : goal.swap-requires
@@ -18,5 +18,5 @@ swap-requires-5 c = let has = rw (← c.self.view_is, ← c.parts.view_is) at c.
 
 pub returns-clause-keeps_room : goal.returns-clause-keeps_room
 returns-clause-keeps_room c =
-    rw (← c.self.view_is)
-    (λ other given has. search (rules, c.swap.ensures.keeps_room, c.swap-2.ensures.keeps_room, c.swap-3.ensures.keeps_room, c.swap-4.ensures.keeps_room, c.swap-5.ensures.keeps_room))
+    let one = c.swap.ensures.keeps_room in let two = c.swap-2.ensures.keeps_room in let three = c.swap-3.ensures.keeps_room in
+    rw (← c.self.view_is) (λ other given has. search (rules, one, two, three, c.swap-4.ensures.keeps_room, c.swap-5.ensures.keeps_room))

@@ -1,9 +1,7 @@
-use Rattle.std.proofs.Common.{ap, ◌∙◌}
-use Rattle.overlay_index.specs.Parts.{Parts}
+use Rattle.overlay_index.proofs.Words.{◌∙◌, refl}
 use Rattle.overlay_index.proofs.FoundLemmas.{walk_finds}
 use Rattle.overlay_index.proofs.tables.Tables.type_rows.Goals as goal
 
 pub returns : goal.returns
 returns c = rw (← c.self.view_is) (λ last full.
-    let none = λ (parts : Parts). parts.types in
-    c.of.ensures ∙ walk_finds c.args.name.now c.self.inside.types.files _ c.rows.ensures.by_files last (ap none full.0) (λ f past. ap none (full.1 f past)))
+    c.of.ensures ∙ walk_finds c.args.name.now _ (λ parts. parts.types) c.self.inside.types.files (λ id. refl) refl _ c.rows.ensures.by_files last full)

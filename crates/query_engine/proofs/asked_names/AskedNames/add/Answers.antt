@@ -1,8 +1,4 @@
-use Rattle.std.proofs.Common.{ap, ◌||◌, ◌∙◌}
-use Rattle.std.specs.Prelude.{not}
-use Rattle.std.specs.Str.{bytes_eq}
-use Rattle.query_engine.specs.Search.{is_asked}
-use Rattle.query_engine.proofs.AskedLemmas.{asked_is, asked_more}
+use Rattle.query_engine.proofs.SearchLemmas.{asked_is, asked_more, ap, ◌||◌, ◌∙◌, not, bytes_eq, is_asked}
 use Rattle.query_engine.proofs.asked_names.AskedNames.add.Goals as goal
 
 pub returns-clause-fresh : goal.returns-clause-fresh

@@ -1,5 +1,4 @@
-use Rattle.std.proofs.Common.{◌≡◌, ◌++◌}
-use Rattle.std.specs.Vec.Iter.{into_iter_items}
+use Rattle.stub_index.proofs.Words.{◌≡◌, ◌++◌, into_iter_items}
 use Rattle.stub_index.proofs.shared_stubs.SharedStubs.of.Given as goal
 
 -- the stubs so far and those that are left are all

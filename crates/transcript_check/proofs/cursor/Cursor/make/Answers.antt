@@ -1,5 +1,4 @@
-use Rattle.transcript_check.proofs.Words.{rules, ◌≡◌, ◌∷◌, IfOk-weaker, All-rest, Line, IsOfLine, IsNoLoad}
-use Rattle.transcript_check.proofs.StepLemmas.{settle_made, line_made}
+use Rattle.transcript_check.proofs.StepLemmas.{settle_made, line_made, rules, ◌≡◌, ◌∷◌, IfOk-weaker, All-rest, Line, IsOfLine, IsNoLoad}
 use Rattle.transcript_check.proofs.cursor.Cursor.make.Goals as goal
 
 pub returns-then-is_settle : goal.returns-then-is_settle

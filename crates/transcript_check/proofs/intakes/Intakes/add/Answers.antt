@@ -1,5 +1,4 @@
-use Rattle.transcript_check.proofs.Words.{ap, ◌∙◌, ◌||◌, is_taking, is_among}
-use Rattle.transcript_check.proofs.IntakeLemmas.{among_more}
+use Rattle.transcript_check.proofs.SideLemmas.{among_more, ap, ◌∙◌, ◌||◌, is_taking, is_among}
 use Rattle.transcript_check.proofs.intakes.Intakes.add.Goals as goal
 
 pub returns-clause-among : goal.returns-clause-among

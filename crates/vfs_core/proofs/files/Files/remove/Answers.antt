@@ -1,5 +1,4 @@
-use Rattle.std.proofs.Common.{None, ◌∙◌}
-use Rattle.list_laws.proofs.RowLemmas.{with_row-set, live_inside}
+use Rattle.vfs_core.proofs.Words.{None, ◌∙◌, with_row-set, live_inside}
 use Rattle.vfs_core.proofs.files.Files.remove.Goals as goal
 
 pub returns-clause-rows : goal.returns-clause-rows

@@ -1,6 +1,4 @@
-use Rattle.std.proofs.Common.{◌≡◌, ℕ, List, None, map}
-use Rattle.std.specs.Map.{update_all, lookup}
-use Rattle.std.specs.Map.Iter.{deref_pair}
+use Rattle.vfs_core.proofs.Words.{◌≡◌, ℕ, List, None, map, update_all, lookup, deref_pair}
 use Rattle.std.specs.Str.{bytes_eq}
 use Rattle.vfs_core.proofs.paths.Paths.copy.Given as goal
 
