@@ -1,7 +1,2 @@
-pub mod Common
-pub mod Placing
-pub mod Sound
-pub mod Hands
-pub mod Numbers
+pub mod RuleLemmas
 pub mod StepLemmas
-pub mod ReadLemmas

@@ -1,25 +1,23 @@
--- The steps of readers and writers keep the rule. A reader's: a look, the step that decides a read, being counted as a reader, leaving, and the giving back
--- of a turn that was taken under the pending mark or at a place without a share. A writer's: taking the intent and giving it back, marking a place,
--- shutting it and opening it, with the first place taking the home value and giving it back, and counting an entry.
-use Rattle.action_lock.proofs.Common.{◌≡◌, inl, inr, ℕ, ◌+◌, ◌-◌, ◌/◌, ◌%◌, ◌^◌, ◌<◌, ◌≤◌, Bool, true, false, List, [], ◌∷◌, ◌++◌, get_or, set, refl, sym}
-use Rattle.action_lock.proofs.Common.{subst, arith, Some, bit_or, eqb, eqb-true, nat_lt, length-append, none, some, get_elem?, eqb-false, cases_Bool}
-use Rattle.action_lock.proofs.Common.{nat_tests, append_cancel_left, All-append, All-cons, All-nil, Me, State, step, Act, keeps, takes, gives, chain, put_back}
-use Rattle.action_lock.proofs.Common.{rest, stepped, Valid, carried_after, Allows, set_else, Slot, Home, Share, Empty, Out, Entering, Lacking, Backing}
-use Rattle.action_lock.proofs.Common.{Reading, Marking, Shutting, Opening, View, MayKeep, writing_hand, place_of, count, intents, own_place, has_turn}
-use Rattle.action_lock.proofs.Common.{has_pending, Writing, weight, weight_in, here, intending, writes, times, SeesAll, IsSound, IsKept, with_phase, looked}
-use Rattle.action_lock.proofs.Common.{checked, backing, lacking, entering, EntersAt, Enters, Holds, Exits, Backs, Looks, marked, opened, shutting, with_intent}
-use Rattle.action_lock.proofs.Common.{held_up, released, Takes, Releases, Marks, Claims, ShutsAt, Shuts, Opens, Ends, placing, Places, one_if, each_set}
-use Rattle.action_lock.proofs.Common.{total-set, total-at, total-two}
-pub use Rattle.action_lock.proofs.Common.{rules, ap, ◌∙◌, word_at}
-use mathlib.Core.Option as maybe
+-- The steps of readers and writers keep the rule: a look, the step that decides a read, being counted as a reader, leaving and giving back a turn; taking the
+-- intent and giving it back, marking a place, shutting it and opening it, with the first place the home value too, and counting an entry.
+pub use Rattle.action_lock.proofs.RuleLemmas.{rules}
+use Rattle.action_lock.proofs.RuleLemmas.{◌≡◌, inl, inr, ℕ, ◌+◌, ◌-◌, ◌/◌, ◌%◌, ◌^◌, ◌<◌, ◌≤◌, Bool, true, false, List, ◌∷◌, ◌++◌, get_or, set, refl, sym}
+use Rattle.action_lock.proofs.RuleLemmas.{subst, arith, Some, eqb, eqb-true, nat_lt, length-append, none, some, get_elem?, eqb-false, cases_Bool, nat_tests}
+use Rattle.action_lock.proofs.RuleLemmas.{All-append, All-cons, All-nil, Me, State, step, Act, keeps, takes, gives, put_back, rest, stepped, Valid}
+use Rattle.action_lock.proofs.RuleLemmas.{carried_after, Allows, set_else, Slot, Home, Share, Empty, Out, Marking, Shutting, Opening, View, MayKeep}
+use Rattle.action_lock.proofs.RuleLemmas.{writing_hand, count, intents, own_place, has_pending, Writing, weight, weight_in, here, intending, writes, times}
+use Rattle.action_lock.proofs.RuleLemmas.{SeesAll, IsSound, IsKept, with_phase, looked, Looks, marked, opened, placing, one_if, each_set, total-set, total-at}
+use Rattle.action_lock.proofs.RuleLemmas.{total-two, ap, ◌∙◌, word_at, named, there_set, read_there, below_yes, below_no, below_other, marked_weighs}
+use Rattle.action_lock.proofs.RuleLemmas.{opened_weighs, own_within, weighs_as, same_tally, same_intents, recorded_as, recorded_set, spread_set, step_at}
+use Rattle.action_lock.proofs.RuleLemmas.{placed_as, quiet, own_step, moving, kept_by, moved_at, moved_still, moved_out, moved_home, as_known, renewed, entered}
+use Rattle.action_lock.proofs.RuleLemmas.{learned, is_current, counted_once, grown, made, front_same, home_one, no_home, [], bit_or, append_cancel_left, chain}
+use Rattle.action_lock.proofs.RuleLemmas.{Entering, Lacking, Backing, Reading, place_of, has_turn}
+use Rattle.action_lock.specs.Steps.{checked, backing, lacking, entering, EntersAt, Enters, Holds, Exits, Backs, shutting, with_intent, held_up, released, Takes}
+use Rattle.action_lock.specs.Steps.{Releases, Marks, Claims, ShutsAt, Shuts, Opens, Ends, Places}
+use Rattle.list_laws.proofs.RowLemmas.{one_if_le}
 use prog.Atomic.{either}
 use Rattle.std.specs.Int.Bits.{or_step, or_zero_r}
-use Rattle.action_lock.proofs.Placing.{named, there_set, read_there, bit_below, below_yes, below_no, below_other, marked_weighs, opened_weighs, own_within}
-use Rattle.action_lock.proofs.Placing.{weighs_as, same_tally, same_intents, recorded_as, recorded_set, spread_set, step_at, placed_as, quiet, own_step, moving}
-use Rattle.action_lock.proofs.Placing.{kept_by, moved_at, moved_still, moved_out, moved_home, as_known}
-use Rattle.action_lock.proofs.Sound.{renewed, entered, learned, is_current, counted_once, grown, made}
-use Rattle.action_lock.proofs.Hands.{front_same, home_one}
-use Rattle.action_lock.proofs.Numbers.{no_home}
+use mathlib.Core.Option as maybe
 
 -- the first bit of a word is set, where it was not
 or_one : (n : ℕ) → bit_or n 1 ≡ n + 1 - n % 2
@@ -49,8 +47,7 @@ module _ {H S E : Type 0} (number_of : E → ℕ) (stands : H → List E → Typ
       (there_set s.words intents m r.placed.intents_are ∙ ap some is) (rw (← is) one) (set_else s.words intents count m (λ e. omega arith) ∙ r.placed.count_is))
 
   pub takes_intent : me.0.intent ≡ false → Lets intents (λ x. bit_or x 1) (Takes (step slots intents 1 0 none) me)
-  takes_intent none_yet s r _ at _ =
-      let found : ℕ = get_or s.words intents 0 in let sound = r.recorded.each id me.0 at in let one = r.placed.one_intent in
+  takes_intent none_yet s r _ at _ = let found : ℕ = get_or s.words intents 0 in let sound = r.recorded.each id me.0 at in let one = r.placed.one_intent in
       let is_word = read_there s.words intents 0 r.placed.intents_are in
       elim (cases_Bool (eqb found 0)) [
         | inl test ↦
@@ -67,8 +64,7 @@ module _ {H S E : Type 0} (number_of : E → ℕ) (stands : H → List E → Typ
       ]
 
   pub releases : me.0.phase ≡ Out → me.0.intent ≡ true → Lets intents (λ _. 0) (λ _. Releases (step slots intents 0 0 none) me 0)
-  releases is has_it s r _ at _ =
-      let w : View E = released me.0 in let sound = r.recorded.each id me.0 at in let one = r.placed.one_intent in
+  releases is has_it s r _ at _ = let w : View E = released me.0 in let sound = r.recorded.each id me.0 at in let one = r.placed.one_intent in
       let b = total-set (λ (u : View E). one_if u.intent) s.views id me.0 w at in let one_had : one_if me.0.intent ≡ 1 = ap one_if has_it in
       let rule = intent_set r at w refl refl (renewed sound has (λ some_mark. absurd (omega (arith, ap writes is))) (λ e. absurd (cc)) sound.entered) 0
       (omega arith) (omega arith) in (w, keeps, tt, rule, refl)
@@ -78,7 +74,10 @@ module _ {H S E : Type 0} (number_of : E → ℕ) (stands : H → List E → Typ
     looks s r _ at _ = let w : View E = checked (get_or s.words word 0) me.0 in let sound = r.recorded.each id me.0 at in
         (w, keeps, tt, quiet r id at w refl word refl refl (renewed sound has sound.asks (is_current sound) sound.entered), refl)
 
-    module _ (own : word ≡ word_at (own_place me.0.places me.0.number)) where
+    module _ (place : ℕ) (is_at : word ≡ word_at place) (is_own : place ≡ own_place me.0.places me.0.number) where
+      own : word ≡ word_at (own_place me.0.places me.0.number)
+      own = is_at ∙ ap word_at is_own
+
       pub holds : (share : S) → me.0.phase ≡ Entering → me.1 ≡ (own_place me.0.places me.0.number, Share share) ∷ [] → share_stands share me.0.seen
           → Lets word (λ x. (x + 7) % 2 ^ 64) (Holds (step slots word 7 0 none) me)
       holds share is carries stood s r _ at _ =
@@ -166,9 +165,8 @@ module _ {H S E : Type 0} (number_of : E → ℕ) (stands : H → List E → Typ
     shuts q is_at some_shut within is intends s r _ at _ = elim (cases_Bool (eqb (get_or s.words word 0) 4)) [
       | inr other ↦ rw other (me.0, keeps, tt, quiet r id at me.0 refl word refl refl (r.recorded.each id me.0 at), refl)
       | inl alone ↦
-          let four = eqb-true (get_or s.words word 0) 4 alone in
-          let v : View E = me.0 in let w : View E = with_phase (Shutting (q + 1)) v in let sound = r.recorded.each id v at in
-          let place : place_of word ≡ q = omega arith in
+          let four = eqb-true (get_or s.words word 0) 4 alone in let v : View E = me.0 in let w : View E = with_phase (Shutting (q + 1)) v in
+          let sound = r.recorded.each id v at in let place : place_of word ≡ q = omega arith in
           let step = step_at q (here q v) (Shutting q) (Shutting (q + 1)) (omega (arith, r.placed.spread id v at n has)) refl
           (λ p l. ap (weight_in (here p v) p) is) refl refl (λ p l apart. rw (below_other p q apart) refl) in
           let sound' = renewed sound has (λ _. intends) (is_current sound) (rw is at sound.entered) in
@@ -196,14 +194,12 @@ module _ {H S E : Type 0} (number_of : E → ℕ) (stands : H → List E → Typ
     -- the first place, with which the home value is taken
     pub claims : word ≡ word_at 0 → me.0.phase ≡ Marking me.0.places → me.0.intent ≡ true → Lets word (λ x. either (eqb x 4) 7 x)
         (Claims number_of stands (step slots word 4 7 none) me)
-    claims is_at is intends =
-        as_known slots id n word (λ x. either (eqb x 4) 7 x) (Claims number_of stands (step slots word 4 7 none) me) me has
+    claims is_at is intends = as_known slots id n word (λ x. either (eqb x 4) 7 x) (Claims number_of stands (step slots word 4 7 none) me) me has
         (λ s r _ at _. elim (cases_Bool (eqb (get_or s.words word 0) 4)) [
           | inr other ↦ rw other (me.0, keeps, tt, quiet r id at me.0 refl word refl refl (r.recorded.each id me.0 at), refl)
           | inl alone ↦
-              let four = eqb-true (get_or s.words word 0) 4 alone in
-              let v : View E = me.0 in let w : View E = shutting r.history v in let sound = r.recorded.each id v at in
-              let first_marked = below_yes 0 v.places r.placed.some_place in
+              let four = eqb-true (get_or s.words word 0) 4 alone in let v : View E = me.0 in let w : View E = shutting r.history v in
+              let sound = r.recorded.each id v at in let first_marked = below_yes 0 v.places r.placed.some_place in
               let step = step_at 0 (here 0 v) (Marking v.places) (Shutting 1) r.placed.some_place refl (λ p l. ap (weight_in (here p v) p) is) refl refl
               (λ p l apart. rw (below_no p 1 (omega (arith, apart)), below_yes p v.places l) refl) in
               let sound' = entered sound has (λ _. intends) (λ _. intends) refl in let m = moving r id at w refl refl sound' is_at step in
@@ -252,24 +248,23 @@ module _ {H S E : Type 0} (number_of : E → ℕ) (stands : H → List E → Typ
       as_known slots id (number_of entry) count (λ x. (x + 1) % 2 ^ 64) (Places stands (step slots count 1 0 none) me) me has (λ s r _ at _.
       let v : View E = me.0 in let w : View E = placing entry v in let later : List E = r.history ++ entry ∷ [] in let placed = r.placed in
       let all_seen : v.seen ≡ r.history = rw is at (r.recorded.each id v at).entered in
-      let once = r.recorded.once (number_of entry) in let bound = bit_below (nat_lt (number_of entry) r.drawn) in
+      let once = r.recorded.once (number_of entry) in let bound = one_if_le (nat_lt (number_of entry) r.drawn) in
       let one = counted_once (number_of entry) v.number has in let some_of = total-at (times (number_of entry)) s.views id v at in
       let n : ℕ = (get_or s.words count 0 + 1) % 2 ^ 64 in let was = read_there s.words count 0 placed.count_is in
       let longer = length-append r.history (entry ∷ []) in let same_intents = same_intents s.views id at w refl in
       let shut_there : (p : ℕ) → p < v.places → ((weight p v).writers ≡ 1) × ((weight p v).holders ≡ 1) = λ p l. rw is (below_yes p _ l, below_yes p _ l) in
       let writers = λ (p : ℕ). total-at (λ (u : View E). (weight p u).writers) s.views id v at in
-      let rule : IsKept number_of stands share_stands v.places (stepped s count n id me.1 w keeps) =
-      kept_by (recorded_as s.views id at w refl r.recorded later (All-append (λ x. number_of x < r.drawn) r.history (entry ∷ []) r.recorded.known
-      (All-cons (λ x. number_of x < r.drawn) entry [] (grind (arith, nat_tests, once, one, some_of)) (All-nil (λ x. number_of x < r.drawn))))
+      let rule : IsKept number_of stands share_stands v.places (stepped s count n id me.1 w keeps) = let Known : E → Type 0 = λ x. number_of x < r.drawn in
+      kept_by (recorded_as s.views id at w refl r.recorded later
+      (All-append Known r.history (entry ∷ []) r.recorded.known (All-cons Known entry [] (grind (arith, nat_tests, once, one, some_of)) (All-nil Known)))
       (each_set (IsSound number_of later r.drawn) s.views id w
       (made number_of entry r.history r.drawn v (r.recorded.each id v at) has is all_seen (omega arith)) (λ j u apart there.
       let p : ℕ = own_place u.places u.number in
       let within : p < v.places = own_within u.places v.places u.number placed.some_place (placed.spread j u there) in
       let two = total-two (times (number_of entry)) s.views id j v u apart at there in
       let visits = total-at (λ (x : View E). (weight p x).visitors) s.views j u there in
-      let reads = total-at (λ (x : View E). (weight p x).readers) s.views j u there in
-      let shuts = writers p in let mine = shut_there p within in let turn = (placed.each p within).one_turn in
-      let none_reads = (placed.each p within).write_alone (omega arith) in
+      let reads = total-at (λ (x : View E). (weight p x).readers) s.views j u there in let shuts = writers p in let mine = shut_there p within in
+      let turn = (placed.each p within).one_turn in let none_reads = (placed.each p within).write_alone (omega arith) in
       let intent_two = total-two (λ (x : View E). one_if x.intent) s.views id j v u apart at there in let holds = ap one_if intends in
       let one_intent = placed.one_intent in
       grown number_of entry r.history r.drawn u (r.recorded.each j u there) (omega arith) (omega arith) (omega arith) (omega arith))))
@@ -280,6 +275,5 @@ module _ {H S E : Type 0} (number_of : E → ℕ) (stands : H → List E → Typ
       (omega (arith, placed.one_intent, same_intents)) (there_set s.words count n placed.count_is ∙ ap some (omega arith))) in
       let told : Places stands (step slots count 1 0 none) me 0 (w, me.1) = λ other made carries' stood'.
       let its = rw (home_one other home (front_same carries carries')) at stood' in
-      let same : entry ≡ made = cc (append_cancel_left v.seen (entry ∷ []) (made ∷ []) (one_list home _ _ stood its)) in
-      ap (λ e. (placing e v, me.1)) same in
+      let same : entry ≡ made = cc (append_cancel_left v.seen (entry ∷ []) (made ∷ []) (one_list home _ _ stood its)) in ap (λ e. (placing e v, me.1)) same in
       (w, keeps, tt, rule, told))

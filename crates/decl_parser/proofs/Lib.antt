@@ -1,4 +1,2 @@
-pub mod RoleLemmas
-pub mod Parts
 pub mod Words
-pub mod Levels
+pub mod Stages

@@ -1,3 +1,1 @@
-pub mod FilterLemmas
-pub mod MarkLemmas
 pub mod KindLemmas

@@ -1,7 +1,7 @@
 -- Reading so many of a kind, one after another: as a loop does, and back.
-use Rattle.std.proofs.Common.{◌≡◌, ℕ, zero, suc, ◌-◌, ◌+◌, ◌≤◌, ◌<◌, ◌^◌, List, [], ◌∷◌, ◌++◌, length, Option, Some, None, Result, Ok, Err, refl, sym, ap, append_assoc, arith}
-use Rattle.std.specs.List.{flat_map, slice_get}
-use Rattle.std.proofs.lemmas.List.{append-nil, length-append}
+use Rattle.std.proofs.Common.{◌≡◌, ℕ, zero, suc, ◌-◌, ◌+◌, ◌≤◌, ◌<◌, ◌^◌, List, [], ◌∷◌, ◌++◌, length, slice_get, Option, Some, None, Result, Ok, Err, refl, sym, ap}
+use Rattle.std.proofs.Common.{append_assoc, append-nil, length-append, arith}
+use Rattle.std.specs.List.{flat_map}
 use Rattle.byte_fields.specs.declared.fault.Fault.{Fault}
 use Rattle.byte_fields.specs.declared.fault.Fault.TheVariants as faults
 use Rattle.byte_fields.specs.Answers.{Fails}
@@ -14,8 +14,8 @@ module _ {A : Type 0} where
   abbrev pub with_front : List A → Result (List A × List ℕ) ℕ → Result (List A × List ℕ) ℕ
   with_front front read = read >>= λ x. Ok (front ++ x.0, x.1)
 
-  regroup : (front : List A) (n : A) (read : Result (List A × List ℕ) ℕ) → with_front front (read >>= λ x. Ok (n ∷ x.0, x.1)) ≡ with_front (front ++ n ∷ []) read
-  regroup front n (Ok x) = ap (λ (ns : List A). Ok (ns, x.1)) (sym (append_assoc front (n ∷ []) x.0))
+  regroup : (front : List A) (n : A) (r : Result (List A × List ℕ) ℕ) → with_front front (r >>= λ x. Ok (n ∷ x.0, x.1)) ≡ with_front (front ++ n ∷ []) r
+  regroup front n (Ok x) = rw append_assoc refl
   regroup front n (Err f) = refl
 
   -- the last of what was read, if anything was
@@ -28,28 +28,26 @@ module _ {A : Type 0} where
 
   module _ (one : Option A → List ℕ → Result (A × List ℕ) ℕ) where
     -- a turn of the loop
-    pub goes_on : (front : List A) (count i : ℕ) (bytes : List ℕ) (n : A) (after : List ℕ) (total : Result (List A × List ℕ) ℕ) → i < count → one (last front) bytes ≡ Ok (n, after)
-        → with_front front (many_at one (count - i) (last front) bytes) ≡ total → with_front (front ++ n ∷ []) (many_at one (count - (i + 1)) (last (front ++ n ∷ [])) after) ≡ total
+    pub goes_on : (front : List A) (count i : ℕ) (bytes : List ℕ) (n : A) (after : List ℕ) (total : Result (List A × List ℕ) ℕ) → i < count
+        → one (last front) bytes ≡ Ok (n, after) → with_front front (many_at one (count - i) (last front) bytes) ≡ total
+        → with_front (front ++ n ∷ []) (many_at one (count - (i + 1)) (last (front ++ n ∷ [])) after) ≡ total
     unfolding many_at
     goes_on front count i bytes n after total lt h so_far =
-        let k : count - i ≡ suc (count - (i + 1)) = omega arith in
-        rw (← last_is front n, ← regroup front n (many_at one (count - (i + 1)) (Some n) after)) (rw (k, h) at so_far)
+        let k : count - i ≡ suc (count - (i + 1)) = omega arith in rw (← last_is front n, ← regroup front n) (rw (k, h) at so_far)
 
     -- a turn that meets a fault
-    pub ends : (e : Fault) (before : Option A) (front : List A) (count i : ℕ) (bytes : List ℕ) (total : Result (List A × List ℕ) ℕ) → i < count → Fails e (one before bytes)
-        → with_front front (many_at one (count - i) before bytes) ≡ total → Fails e total
+    pub ends : (e : Fault) (before : Option A) (front : List A) (count i : ℕ) (bytes : List ℕ) (total : Result (List A × List ℕ) ℕ) → i < count
+        → Fails e (one before bytes) → with_front front (many_at one (count - i) before bytes) ≡ total → Fails e total
     unfolding many_at
     ends faults.Memory before front count i bytes total lt h so_far = tt
     ends (faults.Unlawful f) before front count i bytes total lt h so_far =
-        let k : count - i ≡ suc (count - (i + 1)) = omega arith in
-        sym (rw (k, h) at so_far)
+        let k : count - i ≡ suc (count - (i + 1)) = omega arith in sym (rw (k, h) at so_far)
 
     -- the end of the loop
-    pub is_done : (before : Option A) (front : List A) (count i : ℕ) (bytes : List ℕ) (total : Result (List A × List ℕ) ℕ) → count ≤ i → with_front front (many_at one (count - i) before bytes) ≡ total → total ≡ Ok (front, bytes)
+    pub is_done : (before : Option A) (front : List A) (count i : ℕ) (bytes : List ℕ) (total : Result (List A × List ℕ) ℕ) → count ≤ i
+        → with_front front (many_at one (count - i) before bytes) ≡ total → total ≡ Ok (front, bytes)
     unfolding many_at
-    is_done before front count i bytes total le so_far =
-        let k : count - i ≡ 0 = omega arith in
-        sym (rw (k, append-nil front) at so_far)
+    is_done before front count i bytes total le so_far = let k : count - i ≡ 0 = omega arith in sym (rw (k, append-nil front) at so_far)
 
     module _ (Good : Option A → A → Type 0) (spell : A → List ℕ) where
       pub many_takes : ((before : Option A) → Reads (one before) spell (Good before)) → (count : ℕ) (before : Option A) (bytes : List ℕ) (x : List A × List ℕ)
@@ -58,8 +56,9 @@ module _ {A : Type 0} where
       many_takes takes zero before bytes x fits e = rw (← ok_is ([], bytes) x e) (record { parts = refl; rest_fits = fits }, refl, tt)
       many_takes takes (suc count) before bytes x fits e =
           let first = step (one before bytes) _ _ x (λ first. takes before bytes first fits) e in
-          let others = step (many_at one count (Some first.0.0) first.0.1) _ _ x (λ others. many_takes takes count (Some first.0.0) first.0.1 others first.1.0.rest_fits) first.2 in
-          rw (← ok_is (first.0.0 ∷ others.0.0, others.0.1) x others.2) (Takes-then {y = flat_map spell others.0.0} {c = others.0.1} first.1.0 others.1.0, ap suc others.1.1, (first.1.1, others.1.2))
+          let others = step (many_at one count (Some first.0.0) first.0.1) _ _ x (λ os. many_takes takes count _ _ os first.1.0.rest_fits) first.2 in
+          let whole = Takes-then {y = flat_map spell others.0.0} {c = others.0.1} first.1.0 others.1.0 in
+          rw (← ok_is (first.0.0 ∷ others.0.0, others.0.1) x others.2) (whole, ap suc others.1.1, (first.1.1, others.1.2))
 
       pub many_again : ((before : Option A) → ReadsBack (one before) spell (Good before)) → (xs : List A) (before : Option A) (rest : List ℕ)
           → AllAfter Good before xs → many_at one (length xs) before (flat_map spell xs ++ rest) ≡ Ok (xs, rest)

@@ -1,7 +1,6 @@
 mod Words
 pub mod PutLemmas
 pub mod ChangeLemmas
-pub mod RuleLemmas
 pub mod FoldLemmas
 pub mod StampLemmas
 pub mod SoundLemmas
@@ -9,6 +8,4 @@ pub mod UnreadyLemmas
 pub mod SettleLemmas
 pub mod SettledLemmas
 pub mod CountLemmas
-pub mod TextLemmas
-pub mod NamedLemmas
 pub mod LimitLemmas

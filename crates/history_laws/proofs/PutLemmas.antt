@@ -1,19 +1,19 @@
 -- What stands where after a put, and what puts accepted changes may make.
-use Rattle.history_laws.proofs.Words.{ℕ, suc, ◌≡◌, ◌≢◌, ◌⊎◌, ⊎_elim, ◌+◌, ◌<◌, ◌≤◌, Bool, true, false, List, [], ◌∷◌, ◌++◌, length, refl, sym, ◌∙◌, arith}
-use Rattle.history_laws.proofs.Words.{Some, None, ◌==◌, Option, is_some, is_none, option_map, position, bytes_decides, eqb-true, eqb-false, cases_Bool}
-use Rattle.history_laws.proofs.Words.{nat_tests, position-Some, position-None, row_in-here, row_in-there, length-within, length-next, live_is_made, Change}
-use Rattle.history_laws.proofs.Words.{World, File, file_of, next_id, has_path, id_at, is_path, Reason, first_standing, reasons, history_full, refusal_of}
-use Rattle.history_laws.proofs.Words.{max_files, Put, after_put, IsAsStamped}
+use Rattle.history_laws.proofs.Words.{ℕ, suc, ◌≡◌, ◌≢◌, ◌⊎◌, inl, inr, ◌+◌, ◌<◌, ◌≤◌, Bool, true, false, List, [], ◌∷◌, ◌++◌, length, refl, sym, ◌∙◌, arith}
+use Rattle.history_laws.proofs.Words.{Some, None, Option, is_some, is_none, option_map, position, bytes_decides, cases_eq, nat_tests, position-Some}
+use Rattle.history_laws.proofs.Words.{position-None, row_in-here, row_in-there, length-within, length-next, live_is_made, Change, World, File, file_of}
+use Rattle.history_laws.proofs.Words.{next_id, has_path, id_at, is_path, Reason, first_standing, reasons, history_full, refusal_of, max_files, Put, after_put}
+use Rattle.history_laws.proofs.Words.{IsAsStamped}
 
 -- ---- places
 
 -- what holds of the put's file, and of each other that was there, holds of each
 pub by_place : (world : World) (put : Put) (id : ℕ) (P : Option File → Type 0) → 1 ≤ put.id → put.id ≤ next_id world
     → (id ≡ put.id → P put.file) → (id ≢ put.id → P (file_of world id)) → P (file_of (after_put world put) id)
-by_place world put id P first last here there = ⊎_elim
-    (λ t. let e = eqb-true id put.id t in rw (e, row_in-here put.id put.file world.files first last) (here e))
-    (λ f. let n = eqb-false id put.id f in rw (row_in-there put.id put.file world.files id n) (there n))
-    (cases_Bool (id == put.id))
+by_place world put id P first last here there = elim (cases_eq id put.id) [
+  | inl e ↦ rw (e, row_in-here put.id put.file world.files first last) (here e)
+  | inr n ↦ rw (row_in-there put.id put.file world.files id n) (there n)
+]
 
 -- ---- files that are found
 
@@ -45,18 +45,15 @@ pub found : (world : World) (path : List ℕ) → is_none (id_at world path) ≡
 found world path taken =
     let id = some_of (id_at world path) taken in
     let p = position-Some (has_path path) (None ∷ world.files) id.0 None (sym (id_is_place (has_path path) world.files refl) ∙ id.1) in
-    let live = live_with_path path (file_of world id.0) p.1 in
-    record { id = id.0; old = live.0; is = id.1; found = live.1; same = live.2 }
+    let live = live_with_path path (file_of world id.0) p.1 in record { id = id.0; old = live.0; is = id.1; found = live.1; same = live.2 }
 
 -- no live file has a path that is free
 pub none_at_free : (world : World) (path : List ℕ) (id : ℕ) (file : File) → is_some (id_at world path) ≡ false
     → file_of world id ≡ Some file → file.path ≢ path
 none_at_free world path id file free e same =
     let none : id_at world path ≡ None = grind (arith, free) in
-    let made = live_is_made world.files id file e in
-    let fails = position-None (has_path path) (None ∷ world.files) (sym (id_is_place (has_path path) world.files refl) ∙ none) id None (omega (arith, made.1)) in
-    let holds : has_path path (file_of world id) ≡ true = rw e ((bytes_decides file.path path).1 same) in
-    absurd (cc)
+    let fails = position-None (has_path path) (None ∷ world.files) (sym (id_is_place (has_path path) world.files refl) ∙ none) id None
+    (omega (arith, (live_is_made world.files id file e).1)) in grind (arith, rw e at fails, (bytes_decides file.path path).1 same)
 
 -- ---- what an accepted change puts
 
@@ -84,7 +81,7 @@ NoneStands (reason ∷ reasons) = (reason.stands ≡ false) × NoneStands reason
 -- where none is the first that stands, none stands
 none_stands : (reasons : List Reason) → first_standing reasons ≡ None → NoneStands reasons
 none_stands [] h = tt
-none_stands (reason ∷ others) h = let f : reason.stands ≡ false = grind (arith, h) in (f, none_stands others (rw f at h))
+none_stands (reason ∷ others) h = grind (arith, h, none_stands others)
 
 -- no reason to refuse an accepted change stands
 pub accepted_reasons : (world : World) (change : Change) → refusal_of world change ≡ None → NoneStands (reasons world change ++ history_full world ∷ [])
@@ -94,12 +91,4 @@ accepted_reasons world change h = none_stands (reasons world change ++ history_f
 pub placed : (world : World) (put : Put) (made : ℕ) → IsAccepted world put made
     → (1 ≤ put.id) × (put.id ≤ next_id world) × (next_id (after_put world put) ≡ next_id world + made)
     × (length world.files ≤ max_files → length world.files + made ≤ max_files)
-placed world put made (makes new one id file stamp indexed free) =
-    (omega arith, omega arith, omega (arith, one.0, length-next put.id put.file world.files id), λ few. omega (arith, one.0, one.1))
-placed world put made (ends old none found file) =
-    let l = live_is_made world.files put.id old found in (l.0, omega (arith, l.1), omega (arith, length-within put.id put.file world.files l.0 l.1), λ few. omega arith)
-placed world put made (edits old new none found file stamp path indexed) =
-    let l = live_is_made world.files put.id old found in (l.0, omega (arith, l.1), omega (arith, length-within put.id put.file world.files l.0 l.1), λ few. omega arith)
-
-pub is_place : (world : World) (put : Put) (made : ℕ) → IsAccepted world put made → (1 ≤ put.id) × (put.id ≤ next_id world)
-is_place world put made a = let p = placed world put made a in (p.0, p.1)
+placed world put made a = grind (arith, a, length-next put.id put.file world.files, live_is_made world.files put.id, length-within put.id put.file world.files)

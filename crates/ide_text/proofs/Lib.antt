@@ -1,4 +1,3 @@
 pub mod Utf8Lemmas
 pub mod TextLemmas
-pub mod EditLemmas
 pub mod WalkLemmas

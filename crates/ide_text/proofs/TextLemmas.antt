@@ -1,125 +1,84 @@
--- The column that follows a list of characters, and the text that bytes spell.
-use Rattle.std.proofs.Common.{ℕ, ◌≡◌, ◌≢◌, ◌+◌, ◌<◌, ◌≤◌, Bool, true, false, List, [], ◌∷◌, ◌++◌, length, take, get_or, encode_utf8_all, refl, ap, sym, ◌∙◌, ◌||◌, Ok, Err, eq-eqb, arith}
-use Rattle.std.specs.Prelude.{◌==◌, ◌&&◌, if◌then◌else◌}
+-- Texts: what spells one, and that one with a piece put in or taken out is one.
+use Rattle.std.proofs.Common.{ℕ, ◌≡◌, ◌+◌, ◌≤◌, Bool, false, List, [], ◌∷◌, ◌++◌, length, take, drop, IsTrue, All, chars, encode_utf8_all, IsUtf8, ◌==◌, Ok, refl, arith, length-append, length-take, length-drop}
+pub use Rattle.std.proofs.Common.{rules}
+use Rattle.std.specs.Char.{IsScalar, encode_utf8}
 use Rattle.std.specs.List.{list_any}
-use Rattle.std.specs.Str.{chars, IsUtf8, all_scalars}
-use Rattle.std.specs.Cmp.{first_so, second_so}
-use Rattle.std.specs.Str.Lossy.{utf8_valid_len}
-use Rattle.std.proofs.lemmas.Str.{is_utf8-from_IsUtf8, IsUtf8-from_is_utf8, encodes-chars, chars-encodes, scalars-chars}
-use Rattle.std.proofs.lemmas.List.{take_more}
-use Rattle.std.proofs.lemmas.Bool.{false≢true, le-leb, lt-leb, ne_eqb}
-use Rattle.list_laws.proofs.BoolLemmas.{bool_cases}
-use Rattle.ide_text.specs.declared.text.TextRefusal.TheVariants.{NotText, TooLong}
-use Rattle.ide_text.specs.Text.{line_feed, carriage_return, max_chars, repaired, repaired_after, repaired_char, sized_text, text_of, HasNoReturn, IsText}
-use Rattle.ide_text.specs.Place.{since_break}
-use Rattle.ide_text.proofs.Utf8Lemmas.{list_any-encodes}
+use Rattle.std.specs.Str.{all_scalars}
+use Rattle.std.specs.Cmp.{second_so}
+use Rattle.std.proofs.lemmas.Bool.{and_parts, and_from, le-leb}
+use Rattle.std.proofs.lemmas.Bool.Decides.{nat_tests}
+use Rattle.std.proofs.lemmas.List.Elements.{All-nil, All-cons, All-head, All-tail, All-append, All-take, All-drop}
+use Rattle.std.proofs.lemmas.List.Folds.{list_any-append}
+use Rattle.std.proofs.lemmas.Str.{is_utf8-from_IsUtf8, chars-encodes}
+use lib.Utf8.{scalar}
+use Rattle.ide_text.specs.Text.{carriage_return, max_chars, repaired, repaired_after, sized_text, text_of, HasNoReturn, IsText}
 
--- after one character more the column is 0 or one more
-since_break-append : (cs : List ℕ) (n c : ℕ) → since_break n (cs ++ c ∷ []) ≡ (if c == line_feed then 0 else since_break n cs + 1)
-since_break-append [] n c = refl
-since_break-append (d ∷ cs) n c = elim (d == line_feed) as (λ b. (if b then since_break 0 (cs ++ c ∷ []) else since_break (n + 1) (cs ++ c ∷ [])) ≡ (if c == line_feed then 0 else (if b then since_break 0 cs else since_break (n + 1) cs) + 1)) [
-  | true ↦ since_break-append cs 0 c
-  | false ↦ since_break-append cs (n + 1) c
-]
+-- a character that a text may have
+abbrev IsFine : ℕ → Type 0
+IsFine c = IsScalar c × ((c == carriage_return) ≡ false)
 
--- the same at a place of a list
-since_break_more : (cs : List ℕ) (i c : ℕ) → i < length cs → c ≡ get_or cs i c → since_break 0 (take (i + 1) cs) ≡ (if c == line_feed then 0 else since_break 0 (take i cs) + 1)
-since_break_more cs i c l e = ap (since_break 0) (take_more cs i c l ∙ ap (λ d. take i cs ++ d ∷ []) (sym e)) ∙ since_break-append (take i cs) 0 c
+-- each character of some is fine
+each_fine : (cs : List ℕ) → IsTrue (all_scalars cs) → HasNoReturn cs → All IsFine cs
+each_fine [] s n = All-nil IsFine
+each_fine (c ∷ cs) s n = let both = and_parts _ _ s in All-cons IsFine c cs (both.0, n.0) (each_fine cs both.1 n.1)
 
-pub since_break_at_break : (cs : List ℕ) (i c : ℕ) → i < length cs → c ≡ get_or cs i c → c ≡ line_feed → since_break 0 (take (i + 1) cs) ≡ 0
-since_break_at_break cs i c l e h = since_break_more cs i c l e ∙ ap (λ b. if b then 0 else since_break 0 (take i cs) + 1) (eq-eqb c line_feed h)
+-- and so all of them are
+all_fine : (cs : List ℕ) → All IsFine cs → IsTrue (all_scalars cs) × HasNoReturn cs
+all_fine [] h = (refl, tt)
+all_fine (c ∷ cs) h =
+    let one = All-head IsFine c cs h in let more = all_fine cs (All-tail IsFine c cs h) in (and_from _ _ one.0 more.0, (one.1, more.1))
 
-pub since_break_at_other : (cs : List ℕ) (i c : ℕ) → i < length cs → c ≡ get_or cs i c → c ≢ line_feed → since_break 0 (take (i + 1) cs) ≡ since_break 0 (take i cs) + 1
-since_break_at_other cs i c l e h = since_break_more cs i c l e ∙ ap (λ b. if b then 0 else since_break 0 (take i cs) + 1) (ne_eqb c line_feed h)
+-- so few enough of them are a text
+text_from : (cs : List ℕ) → length cs ≤ max_chars → All IsFine cs → IsText cs
+text_from cs few h = let all = all_fine cs h in record { few = few; scalars = all.0; no_return = all.1 }
 
--- two tests that hold
-both_true : (a b : Bool) → a ≡ true → b ≡ true → (a && b) ≡ true
-both_true a b h k = λ i. h i && k i
+-- a text with another put in is a text, where they are few enough together
+pub IsText-with_piece : (at : ℕ) (piece text : List ℕ) → IsText piece → IsText text → at ≤ length text
+    → length text + length piece ≤ max_chars → IsText (take at text ++ piece ++ drop at text)
+IsText-with_piece at piece text p t inside fits =
+    let each = each_fine text t.scalars t.no_return in
+    text_from _
+    (omega (arith, length-append (take at text ++ piece) (drop at text), length-append (take at text) piece, length-take at text, length-drop at text))
+    (All-append IsFine _ _ (All-append IsFine _ _ (All-take IsFine at text each) (each_fine piece p.scalars p.no_return)) (All-drop IsFine at text each))
 
--- a test that isn't true is false
-not_true : {b : Bool} → (b ≢ true) → b ≡ false
-not_true {b} = elim b as (λ v. v ≢ true → v ≡ false) [ true ↦ λ h. absurd (h refl) | false ↦ λ h. refl ]
+-- a text with a part taken out is a text
+pub IsText-without_part : (from to : ℕ) (text : List ℕ) → IsText text → from ≤ to → to ≤ length text → IsText (take from text ++ drop to text)
+IsText-without_part from to text t ordered inside =
+    let each = each_fine text t.scalars t.no_return in let few = t.few in
+    text_from _ (omega (arith, few, length-append (take from text) (drop to text), length-take from text, length-drop to text))
+    (All-append IsFine _ _ (All-take IsFine from text each) (All-drop IsFine to text each))
+
+-- a part of a text is read back from UTF-8
+pub chars-part : (bytes text : List ℕ) (from n : ℕ) → IsText text → bytes ≡ encode_utf8_all (take n (drop from text)) → chars bytes ≡ take n (drop from text)
+chars-part bytes text from n t e =
+    let each = All-take IsFine n (drop from text) (All-drop IsFine from text (each_fine text t.scalars t.no_return)) in
+    rw e (chars-encodes (take n (drop from text)) (all_fine _ each).0)
+
+-- scalar values whose line breaks are repaired are fine
+pub repaired_fine : (after_return : Bool) (cs : List ℕ) → IsTrue (all_scalars cs)
+    → IsTrue (all_scalars (repaired_after after_return cs)) × HasNoReturn (repaired_after after_return cs)
+repaired_fine after_return [] h = (refl, tt)
+repaired_fine after_return (c ∷ cs) h =
+    let more = repaired_fine (c == carriage_return) cs (second_so (scalar c) (all_scalars cs) h) in grind (arith, h, more.0, more.1)
+
+-- characters without a carriage return need no repair
+pub repaired-none : (cs : List ℕ) → HasNoReturn cs → repaired cs ≡ cs
+repaired-none [] none = refl
+repaired-none (c ∷ cs) none = grind (arith, none.0, repaired-none cs none.1)
+
+-- bytes without a carriage return spell none
+pub HasNoReturn-spelled : (cs : List ℕ) → list_any (λ b. b == carriage_return) (encode_utf8_all cs) ≡ false → HasNoReturn cs
+unfolding encode_utf8
+HasNoReturn-spelled [] none = tt
+HasNoReturn-spelled (c ∷ cs) none =
+    grind (arith, nat_tests, none, list_any-append (λ b. b == carriage_return) (encode_utf8 c) (encode_utf8_all cs), HasNoReturn-spelled cs)
 
 -- bytes that are UTF-8 spell a text unless it is too long
-text_of-utf8 : (bytes : List ℕ) → IsUtf8 bytes → text_of bytes ≡ sized_text (repaired (chars bytes))
-text_of-utf8 bytes u = ap (λ b. if b then sized_text (repaired (chars bytes)) else Err (NotText (utf8_valid_len bytes))) (is_utf8-from_IsUtf8 bytes u)
-
--- the same where the repaired characters are these
 pub text_of-spelled : (bytes cs : List ℕ) → IsUtf8 bytes → cs ≡ repaired (chars bytes) → text_of bytes ≡ sized_text cs
-text_of-spelled bytes cs u e = text_of-utf8 bytes u ∙ ap sized_text (sym e)
+text_of-spelled bytes cs u e = rw (is_utf8-from_IsUtf8 bytes u, e) refl
 
--- bytes that aren't UTF-8 spell no text
-pub text_of-not_utf8 : (bytes : List ℕ) → ¬ IsUtf8 bytes → text_of bytes ≡ Err (NotText (utf8_valid_len bytes))
-text_of-not_utf8 bytes h = ap (λ b. if b then sized_text (repaired (chars bytes)) else Err (NotText (utf8_valid_len bytes))) (not_true (λ t. h (IsUtf8-from_is_utf8 bytes t)))
-
--- few enough characters are a text, and more aren't
-pub sized_text-few : (cs : List ℕ) → length cs ≤ max_chars → sized_text cs ≡ Ok cs
-sized_text-few cs h = ap (λ b. if b then Ok cs else Err (TooLong (length cs))) (le-leb (length cs) max_chars h)
-
-pub sized_text-many : (cs : List ℕ) → max_chars < length cs → sized_text cs ≡ Err (TooLong (length cs))
-sized_text-many cs h = ap (λ b. if b then Ok cs else Err (TooLong (length cs))) (lt-leb (length cs) max_chars h)
-
--- no carriage return is left where line breaks are repaired
-pub HasNoReturn-append : (xs ys : List ℕ) → HasNoReturn xs → HasNoReturn ys → HasNoReturn (xs ++ ys)
-HasNoReturn-append [] ys h k = k
-HasNoReturn-append (x ∷ xs) ys h k = (h.0, HasNoReturn-append xs ys h.1 k)
-
-HasNoReturn-repaired_char : (after_return : Bool) (c : ℕ) → HasNoReturn (repaired_char after_return c)
-HasNoReturn-repaired_char after_return c = bool_cases (c == carriage_return) (λ b. HasNoReturn (if b then line_feed ∷ [] else (if after_return && c == line_feed then [] else c ∷ [])))
-    (λ e. (refl, tt))
-    (λ e. elim (after_return && c == line_feed) as (λ b. HasNoReturn (if b then [] else c ∷ [])) [ true ↦ tt | false ↦ (e, tt) ])
-
-pub HasNoReturn-repaired_after : (after_return : Bool) (cs : List ℕ) → HasNoReturn (repaired_after after_return cs)
-HasNoReturn-repaired_after after_return [] = tt
-HasNoReturn-repaired_after after_return (c ∷ cs) = HasNoReturn-append (repaired_char after_return c) (repaired_after (c == carriage_return) cs) (HasNoReturn-repaired_char after_return c) (HasNoReturn-repaired_after (c == carriage_return) cs)
-
--- characters among which no carriage return stands need no repair
-pub repaired-none : (cs : List ℕ) → list_any (λ c. c == carriage_return) cs ≡ false → repaired cs ≡ cs
-repaired-none [] none = refl
-repaired-none (c ∷ cs) none =
-    let both = or_false (c == carriage_return) (list_any (λ d. d == carriage_return) cs) none in
-    ap (λ b. (if b then line_feed ∷ [] else c ∷ []) ++ repaired_after b cs) both.0 ∙ ap (λ ds. c ∷ ds) (repaired-none cs both.1)
-  where
-    or_false : (a b : Bool) → (a || b) ≡ false → (a ≡ false) × (b ≡ false)
-    or_false true b h = absurd (false≢true (sym h))
-    or_false false b h = (refl, h)
-
--- the same of the characters of bytes among which it doesn't stand
-pub repaired-without : (bytes : List ℕ) → IsUtf8 bytes → list_any (λ b. b == carriage_return) bytes ≡ false → repaired (chars bytes) ≡ chars bytes
-repaired-without bytes u none =
-    repaired-none (chars bytes)
-    (sym (list_any-encodes (chars bytes) carriage_return (omega arith)) ∙ ap (list_any (λ b. b == carriage_return)) (encodes-chars bytes u) ∙ none)
-
--- scalar values stay such
-pub all_scalars-append : (xs ys : List ℕ) → all_scalars xs ≡ true → all_scalars ys ≡ true → all_scalars (xs ++ ys) ≡ true
-all_scalars-append [] ys h k = k
-all_scalars-append (x ∷ xs) ys h k = both_true _ _ (first_so _ _ h) (all_scalars-append xs ys (second_so _ _ h) k)
-
-all_scalars-repaired_char : (after_return : Bool) (c : ℕ) → all_scalars (c ∷ []) ≡ true → all_scalars (repaired_char after_return c) ≡ true
-all_scalars-repaired_char after_return c h =
-    elim (c == carriage_return) as (λ b. all_scalars (if b then line_feed ∷ [] else (if after_return && c == line_feed then [] else c ∷ [])) ≡ true) [
-      | true ↦ refl
-      | false ↦ elim (after_return && c == line_feed) as (λ b. all_scalars (if b then [] else c ∷ []) ≡ true) [ true ↦ refl | false ↦ h ]
-    ]
-
-pub all_scalars-repaired_after : (after_return : Bool) (cs : List ℕ) → all_scalars cs ≡ true → all_scalars (repaired_after after_return cs) ≡ true
-all_scalars-repaired_after after_return [] h = refl
-all_scalars-repaired_after after_return (c ∷ cs) h =
-    all_scalars-append (repaired_char after_return c) _
-    (all_scalars-repaired_char after_return c (both_true _ _ (first_so _ _ h) refl))
-    (all_scalars-repaired_after (c == carriage_return) cs (second_so _ _ h))
-
--- so the repaired characters in UTF-8 spell themselves
-pub chars-repaired : (bytes out : List ℕ) → IsUtf8 bytes → out ≡ encode_utf8_all (repaired (chars bytes)) → chars out ≡ repaired (chars bytes)
-chars-repaired bytes out u e = ap chars e ∙ chars-encodes (repaired (chars bytes)) (all_scalars-repaired_after false (chars bytes) (scalars-chars bytes u))
-
--- ---- the characters of a text are read as that text
-
-none_return : (cs : List ℕ) → HasNoReturn cs → list_any (λ c. c == carriage_return) cs ≡ false
-none_return [] none = refl
-none_return (c ∷ cs) none = ap (λ b. b || list_any (λ d. d == carriage_return) cs) none.0 ∙ none_return cs none.1
-
+-- the characters of a text are read as that text
 pub text_again : (cs : List ℕ) → IsText cs → text_of (encode_utf8_all cs) ≡ Ok cs
 text_again cs is =
-    let spelled : cs ≡ repaired (chars (encode_utf8_all cs)) = sym (ap repaired (chars-encodes cs is.scalars) ∙ repaired-none cs (none_return cs is.no_return)) in
-    text_of-spelled (encode_utf8_all cs) cs (cs, (is.scalars, refl)) spelled ∙ sized_text-few cs is.few
+    let utf8 = is_utf8-from_IsUtf8 (encode_utf8_all cs) (cs, (is.scalars, refl)) in
+    rw (utf8, chars-encodes cs is.scalars, repaired-none cs is.no_return, le-leb (length cs) max_chars is.few) refl

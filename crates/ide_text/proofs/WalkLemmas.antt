@@ -1,63 +1,56 @@
--- The line and the column behind a run of characters that has no line feed, and behind the first line feed.
-use Rattle.std.proofs.Common.{ℕ, zero, suc, ◌≡◌, ◌≢◌, ◌+◌, ◌-◌, ◌<◌, ◌≤◌, List, length, take, drop, get_or, count_by, ap, sym, ◌∙◌, arith, eq-eqb, ne_eqb, length-take, length-drop, Some, None}
-use Rattle.std.specs.Prelude.{◌==◌}
-use Rattle.std.proofs.lemmas.Bool.{eqb-true}
-use Rattle.std.proofs.lemmas.List.{get_or-take, get_or-drop, get_or_default}
-use Rattle.std.proofs.lemmas.List.Sums.{count_by_more_no, count_by_more_yes}
-use Rattle.memchr.specs.Find.{IsFirstByte, is_byte}
+-- The line and the column behind a character of a text, and behind a run without a line feed.
+use Rattle.std.proofs.Common.{ℕ, zero, suc, ◌≡◌, ◌+◌, ◌-◌, ◌<◌, ◌≤◌, cond, List, [], ◌∷◌, ◌++◌, length, take, drop, get_or, ◌==◌, if◌then◌else◌, refl, arith, get_or-take, get_or-drop, length-take, length-drop, ◌∙◌, eqb-true, Some, None}
+use Rattle.std.proofs.lemmas.Bool.Decides.{nat_tests}
+use Rattle.std.proofs.lemmas.List.{take_more}
+use Rattle.std.proofs.lemmas.List.Sums.{sum_by_more}
+use Rattle.memchr.specs.Find.{IsFirstByte, Nowhere, Passes, is_byte}
 use Rattle.ide_text.specs.Text.{line_feed}
-use Rattle.ide_text.specs.Place.{since_break}
-use Rattle.ide_text.proofs.TextLemmas.{since_break_at_break, since_break_at_other}
+use Rattle.ide_text.specs.Place.{since_break, line_at, column_at}
 
--- the line and the column, each from 0, behind some characters of a text
-abbrev breaks : List ℕ → ℕ → ℕ
-breaks text at = count_by (λ c. c == line_feed) (take at text)
+-- after one character more the column is 0 or one more
+since_break-append : (cs : List ℕ) (n c : ℕ) → since_break n (cs ++ c ∷ []) ≡ (if c == line_feed then 0 else since_break n cs + 1)
+since_break-append [] n c = refl
+since_break-append (d ∷ cs) n c = grind (arith, since_break-append cs 0 c, since_break-append cs (n + 1) c)
 
--- behind a run without a line feed
-past_run : (text : List ℕ) (from n : ℕ) → from + n ≤ length text → ((k : ℕ) → k < n → get_or text (from + k) 0 ≢ line_feed)
-    → (breaks text (from + n) ≡ breaks text from) × (since_break 0 (take (from + n) text) ≡ since_break 0 (take from text) + n)
-past_run text from zero inside none =
-    let same : from + 0 ≡ from = omega arith in (ap (breaks text) same, ap (λ at. since_break 0 (take at text)) same ∙ omega arith)
-past_run text from (suc n) inside none =
-    let before = past_run text from n (omega arith) (λ k less. none k (omega arith)) in
-    let next : from + suc n ≡ from + n + 1 = omega arith in
-    let c : ℕ = get_or text (from + n) 0 in let other = none n (omega arith) in let within : from + n < length text = omega arith in
-    let column = ap (λ at. since_break 0 (take at text)) next ∙ since_break_at_other text (from + n) c within (get_or_default text (from + n) 0 c within) other in (
-      ap (breaks text) next ∙ (count_by_more_no (λ d. d == line_feed) text (from + n) 0 within (ne_eqb c line_feed other) ∙ before.0),
-      (let b = before.1 in omega (arith, column, b)),
-    )
+-- behind one character more the line is the same or the next, and the column one more or the first
+pub one_more : (text : List ℕ) (i c : ℕ) → i < length text → get_or text i 0 ≡ c
+    → (line_at text (i + 1) ≡ line_at text i + (if c == line_feed then 1 else 0))
+    × (column_at text (i + 1) ≡ (if c == line_feed then 1 else column_at text i + 1))
+one_more text i c less is = (
+  omega (arith, rw is at (sum_by_more (λ d. cond (d == line_feed) 1 0) text i 0 less)),
+  rw (take_more text i 0 less, is, since_break-append (take i text) 0 c) (grind arith),
+)
 
--- what stands at a place of a part of a text
-part_at : (text : List ℕ) (from n k : ℕ) → k < n → get_or (take n (drop from text)) k 0 ≡ get_or text (from + k) 0
-part_at text from n k less = get_or-take n (drop from text) k 0 less ∙ get_or-drop from text k 0
-
+-- the part of a text from one place up to another: its length, and what stands in it
 part_len : (text : List ℕ) (from at : ℕ) → from ≤ at → at ≤ length text → length (take (at - from) (drop from text)) ≡ at - from
-part_len text from at ordered inside = length-take (at - from) (drop from text) ∙ (let d = length-drop from text in omega arith)
+part_len text from at ordered inside = rw (length-take (at - from) (drop from text), length-drop from text) (omega arith)
 
--- where the part up to a place has no line feed
+part_at : (text : List ℕ) (from at k : ℕ) → from + k < at → get_or text (from + k) 0 ≡ get_or (take (at - from) (drop from text)) k 0
+part_at text from at k less = rw (get_or-take (at - from) (drop from text) k 0 (omega arith), get_or-drop from text k 0) refl
+
+-- behind a run of it without a line feed
+past_run : (text : List ℕ) (from at n to : ℕ) → to ≡ from + n → to ≤ at → at ≤ length text
+    → Nowhere (Passes (is_byte 10) (take (at - from) (drop from text))) 0 n
+    → (line_at text to ≡ line_at text from) × (column_at text to ≡ column_at text from + n)
+past_run text from at zero to e ahead inside none = let same : to ≡ from = omega arith in rw same (refl, omega arith)
+past_run text from at (suc n) to e ahead inside none =
+    let next : to ≡ from + n + 1 = omega arith in
+    let before = past_run text from at n (from + n) refl (omega arith) inside (λ k low less. none k low (omega arith)) in
+    let more = one_more text (from + n) _ (omega arith) (part_at text from at n (omega arith)) in
+    let other = none n (omega arith) (omega arith) in
+    rw next (grind (arith, nat_tests, before.0, before.1, more.0, more.1, other))
+
+-- where that part has no line feed
 pub past_rest : (text : List ℕ) (from at : ℕ) → from ≤ at → at ≤ length text → IsFirstByte (is_byte 10) (take (at - from) (drop from text)) None
-    → (count_by (λ c. c == line_feed) (take at text) ≡ count_by (λ c. c == line_feed) (take from text)) × (since_break 0 (take at text) ≡ since_break 0 (take from text) + (at - from))
+    → (line_at text at ≡ line_at text from) × (column_at text at ≡ column_at text from + (at - from))
 past_rest text from at ordered inside none =
-    let n : ℕ = at - from in let len = part_len text from at ordered inside in let end : from + n ≡ at = omega arith in
-    let run = past_run text from n (omega arith) (λ k less is. none k (omega arith) (omega arith) (eq-eqb (get_or (take n (drop from text)) k 0) 10 (part_at text from n k less ∙ is))) in
-    (sym (ap (breaks text) end) ∙ run.0, sym (ap (λ i. since_break 0 (take i text)) end) ∙ run.1)
+    past_run text from at (at - from) at (omega arith) (omega arith) inside (rw (part_len text from at ordered inside) at none)
 
--- what stands behind the first line feed of that part
-pub record IsPastLine (text : List ℕ) (from at found : ℕ) : Type 0 where
-  pub within : from + found < at
-  pub line : count_by (λ c. c == line_feed) (take (from + found + 1) text) ≡ count_by (λ c. c == line_feed) (take from text) + 1
-  pub column : since_break 0 (take (from + found + 1) text) ≡ 0
-
+-- behind the first line feed of that part
 pub past_line : (text : List ℕ) (from at found : ℕ) → from ≤ at → at ≤ length text → IsFirstByte (is_byte 10) (take (at - from) (drop from text)) (Some found)
-    → IsPastLine text from at found
+    → (from + found < at) × (line_at text (from + found + 1) ≡ line_at text from + 1) × (column_at text (from + found + 1) ≡ 1)
 past_line text from at found ordered inside first =
-    let n : ℕ = at - from in let len = part_len text from at ordered inside in let high = first.0.high in
-    let less : found < n = omega arith in let within : from + found < length text = omega arith in
-    let run = past_run text from found (omega arith) (λ k l is. first.0.before k (omega arith) l (eq-eqb (get_or (take n (drop from text)) k 0) 10 (part_at text from n k (omega arith) ∙ is))) in
-    let c : ℕ = get_or text (from + found) 0 in
-    let feed : c ≡ line_feed = sym (part_at text from n found less) ∙ eqb-true (get_or (take n (drop from text)) found 0) 10 first.1 in
-    record {
-      within = omega arith;
-      line = count_by_more_yes (λ d. d == line_feed) text (from + found) 0 within (eq-eqb c line_feed feed) ∙ (let b = run.0 in omega (arith, b));
-      column = since_break_at_break text (from + found) c within (get_or_default text (from + found) 0 c within) feed;
-    }
+    let high = first.0.high in let within : from + found < at = omega (arith, part_len text from at ordered inside) in
+    let run = past_run text from at found _ refl (omega arith) inside first.0.before in
+    let more = one_more text (from + found) 10 (omega arith) (part_at text from at found within ∙ eqb-true _ _ first.1) in
+    (within, omega (arith, more.0, run.0), more.1)

@@ -1,9 +1,8 @@
 -- What a lawful step makes of each file, and that the files stay sound.
-use Rattle.ide_world.proofs.Words.{ℕ, ◌≡◌, ◌+◌, List, [], ◌∷◌, refl, ap, ◌∙◌, arith, Some, None, Option, IfSome, is_some, if◌then◌else◌, ◌==◌, one_if, fold}
-use Rattle.ide_world.proofs.Words.{nat_tests, IfSome_then, same_Some, row_in-here, row_in-with_row, count-with_row, FileRow, Document, World, File, file_of}
-use Rattle.ide_world.proofs.Words.{is_open, count_of, by_place, Step, RowEdit, edited_row, put_row, edited_document, joined, row_part, document_part, stepped}
-use Rattle.ide_world.proofs.Words.{drawn_by, after_step, after_steps, IsSoundFile, AreSoundFiles, IsPathFree, IsLawfulStep, AreLawfulFrom}
-use Rattle.ide_world.specs.declared.step.RowEdit.TheVariants.{Keep, Put as PutRow}
+use Rattle.ide_world.proofs.Words.{ℕ, ◌≡◌, ◌+◌, List, [], ◌∷◌, refl, arith, None, Option, is_some, if◌then◌else◌, ◌==◌, one_if, fold, nat_tests, row_in-here}
+use Rattle.ide_world.proofs.Words.{row_in-with_row, count-with_row, FileRow, Document, World, File, file_of, is_open, count_of, Step, edited_row}
+use Rattle.ide_world.proofs.Words.{edited_document, joined, row_part, document_part, stepped, after_step, after_steps, AreSoundFiles, IsLawfulStep}
+use Rattle.ide_world.proofs.Words.{AreLawfulFrom}
 
 -- a step changes what has its id
 pub file_here : (w : World) (s : Step) → IsLawfulStep w s → file_of (after_step w s) s.id ≡ stepped s (file_of w s.id)
@@ -32,33 +31,12 @@ pub document_part-stepped : (w : World) (s : Step) → IsLawfulStep w s
     → document_part (stepped s (file_of w s.id)) ≡ edited_document s.doc (document_part (file_of w s.id))
 document_part-stepped w s l = document_part-joined _ _ l.whole
 
--- ---- the files stay sound
-
-sound_later : (next more : ℕ) (file : Option File) → IsSoundFile next file → IsSoundFile (next + more) file
-sound_later next more file h = IfSome_then file h (λ f live. record {
-  stamp = omega (arith, live.stamp);
-  indexed = IfSome_then f.indexed live.indexed (λ stamp l. omega arith);
-  saved = live.saved;
-})
-
--- the path of the file that an edit leaves is free for its id
-free_after : (w : World) (id : ℕ) (edit : RowEdit) (file : Option File) (doc : Option Document) → AreSoundFiles w → file_of w id ≡ file
-    → IfSome (put_row edit) (λ r. IsPathFree w id r.path) → (f : File) → joined (edited_row edit (row_part file)) doc ≡ Some f → IsPathFree w id f.path
-free_after w id (PutRow row) file doc sound e free f is = rw (← same_Some _ f is) free
-free_after w id Keep (Some g) doc sound e free f is = rw (← same_Some _ f is) (λ other file live same. sound.apart other id file g live e same)
-free_after w id edit file doc sound e free f is = absurd (cc)
-
-apart_after : (w : World) (s : Step) → AreSoundFiles w → IsLawfulStep w s → (a b : ℕ) (f g : File)
-    → file_of (after_step w s) a ≡ Some f → file_of (after_step w s) b ≡ Some g → f.path ≡ g.path → a ≡ b
-apart_after w s sound l a b f g live_a live_b same =
-    let free = free_after w s.id s.row (file_of w s.id) (edited_document s.doc (document_part (file_of w s.id))) sound refl l.path in
-    grind (arith, nat_tests, file_after w s a l, file_after w s b l, sound.apart a b f g, free f, free g)
-
+-- the files stay sound
 pub sound_after_step : (w : World) (s : Step) → AreSoundFiles w → IsLawfulStep w s → AreSoundFiles (after_step w s)
 sound_after_step w s sound l = record {
-  sound = λ id. by_place w (record { id = s.id; file = stepped s (file_of w s.id); drawn = drawn_by s }) id
-      (IsSoundFile (w.next_stamp + drawn_by s)) l.some l.within (λ e. l.sound) (λ n. sound_later w.next_stamp (drawn_by s) (file_of w id) (sound.sound id));
-  apart = apart_after w s sound l;
+  sound = λ id. grind (arith, nat_tests, file_after w s id l, sound.sound id);
+  apart = λ a b f g live_a live_b same.
+      grind (arith, nat_tests, file_after w s a l, file_after w s b l, sound.apart a b f g, sound.apart a s.id f, sound.apart b s.id g, l.path);
 }
 
 -- ---- how many are open
@@ -68,16 +46,11 @@ is_open-part file = grind arith
 
 pub open_count-step : (w : World) (s : Step) → IsLawfulStep w s → count_of is_open (after_step w s) + one_if (is_some (document_part (file_of w s.id)))
     ≡ count_of is_open w + one_if (is_some (edited_document s.doc (document_part (file_of w s.id))))
-open_count-step w s l =
-    let counted = count-with_row is_open refl s.id (stepped s (file_of w s.id)) w.files l.some l.within in
-    let after = is_open-part (stepped s (file_of w s.id)) ∙ ap is_some (document_part-stepped w s l) in
-    omega (arith, counted, ap one_if (is_open-part (file_of w s.id)), ap one_if after)
+open_count-step w s l = grind (arith, count-with_row is_open refl s.id (stepped s (file_of w s.id)) w.files l.some l.within, l.whole)
 
 -- what is read of the world, and edited by each step, is folded over steps
 pub reads_steps : {A : Type 0} (of : World → A) (edit : A → Step → A)
     → ((w : World) (s : Step) → AreSoundFiles w → IsLawfulStep w s → of (after_step w s) ≡ edit (of w) s)
     → (w : World) (ss : List Step) → AreSoundFiles w → AreLawfulFrom w ss → of (after_steps w ss) ≡ fold edit (of w) ss
 reads_steps of edit each w [] sound l = refl
-reads_steps of edit each w (s ∷ ss) sound l =
-    reads_steps of edit each (after_step w s) ss (sound_after_step w s sound l.0) l.1
-    ∙ ap (λ a. fold edit a ss) (each w s sound l.0)
+reads_steps of edit each w (s ∷ ss) sound l = rw (← each w s sound l.0) (reads_steps of edit each (after_step w s) ss (sound_after_step w s sound l.0) l.1)

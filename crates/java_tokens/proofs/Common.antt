@@ -37,7 +37,6 @@ pub use Rattle.std.specs.Simd.Lanes.{Each1, chunk, mask_l, top}
 pub use Rattle.std.specs.Str.{bytes_eq, chars}
 pub use Rattle.std.specs.Str.Iter.{chars_rest}
 pub use Rattle.std.specs.Vec.Iter.{into_iter_items}
-pub use Rattle.ide_text.proofs.Utf8Lemmas.{bytes_eq-chars}
 pub use Rattle.indexmap.proofs.MapLemmas.{distinct_permutation, lookup_permutation, sorted_keys}
 pub use Rattle.indexmap.specs.Entry.{map_with_value}
 pub use Rattle.list_laws.proofs.PartLemmas.{drop-part, part-part}

@@ -1,24 +1,20 @@
 -- The rule of the queue: what it says of hints and views, that each step keeps it, and what it says of all hints once a pass has met all others.
 use Rattle.std.proofs.Common.{◌≡◌, ◌≢◌, ℕ, suc, ◌+◌, ◌≤◌, List, [], ◌∷◌, ◌++◌, length, refl, arith, nat_lt, ◌<◌, set, ap, sym, subst, Option, Some, All, eqb}
-use Rattle.std.proofs.Common.{get_or, ◌∙◌, append_assoc, length-append, eq-eqb, ne_eqb, ◌*◌, eqb-true, ltb-false}
+use Rattle.std.proofs.Common.{get_or, ◌∙◌, append_assoc, append-nil, length-append, eq-eqb, ne_eqb, ◌*◌, eqb-true, inl, inr, not, ◌&&◌}
 use Rattle.std.proofs.lemmas.Bool.Decides.{nat_tests}
 use Rattle.std.proofs.lemmas.List.Elements.{All-nil, All-cons, All-head, All-tail, All-push, All-append, filter-append}
 use Rattle.std.proofs.lemmas.List.Quantifiers.{all_pairs_push}
 use Rattle.std.proofs.Math.Nat.{add-mul}
-use Rattle.std.proofs.lemmas.Bool.{eqb-false}
+use Rattle.std.proofs.lemmas.Bool.{cases_Bool, eqb-false}
 use Rattle.std.proofs.lemmas.List.{nil_from_length}
 use mathlib.Core.Option.{some, some-ne-none}
 use lib.ListN.{get_elem?}
 use Rattle.crossbeam_queue.proofs.Lists.{set_else}
-use mathlib.Core.Logic.{dite}
-use native.Mathlib.Decide.{ℕ_discrete}
 use Rattle.crossbeam_queue.specs.Fifo.{Pushes, Pops, Forks, Merges, Learns}
 use Rattle.list_laws.specs.Rows.{one_if}
 use Rattle.list_laws.specs.Totals.{total}
 use Rattle.list_laws.proofs.TotalLemmas.{total-at, total-set, total-same, total-two, total-zero, total-append, total-only}
-use Rattle.list_laws.proofs.PrefixLemmas.{filter_more, filter_same}
 use Rattle.list_laws.proofs.EachLemmas.{Each, each_set, each_snoc}
-use Rattle.list_laws.proofs.BoolLemmas.{bool_cases}
 use Rattle.job_queue.specs.declared.hint.Hint.{Hint}
 use Rattle.job_queue.specs.Hints.{times, hints_of, IsNumbered, is_hint}
 use Rattle.job_queue.specs.declared.view.Hand.{Hand}
@@ -45,28 +41,19 @@ pub numbered_seam : (n turn : ℕ) (xs ys : List Hint) (x : Hint) → IsNumbered
 numbered_seam n turn [] ys x all = omega (arith, all.1)
 numbered_seam n turn (z ∷ zs) ys x all = omega (arith, numbered_seam n (suc turn) zs ys x all.2)
 
--- a hint is at most once in what a pass put from a turn on, and not at all if its own turn is an earlier one
-pub times_few : (x : Hint) (n turn : ℕ) (xs : List Hint) → IsNumbered n turn xs → times x xs + one_if (nat_lt x.turn turn) ≤ 1
-times_few x n turn [] all = grind (arith, nat_tests)
-times_few x n turn (y ∷ ys) all = grind (arith, nat_tests, times_few x n (suc turn) ys all.2, all.1)
+-- a hint is at most once in what a pass put from a turn on, and not at all if another put it or its own turn is an earlier one
+pub times_few : (x : Hint) (n turn : ℕ) (xs : List Hint) → IsNumbered n turn xs → times x xs ≤ one_if (eqb n x.pusher && not (nat_lt x.turn turn))
+times_few x n turn [] all = omega arith
+times_few x n turn (y ∷ ys) all = grind (arith, nat_tests, times_few x n (suc turn) ys all.2, all.1, all.0)
 
 -- a hint is in a list as often as among its pusher's
 pub times_own : (x : Hint) (xs : List Hint) → times x (hints_of x.pusher xs) ≡ times x xs
 times_own x [] = refl
 times_own x (y ∷ ys) = grind (arith, nat_tests, times_own x ys)
 
--- and not at all among another's
-pub times_other : (x : Hint) (n turn : ℕ) (xs : List Hint) → IsNumbered n turn xs → n ≢ x.pusher → times x xs ≡ 0
-times_other x n turn [] all ne = refl
-times_other x n turn (y ∷ ys) all ne = grind (arith, nat_tests, times_other x n (suc turn) ys all.2 ne, all.0)
-
 -- 1 where the hand has this number
 abbrev pub numbers : ℕ → QueueView → ℕ
 numbers n = weigh (λ h. one_if (eqb h.number n))
-
--- how many hands there are
-abbrev pub count : QueueView → ℕ
-count = weigh (λ h. 1)
 
 module _ (v : QueueView) {n : ℕ} (has : v.number ≡ Some n) where
   -- the hands of a view with a number: its own, and then those that it was told
@@ -102,6 +89,12 @@ kept_by : {drawn : ℕ} {gone : ℕ → List Hint} {items : List Hint} {views : 
 kept_by {drawn} {gone} counted numbered unused taken each =
     record { drawn = drawn; gone = gone; counted = counted; numbered = numbered; unused = unused; taken = taken; each = each }
 
+-- where the numbers of all views weigh the same, the numbers are as before
+counted_by : {drawn : ℕ} {views later : List QueueView} → IsCounted drawn views → total leading later ≡ total leading views
+    → ((f : ℕ → ℕ) → total (weigh (λ h. f h.number)) later ≡ total (weigh (λ h. f h.number)) views) → IsCounted drawn later
+counted_by c leads same =
+    record { one_leads = leads ∙ c.one_leads; once = λ n. same (λ m. one_if (eqb m n)) ∙ c.once n; in_all = same (λ m. 1) ∙ c.in_all; limit = c.limit }
+
 pub begins : IsKept [] (first_view ∷ [])
 begins = kept_by {drawn = 1} {gone = λ n. []} record { one_leads = refl; once = λ n. grind (arith, nat_tests); in_all = refl; limit = omega arith }
     (λ n. tt) (λ n le. refl) (λ x. refl)
@@ -117,7 +110,7 @@ splits id v leads room items views r at =
     kept_by {drawn = r.drawn + 1} {gone = r.gone} record {
       one_leads = added leading refl ∙ omega (arith, one_leads, ap one_if (ne_eqb v.drawn 0 (λ e. omega arith)));
       once = λ n. added (numbers n) refl ∙ grind (arith, nat_tests, r.counted.once n, is_drawn);
-      in_all = added count refl ∙ omega (arith, r.counted.in_all);
+      in_all = added (weigh (λ h. 1)) refl ∙ omega (arith, r.counted.in_all);
       limit = omega arith;
     }
     r.numbered (λ n le. r.unused n (omega arith)) (λ x. added (weigh (λ h. times x h.took)) refl ∙ omega (arith, r.taken x))
@@ -138,24 +131,15 @@ joins id v other w {n} {m} has has' follows items views r at apart there =
     λ f same. omega (arith, total-set f views id v both at, total-set f (set views id both) other w spent_view there) in
     let hand_kept : (f : Hand → ℕ) → total (weigh f) (set (set views id both) other spent_view) ≡ total (weigh f) views =
     λ f. kept (weigh f) (omega (arith, ap (total f) hands_joined, total-append f (hands v) (hands w))) in
-    kept_by record {
-      one_leads = kept leading (omega (arith, ap (number_is 0) has', ap one_if (ne_eqb m 0 (λ e. follows (has' ∙ ap Some e))))) ∙ r.counted.one_leads;
-      once = λ k. hand_kept (λ h. one_if (eqb h.number k)) ∙ r.counted.once k;
-      in_all = hand_kept (λ h. 1) ∙ r.counted.in_all;
-      limit = r.counted.limit;
-    }
+    let leads = kept leading (omega (arith, ap (number_is 0) has', ap one_if (ne_eqb m 0 (λ e. follows (has' ∙ ap Some e))))) in
+    kept_by (counted_by r.counted leads (λ f. hand_kept (λ h. f h.number)))
     r.numbered r.unused (λ x. hand_kept (λ h. times x h.took) ∙ r.taken x)
     (each_set Sound (set views id both) other spent_view record { spent = λ _. refl; counts = λ e. absurd (cc); hands_are = All-nil Hands }
-    (λ j u _. each_set Sound views id both (sound_with both has sound.counts (subst (All Hands) (sym hands_joined)
-    (All-append Hands (hands v) (hands w) sound.hands_are sound'.hands_are))) (λ i x _. r.each i x) j u))
+    (λ j u _. each_set Sound views id both (sound_with both has sound.counts
+    (rw hands_joined (All-append Hands (hands v) (hands w) sound.hands_are sound'.hands_are))) (λ i x _. r.each i x) j u))
 
 module _ {items : List Hint} {views : List QueueView} (r : IsKept items views) (id : ℕ) (v : QueueView) (at : get_elem? views id ≡ some v)
     {n : ℕ} (has : v.number ≡ Some n) where
-  -- its own hand, and those of the passes that it met
-  held : IsHand r.gone items (hand n v.put v.took) × All (IsHand r.gone items) v.ended
-  held = let Hands : Hand → Type 0 = IsHand r.gone items in let own : Hand = hand n v.put v.took in
-      let all = subst (All Hands) (hands_are v has) (r.each id v at).hands_are in (All-head Hands own v.ended all, All-tail Hands own v.ended all)
-
   -- what other passes put stays, what is gone stays gone, and the pass's own hand has its new place
   module _ (later : List Hint) (gone : ℕ → List Hint) (put took : List Hint)
       (same : (m : ℕ) → m ≢ n → sent gone later m ≡ sent r.gone items m)
@@ -166,38 +150,34 @@ module _ {items : List Hint} {views : List QueueView} (r : IsKept items views) (
         let other : h.number ≢ n = λ e. omega (arith, total-zero (λ (g : Hand). one_if (eqb g.number n)) hs none_there k d l, ap one_if (eq-eqb _ n e)) in
         record { put = is.put ∙ sym (same h.number other); rises = is.rises; early = λ i x l. omega (arith, is.early i x l, longer (get_or h.took i x).pusher) }
 
-    hand_changed : IsNumbered n 1 (sent gone later n) → IsHand gone later (hand n put took)
+    hand_changed : (IsHand r.gone items (hand n v.put v.took) → IsNumbered n 1 (sent gone later n) × IsHand gone later (hand n put took))
         → ((y : Hint) → times y took + times y (r.gone y.pusher) ≡ times y v.took + times y (gone y.pusher))
         → IsKept later (set views id (record v { put = put; took = took }))
-    hand_changed numbered own taken = let w : QueueView = record v { put = put; took = took } in kept_by {drawn = r.drawn} {gone = gone} record {
-      one_leads = total-same leading views id v w at refl ∙ r.counted.one_leads;
-      once = λ m. total-same (numbers m) views id v w at (rw has refl) ∙ r.counted.once m;
-      in_all = total-same count views id v w at (rw has refl) ∙ r.counted.in_all;
-      limit = r.counted.limit;
-    }
-        (λ m. dite (ℕ_discrete n m) (λ e. subst (λ i. IsNumbered i 1 (sent gone later i)) e numbered)
-        (λ ne. subst (IsNumbered m 1) (sym (same m (λ e. ne (sym e)))) (r.numbered m)))
+    hand_changed makes taken = let w : QueueView = record v { put = put; took = took } in
+        let all = rw (hands_are v has) at (r.each id v at).hands_are in let own = makes (All-head (IsHand r.gone items) (hand n v.put v.took) v.ended all) in
+        let rest = All-tail (IsHand r.gone items) (hand n v.put v.took) v.ended all in let own_number = own_weighs v has (λ h. one_if (eqb h.number n)) in
+        kept_by {drawn = r.drawn} {gone = gone}
+        (counted_by r.counted (total-same leading views id v w at refl) (λ f. total-same (weigh (λ h. f h.number)) views id v w at (rw has refl)))
+        (λ m. elim (cases_Bool (eqb m n)) [ inl e ↦ rw (eqb-true m n e) own.0 | inr ne ↦ rw (same m (eqb-false m n ne)) (r.numbered m) ])
         (λ m le. same m (λ e. omega (arith, given v has views id r.counted at)) ∙ r.unused m le)
         (λ y. let f : Hand → ℕ = λ h. times y h.took in
         omega (arith, total-set (weigh f) views id v w at, own_weighs v has f, own_weighs w has f, taken y, r.taken y))
-        (let own_number = own_weighs v has (λ h. one_if (eqb h.number n)) in each_set (IsSound gone later r.drawn) views id w
-        (sound_with w has (r.each id v at).counts (subst (All (IsHand gone later)) (sym (hands_are w has))
-        (All-cons (IsHand gone later) (hand n put took) v.ended own
-        (hands_later v.ended (grind (arith, nat_tests, total-at (numbers n) views id v at, r.counted.once n, own_number)) held.1))))
-        (λ j u apart there. let sound = r.each j u there in let two = total-two (numbers n) views id j v u apart at there in
-        let none_there : numbers n u ≡ 0 = grind (arith, nat_tests, two, r.counted.once n, own_number) in
+        (each_set (IsSound gone later r.drawn) views id w
+        (sound_with w has (r.each id v at).counts (rw (hands_are w has) (All-cons (IsHand gone later) (hand n put took) v.ended own.1
+        (hands_later v.ended (grind (arith, nat_tests, total-at (numbers n) views id v at, r.counted.once n, own_number)) rest))))
+        (λ j u apart there. let sound = r.each j u there in
+        let none_there : numbers n u ≡ 0 = grind (arith, nat_tests, total-two (numbers n) views id j v u apart at there, r.counted.once n, own_number) in
         record { spent = sound.spent; counts = sound.counts; hands_are = hands_later (hands u) none_there sound.hands_are }))
 
 pub puts : (size id : ℕ) (v : QueueView) (x : Hint) → size ≡ 1024 → v.number ≡ Some x.pusher → x.turn ≡ length v.put + 1 → Pushes IsKept size id v x (IsPut v x)
 puts size id v x is has next items views room r at =
-    let n : ℕ = x.pusher in let own = (held r id v at has).0 in
-    let more : sent r.gone (items ++ x ∷ []) n ≡ sent r.gone items n ++ x ∷ [] =
-    ap (λ (l : List Hint). r.gone n ++ l) (filter_more (λ (y : Hint). eqb y.pusher n) items x (eq-eqb n n refl)) ∙ sym (append_assoc (r.gone n) _ _) in
-    let rule = hand_changed r id v at has (items ++ x ∷ []) r.gone (v.put ++ x ∷ []) v.took
-    (λ m ne. ap (λ (l : List Hint). r.gone m ++ l) (filter_same (λ (y : Hint). eqb y.pusher m) items x (ne_eqb n m (λ e. ne (sym e)))))
-    (λ m. omega arith)
-    (subst (IsNumbered n 1) (sym more) (numbered_more n 1 (sent r.gone items n) x (r.numbered n) refl (omega (arith, ap length own.put))))
-    record { put = ap (λ (l : List Hint). l ++ x ∷ []) own.put ∙ sym more; rises = own.rises; early = own.early } (λ y. refl) in
+    let n : ℕ = x.pusher in let later : List Hint = items ++ x ∷ [] in
+    let more : sent r.gone later n ≡ sent r.gone items n ++ x ∷ [] =
+    rw (filter-append (λ (y : Hint). eqb y.pusher n) items (x ∷ []), eq-eqb n n refl) (sym (append_assoc (r.gone n) (hints_of n items) (x ∷ []))) in
+    let rule = hand_changed r id v at has later r.gone (v.put ++ x ∷ []) v.took
+    (λ m ne. rw (filter-append (λ (y : Hint). eqb y.pusher m) items (x ∷ []), ne_eqb n m (λ e. ne (sym e)), append-nil (hints_of m items)) refl)
+    (λ m. omega arith) (λ own. let behind = numbered_more n 1 (sent r.gone items n) x (r.numbered n) refl (omega (arith, ap length own.put)) in
+    (rw more behind, record { put = cc (own.put, more); rises = own.rises; early = own.early })) (λ y. refl) in
     (putting x v, rule, (refl, (items, omega arith, stands id v _ views r at)))
 
 module _ (x : Hint) {items : List Hint} {views : List QueueView} (r : IsKept (x ∷ items) views) where
@@ -207,8 +187,7 @@ module _ (x : Hint) {items : List Hint} {views : List QueueView} (r : IsKept (x 
 
   -- what each number put stays
   stays : (m : ℕ) → sent gone_later items m ≡ sent r.gone (x ∷ items) m
-  stays m = append_assoc (r.gone m) (hints_of m (x ∷ [])) (hints_of m items)
-      ∙ ap (λ (l : List Hint). r.gone m ++ l) (sym (filter-append (λ (y : Hint). eqb y.pusher m) (x ∷ []) items))
+  stays m = cc (append_assoc (r.gone m) (hints_of m (x ∷ [])) (hints_of m items), filter-append (λ (y : Hint). eqb y.pusher m) (x ∷ []) items)
 
   longer : (m : ℕ) → length (r.gone m) ≤ length (gone_later m)
   longer m = omega (arith, length-append (r.gone m) (hints_of m (x ∷ [])))
@@ -231,7 +210,7 @@ module _ (x : Hint) {items : List Hint} {views : List QueueView} (r : IsKept (x 
 pub takes : (id : ℕ) (v : QueueView) (n : ℕ) → v.number ≡ Some n → Pops IsKept id v (IsTaken v)
 takes id v n has x items views r at =
     let rule = hand_changed r id v at has items (gone_later x r) v.put (v.took ++ x ∷ []) (λ m _. stays x r m) (longer x r)
-    (subst (IsNumbered n 1) (sym (stays x r n)) (r.numbered n)) (taking_hand x r (hand n v.put v.took) (held r id v at has).0)
+    (λ own. (rw (stays x r n) (r.numbered n), taking_hand x r (hand n v.put v.took) own))
     (λ y. let f : Hint → ℕ = λ z. one_if (is_hint y z) in
     omega (arith, total-append f v.took (x ∷ []), total-append f (r.gone y.pusher) (hints_of y.pusher (x ∷ [])), times_own y (x ∷ []))) in
     (taking x v, rule, (refl, (items, stands id v _ views r at)))
@@ -248,7 +227,7 @@ joined_met p q {u} e at =
     let sum : length u.ended ≡ p.met + (q.met + 1) =
     omega (arith, ap (λ (x : QueueView). length x.ended) e, length-append v.ended (hands w), ap length (hands_are w q.numbered)) in
     let own = own_weighs u (ap (λ (x : QueueView). x.number) e ∙ p.numbered) (λ h. 1) in
-    (sum, omega (arith, own, total-at count at.views at.seat u at.here, count_length u.ended))
+    (sum, omega (arith, own, total-at (weigh (λ h. 1)) at.views at.seat u at.here, count_length u.ended))
 
 module _ (v : QueueView) (items : List Hint) (at : Stood v items) where
   -- how often the hint's pusher put it
@@ -267,34 +246,28 @@ module _ (v : QueueView) (items : List Hint) (at : Stood v items) where
   pub knows : IsKnown v items
   knows = record {
     each = λ k d l. hand_is _ ((at.kept.each at.seat v at.here).hands_are k d l);
-    once = λ x. let few = times_few x x.pusher 1 (sent at.kept.gone items x.pusher) (at.kept.numbered x.pusher) in
+    once = λ x. let few : times_put x ≤ 1 = grind (arith, times_few x x.pusher 1 (sent at.kept.gone items x.pusher) (at.kept.numbered x.pusher)) in
         omega (arith, few, total-at (weigh (λ h. times x h.took)) at.views at.seat v at.here, at.kept.taken x, sent_times x);
   }
 
   -- hands put a hint as often as its pusher did, if this one is among them
-  put_once : (x : Hint) (h : Hand) → IsHand at.kept.gone items h → times x h.put ≡ one_if (eqb h.number x.pusher) * times_put x
-  put_once x h is = bool_cases (eqb h.number x.pusher) (λ b. times x h.put ≡ one_if b * times_put x)
-      (λ e. omega (arith, ap (times x) (is.put ∙ ap (sent at.kept.gone items) (eqb-true h.number x.pusher e))))
-      (λ e. omega (arith, times_other x h.number 1 h.put (hand_is h is).numbered (eqb-false h.number x.pusher e)))
-
   put_total : (x : Hint) (hs : List Hand) → All (IsHand at.kept.gone items) hs
       → total (λ (h : Hand). times x h.put) hs ≡ total (λ (h : Hand). one_if (eqb h.number x.pusher)) hs * times_put x
   put_total x [] all = omega arith
-  put_total x (h ∷ hs) all = let Hands : Hand → Type 0 = IsHand at.kept.gone items in
-      (λ k. put_once x h (All-head Hands h hs all) k + put_total x hs (All-tail Hands h hs all) k)
-      ∙ sym (add-mul (one_if (eqb h.number x.pusher)) (total (λ (g : Hand). one_if (eqb g.number x.pusher)) hs) (times_put x))
+  put_total x (h ∷ hs) all = let Hands : Hand → Type 0 = IsHand at.kept.gone items in let is = All-head Hands h hs all in
+      let few = times_few x h.number 1 h.put (hand_is h is).numbered in let rest = put_total x hs (All-tail Hands h hs all) in
+      let split = add-mul (one_if (eqb h.number x.pusher)) (total (λ (g : Hand). one_if (eqb g.number x.pusher)) hs) (times_put x) in
+      grind (arith, nat_tests, is.put, few, rest, split)
 
   -- what the last pass knows of all hints
   pub accounts : IsLast v → IsAccounted v items
   accounts last =
       let sound = at.kept.each at.seat v at.here in
       let has_all : (f : Hand → ℕ) → total (weigh f) at.views ≡ weigh f v =
-      λ f. total-only count (weigh f) at.views at.seat v at.here
+      λ f. total-only (weigh (λ h. 1)) (weigh f) at.views at.seat v at.here
       (omega (arith, own_weighs v last.leads (λ h. 1), count_length v.ended, at.kept.counted.in_all, sound.counts last.leads, last.all_met))
       (λ j w e none_there. ap (total f) (nil_from_length (hands w) (omega (arith, count_length (hands w))))) in
-      let numbered = (λ (x : Hint). sym (has_all (λ h. one_if (eqb h.number x.pusher))) ∙ at.kept.counted.once x.pusher) in
-      let put_times : (x : Hint) → weigh (λ h. times x h.put) v ≡ times_put x =
-      λ x. put_total x (hands v) sound.hands_are ∙ (ap (λ (k : ℕ). k * times_put x) (numbered x)
-      ∙ bool_cases (nat_lt x.pusher at.kept.drawn) (λ b. one_if b * times_put x ≡ times_put x) (λ _. omega arith)
-      (λ e. omega (arith, ap (times x) (at.kept.unused x.pusher (ltb-false x.pusher at.kept.drawn e))))) in
+      let put_times : (x : Hint) → weigh (λ h. times x h.put) v ≡ times_put x = λ x. let counts = at.kept.counted.once x.pusher in
+      let numbered = has_all (λ h. one_if (eqb h.number x.pusher)) in let unused = at.kept.unused x.pusher in
+      grind (arith, nat_tests, put_total x (hands v) sound.hands_are, numbered, counts, unused) in
       record { known = knows; all = λ x. omega (arith, has_all (λ h. times x h.took), at.kept.taken x, sent_times x, put_times x) }

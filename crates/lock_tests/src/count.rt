@@ -1,19 +1,20 @@
-//! A piece of work for soft reads: it looks once and so many times more, and then counts the notes.
-ghost use Rattle.std.specs.Prelude.{◌≡◌, length};
+//! A piece of work: it looks once and so many times more, and then counts the notes.
+ghost use Rattle.std.specs.Prelude.{◌≡◌, ◌≤◌, length, IsTrue, IsFalse};
+ghost use Rattle.action_lock.specs.Counts.{counted, HasRisen};
 
 use crate::board::{Board, Note};
-use crate::looking::sees_within;
-use crate::side_by_side::Room;
-use action_lock::Watch;
+use action_lock::{Gate, Point, Watch};
 use nonblocking_read::{Stopped, Work};
 use std::alloc::Global;
 use std::sync::Arc;
+use std::sync::atomic::{AtomicU64, Ordering};
+use std::thread;
 
 /// Counts the notes of a board, and looks so many times more for a pending write.
 #[derive(Drop)]
 pub struct Count<'a> {
-    /// Is entered when the work begins.
-    pub room: &'a Room,
+    /// Beats behind the first look.
+    pub clock: &'a AtomicU64,
     pub more_looks: u64,
 }
 
@@ -28,10 +29,40 @@ impl<'a> Work<Board> for Count<'a> {
         share: &Arc<Vec<Note>>,
         watch: &mut W,
     ) -> Result<usize, Stopped> {
-        self.room.enter();
-        if sees_within(watch, self.more_looks) {
+        if sees_within(watch, self.clock, self.more_looks) {
             return Err(Stopped::Seen);
         }
         Ok(share.len())
+    }
+}
+
+/// Looks once, and then until the watch sees that the work is to end, so many times more at most. Whether it saw it.
+fn sees_within<W: Watch>(watch: &mut W, clock: &AtomicU64, more: u64) -> bool
+    requires { W.can_look watch.old }
+    ensures again { W.can_look watch.new }
+    ensures stays { W.stays watch.old watch.new }
+    ensures looked { counted (W.looks watch.old) ≤ W.looks watch.new }
+    ensures seen { IsTrue result → HasRisen (W.sightings watch.old) (W.sightings watch.new) }
+    ensures unseen { IsFalse result → W.sightings watch.new ≡ W.sightings watch.old }
+{
+    if watch.look() {
+        return true;
+    }
+    clock.fetch_add(1, Ordering::SeqCst);
+    for _ in 0..more {
+        thread::yield_now();
+        if watch.look() {
+            return true;
+        }
+    }
+    false
+}
+
+/// A gate that lets each thread go on wherever it is.
+pub struct NoGate {}
+
+impl Gate for NoGate {
+    fn at(&self, _point: Point) -> bool {
+        false
     }
 }

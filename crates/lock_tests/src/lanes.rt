@@ -1,53 +1,65 @@
 //! Passes inside the lanes of a run, one thread each.
-ghost use Rattle.std.specs.Prelude.{◌≡◌, ℕ, ◌<◌, All, length, slice_index_or};
-ghost use Rattle.action_lock.specs.Passes.{IsPassOf};
-ghost use Rattle.lock_tests.specs.Lanes.{HasRun};
+ghost use Rattle.std.specs.Prelude.{◌≡◌, ℕ, ◌<◌, All, slice_index_or};
+ghost use Rattle.action_lock.specs.Passes.{IsPassOf, view_of};
 
-use crate::append::Append;
+use crate::acts::{Act, Told, perform};
 use crate::board::Board;
-use crate::writes::change_once;
 use action_lock::{ActionLock, Pass};
 use std::alloc::Global;
 use std::sync::Wait;
+use std::sync::atomic::AtomicU64;
 use std::thread::{Threads, for_each_mut};
 
-/// A pass, and whether what it was to write was written.
+/// A pass, and whether its acts were told what they were to be.
 pub struct Lane {
     pub pass: Pass<Board>,
-    pub written: bool,
+    pub right: bool,
 }
 
-/// Writes a note.
-pub fn run<R: Wait>(rt: &R, alloc: Global, lock: &ActionLock<Board>, lane: &mut Lane, text: u64)
-    requires { IsPassOf lock.now lane.old.pass }
-    ensures { HasRun lock.now lane.old.pass lane.new.pass lane.new.written }
-{
-    lane.written = change_once(rt, lock, &mut lane.pass, &Append { alloc, text });
-}
-
-/// Each lane writes a note, as many at once as there are lanes.
-pub fn run_all<R: Threads + Wait + Sync>(
+/// Does acts one after another, up to the first that is told something else than it is to be. Whether there was none.
+fn play<R: Wait>(
     rt: &R,
     alloc: Global,
     lock: &ActionLock<Board>,
-    lanes: &mut [Lane],
+    pass: &mut Pass<Board>,
+    clock: &AtomicU64,
+    acts: &[(Act, Told)],
+) -> bool
+    requires { IsPassOf lock.now pass.old }
+    ensures { IsPassOf lock.now pass.new × ((view_of pass.new).number ≡ (view_of pass.old).number) }
+{
+    for k in 0..acts.len() {
+        let (what, wanted) = acts[k];
+        if perform(rt, alloc, lock, pass, clock, what) != wanted {
+            return false;
+        }
+    }
+    true
+}
+
+/// Plays all lanes at once, each with its acts.
+pub fn play_all<R: Threads + Wait + Sync>(
+    rt: &R,
+    alloc: Global,
+    lock: &ActionLock<Board>,
+    acts: &[&[(Act, Told)]; 4],
+    lanes: &mut [Lane; 4],
 )
     requires lanes { All (λ lane. IsPassOf lock.now lane.pass) lanes.old }
-    requires some { 0 < length lanes.old }
-    ensures same { length lanes.new ≡ length lanes.old }
-    ensures run { (k : ℕ) (d : Lane) → k < length lanes.old
-        → HasRun lock.now (slice_index_or lanes.old k d).pass (slice_index_or lanes.new k d).pass
-        (slice_index_or lanes.new k d).written }
+    ensures run { (k : ℕ) (d : Lane) → k < 4
+        → IsPassOf lock.now (slice_index_or lanes.new k d).pass
+        × ((view_of (slice_index_or lanes.new k d).pass).number
+        ≡ (view_of (slice_index_or lanes.old k d).pass).number) }
 {
-    let threads = lanes.len();
+    let clock = AtomicU64::new(0);
     for_each_mut(
         rt,
         lanes,
-        threads,
+        4,
         &|index: usize, lane: &mut Lane| -> ()
             requires { IsPassOf lock.now lane.now.pass }
-            ensures { HasRun lock.entry.now lane.entry.now.pass lane.exit.now.pass
-                lane.exit.now.written }
-        { run(rt, alloc, lock, lane, index as u64) },
+            ensures { IsPassOf lock.entry.now lane.exit.now.pass
+                × ((view_of lane.exit.now.pass).number ≡ (view_of lane.entry.now.pass).number) }
+        { lane.right = play(rt, alloc, lock, &mut lane.pass, &clock, acts[index % 4]) },
     );
 }

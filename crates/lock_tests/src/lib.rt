@@ -2,38 +2,22 @@
 #![tactic(auto)]
 
 #[cfg(test)]
-mod append;
-#[cfg(test)]
-mod begun;
+mod acts;
 #[cfg(test)]
 mod board;
 #[cfg(test)]
+mod clock;
+#[cfg(test)]
 mod count;
-#[cfg(test)]
-mod drawing;
-#[cfg(test)]
-mod lacking;
 #[cfg(test)]
 mod lanes;
 #[cfg(test)]
-mod looking;
-#[cfg(test)]
-mod nothing;
-#[cfg(test)]
 mod reads;
-#[cfg(test)]
-mod refusals;
-#[cfg(test)]
-mod scarce;
 #[cfg(test)]
 mod scenes;
 #[cfg(test)]
-mod sharing;
-#[cfg(test)]
-mod side_by_side;
+mod stage;
 #[cfg(test)]
 mod tests;
-#[cfg(test)]
-mod waiting;
 #[cfg(test)]
 mod writes;

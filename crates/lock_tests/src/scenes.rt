@@ -1,231 +1,261 @@
-//! Scenes on a lock: whether all goes as it is to.
-ghost use Rattle.std.specs.Prelude.{◌≡◌, ◌<◌, Some, IsTrue, IsFalse};
-ghost use Rattle.action_lock.specs.Passes.{IsPassOf, Writes, HasAdded, HandStands, view_of};
+//! The scenes.
+use crate::acts::{Act, Told};
+use crate::board::Note;
+use crate::clock::TURNS;
+use crate::stage::Scene;
 
-use crate::append::Append;
-use crate::board::Board;
-use crate::count::Count;
-use crate::drawing::draw;
-use crate::nothing::NoGate;
-use crate::reads::{finds_nothing, is_let_in, sees_a_write};
-use crate::refusals::{is_held_up, pending_word};
-use crate::side_by_side::Room;
-use crate::waiting::{ask_twice, read_and_write, soft_and_write};
-use crate::writes::{begin, change_once, change_twice};
-use action_lock::{ActionLock, Pass, SplitRefusal};
-use nonblocking_read::{SoftRefusal, soft};
-use std::alloc::Global;
-use std::sync::Wait;
-use std::thread::Threads;
-
-/// Is let in, and sees no write.
-fn looks_once(alloc: Global, lock: &ActionLock<Board>, pass: &mut Pass<Board>) -> bool
-    requires { IsPassOf lock.now pass.old }
-    ensures { IsPassOf lock.now pass.new × ((view_of pass.new).number ≡ (view_of pass.old).number) }
-{
-    match pass.try_read(alloc, lock) {
-        Ok(mut reading) => {
-            let found = reading.check();
-            reading.leave();
-            !found
-        }
-        Err(_) => false,
-    }
-}
-
-/// The second is let in while the first is, and nobody has written.
-fn are_in_at_once(
-    alloc: Global,
-    lock: &ActionLock<Board>,
-    first: &mut Pass<Board>,
-    second: &mut Pass<Board>,
-) -> bool
-    requires first { IsPassOf lock.now first.old }
-    requires second { IsPassOf lock.now second.old }
-    ensures first { IsPassOf lock.now first.new
-        × ((view_of first.new).number ≡ (view_of first.old).number) }
-    ensures second { IsPassOf lock.now second.new
-        × ((view_of second.new).number ≡ (view_of second.old).number) }
-{
-    match first.try_read(alloc, lock) {
-        Ok(one) => {
-            let beside = looks_once(alloc, lock, second);
-            let empty = one.share().is_empty();
-            one.leave();
-            beside && empty
-        }
-        Err(_) => false,
-    }
-}
-
-/// Two passes read at once. The second has its number, has seen no mark, and is still to be met.
-pub fn read_at_once(
-    alloc: Global,
-    lock: &ActionLock<Board>,
-    first: &mut Pass<Board>,
-    second: &mut Pass<Board>,
-) -> bool
-    requires first { IsPassOf lock.now first.old }
-    requires second { IsPassOf lock.now second.old }
-    ensures first { IsPassOf lock.now first.new
-        × ((view_of first.new).number ≡ (view_of first.old).number) }
-    ensures second { IsPassOf lock.now second.new
-        × ((view_of second.new).number ≡ (view_of second.old).number) }
-{
-    let read = are_in_at_once(alloc, lock, first, second);
-    let last = lock.is_last(first);
-    read && second.number() == 1 && second.sights() == 0 && !last
-}
-
-/// A lock has 65,536 numbers, and then no more.
-pub fn numbers_run_out(lock: &ActionLock<Board>, first: &mut Pass<Board>) -> bool
-    requires pass { IsPassOf lock.now first.old }
-    requires leads { ((view_of first.old).number ≡ Some 0) × (0 < (view_of first.old).drawn) }
-    ensures { IsPassOf lock.now first.new }
-{
-    let drawn = draw(lock, first, 65535);
-    let full = draw(lock, first, 1);
-    drawn.is_none() && full == Some(SplitRefusal::Full { drawn: 65536 })
-}
-
-/// A read that waits, one that is taken apart, and one over any home value.
-pub fn reads_alone<R: Wait>(
-    rt: &R,
-    alloc: Global,
-    lock: &ActionLock<Board>,
-    pass: &mut Pass<Board>,
-) -> bool
-    requires { IsPassOf lock.now pass.old }
-    ensures { IsPassOf lock.now pass.new }
-{
-    let empty = finds_nothing(rt, alloc, lock, pass);
-    let written = sees_a_write(alloc, lock, pass);
-    let let_in = is_let_in(alloc, lock, pass);
-    empty && !written && let_in
-}
-
-/// Counts the notes in a soft read that looks once.
-fn count_softly<R: Wait>(
-    rt: &R,
-    alloc: Global,
-    lock: &ActionLock<Board>,
-    pass: &mut Pass<Board>,
-    attempts: u32,
-) -> Result<usize, SoftRefusal>
-    requires pass { IsPassOf lock.now pass.old }
-    requires some { 0 < attempts }
-    ensures { IsPassOf lock.now pass.new × ((view_of pass.new).number ≡ (view_of pass.old).number) }
-{
-    let room = Room::new(0);
-    let mut work = Count {
-        room: &room,
-        more_looks: 0,
-    };
-    soft(rt, alloc, lock, pass, attempts, &mut work, &NoGate {})
-}
-
-/// While another writes: no read is let in, a soft read is cancelled at its second attempt, and the intent isn't to be had.
-fn is_stopped<R: Wait>(
-    rt: &R,
-    alloc: Global,
-    lock: &ActionLock<Board>,
-    pass: &mut Pass<Board>,
-) -> bool
-    requires { IsPassOf lock.now pass.old }
-    ensures { IsPassOf lock.now pass.new × ((view_of pass.new).number ≡ (view_of pass.old).number) }
-{
-    let word = pending_word(alloc, lock, pass);
-    let at_once = pass.sights();
-    let refused = count_softly(rt, alloc, lock, pass, 2);
-    let at_last = pass.sights();
-    let held = is_held_up(lock, pass);
-    word == 7
-        && at_once == 1
-        && refused == Err(SoftRefusal::Cancelled { attempts: 2 })
-        && at_last == 3
-        && held
-}
-
-/// Ends a write that was begun, and gives the intent back.
-fn end_write(lock: &ActionLock<Board>, pass: &mut Pass<Board>, made: bool)
-    requires writes { Writes lock.now pass.old }
-    requires made { IsTrue made → HasAdded pass.old }
-    requires none { IsFalse made → HandStands pass.old (view_of pass.old).seen }
-    ensures { IsPassOf lock.now pass.new }
-{
-    if made {
-        pass.finish(lock);
-        pass.release(lock);
-    } else {
-        pass.abandon(lock);
-        pass.release(lock);
-    }
-}
-
-/// A write stops readers until it ends.
-pub fn write_stops_readers<R: Wait>(
-    rt: &R,
-    alloc: Global,
-    lock: &ActionLock<Board>,
-    first: &mut Pass<Board>,
-    second: &mut Pass<Board>,
-) -> bool
-    requires first { IsPassOf lock.now first.old }
-    requires second { IsPassOf lock.now second.old }
-    ensures first { IsPassOf lock.now first.new
-        × ((view_of first.new).number ≡ (view_of first.old).number) }
-    ensures second { IsPassOf lock.now second.new }
-{
-    let Ok(()) = second.try_intent(lock) else {
-        return false;
-    };
-    let begun = begin(rt, lock, second, &Append { alloc, text: 1 });
-    let stopped = is_stopped(rt, alloc, lock, first);
-    end_write(lock, second, begun);
-    let counted = count_softly(rt, alloc, lock, first, 2);
-    begun && stopped && counted == Ok(1) && first.sights() == 3
-}
-
-/// Writes follow one another: one, two under one intent, and one that is given up.
-pub fn writes_follow<R: Wait>(
-    rt: &R,
-    alloc: Global,
-    lock: &ActionLock<Board>,
-    pass: &mut Pass<Board>,
-) -> bool
-    requires { IsPassOf lock.now pass.old }
-    ensures { IsPassOf lock.now pass.new }
-{
-    let one = change_once(rt, lock, pass, &Append { alloc, text: 1 });
-    let two = change_twice(rt, lock, pass, &Append { alloc, text: 2 });
-    pass.intent(rt, lock);
-    pass.write(rt, lock);
-    pass.abandon(lock);
-    pass.release(lock);
-    let let_in = is_let_in(alloc, lock, pass);
-    one && two && let_in
-}
-
-/// A reader and then a soft reader see that a writer waits for them, and of two that ask for the intent one is told of the other.
-pub fn threads_wait<R: Threads + Wait + Sync>(
-    rt: &R,
-    alloc: Global,
-    lock: &ActionLock<Board>,
-    first: &mut Pass<Board>,
-    second: &mut Pass<Board>,
-) -> bool
-    requires first { IsPassOf lock.now first.old }
-    requires second { IsPassOf lock.now second.old }
-    ensures first { IsPassOf lock.now first.new
-        × ((view_of first.new).number ≡ (view_of first.old).number) }
-    ensures second { IsPassOf lock.now second.new
-        × ((view_of second.new).number ≡ (view_of second.old).number) }
-{
-    let read = read_and_write(rt, alloc, lock, first, second, &Room::new(1));
-    let by_read = first.sights();
-    let stopped = soft_and_write(rt, alloc, lock, first, second, &Room::new(1));
-    let by_soft_read = first.sights();
-    let counted = count_softly(rt, alloc, lock, first, 1);
-    let refused = ask_twice(rt, lock, first, second, &Room::new(1), &Room::new(1));
-    read && by_read == 1 && stopped && by_soft_read == 2 && counted == Ok(2) && refused
-}
+/// In a scene the clock beats in one order alone, which the numbers tell.
+pub static SCENES: [Scene; 11] = [
+    // Two passes read at once. The second has its number, and has seen no mark.
+    Scene {
+        refused: (0, 0),
+        skipped: (0, 0, 0),
+        full: false,
+        lanes: [
+            &[(Act::Read(0, 2), Told::Found(0))],
+            &[
+                (Act::Await(1), Told::Is(true)),
+                (Act::Read(0, 0), Told::Found(0)),
+                (Act::Number, Told::Count(1)),
+                (Act::Sights, Told::Count(0)),
+            ],
+            &[],
+            &[],
+        ],
+        notes: &[&[]],
+    },
+    // A lock has 65,536 numbers, and then no more.
+    Scene {
+        refused: (0, 0),
+        skipped: (0, 0, 65_532),
+        full: true,
+        lanes: [&[], &[], &[], &[(Act::Number, Told::Count(65_535))]],
+        notes: &[&[]],
+    },
+    // Three passes in three threads read side by side: each stays in until all are in.
+    Scene {
+        refused: (0, 0),
+        skipped: (0, 0, 0),
+        full: false,
+        lanes: [
+            &[(Act::Read(0, 3), Told::Found(0))],
+            &[(Act::Read(0, 3), Told::Found(0))],
+            &[(Act::Read(0, 3), Told::Found(0))],
+            &[],
+        ],
+        notes: &[&[]],
+    },
+    // A read that waits, and one whose work is lent the share and the watch at the same time.
+    Scene {
+        refused: (0, 0),
+        skipped: (0, 0, 0),
+        full: false,
+        lanes: [
+            &[
+                (Act::ReadWaiting, Told::Found(0)),
+                (Act::Read(0, 0), Told::Found(0)),
+            ],
+            &[],
+            &[],
+            &[],
+        ],
+        notes: &[&[]],
+    },
+    // While another writes, no read is let in, a soft read is cancelled at its second attempt, and the intent isn't to be had.
+    // Once the write has ended, a soft read answers.
+    Scene {
+        refused: (0, 0),
+        skipped: (0, 0, 0),
+        full: false,
+        lanes: [
+            &[
+                (Act::Await(2), Told::Is(true)),
+                (Act::Read(0, 0), Told::Pending(7)),
+                (Act::Sights, Told::Count(1)),
+                (Act::ReadSoftly(2, 0), Told::Cancelled(2)),
+                (Act::Sights, Told::Count(3)),
+                (Act::TryChange(0, None, 0), Told::Held),
+                (Act::Beat, Told::Count(2)),
+                (Act::Await(4), Told::Is(true)),
+                (Act::ReadSoftly(2, 0), Told::Found(1)),
+                (Act::Sights, Told::Count(3)),
+            ],
+            &[
+                (Act::TryChange(0, Some(1), 3), Told::Is(true)),
+                (Act::Number, Told::Count(1)),
+                (Act::Beat, Told::Count(3)),
+            ],
+            &[],
+            &[],
+        ],
+        notes: &[&[Note { number: 1, text: 1 }]],
+    },
+    // Writes follow one another: one, two under one intent, and one that is given up.
+    Scene {
+        refused: (0, 0),
+        skipped: (0, 0, 0),
+        full: false,
+        lanes: [
+            &[
+                (Act::Change(Some(1), 0), Told::Is(true)),
+                (Act::ChangeTwice(2), Told::Is(true)),
+                (Act::Change(None, 0), Told::Is(false)),
+                (Act::Read(0, 0), Told::Found(3)),
+            ],
+            &[],
+            &[],
+            &[],
+        ],
+        notes: &[&[
+            Note { number: 0, text: 1 },
+            Note { number: 0, text: 2 },
+            Note { number: 0, text: 2 },
+        ]],
+    },
+    // A reader and then a soft reader see that a writer waits for them, and of two that ask for the intent one is told of the other.
+    Scene {
+        refused: (0, 0),
+        skipped: (0, 0, 0),
+        full: false,
+        lanes: [
+            &[
+                (Act::Read(TURNS, 0), Told::Seen),
+                (Act::Sights, Told::Count(1)),
+                (Act::Await(3), Told::Is(true)),
+                (Act::ReadSoftly(1, TURNS), Told::Cancelled(1)),
+                (Act::Sights, Told::Count(2)),
+                (Act::Await(6), Told::Is(true)),
+                (Act::ReadSoftly(1, 0), Told::Found(2)),
+                (Act::TryChange(9, None, 0), Told::Is(false)),
+                (Act::Beat, Told::Count(10)),
+            ],
+            &[
+                (Act::Await(1), Told::Is(true)),
+                (Act::Change(Some(1), 0), Told::Is(true)),
+                (Act::Beat, Told::Count(2)),
+                (Act::Await(4), Told::Is(true)),
+                (Act::Change(Some(1), 0), Told::Is(true)),
+                (Act::Beat, Told::Count(5)),
+                (Act::Await(8), Told::Is(true)),
+                (Act::TryChange(0, None, 0), Told::Held),
+                (Act::Beat, Told::Count(8)),
+            ],
+            &[],
+            &[],
+        ],
+        notes: &[&[Note { number: 1, text: 1 }, Note { number: 1, text: 1 }]],
+    },
+    // Two passes write in threads of their own.
+    Scene {
+        refused: (0, 0),
+        skipped: (0, 0, 0),
+        full: false,
+        lanes: [
+            &[],
+            &[
+                (Act::Change(Some(0), 0), Told::Is(true)),
+                (Act::Number, Told::Count(1)),
+            ],
+            &[
+                (Act::Change(Some(1), 0), Told::Is(true)),
+                (Act::Number, Told::Count(2)),
+            ],
+            &[],
+        ],
+        notes: &[
+            &[Note { number: 1, text: 0 }, Note { number: 2, text: 1 }],
+            &[Note { number: 2, text: 1 }, Note { number: 1, text: 0 }],
+        ],
+    },
+    // Numbers 32 apart share a place: 1 and 33 read, 0 wants to write, and 65 finds the word of their place.
+    Scene {
+        refused: (0, 0),
+        skipped: (0, 31, 31),
+        full: false,
+        lanes: [
+            &[
+                (Act::Await(2), Told::Is(true)),
+                (Act::Change(None, 7), Told::Is(false)),
+                (Act::Beat, Told::Count(7)),
+            ],
+            &[
+                (Act::Number, Told::Count(1)),
+                (Act::Read(0, 5), Told::Found(0)),
+            ],
+            &[
+                (Act::Number, Told::Count(33)),
+                (Act::Await(1), Told::Is(true)),
+                (Act::Read(0, 3), Told::Found(0)),
+                (Act::Beat, Told::Count(3)),
+            ],
+            &[
+                (Act::Number, Told::Count(65)),
+                (Act::Await(2), Told::Is(true)),
+                // Both readers and the mark; and the write has not begun, or the clock had beaten once more.
+                (Act::ReadUntilRefused, Told::Pending(20)),
+                (Act::Beat, Told::Count(2)),
+                (Act::Await(4), Told::Is(true)),
+                // One has left, and the write has not begun.
+                (Act::Read(0, 0), Told::Pending(12)),
+                (Act::Beat, Told::Count(4)),
+                (Act::Await(6), Told::Is(true)),
+                // The write goes on.
+                (Act::Read(0, 0), Told::Pending(7)),
+                (Act::Beat, Told::Count(6)),
+            ],
+        ],
+        notes: &[&[]],
+    },
+    // After a write that found no memory for any share no pass reads, and after the next one each does.
+    Scene {
+        refused: (32, 32),
+        skipped: (0, 0, 0),
+        full: false,
+        lanes: [
+            &[
+                (Act::Read(0, 0), Told::Found(0)),
+                (Act::Change(Some(1), 0), Told::Is(true)),
+                (Act::Read(0, 0), Told::Lacks),
+                (Act::Beat, Told::Count(2)),
+                (Act::Await(4), Told::Is(true)),
+                (Act::Change(Some(1), 0), Told::Is(true)),
+                (Act::Beat, Told::Count(5)),
+            ],
+            &[
+                (Act::Await(3), Told::Is(true)),
+                (Act::Read(0, 0), Told::Lacks),
+                (Act::ReadWaiting, Told::Lacks),
+                (Act::Beat, Told::Count(3)),
+                (Act::Await(6), Told::Is(true)),
+                (Act::Read(0, 0), Told::Found(2)),
+            ],
+            &[],
+            &[],
+        ],
+        notes: &[&[Note { number: 0, text: 1 }, Note { number: 0, text: 1 }]],
+    },
+    // After a write that found no memory for the share of one place, the passes of that place alone don't read.
+    Scene {
+        refused: (63, 1),
+        skipped: (0, 0, 0),
+        full: false,
+        lanes: [
+            &[
+                (Act::Change(Some(1), 0), Told::Is(true)),
+                (Act::Read(0, 0), Told::Lacks),
+                (Act::Beat, Told::Count(1)),
+                (Act::Await(4), Told::Is(true)),
+                (Act::Change(Some(1), 0), Told::Is(true)),
+                (Act::Read(0, 0), Told::Found(2)),
+            ],
+            &[
+                (Act::Await(2), Told::Is(true)),
+                (Act::Read(0, 0), Told::Found(1)),
+                (Act::Beat, Told::Count(3)),
+            ],
+            &[],
+            &[],
+        ],
+        notes: &[&[Note { number: 0, text: 1 }, Note { number: 0, text: 1 }]],
+    },
+];

@@ -1,11 +1,15 @@
 //! Callers of the intent and of writes, at any home value.
 ghost use Rattle.std.specs.Prelude.{◌≡◌, ◌∷◌, ◌++◌, [], List, Some, true, OnOk, OnErr, IsTrue, IsFalse};
-ghost use Rattle.action_lock.specs.Passes.{IsPassOf, Intends, Writes, HasAdded, HandStands, view_of};
+ghost use Rattle.action_lock.specs.Passes.{IsPassOf, Intends, view_of};
 ghost use Rattle.lock_tests.specs.Writes.{HasMade, HasMadeAtOnce, HasMadeTwo};
 
+use crate::acts::Told;
+use crate::board::{Append, Board};
+use crate::clock::strikes;
 use action_lock::{ActionLock, Home, Pass};
 use std::alloc::{AllocError, Global};
 use std::sync::Wait;
+use std::sync::atomic::Ordering;
 
 /// A change of a home value that adds one entry.
 pub trait Adds<H: Home> {
@@ -34,36 +38,9 @@ pub fn change_once<R: Wait, H: Home, C: Adds<H>>(
 {
     let number = pass.number();
     pass.intent(rt, lock);
-    pass.write(rt, lock);
-    let made = match what.make(pass.home_mut(lock), number) {
-        Ok(()) => {
-            pass.finish(lock);
-            true
-        }
-        Err(_) => {
-            pass.abandon(lock);
-            false
-        }
-    };
+    let made = add(rt, lock, pass, what, number);
     pass.release(lock);
     made
-}
-
-/// Begins a write and makes the change. Where it was made, the write is to be finished, and else abandoned.
-pub fn begin<R: Wait, H: Home, C: Adds<H>>(
-    rt: &R,
-    lock: &ActionLock<H>,
-    pass: &mut Pass<H>,
-    what: &C,
-) -> bool
-    requires { Intends lock.now pass.old }
-    ensures writes { Writes lock.now pass.new }
-    ensures made { IsTrue result → HasAdded pass.new }
-    ensures none { IsFalse result → HandStands pass.new (view_of pass.new).seen }
-{
-    let number = pass.number();
-    pass.write(rt, lock);
-    what.make(pass.home_mut(lock), number).is_ok()
 }
 
 /// Reads what is there, plans a change by it, and makes it under the same intent, so that the plan's fact still holds at the write.
@@ -123,6 +100,7 @@ pub fn change_twice<R: Wait, H: Home, C: Adds<H>>(
 ) -> bool
     requires { IsPassOf lock.now pass.old }
     ensures pass { IsPassOf lock.now pass.new }
+    ensures number { (view_of pass.new).number ≡ (view_of pass.old).number }
     ensures made { IsTrue result → HasMadeTwo (view_of pass.old) (view_of pass.new) }
 {
     let number = pass.number();
@@ -147,6 +125,7 @@ fn add<R: Wait, H: Home, C: Adds<H>>(
     ensures own { (view_of pass.new).number ≡ Some number }
     ensures current { (view_of pass.new).current ≡ true }
     ensures made { IsTrue result → HasMade (view_of pass.old) (view_of pass.new) }
+    ensures none { IsFalse result → (view_of pass.new).mine ≡ (view_of pass.old).mine }
     ensures at_once { IsTrue result → (view_of pass.old).current ≡ true
         → HasMadeAtOnce (view_of pass.old) (view_of pass.new) }
 {
@@ -161,4 +140,26 @@ fn add<R: Wait, H: Home, C: Adds<H>>(
             false
         }
     }
+}
+
+/// One change of a board, if no other pass has the intent. The clock beats under the intent, which waits for so many beats.
+pub fn try_change<R: Wait>(
+    rt: &R,
+    lock: &ActionLock<Board>,
+    pass: &mut Pass<Board>,
+    what: &Append,
+    held_until: u64,
+) -> Told
+    requires { IsPassOf lock.now pass.old }
+    ensures { IsPassOf lock.now pass.new × ((view_of pass.new).number ≡ (view_of pass.old).number) }
+{
+    let number = pass.number();
+    if pass.try_intent(lock).is_err() {
+        return Told::Held;
+    }
+    what.clock.fetch_add(1, Ordering::SeqCst);
+    let in_time = strikes(what.clock, held_until);
+    let made = add(rt, lock, pass, what, number);
+    pass.release(lock);
+    Told::Is(made && in_time)
 }

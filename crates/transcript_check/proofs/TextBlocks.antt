@@ -28,7 +28,7 @@ use Rattle.java_tokens.specs.Words.{is_identifier_token}
 use Rattle.java_tokens.specs.Places.{places_of}
 use Rattle.decl_parser.specs.Listing.{listing_of, IsIdentifierOf, IsNamedIn}
 use Rattle.write_history.specs.Changes.{NamesPaths}
-use Rattle.history_laws.proofs.NamedLemmas.{named_lawful, live_lawful}
+use Rattle.history_laws.proofs.SoundLemmas.{named_lawful, live_lawful}
 use Rattle.query_engine.specs.declared.answer.Finding.TheVariants.{Rows}
 use Rattle.query_engine.specs.Fits.{is_class, has_super, is_method}
 use Rattle.query_engine.specs.Inheritors.{ListedType, names_any, levels_from}

@@ -1,4 +1,4 @@
-use Rattle.action_lock.proofs.Common.{All, HasNoHome}
+use Rattle.action_lock.proofs.RuleLemmas.{All, HasNoHome}
 use Rattle.action_lock.proofs.lock.discard.Given as goal
 
 abbrev pub invariant-loop-slot : goal.invariant-loop-slot

@@ -1,5 +1,5 @@
 use Rattle.decl_parser.proofs.Words.{arith, common_steps}
-use Rattle.decl_parser.proofs.Parts.{plain_past-annotation}
+use Rattle.decl_parser.proofs.Stages.{plain_past-annotation}
 use Rattle.decl_parser.proofs.annotation.first_plain_identifier.Goals as goal
 
 -- an annotation was passed over

@@ -1,5 +1,5 @@
 use Rattle.decl_parser.proofs.Words.{arith, common_steps}
-use Rattle.decl_parser.proofs.Parts.{without_annotations-none}
+use Rattle.decl_parser.proofs.Stages.{without_annotations-none}
 use Rattle.decl_parser.proofs.annotation.without_annotations.Goals as goal
 
 -- no node is a `@`

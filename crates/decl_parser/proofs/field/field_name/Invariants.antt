@@ -1,5 +1,4 @@
-use Rattle.decl_parser.proofs.Words.{◌≡◌, drop, Other, field_after}
-use Rattle.std.proofs.Common.{None}
+use Rattle.decl_parser.proofs.Words.{◌≡◌, None, drop, Other, field_after}
 use Rattle.decl_parser.proofs.field.field_name.Given as goal
 
 -- the nodes that are left decide

@@ -4,8 +4,7 @@ use Rattle.decl_parser.proofs.forest.forest.Given as goal
 -- what the tokens that are left make of the nodes so far is the whole, and there is room for a node of each
 abbrev pub invariant-loop-token : goal.invariant-loop-token
 invariant-loop-token l = record {
-  whole :
-      fold (step l.text) (record { nodes = l.nodes.items; unclosed = l.unclosed }) (drop l.token-index l.tokens) ≡ scan_of l.text l.tokens;
+  whole : fold (step l.text) (record { nodes = l.nodes.items; unclosed = l.unclosed }) (drop l.token-index l.tokens) ≡ scan_of l.text l.tokens;
   room : vec_len l.nodes + length (drop l.token-index l.tokens) ≤ vec_capacity l.nodes;
   few : vec_len l.nodes + length (drop l.token-index l.tokens) ≤ max_chars;
 }

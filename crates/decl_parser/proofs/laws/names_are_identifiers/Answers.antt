@@ -1,7 +1,5 @@
-use Rattle.decl_parser.proofs.Words.{IsNamedIn}
-use Rattle.decl_parser.proofs.Levels.{listing-all, stub-named}
+use Rattle.decl_parser.proofs.Stages.{listing-sound}
 use Rattle.decl_parser.proofs.laws.names_are_identifiers.Goals as goal
 
 pub returns : goal.returns
-returns c text =
-    listing-all (IsNamedIn text) (stub-named text) (c.tokens_cover_their_text.ensures.follow text) (c.tokens_cover_their_text.ensures.inside text)
+returns c text k d l = ((listing-sound text (c.tokens_cover_their_text.ensures.follow text) (c.tokens_cover_their_text.ensures.inside text)).0 k d l).0

@@ -1,8 +1,5 @@
-use Rattle.decl_parser.proofs.Words.{All, IsIdentifierOf}
-use Rattle.decl_parser.proofs.Levels.{listing-all, stub-supers}
+use Rattle.decl_parser.proofs.Stages.{listing-sound}
 use Rattle.decl_parser.proofs.laws.supers_are_identifiers.Goals as goal
 
 pub returns : goal.returns
-returns c text =
-    let cut = c.tokens_cover_their_text.ensures in
-    listing-all (λ s. All (IsIdentifierOf text) s.supers) (stub-supers text) (cut.follow text) (cut.inside text)
+returns c text k d l = ((listing-sound text (c.tokens_cover_their_text.ensures.follow text) (c.tokens_cover_their_text.ensures.inside text)).0 k d l).1

@@ -1,6 +1,6 @@
 use Rattle.decl_parser.proofs.Words.{arith, common_steps, refl, take_min, drop_min}
 use Rattle.decl_parser.specs.Unit.{units_past}
-use Rattle.decl_parser.proofs.Parts.{past-skip}
+use Rattle.decl_parser.proofs.Stages.{past-skip}
 use Rattle.decl_parser.proofs.unit.first_unit.Goals as goal
 
 -- the nodes of the unit were split off

@@ -1,6 +1,6 @@
 use Rattle.decl_parser.proofs.Words.{◌≡◌, ◌+◌, [], ◌∙◌, refl, arith, drop-part}
 use Rattle.decl_parser.specs.Role.{is_marked}
-use Rattle.decl_parser.proofs.RoleLemmas.{word_role-plain, role_among-word_role}
+use Rattle.decl_parser.proofs.Words.{word_role-plain, role_among-word_role}
 use Rattle.decl_parser.proofs.word.word_role.Goals as goal
 
 -- no character is no word of the rules

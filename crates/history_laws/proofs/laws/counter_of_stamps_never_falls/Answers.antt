@@ -1,6 +1,4 @@
-use Rattle.history_laws.proofs.Words.{arith, empty_world}
-use Rattle.history_laws.proofs.ChangeLemmas.{draws}
-use Rattle.history_laws.proofs.StampLemmas.{counters-effects_of, counters-fold_from, later-fold}
+use Rattle.history_laws.proofs.StampLemmas.{arith, empty_world, draws, counters-effects_of, counters-fold_from, later-fold}
 use Rattle.history_laws.proofs.laws.counter_of_stamps_never_falls.Goals as goal
 
 pub returns : goal.returns

@@ -1,4 +1,4 @@
-use Rattle.history_laws.proofs.NamedLemmas.{live_lawful, named_lawful}
+use Rattle.history_laws.proofs.SoundLemmas.{live_lawful, named_lawful}
 use Rattle.history_laws.proofs.laws.paths_are_lawful.Goals as goal
 
 pub returns : goal.returns

@@ -1,5 +1,4 @@
-use Rattle.std.proofs.Common.{◌≡◌, refl}
-use Rattle.history_laws.proofs.StampLemmas.{kept_after, later-fold}
+use Rattle.history_laws.proofs.StampLemmas.{◌≡◌, refl, kept_after, later-fold}
 use Rattle.history_laws.proofs.laws.stamps_are_given_once.Goals as goal
 
 pub returns : goal.returns

@@ -1,8 +1,5 @@
-use Rattle.ide_text.proofs.EditLemmas.{IsText-with_piece, IsText-without_part}
+use Rattle.ide_text.proofs.TextLemmas.{IsText-with_piece, IsText-without_part}
 use Rattle.ide_text.proofs.laws.edited_texts_are_texts.Goals as goal
 
-pub returns-clause-with_piece : goal.returns-clause-with_piece
-returns-clause-with_piece c = IsText-with_piece
-
-pub returns-clause-without_part : goal.returns-clause-without_part
-returns-clause-without_part c = IsText-without_part
+pub returns : goal.returns
+returns c = record { with_piece = IsText-with_piece; without_part = IsText-without_part }

@@ -3,10 +3,10 @@ use Rattle.stub_codec.proofs.reading.decode.Goals as goal
 
 pub returns-in-Ok-clause-found : goal.returns-in-Ok-clause-found
 returns-in-Ok-clause-found c =
-    c.stub_lists_are_read_back.ensures.read c.args.bytes.now c.in-Ok.stubs (bytes_below c.args.bytes.now (λ i. omega (arith, c.type_inv.bytes i))) c.in-Ok.ensures
+    c.stub_lists_are_read_back.ensures.read c.args.bytes.now c.in-Ok.stubs (bytes_below _ (λ i. omega (arith, c.type_inv.bytes i))) c.in-Ok.ensures
 
 pub returns-in-Ok-clause-only : goal.returns-in-Ok-clause-only
-returns-in-Ok-clause-only c = λ stubs is. (ok_is c.in-Ok.stubs stubs (sym c.in-Ok.ensures ∙ c.stub_lists_are_read_back.ensures.again c.args.bytes.now stubs is), tt)
+returns-in-Ok-clause-only c = λ stubs is. (ok_is _ stubs (sym c.in-Ok.ensures ∙ c.stub_lists_are_read_back.ensures.again c.args.bytes.now stubs is), tt)
 
 pub returns-in-Err-Unlawful-clause-only : goal.returns-in-Err-Unlawful-clause-only
 returns-in-Err-Unlawful-clause-only c = λ stubs is.

@@ -4,7 +4,7 @@ use Rattle.stub_codec.proofs.reading.names_of.Goals as goal
 pub returns-in_err-name : goal.returns-in_err-name
 returns-in_err-name c =
     let p = err_from_is_err_and c.from_residual.result c.from_residual.ensures.1 in
-    rw (p.1, p.2) (ends (λ _. name_at) _ (last c.loop.names) c.loop.names _ c.loop.counter c.loop.rest.now _ c.loop-test.true c.in_err-name.ensures c.loop.invariant)
+    rw (p.1, p.2) (ends (λ _. name_at) _ (last c.loop.names) c.loop.names _ c.loop.counter _ _ c.loop-test.true c.in_err-name.ensures c.loop.invariant)
 
 pub loop-preserved : goal.loop-preserved
 loop-preserved c = rw c.in_ok-push.ensures.ok

@@ -4,7 +4,7 @@ use Rattle.stub_codec.proofs.reading.stubs_of.Goals as goal
 pub returns-in_err-stub : goal.returns-in_err-stub
 returns-in_err-stub c =
     let p = err_from_is_err_and c.from_residual.result c.from_residual.ensures.1 in
-    rw (p.1, p.2) (ends stub_at c.in_err-stub.field-0.0 (last c.loop.stubs.items) c.loop.stubs.items c.args.count c.loop.counter c.loop.rest.now _ c.loop-test.true
+    rw (p.1, p.2) (ends stub_at _ (last c.loop.stubs.items) c.loop.stubs.items c.args.count c.loop.counter c.loop.rest.now _ c.loop-test.true
     (rw (c.last.ensures.value, c.deref.ensures.value) at c.in_err-stub.ensures) c.loop.invariant)
 
 pub loop-preserved : goal.loop-preserved

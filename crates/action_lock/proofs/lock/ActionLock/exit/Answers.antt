@@ -1,6 +1,6 @@
-use Rattle.action_lock.proofs.StepLemmas.{rules, ap, ◌∙◌, word_at, exits}
+use Rattle.action_lock.proofs.StepLemmas.{rules, exits}
 use Rattle.action_lock.proofs.lock.ActionLock.exit.Goals as goal
 
 pub fetch_sub-requires : goal.fetch_sub-requires
-fetch_sub-requires g c = let own = c.word_at-word.ensures.is ∙ ap word_at c.place.ensures.own in
-    (search rules, search rules, exits _ _ _ _ _ _ _ c.args.pass.now.numbered _ own c.requires.reads.phase)
+fetch_sub-requires g c = let reads = c.requires.reads in
+    (reads.table, search rules, exits _ _ _ _ _ _ _ c.args.pass.now.numbered _ _ c.word_at-word.ensures.is c.place.ensures.own reads.phase)

@@ -1,4 +1,4 @@
-use Rattle.action_lock.proofs.Hands.{◌∙◌, sym, subst, rules, Empty, HasNoHome, writing_hand, in_front, hand_after, front_same, hand_all, hand_home}
+use Rattle.action_lock.proofs.RuleLemmas.{◌∙◌, sym, subst, rules, Empty, HasNoHome, writing_hand, in_front, hand_after, front_same, hand_all, hand_home}
 use Rattle.action_lock.proofs.lock.ActionLock.lay.Goals as goal
 
 pub exchange-requires : goal.exchange-requires

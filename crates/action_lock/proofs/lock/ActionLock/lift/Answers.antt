@@ -1,4 +1,4 @@
-use Rattle.action_lock.proofs.Hands.{◌∙◌, sym, rules, Home, shut_hand, in_front, hand_after, hand_all, hand_home}
+use Rattle.action_lock.proofs.RuleLemmas.{◌∙◌, sym, rules, Home, shut_hand, in_front, hand_after, hand_all, hand_home}
 use Rattle.action_lock.proofs.lock.ActionLock.lift.Goals as goal
 
 pub exchange-requires : goal.exchange-requires

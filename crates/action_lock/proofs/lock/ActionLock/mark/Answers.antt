@@ -3,4 +3,4 @@ use Rattle.action_lock.proofs.lock.ActionLock.mark.Goals as goal
 
 pub fetch_add-requires : goal.fetch_add-requires
 fetch_add-requires g c = let now = c.requires.marks in
-    (search rules, search rules, marks _ _ _ _ _ _ _ c.args.pass.now.numbered _ c.args.place c.word_at.ensures.is c.requires.within now.phase now.intent)
+    (now.table, search rules, marks _ _ _ _ _ _ _ c.args.pass.now.numbered _ c.args.place c.word_at.ensures.is c.requires.within now.phase now.intent)

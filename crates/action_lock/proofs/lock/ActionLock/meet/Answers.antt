@@ -1,12 +1,11 @@
-use Rattle.action_lock.proofs.Common.{rules, ◌≢◌, ◌<◌, All, Some, sym, ap, ◌∙◌, subst, arith, IsPrefix}
-use Rattle.action_lock.proofs.Numbers.{joins, tells}
+use Rattle.action_lock.proofs.RuleLemmas.{rules, ◌≢◌, ◌<◌, All, Some, sym, ap, ◌∙◌, subst, arith, IsPrefix, joins, tells}
 use Rattle.action_lock.proofs.lock.ActionLock.meet.Goals as goal
 
 pub join_seat-requires : goal.join_seat-requires
 join_seat-requires g c =
-    let mine = c.args.pass.now.numbered in let first = c.requires.pass.out.at.phase in let its = c.args.other.numbered in let other = c.requires.other in
+    let pass = c.requires.pass.out.at in let other = c.requires.other in let mine = c.args.pass.now.numbered in let its = c.args.other.numbered in
     let follows : 0 < c.args.other.number = let not_zero : c.args.other.number ≢ 0 = λ e. c.requires.follows (its ∙ ap Some e) in omega (arith, not_zero) in
-    (search rules, search rules, search rules, search rules, joins _ _ _ _ _ _ _ _ _ _ mine first its follows other.out.at.phase other.no_intent)
+    (pass.table, other.out.at.table, other.out.at.empty, search rules, joins _ _ _ _ _ _ _ _ _ _ mine pass.phase its follows other.out.at.phase other.no_intent)
 
 pub load-requires : goal.load-requires
 load-requires g c = let numbered = ap (λ m. m.0.number) c.join_seat.ensures.2 ∙ c.args.pass.now.numbered in

@@ -1,4 +1,4 @@
-use Rattle.action_lock.proofs.Hands.{◌∷◌, refl, sym, ◌∙◌, subst, rules, Empty, HasNoHome, MayKeep, shut_hand, in_front, hand_after, front_same, hand_next}
+use Rattle.action_lock.proofs.RuleLemmas.{◌∷◌, refl, sym, ◌∙◌, subst, rules, Empty, HasNoHome, MayKeep, shut_hand, in_front, hand_after, front_same, hand_next}
 use Rattle.action_lock.proofs.lock.ActionLock.open_at.Goals as goal
 
 pub exchange-requires : goal.exchange-requires

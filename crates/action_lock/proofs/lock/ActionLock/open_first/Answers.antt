@@ -1,5 +1,5 @@
-use Rattle.action_lock.proofs.Common.{◌≡◌, [], ◌∷◌, ap, ◌∙◌, sym, subst, rules, Home, Empty, HasNoHome, MayKeep}
-use Rattle.action_lock.proofs.Hands.{in_front, front_same, hand_two, other_in_front, both_set}
+use Rattle.action_lock.proofs.RuleLemmas.{◌≡◌, [], ◌∷◌, ap, ◌∙◌, sym, subst, rules, Home, Empty, HasNoHome, MayKeep, in_front, front_same, hand_two}
+use Rattle.action_lock.proofs.RuleLemmas.{other_in_front, both_set}
 use Rattle.action_lock.proofs.lock.ActionLock.open_first.Goals as goal
 
 pub exchange-requires : goal.exchange-requires

@@ -1,4 +1,4 @@
-use Rattle.action_lock.proofs.Hands.{[], ◌∷◌, ap, ◌∙◌, sym, Share, in_front}
+use Rattle.action_lock.proofs.RuleLemmas.{[], ◌∷◌, ap, ◌∙◌, sym, Share, in_front}
 use Rattle.action_lock.proofs.lock.ActionLock.share_in_hand.Goals as goal
 
 pub slot_mut-requires : goal.slot_mut-requires

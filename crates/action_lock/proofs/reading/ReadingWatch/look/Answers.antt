@@ -1,5 +1,4 @@
-use Rattle.action_lock.proofs.Common.{ap, sym, subst, HasRisen}
-use Rattle.action_lock.proofs.ReadLemmas.{found_mark}
+use Rattle.action_lock.proofs.RuleLemmas.{ap, sym, subst, HasRisen, found_mark}
 use Rattle.action_lock.proofs.reading.ReadingWatch.look.Goals as goal
 
 pub returns-clause-seen : goal.returns-clause-seen

@@ -1,5 +1,4 @@
-use Rattle.std.proofs.Common.{rules}
-use Rattle.ide_text.proofs.Utf8Lemmas.{encodes-ascii_part}
+use Rattle.ide_text.proofs.Utf8Lemmas.{rules, encodes-ascii_part}
 use Rattle.ide_text.proofs.chars.Chars.add_part.Goals as goal
 
 pub returns-in-Ascii : goal.returns-in-Ascii

@@ -1,5 +1,4 @@
-use Rattle.std.proofs.Common.{rules}
-use Rattle.std.proofs.lemmas.Str.{chars_from_encodes}
+use Rattle.ide_text.proofs.Utf8Lemmas.{rules, chars_from_encodes}
 use Rattle.ide_text.proofs.name.Name.len.Goals as goal
 
 pub returns : goal.returns

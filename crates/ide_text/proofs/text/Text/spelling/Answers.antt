@@ -1,5 +1,4 @@
-use Rattle.std.proofs.Common.{rules}
-use Rattle.ide_text.proofs.Utf8Lemmas.{chars-part}
+use Rattle.ide_text.proofs.TextLemmas.{rules, chars-part}
 use Rattle.ide_text.proofs.text.Text.spelling.Goals as goal
 
 pub returns : goal.returns

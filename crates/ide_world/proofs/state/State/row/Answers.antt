@@ -1,5 +1,4 @@
-use Rattle.ide_world.proofs.StepLemmas.{row_part-joined}
-use Rattle.ide_world.proofs.WorldLemmas.{file_of-world}
+use Rattle.ide_world.proofs.WorldLemmas.{file_of-world, row_part-joined}
 use Rattle.ide_world.proofs.state.State.row.Goals as goal
 
 pub returns : goal.returns
