@@ -5,7 +5,7 @@ use Rattle.std.specs.Prelude.{ℕ, ◌+◌, ◌<◌, ◌≤◌, ◌⊎◌, max, 
 abbrev pub counted : ℕ → ℕ
 counted n = max n (min (n + 1) 18446744073709551615)
 
--- the count rose by so many, or it has come to its last value
+-- the count rose by so many at least, or it has come to its last value
 abbrev pub HasRisenBy : ℕ → ℕ → ℕ → Type 0
 HasRisenBy by old new = (old + by ≤ new) ⊎ (18446744073709551615 ≤ new)
 

@@ -43,7 +43,7 @@ module _ {H E S : Type 0} {g : Ghosts H E S} where
     pub lock : r.lock ≡ q.lock
     pub pass : IsSamePass q.pass.now r.pass.now
 
-  -- the same read, after some looks
+  -- the same read, after some looks, or none
   pub record StaysReading (q r : Reading H E S g) : Type 0 where
     pub same_reference : r.pass.ghost_name ≡ q.pass.ghost_name
     pub lock : r.lock ≡ q.lock
@@ -53,7 +53,7 @@ module _ {H E S : Type 0} {g : Ghosts H E S} where
     pub reads : IsReading q → IsReading r
 
 module _ (H E S : RattleType) (g : Ghosts H.Denot E.Denot S.Denot) where
-  -- where the read was refused, the pass is out again, and has learned the word that was found
+  -- where the read was refused, the pass is out again, and has learned the word that was found; where there was no memory, what `HasFailed` says
   abbrev pub rests_if_refused : ActionLock H.Denot E.Denot S.Denot → MutBor (Pass H.Denot E.Denot S.Denot g) → Result (Reading H.Denot E.Denot S.Denot g) ReadRefusal → Fml
   rests_if_refused lock p r = RestsIfErr (pass.the_row H E S g) p (λ it. it.pass.ghost_name) r
       (λ last. IfErr r (λ refusal. IsOut lock last × IsSamePass p.now last × IsRefused g.number_of refusal (view_of p.now) (view_of last) × Advances (view_of p.now) (view_of last)))

@@ -10,7 +10,7 @@ use Rattle.action_lock.specs.Views.{all_checks}
 use Rattle.action_lock.specs.Steps.{Learns, looked, entering, writing, with_phase}
 
 module _ {E : Type 0} where
-  -- the pass has looked at its place's word, and learned nothing else
+  -- the pass has looked at its place's word any number of times, perhaps never, and learned nothing else
   pub record HasLooked (v w : View E) : Type 0 where
     pub same : w ≡ record v { looks = w.looks; checks = w.checks; last = w.last; sights = w.sights }
     pub looks : v.looks ≤ w.looks
@@ -30,7 +30,7 @@ module _ {E : Type 0} where
     abbrev pub HasFailed : View E → View E → Type 0
     HasFailed v w = (w ≡ looked w.last v) ⊎ HasRead Out v w
 
-    -- the word that was found is the one that the refusal shows, and nothing else was learned
+    -- the word that was found is the one that the refusal shows, and nothing else was learned; where there was no memory, what `HasFailed` says
     abbrev pub IsRefused : ReadRefusal → View E → View E → Type 0
     IsRefused (Pending word) v w = (has_pending word ≡ true) × (w ≡ looked word v)
     IsRefused (Turn word) v w = (has_pending word ≡ false) × (has_turn word ≡ true) × (w ≡ looked word v)
@@ -41,7 +41,7 @@ module _ {E : Type 0} where
     pub earlier : all_checks v ≤ w.earlier_checks
     pub some : 0 < w.checks
 
-  -- after some looks
+  -- after some looks, or none
   pub record HasWaited (then : View E → View E → Type 0) (v w : View E) : Type 0 where
     pub before : View E
     pub waited : HasLooked v before

@@ -1,4 +1,4 @@
--- The table of steps: what each tells the seat that takes it. A step changes one word, and the view of its seat alone.
+-- The table of steps: what each tells the seat that takes it. A step loads or changes one word, and changes the view of its seat alone.
 use Rattle.std.specs.Prelude.{◌≡◌, ◌⊎◌, ℕ, ◌+◌, ◌<◌, ◌≤◌, Bool, true, false, ◌==◌, if◌then◌else◌, List, [], ◌∷◌, ◌++◌, length, All, Option, Some, None}
 use Rattle.atomic_table.specs.Table.{Me, Step, rest}
 use Rattle.action_lock.specs.declared.view.Phase.{Phase}

@@ -1,5 +1,5 @@
--- The words and slots of the lock's table. Each place has a word and a slot of its own, and behind the slots of the places is that of the home value;
--- a pass uses the place of its number.
+-- The words and slots of the lock's table: a word and a slot for each place, and behind these slots that of the home value.
+-- A pass uses the place of its number.
 use Rattle.std.specs.Prelude.{ℕ, ◌+◌, ◌-◌, ◌*◌, ◌/◌, ◌%◌, ◌==◌, Bool, Option, Some, None, max, min}
 
 -- where the count of entries stands
@@ -27,8 +27,8 @@ abbrev pub own_place : ℕ → Option ℕ → ℕ
 own_place places (Some number) = number % places
 own_place places None = 0
 
--- The word of a place: TURN 1, WRITER 2, PENDING 4, and 8 for each reader.
--- One seat alone may change what the place guards
+-- whether a word of a place (TURN 1, WRITER 2, PENDING 4, and 8 for each reader) has the turn: one seat alone may then
+-- change what the place guards
 abbrev pub has_turn : ℕ → Bool
 has_turn word = word % 2 == 1
 

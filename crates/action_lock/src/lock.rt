@@ -1,6 +1,6 @@
 //! The lock: its words, its slots and the views of its passes.
-ghost use Rattle.std.specs.Prelude.{◌≡◌, ◌≢◌, ◌+◌, ◌<◌, ◌↔◌, List, [], ◌∷◌, ◌++◌, length, All, Some, IfOk, IfErr, OnOk, OnErr, MatchResult, IsTrue};
-ghost use Rattle.action_lock.specs.declared.slot.Slot.TheVariants.{Home, Share};
+ghost use Rattle.std.specs.Prelude.{◌≡◌, ◌≢◌, ◌+◌, ◌<◌, ◌↔◌, List, [], ◌∷◌, ◌++◌, length, All, Some, IfOk, IfErr, IsTrue, vec_len, vec_capacity};
+ghost use Rattle.action_lock.specs.declared.slot.Slot.TheVariants.{Home};
 ghost use Rattle.action_lock.specs.Slots.{HasNoHome, MayKeep};
 ghost use Rattle.action_lock.specs.Steps.{KnowsItsLists, joined, splitting, split_off, told};
 ghost use Rattle.action_lock.specs.Views.{first_view};
@@ -49,12 +49,7 @@ impl<H: Home> ActionLock<H> {
         let Ok(mut slots) = shares_of(alloc, &home, places) else {
             return Err(AllocFailed { value: home });
         };
-        if let Err(AllocFailed { value }) = slots.push(Slot::Home(home)) {
-            discard(slots);
-            return Err(AllocFailed {
-                value: value.into_home(),
-            });
-        }
+        slots.push_reserved(Slot::Home(home));
         match Table::new(alloc, &[0; WORDS], slots, &places) {
             Ok((table, seat)) => {
                 let pass = Pass {
@@ -182,7 +177,7 @@ fn places_for(asked: u32) -> u32
     asked.min(MOST_PLACES).max(1)
 }
 
-/// A share for each place.
+/// A share for each place, with room for one value more.
 fn shares_of<H: Home>(
     alloc: Global,
     home: &H,
@@ -193,35 +188,19 @@ fn shares_of<H: Home>(
         (λ slots. (entries : List H.Entry) → H.stands home.now entries
         → All (MayKeep H.share_stands entries) slots.items) }
     ensures shares { IfOk result (λ slots. All HasNoHome slots.items) }
+    ensures room { IfOk result (λ slots. vec_len slots < vec_capacity slots) }
 {
-    let mut slots = Vec::new(alloc);
+    let mut slots = Vec::with_capacity(alloc, places as usize + 1)?;
     for made in 0..places {
-        if let Err(refused) = push_share(alloc, home, &mut slots) {
-            discard(slots);
-            return Err(refused);
+        match home.share(alloc) {
+            Ok(share) => slots.push_reserved(Slot::Share(share)),
+            Err(refused) => {
+                discard(slots);
+                return Err(refused);
+            }
         }
     }
     Ok(slots)
-}
-
-/// One share more.
-fn push_share<H: Home>(
-    alloc: Global,
-    home: &H,
-    slots: &mut Vec<Slot<H, H::Share>>,
-) -> Result<(), AllocError>
-    ensures ok { OnOk result
-        ((share : H.Share) × (slots.new.items ≡ slots.old.items ++ Share share ∷ [])
-        × ((entries : List H.Entry) → H.stands home.now entries
-        → H.share_stands share entries)) }
-    ensures err { OnErr result (slots.new.items ≡ slots.old.items) }
-{
-    let share = home.share(alloc)?;
-    if let Err(AllocFailed { value }) = slots.push(Slot::Share(share)) {
-        value.clear();
-        return Err(AllocError);
-    }
-    Ok(())
 }
 
 /// Lets shares go.

@@ -1,2 +1,3 @@
 pub mod RequestLemmas
 mod OnLiterals
+pub mod GrammarLemmas

@@ -22,7 +22,8 @@ fn text_option<'a>(alloc: Global, name: &'a str) -> Arg<'a>
     Arg::new(alloc, name).long(name)
 }
 
-/// A path that has to be given. It stands behind the subcommand, or behind `--` where it begins with a `-`.
+/// A path that has to be given. It stands behind the subcommand, or behind `--` where it begins with a `-`; a `-` alone is a
+/// plain word.
 fn path_argument<'a>(alloc: Global) -> Arg<'a>
     ensures rule { rule_of result ≡ path_argument }
     ensures local { result.global ≡ false }

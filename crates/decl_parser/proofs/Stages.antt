@@ -6,7 +6,7 @@ use Rattle.decl_parser.proofs.Words.{first_identifier, flat_map, fold, in_role, 
 use Rattle.decl_parser.proofs.Words.{map, max_chars, max_depth, name_of, names, node_of, not, prefix_len, refl, role-identifier, role_of, scan_of, suc}
 use Rattle.decl_parser.proofs.Words.{supers_of, take, tokens_of, true, units_of, without_annotations, ℕ, ◌*◌, ◌++◌, ◌+◌, ◌-◌, ◌∙◌, ◌∷◌, ◌≡◌, ◌≤◌}
 use Rattle.std.proofs.Common.{All, AllPairs, Contains, IfSome, Option, Some, ap, append_assoc, encode_utf8, encode_utf8_all, filter, get_or, inl, inr}
-use Rattle.std.proofs.Common.{length-append, length-drop, length-take, nat_le, option_to_list, rules, set, zero, ⊎_elim, ◌&&◌, ◌<◌, ◌≢◌, ◌⊎◌}
+use Rattle.std.proofs.Common.{length-append, length-drop, length-take, nat_le, option_to_list, rules, set, zero, ⊎_elim, if◌then◌else◌, ◌&&◌, ◌<◌, ◌≢◌, ◌⊎◌}
 use Rattle.std.proofs.lemmas.Bool.{cond_both}
 use Rattle.std.proofs.lemmas.Bool.Decides.{nat_tests}
 use Rattle.std.proofs.lemmas.List.Elements.{All-from_recursion, All-map, Contains-get_or, recursion_from_All}
@@ -16,16 +16,24 @@ use Rattle.java_tokens.specs.Chars.{is_white_space}
 use Rattle.stub_tree.specs.Stub.{code_of, is_type}
 use Rattle.stub_tree.specs.declared.stub.Stub.{Stub}
 use Rattle.stub_tree.specs.declared.stub_kind.StubKind.{StubKind}
-use Rattle.stub_tree.specs.declared.stub_kind.StubKind.TheVariants.{Annotation, Class as ClassKind, Constant}
+use Rattle.stub_tree.specs.declared.stub_kind.StubKind.TheVariants.{Annotation, Class as ClassKind, Constant, Constructor, Method}
 use Rattle.decl_parser.specs.Forest.{Scan, changed, close, close_rest, forest_of, is_identifier, step, stepped, with_size, without_bracket}
 use Rattle.decl_parser.specs.Header.{angled_after, annotation_len, header_of, plain_past}
-use Rattle.decl_parser.specs.Listing.{IsIdentifierOf, IsNamedIn, declared_stubs, item_stubs, level_stubs, listing_of, stub_of}
-use Rattle.decl_parser.specs.Rule.{Declaration, DeclaresNoType, constant_of, constants_after, declaration_of, field_after, may_precede_constructor}
+use Rattle.decl_parser.specs.Listing.{IsIdentifierOf, IsNamedIn, declared_stubs, is_enum, item_stubs, level_stubs, listing_of, stub_of}
+use Rattle.decl_parser.specs.Rule.{Declaration, DeclaresNoType, constant_of, constants_after, declaration_of, field_after, is_named, may_precede_constructor}
+use Rattle.decl_parser.specs.Role.{same_role}
+use Rattle.decl_parser.specs.Rule.{begins_record, member_of}
 use Rattle.decl_parser.specs.Rule.{method_after, named_type, supers_after, type_after, type_kind}
 use Rattle.decl_parser.specs.Unit.{Item, Unit as UnitOf, behind_semicolon, items_behind_value, items_from, units_past}
 use Rattle.decl_parser.specs.declared.bracket.Bracket.{Bracket}
 use Rattle.decl_parser.specs.declared.declaration.Holder.{Holder}
 use Rattle.decl_parser.specs.declared.open_brackets.Open.{Open}
+use Rattle.decl_parser.specs.declared.role.Role.TheVariants.{BraceGroup, Class, Comma, Dot, Enum, Equals, Interface, Record, Semicolon}
+
+-- what holds of both truth values
+by_bool : (b : Bool) (P : Bool → Type 0) → P true → P false → P b
+by_bool true P p q = p
+by_bool false P p q = q
 
 -- what holds of each of two lists, holds of each of both
 pub all-append : {A : Type 0} (P : A → Type 0) (xs ys : List A) → AllByRecursion P xs → AllByRecursion P ys → AllByRecursion P (xs ++ ys)
@@ -132,12 +140,17 @@ mutual
       let has_body = part-append p (left_out {n = u.node} (part-append (whole_part u.inside) (items-part ends us))) in
       let has_value = part-append p (part-behind (u.node ∷ u.inside) (behind-part us)) in
       let goes_on = items-part (part-append p (kept {n = u.node} (no_part u.inside))) us in
-      grind (arith, ended, has_body, has_value, rw append_assoc at goes_on)
+      let goal : List Item → Type 0 = λ is. IsPart (item_nodes is) (front ++ nodes_of (u ∷ us)) in
+      cond_both (is Semicolon u.node) _ _ goal (λ e. ended) (λ e.
+      cond_both (is BraceGroup u.node) _ _ goal (λ e. has_body) (λ e.
+      cond_both (is Equals u.node) _ _ goal (λ e. has_value) (λ e. rw append_assoc at goes_on)))
 
   -- and those behind a `=`
   behind-part : (us : List UnitOf) → IsPart (item_nodes (items_behind_value us)) (nodes_of us)
   behind-part [] = ends
-  behind-part (u ∷ us) = grind (arith, part-behind (u.node ∷ u.inside) (items-part ends us), part-behind (u.node ∷ u.inside) (behind-part us))
+  behind-part (u ∷ us) =
+      cond_both (is Semicolon u.node) _ _ (λ is. IsPart (item_nodes is) (nodes_of (u ∷ us)))
+      (λ e. part-behind (u.node ∷ u.inside) (items-part ends us)) (λ e. part-behind (u.node ∷ u.inside) (behind-part us))
 
 -- the node is an identifier
 abbrev pub IsNamed : Node → Type 0
@@ -160,7 +173,13 @@ constants-part {piece} {front} p (u ∷ us) =
     let ended = part-append constant.1 (part-behind (u.node ∷ u.inside) (whole_part (nodes_of us))) in
     let cut = rw (← append_assoc (constant_of piece) _ _) at (part-append constant.1 (part-behind (u.node ∷ u.inside) others.1)) in
     let goes_on = constants-part (part-append p (kept {n = u.node} (no_part u.inside))) us in
-    grind (arith, constant.0, ended, all-append IsNamed _ _ constant.0 others.0, cut, rw append_assoc at goes_on)
+    let Fits : List Node → List UnitOf → Type 0 =
+    λ names behind. AllByRecursion IsNamed names × IsPart (names ++ nodes_of behind) (front ++ nodes_of (u ∷ us)) in
+    let joined = constant_of piece ++ constants_after [] us in
+    let more = if is Comma u.node then joined else constants_after (piece ++ u.node ∷ []) us in
+    by_bool (is Semicolon u.node) (λ b. Fits (if b then constant_of piece else more) (if b then us else behind_semicolon us)) (constant.0, ended)
+    (cond_both (is Comma u.node) _ _ (λ names. Fits names (behind_semicolon us)) (λ e. (all-append IsNamed _ _ constant.0 others.0, cut))
+    (λ e. (goes_on.0, rw append_assoc at goes_on.1)))
 
 -- what a walk passes over may be left out
 pub past-skip : {A : Type 0} (walk : ℕ → List Node → A) → ((skip : ℕ) (n : Node) (ns : List Node) → walk (suc skip) (n ∷ ns) ≡ walk skip ns)
@@ -317,7 +336,11 @@ IsSound text lo hi d = Rises text lo hi (d.name ∷ d.behind) × IsNamed d.name 
 
 type_kind-is : (before : Role) (n : Node) (ns : List Node) → IfSome (type_kind before n ns) (λ k. is_type_kind k ≡ true)
 unfolding type_kind
-type_kind-is before n ns = grind arith
+type_kind-is before n ns =
+    let Is : Option StubKind → Type 0 = λ k. IfSome k (λ k. is_type_kind k ≡ true) in
+    cond_both (same_role Dot before) _ _ Is (λ e. tt) (λ e. cond_both (is Class n) _ _ Is (λ e. refl) (λ e.
+    cond_both (is Interface n) _ _ Is (λ e. cond_both (same_role At before) _ _ Is (λ e. refl) (λ e. refl)) (λ e.
+    cond_both (is Enum n) _ _ Is (λ e. refl) (λ e. cond_both (is Record n && begins_record ns) _ _ Is (λ e. refl) (λ e. tt)))))
 
 -- what each identifier has, has each that the rules find
 module _ (Has : Node → Type 0) where
@@ -393,6 +416,10 @@ module _ (text : List ℕ) where
   abbrev pub IsStubOf : Stub → Type 0
   IsStubOf s = IsNamedIn text s × All (IsIdentifierOf text) s.supers × (length text ≤ max_chars → IsLawfulStub s)
 
+  -- a kind has one of nine codes
+  kind-bounds : (k : StubKind) → (1 ≤ code_of k) × (code_of k ≤ 9)
+  kind-bounds k = ((grind arith), (grind arith))
+
   -- so is that of a declaration that was found
   stub-sound : (depth lo hi : ℕ) (d : Declaration) → depth ≤ max_depth → IsSound text lo hi d → IsStubOf (stub_of text depth d)
   unfolding stub_of supers_after
@@ -407,7 +434,7 @@ module _ (text : List ℕ) where
       let told : (n : Node) → IsNameIn text lo hi n → IsIdentifierOf text (name_of text n) =
       λ n found. search (rules, found.0.1.token_of, found.0.1.identifier found.1, found.0.1.name) in
       let lawful : length text ≤ max_chars → IsLawfulStub (stub_of text depth d) = λ few. record {
-        is_kind = ((grind arith), (grind arith));
+        is_kind = kind-bounds d.kind;
         shallow = shallow;
         in_text = omega arith;
         named = name-lawful few d.name is;
@@ -513,7 +540,10 @@ module _ (text : List ℕ) where
       λ lo us r. items-listed depth shallow _ below lo hi holder (items_of us) (rises-part text lo lo hi (omega arith) (items-part ends us) r) in
       let before = constants-part ends us in
       let (mid, names, behind) = rises-cut text lo hi (constants_after [] us) _ (rises-part text lo lo hi (omega arith) before.1 r) in
-      grind (arith, joined (constants-listed depth shallow _ below lo mid _ names before.0) (items mid (behind_semicolon us) behind), items lo us r)
+      let constants = map (constant_stub text depth) (constants_after [] us) in
+      by_bool (is_enum holder)
+      (λ b. IsLevel depth lo hi ((if b then constants else []) ++ flat_map F (items_of (if b then behind_semicolon us else us))))
+      (joined (constants-listed depth shallow _ below lo mid _ names before.0) (items mid (behind_semicolon us) behind)) (items lo us r)
 
   -- the listing of a text
   pub listing-sound : AreTokensFrom 0 text (tokens_of text) → All (IsInside text) (tokens_of text)
@@ -536,23 +566,40 @@ plain-part_of (again k p) all =
     let is = all.0 in
     (record { no_class = grind arith; no_interface = grind arith; no_enum = grind arith; no_record = grind arith }, plain-part_of p all.1)
 
--- so the rule of types finds none
+-- so no node is one by which the rule of types finds one
+kind-none : (before : Role) (n : Node) (ns : List Node) → DeclaresNoType n → type_kind before n ns ≡ None
+unfolding type_kind
+kind-none before n ns p =
+    rw (p.no_class, p.no_interface, p.no_enum, p.no_record) (cond_both _ _ _ (λ (k : Option StubKind). k ≡ None) (λ e. refl) (λ e. refl))
+
+-- so it finds none
 type-none : (before : Role) (ns : List Node) → ArePlain ns → type_after before ns ≡ None
-unfolding type_after type_kind
+unfolding type_after
 type-none before [] p = refl
-type-none before (n ∷ ns) p = let rest = type-none n.role ns p.1 in let first = p.0 in grind arith
+type-none before (n ∷ ns) p = rw (kind-none before n ns p.0) (type-none n.role ns p.1)
 
 module _ (text : List ℕ) (depth : ℕ) (members : Option Holder → List UnitOf → List Stub) (holder : Option Holder) where
   -- none of what items list is a type
   abbrev ListNone : List Item → Type 0
   ListNone items = AllByRecursion (λ s. is_type s ≡ false) (flat_map (item_stubs text depth members holder) items)
 
+  -- nor is a member
+  member-none : (body : List Node) (method : Option (Node × Bool)) (field : Option Node)
+      → AllByRecursion (λ s. is_type s ≡ false) (declared_stubs text depth members body (member_of text holder method field))
+  unfolding stub_of
+  member-none body None None = tt
+  member-none body None (Some f) = (refl, tt)
+  member-none body (Some m) field =
+      by_bool (m.1 && is_named text holder m.0)
+      (λ b. AllByRecursion (λ s. is_type s ≡ false) (declared_stubs text depth members body
+      (Some (record { kind = if b then Constructor else Method; name = m.0; behind = [] })))) (refl, tt) (refl, tt)
+
   -- an item more that lists none
   item-none : (header body : List Node) (items : List Item) → ArePlain header → ListNone items → ListNone (record { header = header; body = body } ∷ items)
   unfolding item_stubs declaration_of stub_of
   item-none header body items p others =
       all-append _ (item_stubs text depth members holder (record { header = header; body = body })) _
-      (rw (type-none Other (header_of header) (plain-part_of (header-part header) p)) (grind arith)) others
+      (rw (type-none Other (header_of header) (plain-part_of (header-part header) p)) (member-none body _ _)) others
 
   -- the items of units list none where no unit declares a type
   mutual

@@ -102,7 +102,8 @@ abbrev pub is_named : List ℕ → Option Holder → Node → Bool
 is_named text None n = false
 is_named text (Some holder) n = bytes_eq (name_of text holder.name) (name_of text n)
 
--- A method is a constructor where it has the name of the type whose body holds it, and only modifiers before it.
+-- A method is a constructor where it has the name of the type whose body holds it, and before it only what may stand
+-- before the name of a constructor.
 abbrev pub method_kind : List ℕ → Option Holder → Node → Bool → StubKind
 method_kind text holder name only = if only && is_named text holder name then Constructor else Method
 

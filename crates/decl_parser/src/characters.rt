@@ -1,12 +1,11 @@
 //! The characters of a node in its text.
-ghost use Rattle.std.specs.Prelude.{◌≡◌, ◌+◌, ◌-◌, ◌<◌, ◌≤◌, suc, [], ◌∷◌, IfOk, IfNone, IfSome, OnSome, length, take, drop, map, bytes_eq};
+ghost use Rattle.std.specs.Prelude.{◌≡◌, ◌+◌, ◌-◌, ◌<◌, ◌≤◌, suc, [], ◌∷◌, IfOk, IfNone, IfSome, OnSome, length, take, drop, bytes_eq};
 ghost use Rattle.ide_text.specs.Text.{max_chars};
 ghost use Rattle.decl_parser.specs.Node.{name_of};
 
 use crate::node::Node;
 use ide_text::{Name, Text};
 use std::alloc::{AllocError, Global};
-use stub_tree::Names;
 
 /// A part of a text: where it begins, and where it ends.
 #[derive(Clone, Copy)]
@@ -37,17 +36,6 @@ pub(crate) fn name_of(alloc: Global, text: &Text, node: &Node) -> Result<Name, A
 {
     let part = part_of(text, node);
     Name::of_text(alloc, text, part.from, part.to)
-}
-
-/// The characters of some nodes as names.
-pub(crate) fn names_of(alloc: Global, text: &Text, nodes: &[Node]) -> Result<Names, AllocError>
-    ensures { IfOk result (λ names. names ≡ map (name_of text.now) nodes.now) }
-{
-    let mut names = Names::new(alloc);
-    for node in nodes {
-        names.push(name_of(alloc, text, node)?)?;
-    }
-    Ok(names)
 }
 
 /// Whether two nodes have the same characters.

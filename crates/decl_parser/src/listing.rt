@@ -5,7 +5,7 @@ ghost use Rattle.stub_tree.specs.Lawful.{max_depth};
 ghost use Rattle.decl_parser.specs.Unit.{units_of};
 ghost use Rattle.decl_parser.specs.Listing.{constant_stub, stub_of, constants_at, units_of_items, item_stubs, stubs_at, listing_of};
 
-use crate::characters::{name_of, names_of};
+use crate::characters::name_of;
 use crate::constants::enum_body;
 use crate::declaration::{Found, Holder, declaration_of};
 use crate::forest::forest;
@@ -149,12 +149,11 @@ fn stub_of(alloc: Global, text: &Text, depth: u8, found: &Found) -> Result<Stub,
     ensures { IfOk result (λ stub. stub ≡ stub_of text.now depth
         (record { kind = found.now.kind; name = found.now.name; behind = found.now.behind.now })) }
 {
-    let supers = supers_of(alloc, found.behind)?;
     Ok(Stub {
         kind: found.kind.code(),
         depth,
         at: found.name.at(),
         name: name_of(alloc, text, &found.name)?,
-        supers: names_of(alloc, text, &supers)?,
+        supers: supers_of(alloc, text, found.behind)?,
     })
 }

@@ -1,6 +1,6 @@
 -- Changes that went in behind what a read found, or are refused by it.
 use Rattle.ide_calls.proofs.Words.{◌≡◌, ℕ, ◌+◌, ◌≤◌, ◌<◌, List, [], ◌∷◌, Option, Some, None, Result, IfOk, IfErr, rules, length, refl, ap, arith, IfOk-weaker}
-use Rattle.ide_calls.proofs.Words.{IfErr-weaker, ◌==◌, option_map, length-append, View, Advances, finished, released, HasIntended, Change, Entry, Refusal}
+use Rattle.ide_calls.proofs.Words.{◌++◌, IfErr-weaker, ◌==◌, option_map, length-append, View, Advances, finished, released, HasIntended, Change, Entry, Refusal}
 use Rattle.ide_calls.proofs.Words.{max_entries, fold, list_refusal, ListRefusal, IsLegal, entries-fold, hinted, HasReadOnce, filter}
 use Rattle.list_laws.proofs.RowLemmas.{count_le}
 use Rattle.ide_calls.specs.declared.accepted.Accepted.{Accepted}
@@ -63,3 +63,7 @@ module _ (v inner inner' w : View Entry) (intended : HasIntended v inner) (after
   pub refused_within : {A : Type 0} (result : Result A GroupChangeRefusal) → IfErr result (IsGroupRefused inner inner' line changes)
       → IfErr result (IsGroupRefused v w line changes)
   refused_within result = IfErr-weaker result _ _ refused_so
+
+-- a history with room for an entry isn't too long with it
+pub bounded_on : (old new : List Entry) (entry : Entry) → new ≡ old ++ entry ∷ [] → (fold old).entries < max_entries → length new ≤ max_entries
+bounded_on old new entry is room = rw is (omega (arith, length-append old (entry ∷ []), entries-fold old, room))

@@ -67,7 +67,7 @@ is_replied seat v w query replied number found told =
 module _ (number_of : Entry → ℕ) (v u w : View Entry) (waited : HasWaited (HasRead number_of phase.Reading) v u)
     (left : w ≡ with_phase phase.Out u) (advances : Advances v u) (legal : IsLegal u.seen) where
   -- a read that has ended
-  read_once : HasReadOnce v w
+  pub read_once : HasReadOnce v w
   read_once = search (rules, waited, left, advances, legal)
 
   -- what was replied in the world that it found

@@ -3,17 +3,23 @@ use Rattle.ide_calls.proofs.Words.{◌≡◌, List, [], ◌∷◌, ◌++◌, len
 use Rattle.ide_calls.proofs.Words.{option_map_or, AllocError, append-nil, drop_at, IsPrefix, Entry, World, fold, Task, IsOfWorld, Job, task_of_job}
 use Rattle.ide_calls.proofs.Words.{task_of_made, tasks_of, IsTask, HasBegun, HasJoined, GoesOnAhead, StaysOfWorld, rules, ℕ, arith, le-leb, front_self}
 use Rattle.ide_calls.proofs.Words.{front_nil, View, advances_on, Refusal, max_entries, HasMade, settled, with_entry, intake_entry, HasOnlyLearned, IsSmart}
-use Rattle.ide_calls.proofs.Words.{IsEnd, HasTaken, HasGoneOn, HasGonePartly, GoesThrough, FillsUp, IfOk, IfErr, IfOk-weaker, IfErr-weaker, released}
-use Rattle.ide_calls.proofs.Words.{HasIntended, settle_step, IsAnsweredByRead, Stops, on_ok_weaker}
-use Rattle.std.proofs.lemmas.List.Elements.{All-nil, All-append, All-weaker, All-drop}
+use Rattle.ide_calls.proofs.Words.{map, subst, IsEnd, HasTaken, HasGoneOn, HasGonePartly, GoesThrough, FillsUp, IfOk, IfErr, IfOk-weaker, IfErr-weaker, released}
+use Rattle.ide_calls.proofs.Words.{HasIntended, settle_step, IsAnsweredByRead, Stops, on_ok_weaker, Change, Advances, finished, true}
+use Rattle.std.proofs.lemmas.List.{map-append}
+use Rattle.std.proofs.lemmas.List.Elements.{All-nil, All-cons, All-head, All-append, All-weaker, All-drop}
 use Rattle.std.proofs.lemmas.List.Concat.{flat_map-append}
 use Rattle.ide_world.specs.declared.data.Made.{Made}
 use Rattle.ide_calls.specs.declared.making.Making.{Making}
+use Rattle.ide_calls.specs.Ahead.{HasTakenFirst}
 use Rattle.ide_calls.proofs.MadeLemmas.{WorkStays, found_by_read, made_by_step, made_within}
 use Rattle.history_laws.proofs.SettleLemmas.{settled-over, settled-ends, settled-goes_on, intake_refusal}
 use Rattle.ide_calls.specs.declared.settle_refusal.SettleRefusal.{SettleRefusal}
 use Rattle.ide_calls.specs.declared.settle_refusal.SettleRefusal.TheVariants.{HistoryFull, OutOfMemory}
 use Rattle.ide_calls.specs.Settling.{IsSettled, HasStopped}
+use Rattle.ide_calls.specs.Turn.{HasFoundLowest}
+use Rattle.ide_calls.specs.declared.lowest.Lowest.TheVariants.{Prepared}
+use Rattle.ide_world.specs.declared.step.Step.{Step}
+use Rattle.write_history.specs.declared.change.Change.TheVariants.{Intake}
 use Rattle.write_history.specs.declared.refusal.Refusal.TheVariants as why
 
 -- nothing was taken out or added
@@ -32,6 +38,13 @@ pub begun : (world : World) (made : List Task) (old new : List Making) (making :
 begun world made old new making is unready =
     record { more = tasks_of making; unready = unready; after = rw is (simp (flat_map-append, append_assoc, append-nil)) }
 
+-- the work of one job more of a batch is that of an unready file
+pub one_more : (world : World) (old new : List Job) (job : Job) → new ≡ old ++ job ∷ [] → All (IsTask world) (map task_of_job old)
+    → IsTask world (task_of_job job) → All (IsTask world) (map task_of_job new)
+one_more world old new job is all one =
+    let P : Task → Type 0 = IsTask world in
+    rw (is, map-append task_of_job old (job ∷ [])) (All-append P (map task_of_job old) (task_of_job job ∷ []) all (All-cons P _ [] one (All-nil P)))
+
 -- What is left, and what is added, stay of the world, after a read that found the history `read` and has ended
 pub still_ahead : WorkStays → {V : Type 0} (seen read now : List Entry) (old new : List Task) (world : World) (result : Result V AllocError)
     → IsPrefix seen read → now ≡ read → world ≡ fold read → All (StaysOfWorld seen) old → OnOk result (GoesOnAhead world old new)
@@ -45,6 +58,17 @@ still_ahead law seen read now old new world result front same is all = on_ok_wea
     let added : All P goes.more = All-weaker (IsTask (fold read)) P (λ task made later legal. law read later made.id task legal made.work)
     goes.more (rw is at goes.unready) in
     rw (same, goes.after) (All-append P goes.kept goes.more left added))
+
+-- the first of the work is of the world, as all of it is
+pub first_of_world : (world : World) (old new : List Task) (made : Made) → HasTakenFirst old new (Some made) → All (IsOfWorld world) old
+    → IsOfWorld world (task_of_made made)
+first_of_world world old new made taken all =
+    let P : Task → Type 0 = IsOfWorld world in
+    let rest : List Task = task_of_made made ∷ new in
+    let same : old ≡ taken.lost ++ rest = cc (taken.before, append_assoc taken.lost (task_of_made made ∷ []) new) in
+    let left : All P rest = subst (All P) (drop_at taken.lost rest (length taken.lost) refl)
+    (All-drop P (length taken.lost) (taken.lost ++ rest) (subst (All P) same all)) in
+    All-head P (task_of_made made) new left
 
 -- data with all that their job has are of the world where the job is
 pub made_of_job : (world : World) (job : Job) (made : Made) → made.file ≡ job.file → made.kind ≡ job.kind → made.stamp ≡ job.stamp → made.text ≡ job.text
@@ -64,6 +88,29 @@ end_on seat line len v w turn =
     let filled = le-leb max_entries (fold w.seen).entries (omega (arith, full.whole, full.full)) in
     let ends = settled-ends w.seen seat line full.id why.HistoryFull full.unready (rw (intake_refusal (fold w.seen) full.id full.unready, filled) refl) in
     search (rules, turn, ends, found_by_read v w turn.read)
+
+-- a turn that found the lowest unready file, and wrote its intake, took it in
+pub taken_on : (seat line file stamp : ℕ) (steps : List Step) (changes : List Change) (v w x : View Entry) → HasFoundLowest v w (Prepared file stamp steps)
+    → changes ≡ Intake file stamp ∷ [] → x ≡ finished (record { seat = seat; line = line; changes = changes }) w → Advances w x → x.current ≡ true
+    → HasTaken seat line v x
+taken_on seat line file stamp steps changes v w x found one after further current =
+    let prepared = found.lowest_so in
+    record {
+      between = w;
+      read = found.read;
+      id = file;
+      unready = prepared.unready;
+      accepted = rw prepared.stamped at prepared.makes.accepted;
+      after = rw (one, prepared.stamped) at after;
+      advances = advances_on v w x found.read.learned.advances further;
+      current = current;
+    }
+
+-- what stays of the world of a history stays so behind an entry more
+pub stays_behind : (seen now : List Entry) (entry : Entry) (tasks : List Task) → now ≡ seen ++ entry ∷ [] → All (StaysOfWorld seen) tasks
+    → All (StaysOfWorld now) tasks
+stays_behind seen now entry tasks is all = rw is (All-weaker (StaysOfWorld seen) (StaysOfWorld (seen ++ entry ∷ []))
+    (λ task stays later legal. rw append_assoc (stays (entry ∷ later) (rw append_assoc at legal))) tasks all)
 
 -- what was only learned is a part of what a settle adds: nothing of it
 pub nothing_yet : (seat line : ℕ) (v w : View Entry) → HasOnlyLearned v w → HasGonePartly seat line v w

@@ -30,7 +30,7 @@ pub record HasBegun (world : World) (old new : List Task) : Type 0 where
   pub unready : All (IsTask world) more
   pub after : new ≡ old ++ more
 
--- the first of the work was taken out, but for some before it that was lost
+-- the first of the work was taken out, but for some before it that was lost, or none was
 pub record HasTakenFirst (old new : List Task) (made : Option Made) : Type 0 where
   pub lost : List Task
   pub before : old ≡ lost ++ option_to_list (option_map task_of_made made) ++ new

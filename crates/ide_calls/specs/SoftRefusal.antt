@@ -7,7 +7,8 @@ use Rattle.ide_calls.specs.Sighting.{Sighting}
 use Rattle.ide_calls.specs.declared.soft_refusal.SoftAskRefusal.{SoftAskRefusal}
 use Rattle.ide_calls.specs.declared.soft_refusal.SoftAskRefusal.TheVariants.{Cancelled, OutOfMemory}
 
--- the sightings are this pass's, at the entry and at the exit of the call, and rose by as many as the attempts that it was allowed
+-- the sightings are this pass's, at the entry and at the exit of the call, and rose by at least as many as the attempts that it was
+-- allowed, or stand at the last value
 pub record HasSighted (v w : View Entry) (attempts : ℕ) (sighted : Sighting) : Type 0 where
   pub seat : v.number ≡ Some sighted.seat
   pub allowed : sighted.attempts ≡ attempts

@@ -102,8 +102,15 @@ fn judge_with_intent<R: Wait>(
 {
     a_task_stays_of_the_world();
     histories_go_on();
-    let reading = pass.read(rt, alloc, lock)?;
-    let judged = judge(alloc, reading.share().state(), made);
-    reading.leave();
-    judged
+    match pass.read(rt, alloc, lock) {
+        Ok(reading) => {
+            let judged = judge(alloc, reading.share().state(), made);
+            reading.leave();
+            judged
+        }
+        Err(refused) => {
+            drop(made);
+            Err(refused)
+        }
+    }
 }

@@ -98,10 +98,17 @@ fn make_missing<R: Threads>(
     ensures ahead { OnOk result (GoesOnAhead state.now.world ahead.old ahead.new) }
 {
     let first = ahead.take(rt);
-    ahead.begin(rt, alloc, store, state, job.file)?;
+    if let Err(refused) = ahead.begin(rt, alloc, store, state, job.file) {
+        drop(first);
+        drop(job);
+        return Err(refused);
+    }
     match first {
         Some(made) if is_of(&made, &job) => Ok(made),
-        _ => make(alloc, job),
+        other => {
+            drop(other);
+            make(alloc, job)
+        }
     }
 }
 

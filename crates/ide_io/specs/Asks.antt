@@ -6,7 +6,7 @@ abbrev pub AsksEach : {T : Type 0} → (T → List ℕ → T → Type 0) → T �
 AsksEach asks old [] new = new ≡ old
 AsksEach {T} asks old (path ∷ paths) new = (between : T) × asks old path between × AsksEach asks between paths new
 
--- the tree was asked for the first of these files, and not for the rest
+-- the tree was asked for the first ones of these files, or for none, and not for the rest
 pub record AsksFront {T : Type 0} (asks : T → List ℕ → T → Type 0) (old : T) (paths : List (List ℕ)) (new : T) : Type 0 where
   pub front : List (List ℕ)
   pub rest : List (List ℕ)

@@ -1,5 +1,5 @@
--- What reads and writes do to the bytes that a source has left and a sink has taken. `None` stands
--- for bytes that are not told, and stays `None`.
+-- What reads and writes do to the bytes that a source has left and a sink has taken.
+-- `None` stands for bytes that are not told, and stays `None`.
 use Rattle.std.specs.Prelude.{◌≡◌, ℕ, ◌<◌, ◌≤◌, List, Option, Result, length, take, MatchResult}
 use Rattle.std.specs.Io.KnownBytes.{IsAtEnd, append_known, prepend_known}
 use Rattle.ide_io.specs.Fault.{next_count}

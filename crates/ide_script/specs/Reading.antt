@@ -20,7 +20,7 @@ pub record GivesScript {S : Type 0} {s : Source.Ghosts S} (source : SourceRun s)
   pub read : ReadsToEnd s.left s.ends source.old source.new bytes
   pub is : IsScript bytes script
 
--- the source was read to its end, and this line is the one that its bytes have outside the grammar
+-- the source was read to its end, and this is the first bad line of its bytes, or the line of a group that is open at their end
 pub record GivesBadLine {S : Type 0} {s : Source.Ghosts S} (source : SourceRun s) (line : ℕ) : Type 0 where
   pub bytes : List ℕ
   pub read : ReadsToEnd s.left s.ends source.old source.new bytes
@@ -44,15 +44,16 @@ pub record TellsOfScript {S T A : Type 0} {s : Source.Ghosts S} {t : Tree.Ghosts
   pub asked : AsksEach t.asks tree.old (first ++ paths_of script.prelude) tree.new
   pub is : IsToldOf script told
 
--- the source gave a script, and the tree met a fault at one of these files or at that of one of the loads behind them, having been asked for
--- those before it alone
+-- the source gave a script, and the tree was asked for the first ones of these files and of those of the loads behind them, at least for one and
+-- for no other, and met a fault
 pub record FailsAtFile {S T : Type 0} {s : Source.Ghosts S} {t : Tree.Ghosts T} (source : SourceRun s) (tree : TreeRun t) (first : List (List ℕ)) : Type 0 where
   pub script : Parts
   pub read : GivesScript source script
   pub asked : AsksSome t.asks tree.old (first ++ paths_of script.prelude) tree.new
   pub fault : HasFault (t.faults tree.old) (t.faults tree.new)
 
--- the source gave a script, and the tree was asked for the first of these files and of those of the loads behind them, and for no other
+-- the source gave a script, and the tree was asked for the first ones of these files and of those of the loads behind them, or for none, and for
+-- no other
 pub record StopsAtFile {S T : Type 0} {s : Source.Ghosts S} {t : Tree.Ghosts T} (source : SourceRun s) (tree : TreeRun t) (first : List (List ℕ)) : Type 0 where
   pub script : Parts
   pub read : GivesScript source script

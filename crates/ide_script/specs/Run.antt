@@ -86,7 +86,8 @@ abbrev pub TellsStatus : {E : Type 0} {e : Sink.Ghosts E} → SinkRun e → Stat
 TellsStatus {E} {e} error status =
     HasFault (e.faults error.old) (e.faults error.new) ⊎ (e.taken error.new ≡ append_known (e.taken error.old) (fault_line status))
 
--- how the process ends: with the number of a status, whose line was written, and which says how the run on these words ended
+-- how the process ends: with the number of a status, whose line was written, unless the stream for errors met a fault, and which says how the run
+-- on these words ended
 pub record EndsWith {S T K E : Type 0} {s : Source.Ghosts S} {t : Tree.Ghosts T} {k : Sink.Ghosts K} {e : Sink.Ghosts E}
     (source : SourceRun s) (tree : TreeRun t) (sink : SinkRun k) (error : SinkRun e) (words : List (List ℕ)) (number : ℕ) : Type 0 where
   pub status : Status
@@ -99,7 +100,8 @@ pub record EndsWith {S T K E : Type 0} {s : Source.Ghosts S} {t : Tree.Ghosts T}
   pub tree_quiet : status ≢ TreeFault → t.faults tree.new ≡ t.faults tree.old
   pub sink_quiet : status ≢ SinkFault → k.faults sink.new ≡ k.faults sink.old
 
--- how the process ends where the system gave no words: with the number of this status, whose line was written, and nothing was read, asked for or written
+-- how the process ends where the system gave no words: with the number of this status, whose line was written, unless the stream for errors met a
+-- fault, and nothing was read, asked for or written
 pub record EndsUnread {S T K E : Type 0} {s : Source.Ghosts S} {t : Tree.Ghosts T} {k : Sink.Ghosts K} {e : Sink.Ghosts E}
     (source : SourceRun s) (tree : TreeRun t) (sink : SinkRun k) (error : SinkRun e) (status : Status) (number : ℕ) : Type 0 where
   pub numbered : number ≡ exit_code status

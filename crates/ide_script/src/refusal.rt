@@ -4,7 +4,7 @@ use std::alloc::AllocError;
 /// Why a script isn't played to its end.
 #[derive(Clone, Copy, Debug, PartialEq, Eq)]
 pub enum PlayRefusal {
-    /// The tree failed at a load.
+    /// The tree failed at the store's file or at that of a load.
     TreeFault,
     /// Memory ran out.
     OutOfMemory,

@@ -35,8 +35,7 @@ use transcripts::{Played, summary, transcript};
 /// one is named, and what the script's loads ask for from the tree, and writes the transcript; `demo` writes the summary of
 /// a script of its own; `check` takes the script from the source, a transcript and what the loads ask for from the tree, and
 /// writes whether it is one of the script; `index` takes the script and what its loads ask for so, and writes the store of
-/// its last world. Nothing is written before the run is known to end with `Done`, `Rejected`, `SinkFault` or `OutOfMemory`.
-/// May block.
+/// its last world. Nothing is written but where the run ends with `Done`, `Rejected` or `SinkFault`. May block.
 pub fn run_ide<R: Threads + Wait + Sync, S: Source, T: Tree, K: Sink>(
     rt: &R,
     alloc: Global,

@@ -293,9 +293,10 @@ fn push_repaired(out: &mut String, after_return: bool, c: char) -> Result<(), Al
         ++ encode_utf8_all (repaired_char after_return c)) }
 {
     if c == '\r' {
-        out.push('\n')?;
-    } else if !(after_return && c == '\n') {
-        out.push(c)?;
+        out.push('\n')
+    } else if after_return && c == '\n' {
+        Ok(())
+    } else {
+        out.push(c)
     }
-    Ok(())
 }

@@ -2,6 +2,8 @@
 use Rattle.ide_world.proofs.Words.{◌≡◌, ℕ, suc, ◌+◌, ◌≤◌, true, cond, List, [], ◌∷◌, length, get_or, Some, None, refl, ◌∙◌, arith, Option, nat_tests}
 use Rattle.ide_world.proofs.Words.{position_or_len, past_all, FileKind, Java, Properties, kind_of, has_kind, is_same_kind, is_indexed_at, File, is_unready}
 use Rattle.ide_world.proofs.Words.{lowest_unready, HoldsIndex, found_from, shown_from, shown, found, kept_of, world_of, indexed_in, held, IsSound, Inside}
+use Rattle.ide_world.proofs.Words.{Indexed, unwrap_or, if◌then◌else◌}
+use Rattle.ide_world.specs.Found.{found_at}
 use Rattle.overlay_index.specs.Parts.{Parts, no_parts, parts_of}
 use Rattle.overlay_index.specs.Layers as layers
 use Rattle.overlay_index.specs.Found as walk
@@ -25,6 +27,11 @@ module _ {V : Type 0} (own : FileKind) (part : Parts → List (List ℕ × V)) (
   abbrev has : Parts → List V
   has parts = walk.values_of name (part parts)
 
+  -- what is shown of a file has what its text has, or where it is unready what is kept of it
+  has_shown : (file : Option File) (held : Indexed) → HoldsIndex file held
+      → has (unwrap_or held.overlay held.base) ≡ (if is_unready file then has held.base else found_at own read file)
+  has_shown file held h = grind (arith, nat_tests, h, own_kind, nothing, java, properties)
+
   -- the walk gives what the world shows: of each file what its text has, or where it is unready what is kept of it
   walk_shown : (kept : layers.LayersView) (first : ℕ) (files : List (Option File))
       → ((place id : ℕ) → id ≡ first + place → HoldsIndex (get_or files place None) (indexed_in kept id))
@@ -32,7 +39,7 @@ module _ {V : Type 0} (own : FileKind) (part : Parts → List (List ℕ × V)) (
   walk_shown kept first [] holds = refl
   walk_shown kept first (file ∷ files) holds =
       let rest = walk_shown kept (first + 1) files (λ place id e. holds (suc place) id (omega (arith, e))) in
-      grind (arith, nat_tests, holds 0 first (omega arith), own_kind, nothing, java, properties, rest)
+      grind (arith, has_shown file (indexed_in kept first) (holds 0 first (omega arith)), rest)
 
   -- so a walk of a state gives what its world shows, and where no file is unready what it has
   pub walked : (i : Inside) → IsSound i → (result : List (ℕ × V))

@@ -1,6 +1,6 @@
 -- The step of each kind of change makes it.
 use Rattle.ide_world.proofs.Words.{ℕ, IsSoundLive, ◌≡◌, List, arith, Some, Option, FileRow, Document, World, file_of, file_with, row_part, document_part}
-use Rattle.ide_world.proofs.Words.{IsLiveAt, rules, nat_tests, Bool, true, false, ◌∷◌, None, IfSome, option_map, bytes_decides, opened, committed, HeldDoc}
+use Rattle.ide_world.proofs.Words.{IsLiveAt, rules, nat_tests, Bool, true, false, ◌∷◌, None, IfSome, option_map, bytes_decides, opened, HeldDoc}
 use Rattle.ide_world.proofs.Words.{FileKind, kind_of, is_indexed_at, Create, Write, OpenDoc, Save, CloseDoc, Intake, Move, next_id, refusal_of, past_all}
 use Rattle.ide_world.proofs.Words.{live_is_made, none_at_free, accepted_reasons, Step, DocEdit, Indexed, edited_index, AreSoundFiles, HoldsLive, Summary}
 use Rattle.ide_world.proofs.Words.{summary_of, Task, IsOfWorld, Builds, open_index, moved_index, close_index, intake_index}

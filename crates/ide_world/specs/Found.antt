@@ -18,7 +18,7 @@ stubs_in fits text = filter fits (listing_of text)
 abbrev pub masks_in : List ℕ → List ℕ → List ℕ
 masks_in name text = option_to_list (mask_in (words_of text) name)
 
--- the index data of a file's content, as it was indexed last
+-- the base that is kept for a file, of which for an unready one nothing is said
 abbrev pub kept_of : StateView → ℕ → Parts
 kept_of held id = base_of held.room.layers id
 

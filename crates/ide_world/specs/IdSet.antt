@@ -1,4 +1,4 @@
--- IdSet of ids: each id is on or off, and those that are on are counted.
+-- A set of ids: each id is on or off, and those that are on are counted.
 use Rattle.std.specs.Prelude.{ℕ, Bool, false, List, Option, unwrap_or, is_some}
 use Rattle.std.specs.Ordering.{nat_cmp}
 use Rattle.std.specs.Map.{lookup}

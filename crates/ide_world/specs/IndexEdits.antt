@@ -4,7 +4,7 @@ use Rattle.overlay_index.specs.Parts.{Parts, no_parts}
 use Rattle.ide_world.specs.declared.step.IndexEdit.{IndexEdit}
 use Rattle.ide_world.specs.declared.step.IndexEdit.TheVariants.{Keep, SetBase, SetOverlay, ToOverlay, ToBase, Drop}
 
--- the data of a file: of its content as it was indexed last, and of its committed text where it is open
+-- the data of a file: its base, and the overlay where it has one (`HoldsLive` says of which texts)
 pub record Indexed : Type 0 where
   pub base : Parts
   pub overlay : Option Parts

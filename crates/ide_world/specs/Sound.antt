@@ -29,8 +29,9 @@ pub record IsSoundWorld (world : World) : Type 0 where
   pub stamps : world.next_stamp ≤ 64 * world.entries + 1
   pub entries : world.entries ≤ max_entries
 
--- what the tables hold of a live file of a kind, or of none: the rows that are made for the kind, and no others. While it is
--- open nothing is said of its base
+-- what the tables hold of a live file: of one of no kind nothing; of one of a kind the rows of its committed text as overlay
+-- where it is open, else no overlay, and as base the rows of its content where it isn't open and is indexed at its stamp. Of any
+-- other base nothing is said
 abbrev pub HoldsLive : Option FileKind → File → Indexed → Type 0
 HoldsLive None file held = (held.base ≡ no_parts) × (held.overlay ≡ None)
 HoldsLive (Some kind) file held =

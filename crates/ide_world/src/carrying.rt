@@ -116,10 +116,7 @@ impl State {
             ++ ids_of steps.items }
     {
         for step in steps {
-            let taken = self.carry_out(step);
-            let Ok(()) = gone.push(taken) else {
-                unreachable!()
-            };
+            gone.push_reserved(self.carry_out(step));
         }
     }
 

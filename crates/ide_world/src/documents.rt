@@ -23,13 +23,13 @@ pub(crate) fn opened(alloc: Global, draft: &Draft<'_>, path: &Name) -> Result<St
     let Some(found) = draft.find(path) else {
         unreachable!()
     };
+    let doc = Doc::open(alloc, &found.row.content, 0)?;
+    let index = opened_index(alloc, found.row)?;
     Ok(Step {
         id: found.id,
         row: RowEdit::Keep,
-        doc: DocEdit::Open {
-            doc: Doc::open(alloc, &found.row.content, 0)?,
-        },
-        index: opened_index(alloc, found.row)?,
+        doc: DocEdit::Open { doc },
+        index,
         draws: false,
     })
 }

@@ -182,10 +182,18 @@ impl<'a> Draft<'a> {
         if !walk::edits_texts(self.steps.as_slice(), id) {
             return Ok(is_uncommitted(self.state, id));
         }
-        let (Some(text), Some(committed)) = (self.text(id)?, self.committed(id)) else {
-            return Ok(false);
-        };
-        Ok(!text.is_same(committed.as_text()))
+        match self.text(id) {
+            Ok(Some(text)) => {
+                let answer = match self.committed(id) {
+                    Some(committed) => !text.is_same(committed.as_text()),
+                    None => false,
+                };
+                drop(text);
+                Ok(answer)
+            }
+            Ok(None) => Ok(false),
+            Err(refusal) => Err(refusal),
+        }
     }
 
     /// The text of an open document, to be kept: the committed one where it is that, else made anew.

@@ -26,12 +26,7 @@ pub(crate) fn created(draft: &Draft<'_>, path: &Name, text: &SharedText) -> Resu
     Ok(Step {
         id: draft.made() as u32 + 1,
         row: RowEdit::Put {
-            row: FileRow {
-                path: path.copy()?,
-                content: text.share()?,
-                stamp: draft.next_stamp(),
-                indexed: None,
-            },
+            row: stamped_row(draft, path, text, None)?,
         },
         doc: DocEdit::Keep,
         index: IndexEdit::Keep,
@@ -57,19 +52,43 @@ pub(crate) fn written(
         },
         None => DocEdit::Keep,
     };
+    let row = match stamped_row(draft, &found.row.path, text, found.row.indexed) {
+        Ok(row) => row,
+        Err(refusal) => {
+            drop(doc);
+            return Err(refusal);
+        }
+    };
     Ok(Step {
         id: found.id,
-        row: RowEdit::Put {
-            row: FileRow {
-                path: found.row.path.copy()?,
-                content: text.share()?,
-                stamp: draft.next_stamp(),
-                indexed: found.row.indexed,
-            },
-        },
+        row: RowEdit::Put { row },
         doc,
         index: IndexEdit::Keep,
         draws: true,
+    })
+}
+
+/// A row with copies of a path and of a content, and the stamp that is drawn next.
+fn stamped_row(
+    draft: &Draft<'_>,
+    path: &Name,
+    content: &SharedText,
+    indexed: Option<u64>,
+) -> Result<FileRow, AllocError>
+    ensures { IfOk result
+        (λ row. row
+        ≡ record {
+          path = path.now;
+          content = content.now;
+          stamp = (drafted_world draft.now).next_stamp;
+          indexed = indexed;
+        }) }
+{
+    Ok(FileRow {
+        path: path.copy()?,
+        content: content.share()?,
+        stamp: draft.next_stamp(),
+        indexed,
     })
 }
 
@@ -101,20 +120,20 @@ pub(crate) fn moved(
     let Some(found) = draft.find(path) else {
         unreachable!()
     };
-    Ok(Step {
-        id: found.id,
-        row: RowEdit::Put {
-            row: FileRow {
-                path: to.copy()?,
-                content: found.row.content.share()?,
-                stamp: draft.next_stamp(),
-                indexed: found.row.indexed,
-            },
-        },
-        doc: DocEdit::Keep,
-        index: moved_index(alloc, &found.row.path, to, draft.committed(found.id))?,
-        draws: true,
-    })
+    let row = stamped_row(draft, to, &found.row.content, found.row.indexed)?;
+    match moved_index(alloc, &found.row.path, to, draft.committed(found.id)) {
+        Ok(index) => Ok(Step {
+            id: found.id,
+            row: RowEdit::Put { row },
+            doc: DocEdit::Keep,
+            index,
+            draws: true,
+        }),
+        Err(refusal) => {
+            drop(row);
+            Err(refusal)
+        }
+    }
 }
 
 /// What a move makes of the index data: nothing where the kind stays; else a file that has a kind and is open gets those
@@ -150,7 +169,13 @@ pub(crate) fn taken_in(draft: &Draft<'_>, made: Made) -> Result<Step, AllocError
     let Some(row) = draft.row(made.file) else {
         unreachable!()
     };
-    let mut row = row.copy()?;
+    let mut row = match row.copy() {
+        Ok(row) => row,
+        Err(refusal) => {
+            drop(made);
+            return Err(refusal);
+        }
+    };
     row.indexed = Some(made.stamp);
     let index = intake_index(&row.path, made.kind, made.parts);
     Ok(Step {

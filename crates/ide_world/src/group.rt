@@ -65,8 +65,13 @@ pub fn prepare(alloc: Global, state: &State, change: &Change) -> Result<Ready, R
     ensures refused { IfErr result (IsRefusalOf (refusal_of state.now.world change.now)) }
 {
     let mut draft = Draft::new(alloc, state);
-    extend(alloc, &mut draft, change)?;
-    made_ready(draft)
+    match extend(alloc, &mut draft, change) {
+        Ok(()) => made_ready(draft),
+        Err(refusal) => {
+            drop(draft);
+            Err(refusal)
+        }
+    }
 }
 
 /// Makes a list of changes ready, each judged where the earlier ones lead, or gives the first refused one. Where memory runs out,
@@ -114,11 +119,16 @@ pub fn prepare_intake(alloc: Global, state: &State, made: Made) -> Result<Ready,
 {
     let mut draft = Draft::new(alloc, state);
     if let Some(refusal) = intake_refusal(&draft, made.file, made.stamp) {
+        drop(made);
+        drop(draft);
         return Err(refusal);
     }
     match taken_in(&mut draft, made) {
         Ok(()) => made_ready(draft),
-        Err(_) => Err(Refusal::OutOfMemory),
+        Err(_) => {
+            drop(draft);
+            Err(Refusal::OutOfMemory)
+        }
     }
 }
 

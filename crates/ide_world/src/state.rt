@@ -143,10 +143,10 @@ impl State {
         ensures { IfOk result (λ copy. copy.world ≡ self.now.world) }
     {
         Ok(State {
-            files: self.files.copy()?,
-            docs: self.docs.copy()?,
-            layers: self.layers.copy()?,
             unready: self.unready.copy()?,
+            docs: self.docs.copy()?,
+            files: self.files.copy()?,
+            layers: self.layers.copy()?,
             entries: self.entries,
         })
     }

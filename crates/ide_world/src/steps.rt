@@ -48,10 +48,16 @@ impl Steps {
         ensures ok { OnOk result (self.new ≡ self.old ++ step ∷ []) }
         ensures err { OnErr result (self.new ≡ self.old) }
     {
-        make_room(&mut self.steps)?;
-        self.gone.reserve_exact(self.steps.capacity())?;
-        self.steps.push_reserved(step);
-        Ok(())
+        match make_room(&mut self.steps, &mut self.gone) {
+            Ok(()) => {
+                self.steps.push_reserved(step);
+                Ok(())
+            }
+            Err(refusal) => {
+                drop(step);
+                Err(refusal)
+            }
+        }
     }
 
     /// The steps.
@@ -84,17 +90,21 @@ impl Steps {
     }
 }
 
-/// Makes room for one step more: at first for no other, since most lists have one.
-fn make_room(steps: &mut Vec<Step>) -> Result<(), AllocError>
+/// Makes room for one step more, at first for no other, since most lists have one; and for what the steps take out.
+fn make_room(steps: &mut Vec<Step>, gone: &mut Vec<Removed>) -> Result<(), AllocError>
+    requires gone { (gone.old.items ≡ []) × (vec_len steps.old ≤ vec_capacity gone.old) }
     ensures items { steps.new.items ≡ steps.old.items }
     ensures len { vec_len steps.new ≡ vec_len steps.old }
-    ensures room { OnOk result (vec_len steps.new < vec_capacity steps.new) }
+    ensures gone { (gone.new.items ≡ []) × (vec_len steps.new ≤ vec_capacity gone.new) }
+    ensures room { OnOk result
+        ((vec_len steps.new < vec_capacity steps.new) × (vec_len steps.new < vec_capacity gone.new)) }
 {
     if steps.is_empty() {
-        steps.reserve_exact(1)
+        steps.reserve_exact(1)?;
     } else {
-        steps.reserve(1)
+        steps.reserve(1)?;
     }
+    gone.reserve_exact(steps.capacity())
 }
 
 /// Makes room for so many characters more in the document that a step brings, if it brings one.

@@ -58,33 +58,29 @@ fn edited_summary(edit: &DocEdit, summary: Option<Summary>) -> Option<Summary>
     ensures short { (n : ℕ) → 1 ≤ n → IfSome summary (λ summary. summary.len ≤ n * max_chars)
         → IfSome result (λ summary. summary.len ≤ (n + 1) * max_chars) }
 {
-    match edit {
-        DocEdit::Keep => summary,
-        DocEdit::Open { doc } => Some(Summary {
+    if let DocEdit::Open { doc } = edit {
+        return Some(Summary {
             len: doc.len(),
             saved: doc.saved(),
-        }),
+        });
+    }
+    let Summary { len, saved } = summary?;
+    match edit {
         DocEdit::Insert { at: _, text } => Some(Summary {
-            len: summary?.len + text.as_text().len(),
+            len: len + text.as_text().len(),
             saved: false,
         }),
         DocEdit::Erase { from, to } => Some(Summary {
-            len: summary?.len.saturating_sub(to.saturating_sub(*from)),
+            len: len.saturating_sub(to.saturating_sub(*from)),
             saved: false,
         }),
-        DocEdit::Commit { .. } => summary,
-        DocEdit::MarkSaved => Some(Summary {
-            len: summary?.len,
+        DocEdit::MarkSaved => Some(Summary { len, saved: true }),
+        DocEdit::Replace { doc } => Some(Summary {
+            len: doc.len(),
             saved: true,
         }),
-        DocEdit::Replace { doc } => {
-            summary?;
-            Some(Summary {
-                len: doc.len(),
-                saved: true,
-            })
-        }
         DocEdit::Close => None,
+        _ => Some(Summary { len, saved }),
     }
 }
 
@@ -144,16 +140,25 @@ fn edited_text(edit: &DocEdit, text: Option<Text>) -> Result<Option<Text>, Alloc
 {
     match edit {
         DocEdit::Keep => Ok(text),
-        DocEdit::Open { doc } => Ok(Some(doc.text()?)),
+        DocEdit::Open { doc } => {
+            drop(text);
+            Ok(Some(doc.text()?))
+        }
         DocEdit::Insert { at, text: piece } => inserted(text, *at, piece.as_text()),
         DocEdit::Erase { from, to } => Ok(erased(text, *from, *to)),
         DocEdit::Commit { .. } => Ok(text),
         DocEdit::MarkSaved => Ok(text),
         DocEdit::Replace { doc } => match text {
-            Some(_) => Ok(Some(doc.text()?)),
+            Some(text) => {
+                drop(text);
+                Ok(Some(doc.text()?))
+            }
             None => Ok(None),
         },
-        DocEdit::Close => Ok(None),
+        DocEdit::Close => {
+            drop(text);
+            Ok(None)
+        }
     }
 }
 

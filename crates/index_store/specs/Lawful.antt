@@ -27,7 +27,7 @@ abbrev pub word_rises : Option (List ℕ × ℕ) → List ℕ → Bool
 word_rises None name = true
 word_rises (Some before) name = is_lt (slice_cmp nat_cmp before.0 name)
 
--- a word: its name isn't empty, and its mask has one of three bits
+-- a word: its name isn't empty and is above the one before it, and its mask has one of three bits at least, and no other
 pub record IsWord (before : Option (List ℕ × ℕ)) (w : List ℕ × ℕ) : Type 0 where
   pub named : IsLawfulName w.0
   pub scalars : all_scalars w.0 ≡ true

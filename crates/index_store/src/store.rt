@@ -158,13 +158,24 @@ impl Store {
         requires few { length self.old < 4294967295 }
         ensures { IfOk result (λ right. IsTakenIn right row.now self.old self.new) }
     {
-        let text = text_of_name(self.alloc, &row.text)?;
-        let stored = Stored::of(self.alloc, row.kind, &text)?;
+        let stored = {
+            let text = text_of_name(self.alloc, &row.text)?;
+            Stored::of(self.alloc, row.kind, &text)?
+        };
         if !stored.is_spelled(row.data) {
+            drop(stored);
             return Ok(false);
         }
-        self.put(row.text.copy()?, row.kind, stored)?;
-        Ok(true)
+        match row.text.copy() {
+            Ok(name) => {
+                self.put(name, row.kind, stored)?;
+                Ok(true)
+            }
+            Err(refusal) => {
+                drop(stored);
+                Err(refusal)
+            }
+        }
     }
 
     /// Puts an entry in.
@@ -176,7 +187,7 @@ impl Store {
             (self.new ≡ with_entry (record { text = text; kind = kind }) self.old) }
         ensures err { OnErr result (self.new ≡ self.old) }
     {
-        self.held.insert((text, code_of(kind)), stored)?;
+        drop(self.held.insert((text, code_of(kind)), stored)?);
         Ok(())
     }
 }

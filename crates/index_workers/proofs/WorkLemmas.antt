@@ -37,7 +37,7 @@ use Rattle.index_workers.specs.declared.worked.Worked.{Worked}
 use Rattle.index_workers.specs.Hints.{HasPopped, HasOnlyPopped, IsFirstTried}
 use Rattle.index_workers.specs.Passes.{ide_view, IsIdePassOf, IsSameIdePass}
 use Rattle.index_workers.specs.Work.{WorkStep, Leads, taken_by, Sayings, any_answer, GoesOn, IsEndOf, WentOn, EndsBy, IsAtEnd, IsIntakeBy, StandsIn}
-use Rattle.index_workers.specs.Work.{HasGone, HasGoneOn, HasWorked, HasWorkedSo}
+use Rattle.index_workers.specs.Work.{HasGone, HasGoneOn, HasWorked, HasWorkedInPart, HasWorkedSo}
 
 -- ---- a pass that goes on is the same pass, and has only taken hints
 
@@ -190,6 +190,12 @@ module _ (said : Sayings) (seat turns taken : ℕ) (v w u : View Entry) (q r s :
   pub ends : (why : End) → IsEndOf said seat answer why
       → HasWorked said v u q s (record { seat = seat; turns = turns + 1; taken = taken + taken_by answer; end = why })
   ends why is = search (rules, further, turns_are, (end_here why is).0, (end_here why is).1)
+
+-- memory ran out behind a run
+pub in_part : (said : Sayings) (seat turns taken : ℕ) (v u w : View Entry) (q m r : QueueView) (hint : Option Hint)
+    → HasGoneOn said seat turns taken v u q m → HasPopped hint m r → Advances u w → w.mine ≡ u.mine → HasWorkedInPart said v w q r
+in_part said seat turns taken v u w q m r hint on takes advances mine =
+    record { seat = seat; turns = turns; taken = taken; between = u; middle = m; so_far = on; hint = (hint, takes); advances = advances; mine = mine }
 
 -- ---- a run, whatever the gate may say
 

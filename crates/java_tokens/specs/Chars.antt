@@ -60,11 +60,11 @@ is_other mark c = not (c == mark)
 abbrev pub is_in_line : ℕ → Bool
 is_in_line c = not (c == line_feed)
 
--- JavaLetter: what may begin a word
+-- what may begin a word, in place of JavaLetter: XID_Start, `_`, `$`
 abbrev pub begins_word : ℕ → Bool
 begins_word c = is_xid_start c || c == underscore || c == dollar
 
--- JavaLetterOrDigit: what may go on in a word
+-- what may go on in a word, in place of JavaLetterOrDigit: XID_Continue, `$`
 abbrev pub continues_word : ℕ → Bool
 continues_word c = is_xid_continue c || c == dollar
 

@@ -4,7 +4,7 @@ use Rattle.std.specs.List.{list_any, list_all}
 use Rattle.std.specs.Str.{bytes_eq}
 use Rattle.java_tokens.specs.Chars.{begins_word, continues_word}
 
--- the characters are one whole word: a JavaLetter, and then JavaLetterOrDigit
+-- the characters are one whole word: what may begin a word, and then what may go on in it
 abbrev pub is_word : List ℕ → Bool
 is_word [] = false
 is_word (c ∷ cs) = begins_word c && list_all continues_word cs

@@ -58,21 +58,22 @@ fn add_token(masks: &mut Masks, text: &Text, token: &Token) -> Result<(), AllocE
         ≡ fold with_occurrence masks.old (occurrences_at text.now token.now)) }
 {
     if token.is(TokenKind::Word) {
-        add_identifier(masks, &Piece::part(text, token.at(), token.len()))?;
+        add_identifier(masks, &Piece::part(text, token.at(), token.len()))
     } else if token.is(TokenKind::LineComment) || token.is(TokenKind::BlockComment) {
         add_words(
             masks,
             &Piece::part(text, token.at(), token.len()),
             Context::Comment,
-        )?;
+        )
     } else if token.is(TokenKind::Str) || token.is(TokenKind::TextBlock) {
         add_words(
             masks,
             &Piece::part(text, token.at(), token.len()),
             Context::String,
-        )?;
+        )
+    } else {
+        Ok(())
     }
-    Ok(())
 }
 
 /// Adds a word of code that isn't reserved.
@@ -82,10 +83,11 @@ fn add_identifier(masks: &mut Masks, piece: &Piece) -> Result<(), AllocError>
         ≡ fold with_occurrence masks.old
         (if is_reserved piece.now then [] else marked Code (piece.now ∷ []))) }
 {
-    if !is_reserved(piece) {
-        masks.add(piece, 0, piece.len(), Context::Code)?;
+    if is_reserved(piece) {
+        Ok(())
+    } else {
+        masks.add(piece, 0, piece.len(), Context::Code)
     }
-    Ok(())
 }
 
 /// Adds the words in a comment or a string.
@@ -145,7 +147,8 @@ fn add_run(
         masks.new ≡ fold with_occurrence masks.old (marked place (words_among (run ∷ [])))) }
 {
     if begins_word_at(piece, at) {
-        masks.add(piece, at, end, place)?;
+        masks.add(piece, at, end, place)
+    } else {
+        Ok(())
     }
-    Ok(())
 }

@@ -6,7 +6,6 @@ mod mode;
 mod ours;
 mod plain;
 mod play;
-mod readers;
 mod start;
 
 use start::start;

@@ -24,19 +24,44 @@ pub const ALL: [Turn; 5] = [
     Turn::WriteBeside,
 ];
 
-impl Turn {
-    /// Its word on the command line, on this lock or on a plain one.
-    pub fn name(self, plain: bool) -> &'static str {
-        match self {
-            Turn::Read => by_lock(plain, "read", "plain-read"),
-            Turn::ReadTwo => by_lock(plain, "read-two", "plain-read-two"),
-            Turn::ReadFour => by_lock(plain, "read-four", "plain-read-four"),
-            Turn::Write => by_lock(plain, "write", "plain-write"),
-            Turn::WriteBeside => by_lock(plain, "write-beside", "plain-write-beside"),
-        }
-    }
+/// What one of the four threads does.
+#[derive(Clone, Copy)]
+pub enum Job {
+    /// Nothing.
+    Rests,
+    /// Reads once a turn.
+    Reads,
+    /// Writes once a turn, and then tells the others to end.
+    Writes,
+    /// Reads until it is told to end. These reads aren't counted.
+    ReadsOn,
 }
 
-fn by_lock(plain: bool, ours: &'static str, other: &'static str) -> &'static str {
-    if plain { other } else { ours }
+impl Turn {
+    /// What each thread does.
+    pub fn jobs(self) -> [Job; 4] {
+        match self {
+            Turn::Read => [Job::Reads, Job::Rests, Job::Rests, Job::Rests],
+            Turn::ReadTwo => [Job::Reads, Job::Reads, Job::Rests, Job::Rests],
+            Turn::ReadFour => [Job::Reads; 4],
+            Turn::Write => [Job::Writes, Job::Rests, Job::Rests, Job::Rests],
+            Turn::WriteBeside => [Job::Writes, Job::ReadsOn, Job::ReadsOn, Job::ReadsOn],
+        }
+    }
+
+    /// Its word on the command line, on this lock or on a plain one.
+    pub fn name(self, plain: bool) -> &'static str {
+        match (self, plain) {
+            (Turn::Read, false) => "read",
+            (Turn::ReadTwo, false) => "read-two",
+            (Turn::ReadFour, false) => "read-four",
+            (Turn::Write, false) => "write",
+            (Turn::WriteBeside, false) => "write-beside",
+            (Turn::Read, true) => "plain-read",
+            (Turn::ReadTwo, true) => "plain-read-two",
+            (Turn::ReadFour, true) => "plain-read-four",
+            (Turn::Write, true) => "plain-write",
+            (Turn::WriteBeside, true) => "plain-write-beside",
+        }
+    }
 }

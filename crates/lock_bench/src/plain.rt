@@ -1,9 +1,10 @@
 //! The same turns on std's `RwLock`, with an `Arc` as what a reader keeps.
 ghost use Rattle.std.specs.Prelude.{◌≤◌};
 
+use crate::mode::Job;
 use std::sync::atomic::{AtomicBool, Ordering};
 use std::sync::{Arc, RwLock, Wait};
-use std::thread::{Threads, join_mut};
+use std::thread::{Threads, for_each_mut};
 
 /// Whether fewer writes were made, by a share that is kept for a moment.
 fn finds_fewer<R: Wait>(rt: &R, lock: &RwLock<Arc<u64>>, below: u64) -> bool {
@@ -15,7 +16,7 @@ fn finds_fewer<R: Wait>(rt: &R, lock: &RwLock<Arc<u64>>, below: u64) -> bool {
 }
 
 /// Reads so many times. How often nothing was found written.
-pub fn read_turns<R: Wait>(rt: &R, lock: &RwLock<Arc<u64>>, turns: u64) -> u64
+fn read_turns<R: Wait>(rt: &R, lock: &RwLock<Arc<u64>>, turns: u64) -> u64
     ensures { result ≤ turns }
 {
     let mut done = 0;
@@ -39,7 +40,7 @@ fn read_until<R: Wait>(rt: &R, lock: &RwLock<Arc<u64>>, end: &AtomicBool) {
 }
 
 /// Writes so many times, in place where no share is out, and else to a copy.
-pub fn write_turns<R: Wait>(rt: &R, lock: &RwLock<Arc<u64>>, turns: u64) {
+fn write_turns<R: Wait>(rt: &R, lock: &RwLock<Arc<u64>>, turns: u64) {
     for _ in 0..turns {
         let mut kept = lock.write(rt);
         if let Ok(count) = Arc::make_mut(&mut *kept) {
@@ -48,58 +49,39 @@ pub fn write_turns<R: Wait>(rt: &R, lock: &RwLock<Arc<u64>>, turns: u64) {
     }
 }
 
-fn write_and_tell<R: Wait>(rt: &R, lock: &RwLock<Arc<u64>>, turns: u64, end: &AtomicBool) {
-    write_turns(rt, lock, turns);
-    end.store(true, Ordering::SeqCst);
+/// What one thread does. How many turns it took, of those that count.
+fn turn<R: Wait>(rt: &R, lock: &RwLock<Arc<u64>>, job: Job, turns: u64, end: &AtomicBool) -> u64 {
+    match job {
+        Job::Rests => 0,
+        Job::Reads => read_turns(rt, lock, turns),
+        Job::Writes => {
+            write_turns(rt, lock, turns);
+            end.store(true, Ordering::SeqCst);
+            turns
+        }
+        Job::ReadsOn => {
+            read_until(rt, lock, end);
+            0
+        }
+    }
 }
 
-/// Reads in two threads at once.
-pub fn read_two<R: Threads + Wait + Sync>(rt: &R, lock: &RwLock<Arc<u64>>, turns: u64) -> u64 {
-    let (first, second) = join_mut(
-        rt,
-        &mut || read_turns(rt, lock, turns),
-        &mut || read_turns(rt, lock, turns),
-    );
-    first.wrapping_add(second)
-}
-
-/// Reads in four threads at once.
-pub fn read_four<R: Threads + Wait + Sync>(rt: &R, lock: &RwLock<Arc<u64>>, turns: u64) -> u64 {
-    let (first, second) = join_mut(
-        rt,
-        &mut || read_two(rt, lock, turns),
-        &mut || read_two(rt, lock, turns),
-    );
-    first.wrapping_add(second)
-}
-
-fn write_beside_one<R: Threads + Wait + Sync>(
+/// Four threads at once, each with its job. How many turns each took, of those that count.
+pub fn take<R: Threads + Wait + Sync>(
     rt: &R,
     lock: &RwLock<Arc<u64>>,
+    jobs: &[Job; 4],
     turns: u64,
-    end: &AtomicBool,
-) {
-    join_mut(
-        rt,
-        &mut || write_and_tell(rt, lock, turns, end),
-        &mut || read_until(rt, lock, end),
-    );
-}
-
-fn read_two_until<R: Threads + Wait + Sync>(rt: &R, lock: &RwLock<Arc<u64>>, end: &AtomicBool) {
-    join_mut(
-        rt,
-        &mut || read_until(rt, lock, end),
-        &mut || read_until(rt, lock, end),
-    );
-}
-
-/// Writes so many times beside three readers.
-pub fn write_beside<R: Threads + Wait + Sync>(rt: &R, lock: &RwLock<Arc<u64>>, turns: u64) {
+) -> [u64; 4] {
     let end = AtomicBool::new(false);
-    join_mut(
+    let mut done = [0; 4];
+    for_each_mut(
         rt,
-        &mut || write_beside_one(rt, lock, turns, &end),
-        &mut || read_two_until(rt, lock, &end),
+        &mut done,
+        4,
+        &|index: usize, done: &mut u64| -> () {
+            *done = turn(rt, lock, jobs[index % 4], turns, &end)
+        },
     );
+    done
 }

@@ -58,7 +58,7 @@ overlay_of held file = if is_some (hidden_in held.hidden file) then Some (parts_
 abbrev pub shown_of : LayersView → ℕ → Parts
 shown_of held file = unwrap_or (overlay_of held file) (base_of held file)
 
--- the base that goes when a file's overlay goes
+-- the base that a file's overlay hides, if it has one
 abbrev pub covered_of : LayersView → ℕ → List Parts
 covered_of held file = if is_some (overlay_of held file) then base_of held file ∷ [] else []
 

@@ -77,12 +77,13 @@ pub fn data_of(alloc: Global, kind: FileKind, text: &Text) -> Result<FileData, A
 fn property_data(alloc: Global, text: &Text) -> Result<FileData, AllocError>
     ensures { IfOk result (λ made. made ≡ parts_of Properties text.now) }
 {
+    let keys = PropertyKeys.rows(alloc, text)?;
     Ok(FileData {
         types: KeyRows::new(alloc),
         supers: KeyRows::new(alloc),
         methods: KeyRows::new(alloc),
         words: KeyRows::new(alloc),
-        keys: PropertyKeys.rows(alloc, text)?,
+        keys,
     })
 }
 

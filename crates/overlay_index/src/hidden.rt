@@ -52,7 +52,7 @@ impl Hidden {
             → has_place self.new other ≡ true }
     {
         if !self.bases.contains_key(&file) {
-            self.bases.insert(file, None)?;
+            drop(self.bases.insert(file, None)?);
         }
         Ok(())
     }
@@ -97,7 +97,7 @@ impl Hidden {
         ensures swept { has_place self.new file ≡ is_some (hidden_in self.new file) }
     {
         if !self.has(file) {
-            self.bases.remove(&file);
+            drop(self.bases.remove(&file));
         }
     }
 
@@ -128,7 +128,7 @@ fn put_copy(
         ≡ (if is_at (nat_cmp file) other then Some base.now
         else get nat_cmp bases.old other)) }
 {
-    bases.insert(file, copy_base(alloc, base)?)?;
+    drop(bases.insert(file, copy_base(alloc, base)?)?);
     Ok(())
 }
 

@@ -1,3 +1,4 @@
 pub mod Words
 pub mod SectionLemmas
 pub mod RoundLemmas
+pub mod RunLemmas

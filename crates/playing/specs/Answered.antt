@@ -54,7 +54,7 @@ pub record IsGivenUpBy (command : Command) (v w : View Entry) (answer : Answer) 
   pub soft : command ≡ Soft attempts query
   pub cancelled : IsCancelled attempts v w answer
 
--- The command of a line was done, a soft question by a read that looked where another section runs beside; or, only there, it was given up
+-- The command of a line was done, a soft question by a read that looked where another lane or a worker runs beside; or, only there, it was given up
 abbrev pub IsLineAnswered : Bool → Line → Loaded → View Entry → View Entry → Answer → Type 0
 IsLineAnswered beside line load v w answer =
     (IsAnswered (λ start seat. step_of load start seat line.number line.command) v w answer × HasCheckedIf (is_soft line.command && beside) v w)

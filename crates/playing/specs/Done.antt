@@ -22,7 +22,8 @@ abbrev pub is_reply : Answer → Bool
 is_reply (Cancelled sighted) = false
 is_reply answer = true
 
--- how many looks the answers to some lines take at least: one for each soft question, where another section runs beside
+-- how many looks the answers to some lines take at least: one for each soft question that wasn't given up, where another lane or a worker runs
+-- beside
 abbrev pub looks_owed : Bool → List Line → List Record → ℕ
 looks_owed beside [] records = 0
 looks_owed beside (line ∷ lines) [] = 0

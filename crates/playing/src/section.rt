@@ -19,8 +19,8 @@ use transcripts::{Loaded, Records};
 
 /// Does the commands of a section in order, and adds a record for each, for all of which room is made first. `loads` is what
 /// was read for its lines, nothing where there is no more. `seat` is the pass's number; that of a lane has the gate told
-/// `Start` before each command. `beside` says whether another section runs beside this one: only then may a soft question be
-/// given up. When memory runs out, what was made so far stays. May block.
+/// `Start` before each command. `beside` says whether another lane or a worker runs beside this section: only then may a soft
+/// question be given up. When memory runs out, what was made so far stays. May block.
 pub fn do_section<R: Threads + Wait, G: Gate>(
     rt: &R,
     alloc: Global,

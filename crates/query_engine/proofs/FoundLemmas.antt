@@ -92,9 +92,9 @@ listing_from named world id {text} {stubs} is same lawful listed =
 -- ---- what is found in the files of a world
 
 -- the row that is made for a word
-pub word_row_made : (world : World) {id mask : ℕ} {path copy : List ℕ} → Some path ≡ option_map (λ file. file.path) (file_of world id) → copy ≡ path
-    → ◌≡◌ {A = WordRow} (record { file = id; path = copy; mask = mask }) (word_found world (id, mask))
-word_row_made world {id} {mask} is same = ap (λ p. record { file = id; path = p; mask = mask }) (same ∙ read_found (λ file. file.path) (file_of world id) is)
+pub word_row_made : (world : World) {id mask : ℕ} {path : List ℕ} → Some path ≡ option_map (λ file. file.path) (file_of world id)
+    → ◌≡◌ {A = WordRow} (record { file = id; path = path; mask = mask }) (word_found world (id, mask))
+word_row_made world {id} {mask} is = ap (λ p. record { file = id; path = p; mask = mask }) (read_found (λ file. file.path) (file_of world id) is)
 
 -- what is left is of live files
 pub live_rest : {X : Type 0} (world : World) {x : ℕ × X} {left left' : List (ℕ × X)} → left ≡ x ∷ left' → AreLive world left → AreLive world left'

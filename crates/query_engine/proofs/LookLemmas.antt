@@ -59,29 +59,29 @@ pub record IsMade {W F R : Type 0} (l s : W → ℕ) (row : F → R) (all : List
   pub few : length rows + length left ≡ length all
   pub made : rows ++ map row left ≡ map row all
 
-module _ {W F R : Type 0} {l s : W → ℕ} {row : F → R} {all : List F} {rows rows' : List R} {x : F} {left left' : List F} {n : ℕ} {old mid : W} (y : R)
-    (next : left ≡ x ∷ left') (grown : rows' ≡ rows ++ y ∷ []) (count : n ≡ length rows') (h : IsMade l s row all rows left old mid) where
-  more : length rows' ≡ length rows + 1
-  more = ap length grown ∙ length-append rows (y ∷ [])
-
+module _ {W F R : Type 0} {l s : W → ℕ} {row : F → R} {all : List F} {rows : List R} {x : F} {left left' : List F} {old mid : W}
+    (next : left ≡ x ∷ left') (h : IsMade l s row all rows left old mid) where
   -- the look behind one row more
-  looks : length rows / rows_a_look + looks_at n ≡ length rows' / rows_a_look
-  looks = let more = more in grind (arith, common_steps, more, count)
+  looks : length rows / rows_a_look + looks_at (length rows + 1) ≡ (length rows + 1) / rows_a_look
+  looks = grind (arith, common_steps)
 
   -- it saw nothing
-  pub made_more : {new : W} → y ≡ row x → LooksThrough l s (looks_at n) mid new → IsMade l s row all rows' left' old new
-  made_more is q = record {
-    looked = looked_through looks h.looked q;
-    few = omega (arith, more, ap length next, h.few);
-    made = cc (append_assoc rows (y ∷ []) (map row left'), ap (λ xs. rows ++ map row xs) next, h.made);
-  }
+  pub made_more : {rows' : List R} {new : W} → rows' ≡ rows ++ row x ∷ [] → LooksThrough l s (looks_at (length rows + 1)) mid new
+      → IsMade l s row all rows' left' old new
+  made_more grown q =
+      let more = ap length grown ∙ length-append rows (row x ∷ []) in
+      record {
+        looked = looked_through (looks ∙ sym (ap (λ n. n / rows_a_look) more)) h.looked q;
+        few = omega (arith, more, ap length next, h.few);
+        made = cc (grown, append_assoc rows (row x ∷ []) (map row left'), ap (λ xs. rows ++ map row xs) next, h.made);
+      }
 
-  -- or it ends the call
+  -- or the row or the look ends the call
   pub made_stopped : {st : W → W → Type 0} (X : Type 0) {Y : Type 0} (e : AskRefusal) (r : Result Y AskRefusal) (new : W)
       → ((x y z : W) → st x y → st y z → st x z) → st old mid
-      → EndsEarly e → HasLooked {X = X} l s st (Err e) (looks_at n) mid new → IsErrAnd r (λ f. f ≡ e) → HasLooked l s st r (length all / rows_a_look) old new
+      → EndsEarly e → HasLooked {X = X} l s st (Err e) (looks_at (length rows + 1)) mid new → IsErrAnd r (λ f. f ≡ e) → HasLooked l s st r (length all / rows_a_look) old new
   made_stopped {st} X e r new on kept early q told =
-      looked_early l s st X _ r e old new told early (omega (arith, more, ap length next, h.few)) (looked_on {X = X} _ (Err e) new on looks kept h.looked q)
+      looked_early l s st X _ r e old new told early (omega (arith, ap length next, h.few)) (looked_on {X = X} _ (Err e) new on looks kept h.looked q)
 
 -- Of what was found some were met, `met` others before them since the last look, and the rest is left.
 pub record HasMet {W F : Type 0} (l s : W → ℕ) (all : List F) (met : ℕ) (left : List F) (met' : ℕ) (old new : W) : Type 0 where

@@ -31,7 +31,7 @@ text_at world id = option_map_or shown_text (file_of world id) []
 abbrev pub listed_at : World → ℕ → ℕ → Listed
 listed_at world id at = record { id = id; path = path_at world id; text = text_at world id; at = at }
 
--- it is a file of the world, with a text that isn't too long
+-- it is what the world has of a file with its id, with a text that isn't too long
 pub record IsListed (world : World) (listed : Listed) : Type 0 where
   pub is : listed ≡ listed_at world listed.id listed.at
   pub short : length listed.text ≤ max_chars
@@ -48,11 +48,11 @@ stub_at stub = stub.at
 abbrev pub itself : ℕ → ℕ
 itself at = at
 
--- a place stands in a text behind an offset, where the text isn't too long
+-- a place stands in a text at an offset or behind it, where the text isn't too long
 abbrev pub StandsIn : List ℕ → ℕ → ℕ → Type 0
 StandsIn text from at = length text ≤ max_chars → (from ≤ at) × (at ≤ length text)
 
--- what stands somewhere in live files, in one file at rising offsets
+-- what stands somewhere in live files, in one file at offsets that don't fall
 abbrev pub AreAhead : {X : Type 0} → (X → ℕ) → World → Option Listed → List (ℕ × X) → Type 0
 AreAhead at_of world before [] = Unit {0}
 AreAhead at_of world before (found ∷ rest) =
@@ -87,7 +87,7 @@ uses_found world name found = uses_at world name found.0
 abbrev pub AreLive : {X : Type 0} → World → List (ℕ × X) → Type 0
 AreLive world found = All (λ f. IsSome (file_of world f.0)) found
 
--- what stands in a text at rising offsets, none before an offset
+-- what stands in a text at offsets that don't fall, none before an offset
 abbrev pub AreFrom : {X : Type 0} → (X → ℕ) → ℕ → ℕ → List X → Type 0
 AreFrom at_of len at [] = Unit {0}
 AreFrom at_of len at (x ∷ xs) = (at ≤ at_of x) × (at_of x ≤ len) × AreFrom at_of len (at_of x) xs

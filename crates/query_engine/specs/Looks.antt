@@ -31,7 +31,8 @@ row_count (Inheritors rows) = length rows
 row_count (Keys rows) = length rows
 row_count (Counts files docs unready) = 0
 
--- how often the call with this answer looks after its first look, where no look sees anything: once for each full 256 rows
+-- how often the call with this answer looks after its first look, where no look sees anything: once for each full 256 rows (of usages and inheritors see
+-- `looks_after`)
 abbrev pub later_looks : Result Finding NoAnswer → ℕ
 later_looks (Ok answer) = row_count answer / rows_a_look
 later_looks (Err why) = 0
@@ -115,7 +116,7 @@ pub record HasLookedFor {W X : Type 0} (looks_of sights_of : W → ℕ) (stays :
   pub may : MayLook world query number
   pub looked : HasLooked looks_of sights_of stays result number old new
 
--- a call ends early alone: it was stopped, or memory ran out
+-- the refusals of a call that ended early: it was stopped, or memory ran out
 abbrev pub EndsEarly : AskRefusal → Type 0
 EndsEarly NoSuchFile = ⊥
 EndsEarly (NotReady file) = ⊥

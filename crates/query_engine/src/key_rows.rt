@@ -7,7 +7,6 @@ ghost use Rattle.query_engine.specs.Given.{GivesReply, key_reply};
 
 use crate::answer::{AskRefusal, Finding, PlaceRow, RowList};
 use crate::listed_file::ListedFile;
-use crate::looks::look_after;
 use crate::ready::ready;
 use action_lock::Watch;
 use ide_world::{KeyWalk, State};
@@ -54,9 +53,8 @@ fn key_rows<W: Watch>(
     let mut before = None;
     for (id, at) in found {
         let mut file = ListedFile::continued(state, before, id);
-        rows.push(file.place(at)?)?;
+        file.add_place(at, &mut rows, watch)?;
         before = Some(file);
-        look_after(rows.len(), watch)?;
     }
     Ok(rows)
 }

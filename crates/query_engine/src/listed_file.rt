@@ -1,10 +1,13 @@
 //! A file whose rows are being made.
-ghost use Rattle.std.specs.Prelude.{◌≡◌, ◌≤◌, length, IfOk, IfSome, IsSome};
+ghost use Rattle.std.specs.Prelude.{◌≡◌, ◌≤◌, ◌+◌, ◌++◌, ◌∷◌, [], length, IfOk, IfErr, OnOk, IfSome, IsSome};
 ghost use Rattle.write_history.specs.World.{file_of};
 ghost use Rattle.query_engine.specs.Reply.{place_row, row_of};
+ghost use Rattle.query_engine.specs.Looks.{looks_at, HasLooked, EndsEarly};
 ghost use Rattle.query_engine.specs.Listed.{listed_at, IsListed, offset_in};
 
-use crate::answer::{PlaceRow, Row};
+use crate::answer::{AskRefusal, PlaceRow, Row, RowList};
+use crate::looks::add_row;
+use action_lock::Watch;
 use ide_text::{LineWalk, Name};
 use ide_world::{State, path, shown};
 use std::alloc::AllocError;
@@ -101,5 +104,51 @@ impl<'a> ListedFile<'a> {
             name: stub.name.copy()?,
             supers: stub.supers.copy()?,
         })
+    }
+
+    /// Puts the row of a place at the end, and looks where the rows are a full number of 256 then.
+    pub(crate) fn add_place<W: Watch>(
+        &mut self,
+        at: u32,
+        rows: &mut RowList<PlaceRow>,
+        watch: &mut W,
+    ) -> Result<(), AskRefusal>
+        requires can { W.can_look watch.old }
+        requires ahead { self.old.at ≤ at }
+        requires inside { at ≤ length self.old.text }
+        ensures again { W.can_look watch.new }
+        ensures stays { W.stays watch.old watch.new }
+        ensures added { OnOk result
+            (rows.new ≡ rows.old ++ place_row self.old.id self.old.path self.old.text at ∷ []) }
+        ensures goes_on { self.new ≡ record self.old { at = at } }
+        ensures looked { HasLooked W.looks W.sightings W.stays result
+            (looks_at (length rows.old + 1)) watch.old watch.new }
+        ensures early { IfErr result EndsEarly }
+    {
+        let row = self.place(at)?;
+        add_row(rows, row, watch)
+    }
+
+    /// Puts the row of a declaration at the end, and looks where the rows are a full number of 256 then.
+    pub(crate) fn add_stub<W: Watch>(
+        &mut self,
+        stub: &Stub,
+        rows: &mut RowList<Row>,
+        watch: &mut W,
+    ) -> Result<(), AskRefusal>
+        requires can { W.can_look watch.old }
+        requires ahead { self.old.at ≤ stub.now.at }
+        requires inside { stub.now.at ≤ length self.old.text }
+        ensures again { W.can_look watch.new }
+        ensures stays { W.stays watch.old watch.new }
+        ensures added { OnOk result
+            (rows.new ≡ rows.old ++ row_of self.old.id self.old.path self.old.text stub.now ∷ []) }
+        ensures goes_on { self.new ≡ record self.old { at = stub.now.at } }
+        ensures looked { HasLooked W.looks W.sightings W.stays result
+            (looks_at (length rows.old + 1)) watch.old watch.new }
+        ensures early { IfErr result EndsEarly }
+    {
+        let row = self.row(stub)?;
+        add_row(rows, row, watch)
     }
 }

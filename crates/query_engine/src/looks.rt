@@ -1,10 +1,10 @@
 //! Looks at a watch: one as a call begins, and then by what it makes or meets: one after each 256 rows or types, or after
 //! each file.
-ghost use Rattle.std.specs.Prelude.{◌≡◌, ◌<◌, ◌+◌, ◌/◌, ◌%◌, IfErr};
+ghost use Rattle.std.specs.Prelude.{◌≡◌, ◌<◌, ◌+◌, ◌/◌, ◌%◌, ◌++◌, ◌∷◌, [], IfErr, OnOk, length};
 ghost use Rattle.action_lock.specs.Counts.{counted};
 ghost use Rattle.query_engine.specs.Looks.{rows_a_look, looks_at, HasLooked, EndsEarly};
 
-use crate::answer::AskRefusal;
+use crate::answer::{AskRefusal, RowList};
 use action_lock::Watch;
 
 /// The number of rows after which a call looks once more.
@@ -70,16 +70,22 @@ pub(crate) fn look<W: Watch>(watch: &mut W) -> Result<(), AskRefusal>
     }
 }
 
-/// Looks where the rows that are made are a full number of 256.
-pub(crate) fn look_after<W: Watch>(rows: usize, watch: &mut W) -> Result<(), AskRefusal>
+/// Puts a row at the end, and looks where the rows are a full number of 256 then.
+pub(crate) fn add_row<T: Drop, W: Watch>(
+    rows: &mut RowList<T>,
+    row: T,
+    watch: &mut W,
+) -> Result<(), AskRefusal>
     requires { W.can_look watch.old }
     ensures again { W.can_look watch.new }
     ensures stays { W.stays watch.old watch.new }
+    ensures added { OnOk result (rows.new ≡ rows.old ++ row ∷ []) }
     ensures looked { HasLooked W.looks W.sightings W.stays result
-        (looks_at rows) watch.old watch.new }
+        (looks_at (length rows.old + 1)) watch.old watch.new }
     ensures early { IfErr result EndsEarly }
 {
-    if rows % ROWS_A_LOOK == 0 {
+    rows.push(row)?;
+    if rows.len() % ROWS_A_LOOK == 0 {
         look(watch)
     } else {
         Ok(())

@@ -7,7 +7,6 @@ ghost use Rattle.query_engine.specs.Listed.{path_at, stub_at, text_at, AreFrom};
 
 use crate::answer::{AskRefusal, Finding, Row, RowList};
 use crate::listed_file::ListedFile;
-use crate::looks::look_after;
 use action_lock::Watch;
 use decl_parser::laws::names_are_identifiers;
 use decl_parser::stubs;
@@ -70,8 +69,7 @@ fn file_rows<W: Watch>(
     let mut rows = RowList::new(alloc);
     let mut file = ListedFile::of(state, id);
     for stub in stubs {
-        rows.push(file.row(stub)?)?;
-        look_after(rows.len(), watch)?;
+        file.add_stub(stub, &mut rows, watch)?;
     }
     Ok(rows)
 }

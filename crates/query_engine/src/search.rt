@@ -44,18 +44,25 @@ pub(crate) fn search_types<'a, W: Watch>(
     ensures early { IfErr result EndsEarly }
 {
     offsets_rise();
+    let reached = Reached::of(alloc, name)?;
     let mut search = Search {
         asked: AskedNames::new(alloc),
-        reached: Reached::of(alloc, name)?,
+        reached,
         met: 0,
     };
     for level in 1..u32::MAX {
         let names = search.reached.take_next(alloc);
         if names.is_empty() {
+            drop(names);
+            drop(search.asked);
             return Ok(search.reached);
         }
-        ask_each(state, level, names, &mut search, watch)?;
+        if let Err(refusal) = ask_each(state, level, names, &mut search, watch) {
+            drop(search);
+            return Err(refusal);
+        }
     }
+    drop(search);
     Err(AskRefusal::OutOfMemory)
 }
 

@@ -7,7 +7,6 @@ ghost use Rattle.query_engine.specs.Given.{GivesReply, declared_reply};
 
 use crate::answer::{AskRefusal, Finding, Row, RowList};
 use crate::listed_file::ListedFile;
-use crate::looks::look_after;
 use crate::ready::ready;
 use action_lock::Watch;
 use ide_world::{State, StubWalk};
@@ -54,9 +53,8 @@ fn stub_rows<W: Watch>(
     let mut before = None;
     for (id, stub) in found {
         let mut file = ListedFile::continued(state, before, id);
-        rows.push(file.row(stub)?)?;
+        file.add_stub(stub, &mut rows, watch)?;
         before = Some(file);
-        look_after(rows.len(), watch)?;
     }
     Ok(rows)
 }

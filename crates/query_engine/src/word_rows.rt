@@ -1,14 +1,15 @@
 //! The rows of a word that was found.
-ghost use Rattle.std.specs.Prelude.{◌≡◌, ◌/◌, None, IfOk, IfErr, map, length};
+ghost use Rattle.std.specs.Prelude.{◌≡◌, ◌+◌, ◌/◌, ◌++◌, ◌∷◌, [], None, IfOk, IfErr, OnOk, map, length};
 ghost use Rattle.write_history.specs.World.{lowest_unready};
-ghost use Rattle.query_engine.specs.Looks.{rows_a_look, HasLooked, EndsEarly};
+ghost use Rattle.query_engine.specs.Looks.{rows_a_look, looks_at, HasLooked, EndsEarly};
 ghost use Rattle.query_engine.specs.Listed.{AreLive, word_found};
 ghost use Rattle.query_engine.specs.Given.{GivesReply, word_reply};
 
 use crate::answer::{AskRefusal, Finding, RowList, WordRow};
-use crate::looks::look_after;
+use crate::looks::add_row;
 use crate::ready::ready;
 use action_lock::Watch;
+use ide_text::Name;
 use ide_world::{State, WordWalk, path};
 use std::alloc::Global;
 
@@ -52,12 +53,28 @@ fn word_rows<W: Watch>(
         let Some(path) = path(state, file) else {
             unreachable!()
         };
-        rows.push(WordRow {
-            file,
-            path: path.copy()?,
-            mask,
-        })?;
-        look_after(rows.len(), watch)?;
+        add_word(file, path, mask, &mut rows, watch)?;
     }
     Ok(rows)
+}
+
+/// Puts the row of a file at the end, and looks where the rows are a full number of 256 then.
+fn add_word<W: Watch>(
+    file: u32,
+    path: &Name,
+    mask: u8,
+    rows: &mut RowList<WordRow>,
+    watch: &mut W,
+) -> Result<(), AskRefusal>
+    requires { W.can_look watch.old }
+    ensures again { W.can_look watch.new }
+    ensures stays { W.stays watch.old watch.new }
+    ensures added { OnOk result
+        (rows.new ≡ rows.old ++ record { file = file; path = path.now; mask = mask } ∷ []) }
+    ensures looked { HasLooked W.looks W.sightings W.stays result
+        (looks_at (length rows.old + 1)) watch.old watch.new }
+    ensures early { IfErr result EndsEarly }
+{
+    let path = path.copy()?;
+    add_row(rows, WordRow { file, path, mask }, watch)
 }

@@ -83,11 +83,11 @@ follows s next opened number c few e =
     (grind (arith, length-append), grind arith, λ rest. grind (arith, append-nil, append_assoc), λ lines rest h. grind arith, λ group some. grind arith)
 
 -- what a line brings that may not follow, and one that may
-pub reads_line : (s : State) (number : ℕ) (content : Content) (rest line behind : List ℕ) (next : Option State) (u : Result State ScriptRefusal)
-    → lines_of rest ≡ line ∷ lines_of behind → content ≡ content_of line → next ≡ after s number content → read_from s number (lines_of rest) ≡ u
+pub reads_line : (s : State) (number : ℕ) (rest line behind : List ℕ) (next : Option State) (u : Result State ScriptRefusal)
+    → lines_of rest ≡ line ∷ lines_of behind → after s number (content_of line) ≡ next → read_from s number (lines_of rest) ≡ u
     → MatchOption next (finished_read u ≡ Err (BadLine number)) (λ t. read_from t (number + 1) (lines_of behind) ≡ u)
 unfolding read_from
-reads_line s number content rest line behind next u cut is e before = grind arith
+reads_line s number rest line behind next u cut e before = grind arith
 
 -- at the end
 pub reads_end : (s : State) (number : ℕ) (rest : List ℕ) (u : Result State ScriptRefusal) → rest ≡ [] → read_from s number (lines_of rest) ≡ u

@@ -47,7 +47,7 @@ number_if n field = if bytes_eq field (decimal n) then (if nat_le n max_number t
 unfoldable pub number_of : List ℕ → Option ℕ
 number_of field = number_if (digits_value 10 field) field
 
--- whether bytes begin with neither a sign nor a zero before other bytes
+-- whether there are bytes, and they begin neither with a plus sign nor with a zero before other bytes
 abbrev pub is_plain : List ℕ → Bool
 is_plain [] = false
 is_plain (b ∷ bs) = not (b == 43) && (not (b == 48) || (length bs == 0))

@@ -25,7 +25,7 @@ query_forms =
 abbrev pub load_forms : List (Form Command)
 load_forms = record { word = codes "load"; kinds = Path ∷ []; make = command.Load } ∷ []
 
--- the changes. An intake has no form, since index data go in by a settle alone
+-- the changes. An intake has no form: settles and workers make them
 abbrev pub change_forms : List (Form Change)
 change_forms =
     record { word = codes "create"; kinds = Path ∷ Text ∷ []; make = change.Create }

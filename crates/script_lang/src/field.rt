@@ -44,7 +44,7 @@ pub(crate) fn number_of(field: &str) -> Option<u32>
     field.parse().ok()
 }
 
-/// Whether bytes begin with neither a sign nor a zero before other bytes.
+/// Whether there are bytes, and they begin neither with a plus sign nor with a zero before other bytes.
 fn is_plain(digits: &[u8]) -> bool
     ensures { result ≡ is_plain digits.now }
 {

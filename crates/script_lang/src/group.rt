@@ -1,12 +1,12 @@
 //! A group of changes, as far as it is read.
-ghost use Rattle.std.specs.Prelude.{◌≡◌, ◌<◌, ◌≤◌, ◌++◌, ◌∷◌, [], IfOk, length};
+ghost use Rattle.std.specs.Prelude.{◌≡◌, ◌≤◌, ◌++◌, ◌∷◌, [], IfOk, true, nat_lt, length};
 ghost use Rattle.write_history.specs.Changes.{max_changes};
 ghost use Rattle.script_lang.specs.declared.command.Command.TheVariants as command;
 
 use crate::{Command, Line};
 use std::alloc::{AllocError, Global};
 use std::marker::Model;
-use write_history::{Change, Changes};
+use write_history::{Change, Changes, MAX_CHANGES};
 
 /// A group that nothing has ended yet.
 #[derive(Drop)]
@@ -38,15 +38,20 @@ impl Group {
         }
     }
 
-    /// Adds a change.
-    pub(crate) fn push(&mut self, change: Change) -> Result<(), AllocError>
-        requires { length self.old.changes < max_changes }
-        ensures { IfOk result
-            (λ _. self.new
+    /// Adds a change where there is room, and tells whether there is.
+    pub(crate) fn push(&mut self, change: Change) -> Result<bool, AllocError>
+        ensures room { IfOk result
+            (λ room. room ≡ nat_lt (length self.old.changes) max_changes) }
+        ensures added { IfOk result
+            (λ room. room ≡ true → self.new
             ≡ record { number = self.old.number; changes = self.old.changes ++ change ∷ [] }) }
     {
+        if self.changes.len() >= MAX_CHANGES {
+            drop(change);
+            return Ok(false);
+        }
         self.changes.push(change)?;
-        Ok(())
+        Ok(true)
     }
 
     /// The number of changes.

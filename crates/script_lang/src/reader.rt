@@ -1,8 +1,10 @@
 //! A script as far as it is read, line by line.
-ghost use Rattle.std.specs.Prelude.{◌≡◌, ◌<◌, ◌≤◌, ◌==◌, ◌++◌, ◌∷◌, [], IfOk, IfErr, Ok, length};
-ghost use Rattle.script_lang.specs.Reading.{start, after, in_section, in_group, with_command, with_section, with_change, with_group, finished, IsRefusalOf, may_stand, next_lane};
+ghost use Rattle.std.specs.Prelude.{◌≡◌, IfOk, IfErr, Ok, Some, None, if◌then◌else◌};
+ghost use Rattle.std.specs.Option.{option_and_then};
+ghost use Rattle.script_lang.specs.Contents.{content_of};
+ghost use Rattle.script_lang.specs.Reading.{start, after, in_section, with_command, with_section, with_group, finished, IsRefusalOf, may_stand, next_lane};
 
-use crate::content::Content;
+use crate::content::{Content, content_of};
 use crate::group::Group;
 use crate::line::Part;
 use crate::sections::Sections;
@@ -10,7 +12,6 @@ use crate::{Command, Line, ScriptRefusal, Section};
 use std::alloc::{AllocError, Global};
 use std::marker::Model;
 use std::mem;
-use write_history::{Change, MAX_CHANGES};
 
 /// The most lanes of a script.
 pub const MAX_LANES: u32 = 16;
@@ -52,110 +53,104 @@ impl Reader {
         }
     }
 
-    /// The script with one line more, where a line that is so may follow.
-    pub(crate) fn after(
-        mut self,
+    /// Goes on by one line, and tells whether it may follow.
+    pub(crate) fn go_on(
+        &mut self,
         alloc: Global,
         number: u32,
-        content: Content,
-    ) -> Result<Option<Reader>, AllocError>
-        ensures { IfOk result (λ next. next ≡ after self number content) }
+        line: &[u8],
+    ) -> Result<bool, AllocError>
+        ensures { IfOk result
+            (λ may. after self.old number (content_of line.now)
+            ≡ (if may then Some self.new else None)) }
     {
-        match self.group.take() {
-            Some(group) => self.in_group(group, content),
+        let content = content_of(alloc, line)?;
+        match &mut self.group {
+            Some(group) => match content {
+                Content::PassedBy => Ok(true),
+                Content::Holds(Command::Change(change)) => group.push(change),
+                Content::End => self.end_group(),
+                other => {
+                    drop(other);
+                    Ok(false)
+                }
+            },
             None => self.in_section(alloc, number, content),
         }
     }
 
-    /// The script with one line more, where no group is open.
+    /// Goes on by one line, where no group is open.
     fn in_section(
-        mut self,
+        &mut self,
         alloc: Global,
         number: u32,
         content: Content,
-    ) -> Result<Option<Reader>, AllocError>
-        ensures { IfOk result (λ next. next ≡ in_section self number content) }
+    ) -> Result<bool, AllocError>
+        ensures { IfOk result
+            (λ may. in_section self.old number content ≡ (if may then Some self.new else None)) }
     {
         match content {
-            Content::PassedBy => Ok(Some(self)),
-            Content::Holds(command) => self.with_command(number, command),
+            Content::PassedBy => Ok(true),
+            Content::Holds(command) => self.add_command(number, command),
             Content::Lane => match next_lane(self.section) {
-                Some(section) => Ok(Some(self.with_section(alloc, section)?)),
-                None => Ok(None),
+                Some(section) => self.begin_section(alloc, section),
+                None => Ok(false),
             },
             Content::Finally => match self.section {
-                Section::Finally => Ok(None),
-                _ => Ok(Some(self.with_section(alloc, Section::Finally)?)),
+                Section::Finally => Ok(false),
+                _ => self.begin_section(alloc, Section::Finally),
             },
             Content::Group => {
                 self.group = Some(Group::new(alloc, number));
-                Ok(Some(self))
+                Ok(true)
             }
-            Content::End | Content::Bad => Ok(None),
+            Content::End | Content::Bad => Ok(false),
         }
     }
 
-    /// The script with one line more, where this group is open.
-    fn in_group(mut self, group: Group, content: Content) -> Result<Option<Reader>, AllocError>
-        ensures { IfOk result (λ next. next ≡ in_group self group content) }
-    {
-        match content {
-            Content::PassedBy => {
-                self.group = Some(group);
-                Ok(Some(self))
-            }
-            Content::Holds(Command::Change(change)) => self.with_change(group, change),
-            Content::End => self.with_group(group),
-            _ => Ok(None),
-        }
-    }
-
-    /// The script with a command more in the section at hand, where it may stand there.
-    fn with_command(mut self, number: u32, command: Command) -> Result<Option<Reader>, AllocError>
-        ensures { IfOk result (λ next. next ≡ with_command self number command) }
+    /// Adds a command to the section at hand, where it may stand there.
+    fn add_command(&mut self, number: u32, command: Command) -> Result<bool, AllocError>
+        ensures { IfOk result
+            (λ may. with_command self.old number command ≡ (if may then Some self.new else None)) }
     {
         if !may_stand(self.section, &command) {
-            return Ok(None);
+            drop(command);
+            return Ok(false);
         }
         self.here.push(Line { number, command })?;
-        Ok(Some(self))
+        Ok(true)
     }
 
-    /// The script at the beginning of another section. The section at hand isn't the last one.
-    fn with_section(mut self, alloc: Global, section: Section) -> Result<Reader, AllocError>
-        ensures { IfOk result (λ next. next ≡ with_section self section) }
+    /// Begins another section, which may follow. The section at hand isn't the last one.
+    fn begin_section(&mut self, alloc: Global, section: Section) -> Result<bool, AllocError>
+        ensures { IfOk result
+            (λ may. Some (with_section self.old section) ≡ (if may then Some self.new else None)) }
     {
         let here = mem::replace(&mut self.here, Part::new(alloc));
         match self.section {
             Section::Prelude => self.prelude = here,
             Section::Lane { .. } => self.lanes.push(here)?,
-            Section::Finally => {}
+            Section::Finally => drop(here),
         }
         self.section = section;
-        Ok(self)
+        Ok(true)
     }
 
-    /// The script with a change more in its group, where there is room.
-    fn with_change(mut self, mut group: Group, change: Change) -> Result<Option<Reader>, AllocError>
-        ensures { IfOk result (λ next. next ≡ with_change self group change) }
+    /// Ends the group that is open, where it has a change.
+    fn end_group(&mut self) -> Result<bool, AllocError>
+        ensures { IfOk result
+            (λ may. option_and_then (with_group (record self.old { open_group = None })) self.old.open_group
+            ≡ (if may then Some self.new else None)) }
     {
-        if group.len() >= MAX_CHANGES {
-            return Ok(None);
-        }
-        group.push(change)?;
-        self.group = Some(group);
-        Ok(Some(self))
-    }
-
-    /// The script with a group more in the section at hand, where the group has a change.
-    fn with_group(mut self, group: Group) -> Result<Option<Reader>, AllocError>
-        ensures { IfOk result (λ next. next ≡ with_group self group) }
-    {
+        let Some(group) = self.group.take() else {
+            return Ok(false);
+        };
         if group.len() == 0 {
-            return Ok(None);
+            drop(group);
+            return Ok(false);
         }
         self.here.push(group.line())?;
-        Ok(Some(self))
+        Ok(true)
     }
 
     /// The sections, where no group is open.

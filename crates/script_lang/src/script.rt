@@ -6,7 +6,6 @@ ghost use Rattle.script_lang.specs.Held.{AreOfPrelude, AreOfSection, AreOfScript
 ghost use Rattle.script_lang.specs.Lines.{max_bytes};
 ghost use Rattle.script_lang.specs.Parts.{Parts};
 
-use crate::content::content_of;
 use crate::reader::Reader;
 use crate::sections::Sections;
 use crate::split::first_line;
@@ -110,12 +109,17 @@ fn script_of(alloc: Global, bytes: &[u8]) -> Result<Script, ScriptRefusal>
     let mut rest = bytes;
     while let Some((line, after)) = first_line(rest) {
         number += 1;
-        let content = content_of(alloc, line)?;
-        let Some(next) = reader.after(alloc, number, content)? else {
-            return Err(ScriptRefusal::BadLine { number });
-        };
-        reader = next;
-        rest = after;
+        match reader.go_on(alloc, number, line) {
+            Ok(true) => rest = after,
+            Ok(false) => {
+                drop(reader);
+                return Err(ScriptRefusal::BadLine { number });
+            }
+            Err(refusal) => {
+                drop(reader);
+                return Err(refusal.into());
+            }
+        }
     }
     Ok(Script {
         sections: reader.finished(alloc)?,

@@ -21,7 +21,9 @@ pub fn store_of(alloc: Global, script: &Script, loads: &[Loaded]) -> Result<Stor
         (λ store. store ≡ entries_of (fold (run_of loads.now script.now).history)) }
 {
     let mut replay = Replay::empty(alloc);
-    store_behind(alloc, &mut replay, script, loads)
+    let store = store_behind(alloc, &mut replay, script, loads);
+    drop(replay);
+    store
 }
 
 /// The store of the world that a script leads to, from a workspace without a file, and without an entry.

@@ -14,7 +14,7 @@ pub use Rattle.byte_fields.specs.Spelling.{number, name, counted}
 pub use Rattle.byte_fields.specs.Reading.{byte_at, number_at, name_at, many_at, counted_at, AllAfter}
 pub use Rattle.stub_codec.specs.Spelling.{supers, stub, version, has_scalars, IsStubBytes}
 pub use Rattle.stub_codec.specs.Reading.{supers_at, stub_at, all_of, is_kind, is_type_kind, may_be_depth, may_be_offset}
-pub use Rattle.field_laws.proofs.FieldLemmas.{IsBytes, step, passed, ok_is, Takes, Takes-then, Reads, ReadsBack, IsGoodName, byte_takes, number_takes, number_again, name_takes, name_again, bytes_fit, bytes_below}
+pub use Rattle.field_laws.proofs.FieldLemmas.{IsBytes, step, passed, ok_is, IsRead, Takes, Takes-then, Reads, ReadsBack, IsGoodName, byte_takes, number_takes, number_again, name_takes, name_again, bytes_fit, bytes_below}
 pub use Rattle.field_laws.proofs.ManyLemmas.{many_takes, counted_takes, counted_again, with_front, last, goes_on, ends, is_done}
 pub use Rattle.std.proofs.lemmas.Result.{err_from_is_err_and}
 pub use Rattle.std.proofs.lemmas.Grind.{common_steps}
@@ -70,6 +70,10 @@ each_name b (n ∷ ns) lawful scalars = let parts = and_parts (all_scalars n) (l
 
 -- ---- one stub
 
+-- what holds of the value that a reader makes holds of the one that it made
+of_made : {A : Type 0} (T : A → Type 0) (made x : A) → ◌≡◌ {A = Result A ℕ} (Ok made) (Ok x) → T made → T x
+of_made T made x e holds = rw (← ok_is made x e) holds
+
 stub_takes : (before : Option Stub) → Reads (stub_at before) stub (IsGoodStub before)
 unfolding stub_at
 stub_takes before bytes x fits e =
@@ -89,7 +93,7 @@ stub_takes before bytes x fits e =
     record { is_kind = kind; shallow = deep; in_text = far; named = n.1.1.0; supers_named = named; supers_few = s.1.1.1; supers_of_types = s.1.1.2 } in
     let whole : Takes bytes (stub read) s.0.1 =
     Takes-then {c = s.0.1} k.1.0 (Takes-then {c = s.0.1} d.1.0 (Takes-then {c = s.0.1} a.1.0 (Takes-then {c = s.0.1} n.1.0 s.1.0))) in
-    rw (← ok_is (read, s.0.1) x s.2) (whole, (lawful, may, and_from (all_scalars n.0.0) (list_all all_scalars s.0.0) n.1.1.1 scalars))
+    of_made (IsRead stub (IsGoodStub before) bytes) (read, s.0.1) x s.2 (whole, (lawful, may, and_from (all_scalars n.0.0) (list_all all_scalars s.0.0) n.1.1.1 scalars))
 
 stub_again : (before : Option Stub) → ReadsBack (stub_at before) stub (IsGoodStub before)
 unfolding stub_at

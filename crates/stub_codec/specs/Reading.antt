@@ -20,7 +20,7 @@ is_kind kind = nat_le 1 kind && nat_le kind 9
 abbrev pub is_type_kind : ℕ → Bool
 is_type_kind kind = nat_le 1 kind && nat_le kind 5
 
--- whether a depth may follow: none but 0 at first; later at most one more, and more only behind a type
+-- whether a depth may follow: none but 0 at first; later 64 at most, at most one more, and more only behind a type
 abbrev pub may_be_depth : Option Stub → ℕ → Bool
 may_be_depth None depth = depth == 0
 may_be_depth (Some before) depth = nat_le depth max_depth && (nat_le depth before.depth || (depth == before.depth + 1 && is_type before))

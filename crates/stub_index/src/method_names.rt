@@ -2,7 +2,7 @@
 ghost use Rattle.std.specs.Prelude.{◌≡◌, ◌++◌, IfOk};
 ghost use Rattle.stub_index.specs.Named.{method_names, rows_named};
 
-use crate::shared_stub::SharedStub;
+use crate::shared_stub::{SharedStub, add_row};
 use crate::shared_stubs::SharedStubs;
 use file_index::{Indexer, KeyRows};
 use ide_text::Name;
@@ -55,7 +55,7 @@ fn named_methods(alloc: Global, stubs: &[SharedStub]) -> Result<Vec<(Name, Share
     for shared in stubs {
         let stub = shared.as_stub();
         if stub.kind == StubKind::Method.code() {
-            rows.push((stub.name.copy()?, shared.share()?))?;
+            add_row(&mut rows, &stub.name, shared)?;
         }
     }
     Ok(rows)

@@ -1,7 +1,8 @@
 //! A stub with several owners: the rows of all indexes that find it have one copy of it.
-ghost use Rattle.std.specs.Prelude.{◌≡◌, IfOk};
+ghost use Rattle.std.specs.Prelude.{◌≡◌, ◌++◌, ◌∷◌, [], IfOk, OnOk};
 
 use file_index::Rank;
+use ide_text::Name;
 use std::alloc::{AllocError, Global};
 use std::marker::Model;
 use std::sync::Arc;
@@ -55,4 +56,16 @@ impl Rank for SharedStub {
     fn rank(&self) -> u32 {
         self.stub.at
     }
+}
+
+/// Adds a row: a stub, with one more owner, under a name.
+pub(crate) fn add_row(
+    rows: &mut Vec<(Name, SharedStub)>,
+    name: &Name,
+    stub: &SharedStub,
+) -> Result<(), AllocError>
+    ensures { OnOk result (rows.new.items ≡ rows.old.items ++ (name.now, stub.now) ∷ []) }
+{
+    rows.push((name.copy()?, stub.share()?))?;
+    Ok(())
 }

@@ -3,7 +3,7 @@ ghost use Rattle.std.specs.Prelude.{◌≡◌, ◌++◌, IfOk, OnOk};
 ghost use Rattle.stub_index.specs.Named.{super_names, distinct_names, rows_named, rows_under};
 
 use crate::last_mentions::{is_last, last_mentions};
-use crate::shared_stub::SharedStub;
+use crate::shared_stub::{SharedStub, add_row};
 use crate::shared_stubs::SharedStubs;
 use file_index::{Indexer, KeyRows};
 use ide_text::Name;
@@ -77,7 +77,7 @@ fn add_under(
     let mut left = names;
     while let Some((name, rest)) = left.split_first() {
         if is_last(&mentions, name, rest.len()) {
-            rows.push((name.copy()?, stub.share()?))?;
+            add_row(rows, name, stub)?;
         }
         left = rest;
     }

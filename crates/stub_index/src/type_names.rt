@@ -2,7 +2,7 @@
 ghost use Rattle.std.specs.Prelude.{◌≡◌, ◌++◌, IfOk};
 ghost use Rattle.stub_index.specs.Named.{type_names, rows_named};
 
-use crate::shared_stub::SharedStub;
+use crate::shared_stub::{SharedStub, add_row};
 use crate::shared_stubs::SharedStubs;
 use file_index::{Indexer, KeyRows};
 use ide_text::Name;
@@ -54,7 +54,7 @@ fn named_types(alloc: Global, stubs: &[SharedStub]) -> Result<Vec<(Name, SharedS
     for shared in stubs {
         let stub = shared.as_stub();
         if stub.is_type() {
-            rows.push((stub.name.copy()?, shared.share()?))?;
+            add_row(&mut rows, &stub.name, shared)?;
         }
     }
     Ok(rows)

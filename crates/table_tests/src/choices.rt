@@ -4,21 +4,15 @@ ghost use Rattle.std.specs.Prelude.{◌≤◌, length};
 
 use crate::edits::{cut, open, put};
 use crate::marks::{text_of, word_of};
-use crate::tell::Tell;
 use document_buf::Docs;
 use ide_text::Text;
 use std::alloc::{AllocError, Global};
 
 /// Tells of all choices.
-#[derive(Clone, Copy, Drop)]
-pub struct Choices;
-
-impl Tell for Choices {
-    fn tell(&mut self, alloc: Global, line: &str, out: &mut String) -> Result<(), AllocError> {
-        let (content, piece) = word_of(line);
-        let right = first_wrong(alloc, &text_of(alloc, content)?, &text_of(alloc, piece)?)?;
-        out.push_str(format!(in alloc; " {right}")?.as_str())
-    }
+pub fn tell(alloc: Global, line: &str, out: &mut String) -> Result<(), AllocError> {
+    let (content, piece) = word_of(line);
+    let right = first_wrong(alloc, &text_of(alloc, content)?, &text_of(alloc, piece)?)?;
+    write!(out, " {right}")
 }
 
 /// What is done: where the two characters go in, and between which places characters go out.
@@ -80,6 +74,14 @@ fn are_same(
     )
 }
 
+/// Puts a character in at a place, where that doesn't stand past the end.
+fn add(list: &mut Vec<char>, at: usize, piece: char) -> Result<(), AllocError> {
+    if at <= list.len() {
+        list.insert(at, piece)?;
+    }
+    Ok(())
+}
+
 /// A list after the edits: a place that stands past its end is left out.
 fn list_after(
     alloc: Global,
@@ -88,11 +90,8 @@ fn list_after(
     choice: Choice,
 ) -> Result<Vec<char>, AllocError> {
     let mut list = Vec::from_slice(alloc, chars)?;
-    for at in [choice.first as usize, choice.second as usize] {
-        if at <= list.len() {
-            list.insert(at, piece)?;
-        }
-    }
+    add(&mut list, choice.first as usize, piece)?;
+    add(&mut list, choice.second as usize, piece)?;
     let mut left = Vec::new(alloc);
     for (at, c) in list.iter().enumerate() {
         if at < choice.from as usize || choice.to as usize <= at {

@@ -2,32 +2,32 @@
 use crate::marks::{mark, push_marked};
 use ide_text::{Name, SharedText};
 use script_lang::{Command, Query};
-use std::alloc::{AllocError, Global};
+use std::alloc::AllocError;
 use write_history::Change;
 
 /// Longer texts are shown by their length.
 const SHOWN_CHARS: u32 = 100;
 
 /// One command.
-pub fn push_command(alloc: Global, out: &mut String, command: &Command) -> Result<(), AllocError> {
+pub fn push_command(out: &mut String, command: &Command) -> Result<(), AllocError> {
     match command {
-        Command::Change(change) => push_change(alloc, out, change),
-        Command::Group(changes) => push_changes(alloc, out, changes.as_slice()),
+        Command::Change(change) => push_change(out, change),
+        Command::Group(changes) => push_changes(out, changes.as_slice()),
         Command::Load { path } => push_named(out, "load ", path),
         Command::Settle => out.push_str("settle"),
         Command::Ask(query) => push_query(out, query),
         Command::Soft { attempts, query } => {
-            out.push_str(format!(in alloc; "soft {attempts} ")?.as_str())?;
+            write!(out, "soft {attempts} ")?;
             push_query(out, query)
         }
     }
 }
 
 /// A group.
-fn push_changes(alloc: Global, out: &mut String, changes: &[Change]) -> Result<(), AllocError> {
+fn push_changes(out: &mut String, changes: &[Change]) -> Result<(), AllocError> {
     out.push_str("group(")?;
     for change in changes {
-        push_change(alloc, out, change)?;
+        push_change(out, change)?;
         out.push(',')?;
     }
     out.push(')')
@@ -52,27 +52,27 @@ fn push_query(out: &mut String, query: &Query) -> Result<(), AllocError> {
 }
 
 /// A change.
-fn push_change(alloc: Global, out: &mut String, change: &Change) -> Result<(), AllocError> {
+fn push_change(out: &mut String, change: &Change) -> Result<(), AllocError> {
     match change {
         Change::Create { path, text } => {
             push_named(out, "create ", path)?;
-            push_text(alloc, out, text)
+            push_text(out, text)
         }
         Change::Write { path, text } => {
             push_named(out, "write ", path)?;
-            push_text(alloc, out, text)
+            push_text(out, text)
         }
         Change::Delete { path } => push_named(out, "delete ", path),
         Change::OpenDoc { path } => push_named(out, "open ", path),
         Change::Insert { path, at, text } => {
             push_named(out, "insert ", path)?;
-            push_number(alloc, out, *at)?;
-            push_text(alloc, out, text)
+            push_number(out, *at)?;
+            push_text(out, text)
         }
         Change::Erase { path, from, to } => {
             push_named(out, "erase ", path)?;
-            push_number(alloc, out, *from)?;
-            push_number(alloc, out, *to)
+            push_number(out, *from)?;
+            push_number(out, *to)
         }
         Change::Commit { path } => push_named(out, "commit ", path),
         Change::Save { path } => push_named(out, "save ", path),
@@ -92,16 +92,16 @@ fn push_named(out: &mut String, word: &str, name: &Name) -> Result<(), AllocErro
 }
 
 /// A number after a space.
-fn push_number(alloc: Global, out: &mut String, number: u32) -> Result<(), AllocError> {
-    out.push_str(format!(in alloc; " {number}")?.as_str())
+fn push_number(out: &mut String, number: u32) -> Result<(), AllocError> {
+    write!(out, " {number}")
 }
 
 /// A text in angle brackets.
-fn push_text(alloc: Global, out: &mut String, text: &SharedText) -> Result<(), AllocError> {
+fn push_text(out: &mut String, text: &SharedText) -> Result<(), AllocError> {
     let text = text.as_text();
     out.push_str(" <")?;
     if text.len() > SHOWN_CHARS {
-        out.push_str(format!(in alloc; "{} characters", text.len())?.as_str())?;
+        write!(out, "{} characters", text.len())?;
     } else {
         for at in 0..text.len() {
             out.push(mark(text.char_at(at)))?;

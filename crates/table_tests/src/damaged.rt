@@ -63,7 +63,7 @@ fn tell_changes(
 fn tell_bytes(alloc: Global, bytes: &[u8], out: &mut String) -> Result<(), AllocError> {
     match Store::read(alloc, bytes) {
         Ok(store) => tell_store(&store, bytes, out),
-        Err(refusal) => tell_refusal(alloc, &refusal, out),
+        Err(refusal) => tell_refusal(&refusal, out),
     }
 }
 
@@ -74,20 +74,19 @@ fn tell_store(store: &Store, bytes: &[u8], out: &mut String) -> Result<(), Alloc
 }
 
 /// Tells a refusal with its place.
-fn tell_refusal(alloc: Global, refusal: &StoreRefusal, out: &mut String) -> Result<(), AllocError> {
-    let told = match refusal {
-        StoreRefusal::OtherVersion { at, found } => format!(in alloc; " version-{found}@{at}"),
-        StoreRefusal::BadStore { at } => format!(in alloc; " bad@{at}"),
-        StoreRefusal::WrongData { entry } => format!(in alloc; " data@{entry}"),
+fn tell_refusal(refusal: &StoreRefusal, out: &mut String) -> Result<(), AllocError> {
+    match refusal {
+        StoreRefusal::OtherVersion { at, found } => write!(out, " version-{found}@{at}"),
+        StoreRefusal::BadStore { at } => write!(out, " bad@{at}"),
+        StoreRefusal::WrongData { entry } => write!(out, " data@{entry}"),
         StoreRefusal::OutOfMemory => Err(AllocError),
-    };
-    out.push_str(told?.as_str())
+    }
 }
 
 /// Tells why bytes are refused, in the refusal's words.
 fn tell_reason(alloc: Global, bytes: &[u8], out: &mut String) -> Result<(), AllocError> {
     match Store::read(alloc, bytes) {
         Ok(_) => out.push_str(" for no reason"),
-        Err(refusal) => out.push_str(format!(in alloc; " {refusal}")?.as_str()),
+        Err(refusal) => write!(out, " {refusal}"),
     }
 }

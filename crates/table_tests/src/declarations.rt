@@ -3,7 +3,6 @@
 //! declarations it has, and `nested` where each is a class in the one before. A line of `copied names` is a text, of which it is told the
 //! names in a copy of their list, each with `type` where it names one.
 use crate::marks::{java_of, number_of, word_of};
-use crate::tell::Tell;
 use decl_parser::stubs;
 use ide_text::Text;
 use java_tokens::tokens;
@@ -11,36 +10,21 @@ use std::alloc::{AllocError, Global};
 use stub_tree::{Names, Stub, StubKind, StubList};
 
 /// Tells declarations.
-#[derive(Clone, Copy, Drop)]
-pub struct Declarations;
+pub fn tell(alloc: Global, line: &str, out: &mut String) -> Result<(), AllocError> {
+    let text = java_of(alloc, line)?;
+    push_list(out, &text, &listed(alloc, &text)?.copy()?)
+}
 
 /// Tells how many there are.
-#[derive(Clone, Copy, Drop)]
-pub struct DeepTexts;
+pub fn tell_deep(alloc: Global, line: &str, out: &mut String) -> Result<(), AllocError> {
+    let (times, part) = word_of(line);
+    let text = repeated(alloc, number_of(times), part)?;
+    push_count(out, &listed(alloc, &text)?)
+}
 
 /// Tells names.
-#[derive(Clone, Copy, Drop)]
-pub struct CopiedNames;
-
-impl Tell for Declarations {
-    fn tell(&mut self, alloc: Global, line: &str, out: &mut String) -> Result<(), AllocError> {
-        let text = java_of(alloc, line)?;
-        push_list(alloc, out, &text, &listed(alloc, &text)?.copy()?)
-    }
-}
-
-impl Tell for DeepTexts {
-    fn tell(&mut self, alloc: Global, line: &str, out: &mut String) -> Result<(), AllocError> {
-        let (times, part) = word_of(line);
-        let text = repeated(alloc, number_of(times), part)?;
-        push_count(alloc, out, &listed(alloc, &text)?)
-    }
-}
-
-impl Tell for CopiedNames {
-    fn tell(&mut self, alloc: Global, line: &str, out: &mut String) -> Result<(), AllocError> {
-        push_copied(alloc, out, &listed(alloc, &java_of(alloc, line)?)?)
-    }
+pub fn tell_copied(alloc: Global, line: &str, out: &mut String) -> Result<(), AllocError> {
+    push_copied(alloc, out, &listed(alloc, &java_of(alloc, line)?)?)
 }
 
 /// The declarations of a text, from its tokens.
@@ -58,17 +42,12 @@ fn repeated(alloc: Global, times: u32, part: &str) -> Result<Text, AllocError> {
 }
 
 /// Adds each declaration.
-fn push_list(
-    alloc: Global,
-    out: &mut String,
-    text: &Text,
-    list: &StubList,
-) -> Result<(), AllocError> {
+fn push_list(out: &mut String, text: &Text, list: &StubList) -> Result<(), AllocError> {
     for stub in list.as_slice() {
         let (line, column) = text.line_col(stub.at.min(text.len()));
         let kind = kind_word(stub);
         let depth = stub.depth;
-        out.push_str(format!(in alloc; " {kind} {depth} {line}:{column} {}", stub.name)?.as_str())?;
+        write!(out, " {kind} {depth} {line}:{column} {}", stub.name)?;
         push_supers(out, stub)?;
         out.push(';')?;
     }
@@ -87,20 +66,22 @@ fn push_supers(out: &mut String, stub: &Stub) -> Result<(), AllocError> {
     Ok(())
 }
 
+/// The words for kinds.
+static WORDS: [(StubKind, &str); 9] = [
+    (StubKind::Class, "class"),
+    (StubKind::Interface, "interface"),
+    (StubKind::Enum, "enum"),
+    (StubKind::Record, "record"),
+    (StubKind::Annotation, "annotation"),
+    (StubKind::Method, "method"),
+    (StubKind::Constructor, "constructor"),
+    (StubKind::Field, "field"),
+    (StubKind::Constant, "constant"),
+];
+
 /// The word for a kind.
 fn kind_word(stub: &Stub) -> &'static str {
-    let words = [
-        (StubKind::Class, "class"),
-        (StubKind::Interface, "interface"),
-        (StubKind::Enum, "enum"),
-        (StubKind::Record, "record"),
-        (StubKind::Annotation, "annotation"),
-        (StubKind::Method, "method"),
-        (StubKind::Constructor, "constructor"),
-        (StubKind::Field, "field"),
-        (StubKind::Constant, "constant"),
-    ];
-    for (kind, word) in words {
+    for (kind, word) in &WORDS {
         if kind.code() == stub.kind {
             return word;
         }
@@ -109,8 +90,8 @@ fn kind_word(stub: &Stub) -> &'static str {
 }
 
 /// Adds how many declarations there are, and whether each is a class in the one before.
-fn push_count(alloc: Global, out: &mut String, list: &StubList) -> Result<(), AllocError> {
-    out.push_str(format!(in alloc; " {}", list.len())?.as_str())?;
+fn push_count(out: &mut String, list: &StubList) -> Result<(), AllocError> {
+    write!(out, " {}", list.len())?;
     out.push_str(if are_nested(list) { " nested" } else { "" })
 }
 

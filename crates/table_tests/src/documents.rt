@@ -29,7 +29,7 @@ impl Tell for Copied {
         match word_of(line) {
             ("copy", _) => make_copy(self),
             ("copied", id) => push_doc(out, &self.copy, number_of(id)),
-            ("counts", _) => push_counts(alloc, out, &self.docs, &self.copy),
+            ("counts", _) => push_counts(out, &self.docs, &self.copy),
             (word, rest) => tell_call(alloc, &mut self.docs, word, rest, out),
         }
     }
@@ -42,14 +42,9 @@ fn make_copy(copied: &mut Copied) -> Result<(), AllocError> {
 }
 
 /// Adds how many documents are open.
-fn push_counts(
-    alloc: Global,
-    out: &mut String,
-    docs: &Docs,
-    copy: &Docs,
-) -> Result<(), AllocError> {
+fn push_counts(out: &mut String, docs: &Docs, copy: &Docs) -> Result<(), AllocError> {
     let (open, copied) = (docs.open_count(), copy.open_count());
-    out.push_str(format!(in alloc; " {open} open, {copied} in the copy")?.as_str())
+    write!(out, " {open} open, {copied} in the copy")
 }
 
 /// Makes a call, and tells what the document is then, or that it can't be made.

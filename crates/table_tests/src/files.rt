@@ -17,8 +17,8 @@ impl Tell for Files {
     fn tell(&mut self, alloc: Global, line: &str, out: &mut String) -> Result<(), AllocError> {
         match word_of(line) {
             ("copy", _) => copy(self),
-            ("at", path) => push_found(alloc, self, &Name::of(alloc, path)?, out),
-            ("counts", _) => push_counts(alloc, self, out),
+            ("at", path) => push_found(self, &Name::of(alloc, path)?, out),
+            ("counts", _) => push_counts(self, out),
             (word, rest) => tell_call(alloc, self, word, rest, out),
         }
     }
@@ -31,19 +31,14 @@ fn copy(files: &mut Files) -> Result<(), AllocError> {
 }
 
 /// Adds the id of the live file at a path.
-fn push_found(
-    alloc: Global,
-    files: &Files,
-    path: &Name,
-    out: &mut String,
-) -> Result<(), AllocError> {
-    out.push_str(format!(in alloc; " {:?}", files.by_path(path))?.as_str())
+fn push_found(files: &Files, path: &Name, out: &mut String) -> Result<(), AllocError> {
+    write!(out, " {:?}", files.by_path(path))
 }
 
 /// Adds how many files are live, and the next stamp.
-fn push_counts(alloc: Global, files: &Files, out: &mut String) -> Result<(), AllocError> {
+fn push_counts(files: &Files, out: &mut String) -> Result<(), AllocError> {
     let (live, stamp) = (files.live(), files.next_stamp());
-    out.push_str(format!(in alloc; " {live} live, next stamp {stamp}")?.as_str())
+    write!(out, " {live} live, next stamp {stamp}")
 }
 
 /// Makes a call, and tells which files are live then, or that it can't be made.
@@ -55,7 +50,7 @@ fn tell_call(
     out: &mut String,
 ) -> Result<(), AllocError> {
     if call(alloc, files, word, rest)? {
-        push_files(alloc, files, out)
+        push_files(files, out)
     } else {
         out.push_str(" can't be done")
     }
@@ -155,26 +150,22 @@ fn put(files: &mut Files, id: u32, row: FileRow) -> Result<bool, AllocError> {
 
 /// Adds the live files, each by its id, path, the number of its characters and its stamp, with a star where it is indexed
 /// at that stamp.
-fn push_files(alloc: Global, files: &Files, out: &mut String) -> Result<(), AllocError> {
+fn push_files(files: &Files, out: &mut String) -> Result<(), AllocError> {
     for id in 1..=files.made() as u32 {
         if let Some(row) = files.by_id(id) {
-            out.push_str(line_of(alloc, id, row)?.as_str())?;
+            push_file(id, row, out)?;
         }
     }
     Ok(())
 }
 
-/// A live file.
-fn line_of(alloc: Global, id: u32, row: &FileRow) -> Result<String, AllocError> {
+/// Adds a live file.
+fn push_file(id: u32, row: &FileRow, out: &mut String) -> Result<(), AllocError> {
     let star = if row.indexed == Some(row.stamp) {
         "*"
     } else {
         ""
     };
-    format!(in alloc;
-        " {id} {} {} {}{star};",
-        row.path,
-        row.content.len(),
-        row.stamp
-    )
+    let (path, len, stamp) = (&row.path, row.content.len(), row.stamp);
+    write!(out, " {id} {path} {len} {stamp}{star};")
 }

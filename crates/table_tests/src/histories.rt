@@ -15,7 +15,7 @@ pub fn play(alloc: Global, lines: &str, out: &mut String) -> Result<(), AllocErr
 impl Tell for History {
     fn tell(&mut self, alloc: Global, line: &str, out: &mut String) -> Result<(), AllocError> {
         match line {
-            "most" => out.push_str(format!(in alloc; " {MAX_ENTRIES}")?.as_str()),
+            "most" => write!(out, " {MAX_ENTRIES}"),
             number => push_entry(alloc, self, u64::from(number_of(number)), out),
         }
     }
@@ -41,78 +41,75 @@ fn shared(alloc: Global, letters: &str) -> Result<SharedText, AllocError> {
     SharedText::new(alloc, text_of(alloc, letters)?)
 }
 
-/// A change of each kind, in the order of the lines.
-fn changes(alloc: Global) -> Result<[Change; 11], AllocError> {
+/// The change of a line, of another kind for each of eleven.
+fn change_of(alloc: Global, line: u32) -> Result<Change, AllocError> {
     let path = Name::of(alloc, "src/A.java")?;
-    let text = shared(alloc, "class A {}")?;
-    Ok([
-        Change::Create {
-            path: path.copy()?,
-            text: text.share()?,
+    Ok(match line {
+        1 => Change::Create {
+            path,
+            text: shared(alloc, "class A {}")?,
         },
-        Change::Write {
-            path: path.copy()?,
+        2 => Change::Write {
+            path,
             text: shared(alloc, "")?,
         },
-        Change::OpenDoc { path: path.copy()? },
-        Change::Insert {
-            path: path.copy()?,
+        3 => Change::OpenDoc { path },
+        4 => Change::Insert {
+            path,
             at: u32::MAX,
-            text,
+            text: shared(alloc, "class A {}")?,
         },
-        Change::Erase {
-            path: path.copy()?,
+        5 => Change::Erase {
+            path,
             from: 0,
             to: u32::MAX,
         },
-        Change::Commit { path: path.copy()? },
-        Change::Save { path: path.copy()? },
-        Change::CloseDoc { path: path.copy()? },
-        Change::Intake {
+        6 => Change::Commit { path },
+        7 => Change::Save { path },
+        8 => Change::CloseDoc { path },
+        9 => Change::Intake {
             file: u32::MAX,
             stamp: u64::MAX,
         },
-        Change::Move {
-            path: path.copy()?,
+        10 => Change::Move {
+            path,
             to: Name::of(alloc, "b")?,
         },
-        Change::Delete { path },
-    ])
+        _ => Change::Delete { path },
+    })
 }
 
 /// A group of two changes.
 fn group(alloc: Global) -> Result<Changes, AllocError> {
     let path = Name::of(alloc, "src/A.java")?;
-    let intake = Change::Intake { file: 1, stamp: 1 };
     let mut changes = Vec::new(alloc);
     changes.push(Change::Delete { path })?;
-    changes.push(intake)?;
+    changes.push(Change::Intake { file: 1, stamp: 1 })?;
     Ok(Changes::from_vec(changes))
 }
 
 /// The history that has those lines.
 fn history(alloc: Global) -> Result<History, AllocError> {
     let mut history = History::new(alloc);
-    for (at, change) in changes(alloc)?.iter().enumerate() {
-        history.reserve()?;
-        history.push(Entry {
-            seat: 0,
-            line: at as u32 + 1,
-            changes: Changes::one(change.copy()?).copy()?,
-        });
+    for line in 1..=11 {
+        let change = change_of(alloc, line)?;
+        add(&mut history, 0, line, &Changes::one(change.copy()?))?;
     }
-    history.reserve()?;
-    history.push(Entry {
-        seat: 24,
-        line: u32::MAX,
-        changes: group(alloc)?.copy()?,
-    });
+    add(&mut history, 24, u32::MAX, &group(alloc)?)?;
     Ok(history)
 }
 
-/// Tells the words of refusals.
-#[derive(Clone, Copy, Drop)]
-pub struct Refusals;
+/// Adds an entry with a copy of changes.
+fn add(history: &mut History, seat: u32, line: u32, changes: &Changes) -> Result<(), AllocError> {
+    let changes = changes.copy()?;
+    history.reserve()?;
+    history.push(Entry {
+        seat,
+        line,
+        changes,
+    });
+    Ok(())
+}
 
 static REFUSALS: [Refusal; 15] = [
     Refusal::NoSuchFile,
@@ -135,11 +132,10 @@ static REFUSALS: [Refusal; 15] = [
     Refusal::OutOfMemory,
 ];
 
-impl Tell for Refusals {
-    fn tell(&mut self, alloc: Global, line: &str, out: &mut String) -> Result<(), AllocError> {
-        match REFUSALS.get(number_of(line) as usize) {
-            Some(refusal) => out.push_str(format!(in alloc; " {refusal}")?.as_str()),
-            None => out.push_str(" no such refusal"),
-        }
+/// Tells the words of refusals.
+pub fn tell_refusal(line: &str, out: &mut String) -> Result<(), AllocError> {
+    match REFUSALS.get(number_of(line) as usize) {
+        Some(refusal) => write!(out, " {refusal}"),
+        None => out.push_str(" no such refusal"),
     }
 }

@@ -3,86 +3,65 @@
 //! comments alone, has, and whether their masks say so. A line of `words` is told whether it is a word, and an identifier; a line
 //! `NAME@TEXT` of `uses` the offsets at which the name stands as an identifier.
 use crate::marks::{java_of, number_of};
-use crate::tell::Tell;
 use ide_text::{Name, Text};
 use java_tokens::{Token, WordList, is_identifier, is_word, places, tokens, words};
 use std::alloc::{AllocError, Global};
 
 /// Tells tokens, and the words of them.
-#[derive(Clone, Copy, Drop)]
-pub struct Tokens;
+pub fn tell_tokens(alloc: Global, line: &str, out: &mut String) -> Result<(), AllocError> {
+    let text = java_of(alloc, line)?;
+    let cut = tokens(alloc, &text)?;
+    push_tokens(out, &cut)?;
+    out.push_str(" |")?;
+    push_words(out, &words(alloc, &text, &cut)?.copy()?)
+}
 
 /// Tells of a text with many words.
-#[derive(Clone, Copy, Drop)]
-pub struct ManyWords;
+pub fn tell_many(alloc: Global, line: &str, out: &mut String) -> Result<(), AllocError> {
+    let text = many_words(alloc, number_of(line))?;
+    let list = words(alloc, &text, &tokens(alloc, &text)?)?;
+    write!(out, " {}", list.len())?;
+    out.push_str(if are_masked(&list) {
+        " as they stand"
+    } else {
+        ""
+    })
+}
 
 /// Tells what is a word.
-#[derive(Clone, Copy, Drop)]
-pub struct Words;
+pub fn tell_word(line: &str, out: &mut String) -> Result<(), AllocError> {
+    out.push_str(if is_word(line) { " word" } else { "" })?;
+    out.push_str(if is_identifier(line) {
+        " identifier"
+    } else {
+        ""
+    })
+}
 
 /// Tells where names stand.
-#[derive(Clone, Copy, Drop)]
-pub struct Uses;
-
-impl Tell for Tokens {
-    fn tell(&mut self, alloc: Global, line: &str, out: &mut String) -> Result<(), AllocError> {
-        let text = java_of(alloc, line)?;
-        let cut = tokens(alloc, &text)?;
-        push_tokens(alloc, out, &cut)?;
-        out.push_str(" |")?;
-        push_words(alloc, out, &words(alloc, &text, &cut)?.copy()?)
+pub fn tell_uses(alloc: Global, line: &str, out: &mut String) -> Result<(), AllocError> {
+    let (name, text) = line.split_once("@").unwrap_or((line, ""));
+    let text = java_of(alloc, text)?;
+    for at in &places(alloc, &text, &Name::of(alloc, name)?)? {
+        write!(out, " {at}")?;
     }
-}
-
-impl Tell for ManyWords {
-    fn tell(&mut self, alloc: Global, line: &str, out: &mut String) -> Result<(), AllocError> {
-        let text = many_words(alloc, number_of(line))?;
-        let list = words(alloc, &text, &tokens(alloc, &text)?)?;
-        out.push_str(format!(in alloc; " {}", list.len())?.as_str())?;
-        out.push_str(if are_masked(&list) {
-            " as they stand"
-        } else {
-            ""
-        })
-    }
-}
-
-impl Tell for Words {
-    fn tell(&mut self, _alloc: Global, line: &str, out: &mut String) -> Result<(), AllocError> {
-        out.push_str(if is_word(line) { " word" } else { "" })?;
-        out.push_str(if is_identifier(line) {
-            " identifier"
-        } else {
-            ""
-        })
-    }
-}
-
-impl Tell for Uses {
-    fn tell(&mut self, alloc: Global, line: &str, out: &mut String) -> Result<(), AllocError> {
-        let (name, text) = line.split_once("@").unwrap_or((line, ""));
-        let text = java_of(alloc, text)?;
-        for at in &places(alloc, &text, &Name::of(alloc, name)?)? {
-            out.push_str(format!(in alloc; " {at}")?.as_str())?;
-        }
-        Ok(())
-    }
+    Ok(())
 }
 
 /// Adds tokens.
-fn push_tokens(alloc: Global, out: &mut String, cut: &[Token]) -> Result<(), AllocError> {
+fn push_tokens(out: &mut String, cut: &[Token]) -> Result<(), AllocError> {
     for token in cut {
         let (kind, at, len) = (token.kind(), token.at(), token.len());
-        out.push_str(format!(in alloc; " {kind} {at} {len};")?.as_str())?;
+        write!(out, " {kind} {at} {len};")?;
     }
     Ok(())
 }
 
 /// Adds words, each found by its name.
-fn push_words(alloc: Global, out: &mut String, list: &WordList) -> Result<(), AllocError> {
+fn push_words(out: &mut String, list: &WordList) -> Result<(), AllocError> {
     for (name, mask) in list.as_slice() {
         if list.mask_of(name) == Some(*mask) && !list.is_empty() {
-            out.push_str(format!(in alloc; " {name} {mask},")?.as_str())?;
+            write!(out, " {name} {mask},")?;
         }
     }
     Ok(())
@@ -93,7 +72,7 @@ fn push_words(alloc: Global, out: &mut String, list: &WordList) -> Result<(), Al
 fn many_words(alloc: Global, count: u32) -> Result<Text, AllocError> {
     let mut made = String::new(alloc);
     for n in 0..count {
-        made.push_str(format!(in alloc; "w{n} /* w{n} v{n} */ ")?.as_str())?;
+        write!(made, "w{n} /* w{n} v{n} */ ")?;
     }
     java_of(alloc, made.as_str())
 }

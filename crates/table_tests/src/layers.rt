@@ -18,7 +18,7 @@ pub fn play(alloc: Global, lines: &str, out: &mut String) -> Result<(), AllocErr
 impl Tell for Layers {
     fn tell(&mut self, alloc: Global, line: &str, out: &mut String) -> Result<(), AllocError> {
         match word_of(line) {
-            ("finds", name) => find(alloc, self, &Name::of(alloc, name)?, out),
+            ("finds", name) => find(self, &Name::of(alloc, name)?, out),
             ("copy", _) => copy(self),
             (word, rest) => change(alloc, self, word, rest),
         }
@@ -71,32 +71,26 @@ fn take_away(layers: &mut Layers, word: &str, file: u32) {
 }
 
 /// Tells the files and offsets, or files and masks, that a name finds: as a type, by a super, as a method, as a word and as a key.
-fn find(alloc: Global, layers: &Layers, name: &Name, out: &mut String) -> Result<(), AllocError> {
+fn find(layers: &Layers, name: &Name, out: &mut String) -> Result<(), AllocError> {
     for (file, stub) in layers.type_rows(name) {
-        push_row(alloc, out, "t", file, stub.at)?;
+        push_row(out, "t", file, stub.at)?;
     }
     for (file, stub) in layers.super_rows(name) {
-        push_row(alloc, out, "s", file, stub.at)?;
+        push_row(out, "s", file, stub.at)?;
     }
     for (file, stub) in layers.method_rows(name) {
-        push_row(alloc, out, "m", file, stub.at)?;
+        push_row(out, "m", file, stub.at)?;
     }
     for (file, mask) in layers.word_rows(name) {
-        push_row(alloc, out, "w", file, u32::from(mask))?;
+        push_row(out, "w", file, u32::from(mask))?;
     }
     for (file, at) in layers.key_rows(name) {
-        push_row(alloc, out, "k", file, at)?;
+        push_row(out, "k", file, at)?;
     }
     Ok(())
 }
 
 /// Adds what a walk gives: its mark, the file, and an offset or a mask.
-fn push_row(
-    alloc: Global,
-    out: &mut String,
-    kind: &str,
-    file: u32,
-    value: u32,
-) -> Result<(), AllocError> {
-    out.push_str(format!(in alloc; " {kind}{file}:{value}")?.as_str())
+fn push_row(out: &mut String, kind: &str, file: u32, value: u32) -> Result<(), AllocError> {
+    write!(out, " {kind}{file}:{value}")
 }

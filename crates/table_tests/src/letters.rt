@@ -87,7 +87,7 @@ fn perform(
     out: &mut String,
 ) -> Result<(), AllocError> {
     match word_of(line) {
-        ("shows", letter) => show(alloc, index, letter_of(letter), out),
+        ("shows", letter) => show(index, letter_of(letter), out),
         ("put-after-removal", pairs) => put_after_a_removal(index, rows_of(alloc, pairs)?),
         (word, rest) => change(alloc, index, word, rest),
     }
@@ -157,14 +157,9 @@ fn make_and_release(
 }
 
 /// Tells the files and numbers under a letter, in order.
-fn show(
-    alloc: Global,
-    index: &Inverted<Letters>,
-    letter: char,
-    out: &mut String,
-) -> Result<(), AllocError> {
+fn show(index: &Inverted<Letters>, letter: char, out: &mut String) -> Result<(), AllocError> {
     for (file, number) in index.rows(&letter) {
-        out.push_str(format!(in alloc; " {file}={number}")?.as_str())?;
+        write!(out, " {file}={number}")?;
     }
     Ok(())
 }

@@ -3,21 +3,15 @@
 //! `refusal memory` the other one.
 use crate::marks::{number_of, word_of};
 use crate::printed::push_script;
-use crate::tell::Tell;
 use script_lang::ScriptRefusal;
 use std::alloc::{AllocError, Global};
 
 /// Tells what becomes of them.
-#[derive(Clone, Copy, Drop)]
-pub struct LongScripts;
-
-impl Tell for LongScripts {
-    fn tell(&mut self, alloc: Global, line: &str, out: &mut String) -> Result<(), AllocError> {
-        match word_of(line) {
-            ("text", rest) => push_script(alloc, &long_line(alloc, rest)?, out),
-            ("lines", count) => push_script(alloc, &many_lines(alloc, number_of(count))?, out),
-            (_, number) => push_refusal(alloc, out, refusal_of(number)),
-        }
+pub fn tell(alloc: Global, line: &str, out: &mut String) -> Result<(), AllocError> {
+    match word_of(line) {
+        ("text", rest) => push_script(alloc, &long_line(alloc, rest)?, out),
+        ("lines", count) => push_script(alloc, &many_lines(alloc, number_of(count))?, out),
+        (_, number) => write!(out, " {}", refusal_of(number)),
     }
 }
 
@@ -46,9 +40,4 @@ fn refusal_of(number: &str) -> ScriptRefusal {
         0 => ScriptRefusal::OutOfMemory,
         number => ScriptRefusal::BadLine { number },
     }
-}
-
-/// Adds the text of a refusal.
-fn push_refusal(alloc: Global, out: &mut String, refusal: ScriptRefusal) -> Result<(), AllocError> {
-    out.push_str(format!(in alloc; " {refusal}")?.as_str())
 }

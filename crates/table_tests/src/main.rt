@@ -15,6 +15,7 @@ mod edits;
 mod files;
 mod histories;
 mod java_texts;
+mod kinds;
 mod layers;
 mod letters;
 mod long_scripts;
@@ -33,25 +34,12 @@ mod tell;
 mod texts;
 mod trees;
 
-use choices::Choices;
-use declarations::{CopiedNames, Declarations, DeepTexts};
-use histories::Refusals;
 use ide_io::{StdinSource, StdoutSink, read_all, write_all};
-use java_texts::{ManyWords, Tokens, Uses, Words};
-use long_scripts::LongScripts;
-use names::Names;
-use paths::{Marks, Paths};
-use property_texts::Keys;
-use scripts::Scripts;
-use signals::Signals;
-use sinks::Sinks;
-use sources::Sources;
+use kinds::Kind;
 use std::alloc::AllocError;
 use std::io;
 use std::rt::Files;
-use stubs::Stubs;
 use tell::tell_all;
-use texts::{LongTexts, Places, Texts};
 
 /// How many bytes all cases together may have: more than one read gives.
 const INPUT_LIMIT: usize = 1_000_000;
@@ -106,34 +94,12 @@ fn play<R: Files + AllocGlobal>(
         "layers" => layers::play(alloc, lines, out),
         "store" => stores::play(alloc, lines, out),
         "damaged store" => damaged::play(alloc, lines, out),
-        "stubs" => tell_all(alloc, &mut Stubs, lines, out),
-        "keys" => tell_all(alloc, &mut Keys, lines, out),
-        "tokens" => tell_all(alloc, &mut Tokens, lines, out),
-        "many words" => tell_all(alloc, &mut ManyWords, lines, out),
-        "words" => tell_all(alloc, &mut Words, lines, out),
-        "uses" => tell_all(alloc, &mut Uses, lines, out),
-        "declarations" => tell_all(alloc, &mut Declarations, lines, out),
-        "deep texts" => tell_all(alloc, &mut DeepTexts, lines, out),
-        "copied names" => tell_all(alloc, &mut CopiedNames, lines, out),
-        "scripts" => tell_all(alloc, &mut Scripts, lines, out),
-        "long scripts" => tell_all(alloc, &mut LongScripts, lines, out),
-        "sources" => tell_all(alloc, &mut Sources, lines, out),
-        "sinks" => tell_all(alloc, &mut Sinks, lines, out),
-        "signals" => tell_all(alloc, &mut Signals, lines, out),
-        "texts" => tell_all(alloc, &mut Texts, lines, out),
-        "long texts" => tell_all(alloc, &mut LongTexts, lines, out),
-        "places" => tell_all(alloc, &mut Places, lines, out),
-        "names" => tell_all(alloc, &mut Names, lines, out),
         "order" => names::play_order(alloc, lines, out),
-        "paths" => tell_all(alloc, &mut Paths, lines, out),
-        "marks" => tell_all(alloc, &mut Marks, lines, out),
         "history" => histories::play(alloc, lines, out),
-        "refusals" => tell_all(alloc, &mut Refusals, lines, out),
         "files" => files::play(alloc, lines, out),
         "documents" => documents::play(alloc, lines, out),
-        "choices" => tell_all(alloc, &mut Choices, lines, out),
         "tree in memory" => trees::play_in_memory(alloc, lines, out),
         "tree of a folder" => trees::play_folder(rt, lines, out),
-        _ => out.push_str("no such kind\n"),
+        _ => tell_all(alloc, &mut Kind { name: kind }, lines, out),
     }
 }

@@ -8,25 +8,20 @@ use std::alloc::{AllocError, Global};
 use std::cmp::Ordering;
 
 /// Tells names.
-#[derive(Clone, Copy, Drop)]
-pub struct Names;
-
-impl Tell for Names {
-    fn tell(&mut self, alloc: Global, line: &str, out: &mut String) -> Result<(), AllocError> {
-        let (from, rest) = word_of(line);
-        let (to, text) = word_of(rest);
-        let text = text_of(alloc, text)?;
-        let (from, to) = (number_of(from), number_of(to));
-        if from > to || to > text.len() {
-            return out.push_str(" no such range");
-        }
-        push_name(alloc, out, &Name::of_text(alloc, &text, from, to)?)
+pub fn tell(alloc: Global, line: &str, out: &mut String) -> Result<(), AllocError> {
+    let (from, rest) = word_of(line);
+    let (to, text) = word_of(rest);
+    let text = text_of(alloc, text)?;
+    let (from, to) = (number_of(from), number_of(to));
+    if from > to || to > text.len() {
+        return out.push_str(" no such range");
     }
+    push_name(alloc, out, &Name::of_text(alloc, &text, from, to)?)
 }
 
 /// Adds a name, its length, and whether it is that of its copy and of its letters.
 fn push_name(alloc: Global, out: &mut String, name: &Name) -> Result<(), AllocError> {
-    out.push_str(format!(in alloc; " <{name}> <{name:?}> {}", name.len())?.as_str())?;
+    write!(out, " <{name}> <{name:?}> {}", name.len())?;
     out.push_str(if name.is_empty() { " empty" } else { "" })?;
     out.push_str(if is_same(alloc, name)? { " same" } else { "" })
 }

@@ -2,42 +2,31 @@
 //! Java. A line of `marks` has marks of Java files that aren't open, at the stamp 4, each as `FILE:INDEXED`, or `FILE:` where it never
 //! was; it is told which is the lowest unindexed file, how many are unready, and whether all is smart.
 use crate::marks::number_of;
-use crate::tell::Tell;
 use dumb_mode::{Mark, is_java, is_smart, kind_of, lowest_unindexed, unready_count};
 use ide_text::Name;
 use std::alloc::{AllocError, Global};
 use write_history::is_lawful_path;
 
 /// Tells of paths.
-#[derive(Clone, Copy, Drop)]
-pub struct Paths;
-
-/// Tells of marks.
-#[derive(Clone, Copy, Drop)]
-pub struct Marks;
-
-impl Tell for Paths {
-    fn tell(&mut self, alloc: Global, line: &str, out: &mut String) -> Result<(), AllocError> {
-        let path = Name::of(alloc, line)?;
-        out.push_str(if is_lawful_path(&path) { " lawful" } else { "" })?;
-        if let Some(kind) = kind_of(&path) {
-            out.push_str(format!(in alloc; " {kind:?}")?.as_str())?;
-        }
-        out.push_str(if is_java(&path) { " java" } else { "" })
+pub fn tell_path(alloc: Global, line: &str, out: &mut String) -> Result<(), AllocError> {
+    let path = Name::of(alloc, line)?;
+    out.push_str(if is_lawful_path(&path) { " lawful" } else { "" })?;
+    if let Some(kind) = kind_of(&path) {
+        write!(out, " {kind:?}")?;
     }
+    out.push_str(if is_java(&path) { " java" } else { "" })
 }
 
-impl Tell for Marks {
-    fn tell(&mut self, alloc: Global, line: &str, out: &mut String) -> Result<(), AllocError> {
-        let marks = marks_of(alloc, line)?;
-        if marks.len() > 9 {
-            return out.push_str(" too many");
-        }
-        let lowest = lowest_unindexed(&marks);
-        let unready = unready_count(&marks);
-        let smart = is_smart(&marks);
-        out.push_str(format!(in alloc; " {lowest:?}, {unready} unready, smart {smart}")?.as_str())
+/// Tells of marks.
+pub fn tell_marks(alloc: Global, line: &str, out: &mut String) -> Result<(), AllocError> {
+    let marks = marks_of(alloc, line)?;
+    if marks.len() > 9 {
+        return out.push_str(" too many");
     }
+    let lowest = lowest_unindexed(&marks);
+    let unready = unready_count(&marks);
+    let smart = is_smart(&marks);
+    write!(out, " {lowest:?}, {unready} unready, smart {smart}")
 }
 
 /// The marks of a line.

@@ -1,17 +1,11 @@
 //! Scripts, each on one line, of which it is told what their sections hold, or the first bad line: `|` is a line feed, `^` a carriage
 //! return, `>` a tab, `~` a byte that no UTF-8 has, and `%` one that begins a sequence.
 use crate::printed::push_script;
-use crate::tell::Tell;
 use std::alloc::{AllocError, Global};
 
 /// Tells what scripts hold.
-#[derive(Clone, Copy, Drop)]
-pub struct Scripts;
-
-impl Tell for Scripts {
-    fn tell(&mut self, alloc: Global, line: &str, out: &mut String) -> Result<(), AllocError> {
-        push_script(alloc, &script_of(alloc, line)?, out)
-    }
+pub fn tell(alloc: Global, line: &str, out: &mut String) -> Result<(), AllocError> {
+    push_script(alloc, &script_of(alloc, line)?, out)
 }
 
 /// The bytes of a script that is written on one line.

@@ -1,8 +1,7 @@
 //! A reader and a writer of std that signals interrupt, or that fail: each line says how many of the first calls a signal interrupts,
 //! and how many behind them fail by another error. Up to 63 signals in a row are passed over, any other error is a fault at once.
 use crate::marks::{number_of, word_of};
-use crate::tell::Tell;
-use ide_io::{ReaderSource, WriterSink, read_all, write_all};
+use ide_io::{ReadAllError, ReaderSource, WriterSink, read_all, write_all};
 use std::alloc::{AllocError, Global};
 use std::io;
 use std::io::{ErrorKind, Read, Write};
@@ -10,16 +9,11 @@ use std::io::{ErrorKind, Read, Write};
 const TEXT: &str = "text";
 
 /// Tells how often each was called, its faults, and whether all was read or written.
-#[derive(Clone, Copy, Drop)]
-pub struct Signals;
-
-impl Tell for Signals {
-    fn tell(&mut self, alloc: Global, line: &str, out: &mut String) -> Result<(), AllocError> {
-        let (signals, errors) = word_of(line);
-        let (signals, errors) = (number_of(signals), number_of(errors));
-        tell_reader(alloc, signals, errors, out)?;
-        tell_writer(alloc, signals, errors, out)
-    }
+pub fn tell(alloc: Global, line: &str, out: &mut String) -> Result<(), AllocError> {
+    let (signals, errors) = word_of(line);
+    let (signals, errors) = (number_of(signals), number_of(errors));
+    tell_reader(alloc, signals, errors, out)?;
+    tell_writer(alloc, signals, errors, out)
 }
 
 /// A stream with trouble in its first calls, which counts its calls.
@@ -78,15 +72,21 @@ fn tell_reader(
         errors,
         calls: 0,
     });
-    let is_read = read_all(alloc, &mut source, 10).is_ok_and(|bytes| bytes.as_slice()
-        == TEXT.as_bytes());
-    let calls = source.reader.calls;
-    let faults = source.faults.get();
+    let is_read = is_text(&read_all(alloc, &mut source, 10));
+    let (calls, faults) = (source.reader.calls, source.faults.get());
     let ends = source.ends.get();
-    let told = format!(in alloc;
+    write!(
+        out,
         " reader: calls {calls}, faults {faults}, ends {ends}, read {is_read};"
-    )?;
-    out.push_str(told.as_str())
+    )
+}
+
+/// Whether the text was read.
+fn is_text(outcome: &Result<Vec<u8>, ReadAllError>) -> bool {
+    match outcome {
+        Ok(bytes) => bytes.as_slice() == TEXT.as_bytes(),
+        Err(_) => false,
+    }
 }
 
 /// Writes with so much trouble.
@@ -104,9 +104,9 @@ fn tell_writer(
     });
     let is_all = write_all(&mut sink, TEXT.as_bytes()).is_ok();
     let is_written = is_all && sink.writer.inner.as_slice() == TEXT.as_bytes();
-    let calls = sink.writer.calls;
-    let faults = sink.faults.get();
-    out.push_str(format!(in alloc;
+    let (calls, faults) = (sink.writer.calls, sink.faults.get());
+    write!(
+        out,
         " writer: calls {calls}, faults {faults}, written {is_written}"
-    )?.as_str())
+    )
 }

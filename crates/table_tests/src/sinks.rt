@@ -1,23 +1,17 @@
 //! Sinks to which ten digits are written. `fails N` writes them in pieces of 4 bytes with that call failing, `room N` with room for so
 //! many, `writer` by a writer of std. It is told whether all was written, and what was.
 use crate::marks::{number_of, word_of};
-use crate::tell::Tell;
 use ide_io::{BytesSink, Failed, Failing, FaultPlan, WriterSink, write_all};
 use std::alloc::{AllocError, Global};
 
 const DIGITS: &str = "0123456789";
 
 /// Tells what is written.
-#[derive(Clone, Copy, Drop)]
-pub struct Sinks;
-
-impl Tell for Sinks {
-    fn tell(&mut self, alloc: Global, line: &str, out: &mut String) -> Result<(), AllocError> {
-        match word_of(line) {
-            ("fails", call) => tell_fault(alloc, u64::from(number_of(call)), out),
-            ("room", room) => tell_room(alloc, number_of(room) as usize, out),
-            _ => tell_writer(alloc, out),
-        }
+pub fn tell(alloc: Global, line: &str, out: &mut String) -> Result<(), AllocError> {
+    match word_of(line) {
+        ("fails", call) => tell_fault(alloc, u64::from(number_of(call)), out),
+        ("room", room) => tell_room(alloc, number_of(room) as usize, out),
+        _ => tell_writer(alloc, out),
     }
 }
 
@@ -28,7 +22,7 @@ fn tell_fault(alloc: Global, call: u64, out: &mut String) -> Result<(), AllocErr
         plan: FaultPlan::new(vec![in alloc; call]?),
     };
     let outcome = write_all(&mut sink, DIGITS.as_bytes());
-    out.push_str(format!(in alloc; " faults {},", sink.plan.faults())?.as_str())?;
+    write!(out, " faults {},", sink.plan.faults())?;
     push_outcome(out, outcome, sink.inner.bytes())
 }
 
@@ -36,7 +30,7 @@ fn tell_fault(alloc: Global, call: u64, out: &mut String) -> Result<(), AllocErr
 fn tell_room(alloc: Global, room: usize, out: &mut String) -> Result<(), AllocError> {
     let mut sink = BytesSink::with_room(alloc, room)?;
     let outcome = write_all(&mut sink, DIGITS.as_bytes());
-    out.push_str(format!(in alloc; " faults {},", sink.faults())?.as_str())?;
+    write!(out, " faults {},", sink.faults())?;
     push_outcome(out, outcome, sink.bytes())
 }
 

@@ -36,7 +36,7 @@ fn push_has(alloc: Global, store: &Store, asked: &str, out: &mut String) -> Resu
     let text = text_of(alloc, text)?;
     let is_there = store.has(kind_of(kind), &text)?;
     let has_data = store.data_for(kind_of(kind), &text)?.is_some();
-    out.push_str(format!(in alloc; " {is_there} {has_data}")?.as_str())
+    write!(out, " {is_there} {has_data}")
 }
 
 /// Adds a text to a store, and tells how many there are. A full store counts as running out of memory.
@@ -51,5 +51,5 @@ fn add(
         return Err(AllocError);
     }
     store.add(kind, text)?;
-    out.push_str(format!(in alloc; " {}", store.len())?.as_str())
+    write!(out, " {}", store.len())
 }

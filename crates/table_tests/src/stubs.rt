@@ -1,20 +1,14 @@
 //! The bytes of lists of declarations: each line has the bytes of one, or `damaged` and these. Of bytes it is told whether they are
 //! those of the list that they spell (`kept`), or the place of the first fault; of damaged ones with 255 at each place in turn.
 use crate::marks::{bytes_of, flip, word_of};
-use crate::tell::Tell;
 use std::alloc::{AllocError, Global};
 use stub_codec::{StubRefusal, decode, encode};
 
 /// Tells what bytes are.
-#[derive(Clone, Copy, Drop)]
-pub struct Stubs;
-
-impl Tell for Stubs {
-    fn tell(&mut self, alloc: Global, line: &str, out: &mut String) -> Result<(), AllocError> {
-        match word_of(line) {
-            ("damaged", bytes) => tell_damaged(alloc, &mut bytes_of(alloc, bytes)?, out),
-            _ => tell_bytes(alloc, &bytes_of(alloc, line)?, out),
-        }
+pub fn tell(alloc: Global, line: &str, out: &mut String) -> Result<(), AllocError> {
+    match word_of(line) {
+        ("damaged", bytes) => tell_damaged(alloc, &mut bytes_of(alloc, bytes)?, out),
+        _ => tell_bytes(alloc, &bytes_of(alloc, line)?, out),
     }
 }
 
@@ -36,7 +30,7 @@ fn tell_bytes(alloc: Global, bytes: &[u8], out: &mut String) -> Result<(), Alloc
             let is_kept = encode(alloc, &list)?.as_slice() == bytes;
             out.push_str(if is_kept { " kept" } else { " other" })
         }
-        Err(StubRefusal::BadStub { at }) => out.push_str(format!(in alloc; " {at}")?.as_str()),
+        Err(StubRefusal::BadStub { at }) => write!(out, " {at}"),
         Err(StubRefusal::OutOfMemory) => Err(AllocError),
     }
 }

@@ -3,53 +3,37 @@
 //! `long texts` stands for so many letters and these bytes behind them, of which it is told how long the text is, or the refusal;
 //! `most` tells how long a text may be, and `memory` the last refusal.
 use crate::marks::{bytes_of, mark, number_of, word_of};
-use crate::tell::Tell;
 use ide_text::{MAX_CHARS, Text, TextRefusal};
 use std::alloc::{AllocError, Global};
 
 /// Tells what texts hold.
-#[derive(Clone, Copy, Drop)]
-pub struct Texts;
+pub fn tell(alloc: Global, line: &str, out: &mut String) -> Result<(), AllocError> {
+    match Text::from_utf8(alloc, &bytes_of(alloc, line)?) {
+        Ok(text) => {
+            push_text(out, &text)?;
+            push_text(out, &text.copy()?)
+        }
+        Err(refusal) => write!(out, " {refusal}"),
+    }
+}
 
 /// Tells where things stand in texts.
-#[derive(Clone, Copy, Drop)]
-pub struct Places;
+pub fn tell_places(alloc: Global, line: &str, out: &mut String) -> Result<(), AllocError> {
+    match Text::from_utf8(alloc, &bytes_of(alloc, line)?) {
+        Ok(text) => push_places(out, &text),
+        Err(refusal) => write!(out, " {refusal}"),
+    }
+}
 
 /// Tells how long texts are.
-#[derive(Clone, Copy, Drop)]
-pub struct LongTexts;
-
-impl Tell for Texts {
-    fn tell(&mut self, alloc: Global, line: &str, out: &mut String) -> Result<(), AllocError> {
-        match Text::from_utf8(alloc, &bytes_of(alloc, line)?) {
-            Ok(text) => {
-                push_text(out, &text)?;
-                push_text(out, &text.copy()?)
-            }
-            Err(refusal) => push_refusal(alloc, out, refusal),
-        }
-    }
-}
-
-impl Tell for Places {
-    fn tell(&mut self, alloc: Global, line: &str, out: &mut String) -> Result<(), AllocError> {
-        match Text::from_utf8(alloc, &bytes_of(alloc, line)?) {
-            Ok(text) => push_places(alloc, out, &text),
-            Err(refusal) => push_refusal(alloc, out, refusal),
-        }
-    }
-}
-
-impl Tell for LongTexts {
-    fn tell(&mut self, alloc: Global, line: &str, out: &mut String) -> Result<(), AllocError> {
-        match word_of(line) {
-            ("most", _) => push_number(alloc, out, MAX_CHARS),
-            ("memory", _) => push_refusal(alloc, out, TextRefusal::OutOfMemory),
-            (count, end) => match long_text(alloc, number_of(count), &bytes_of(alloc, end)?)? {
-                Ok(text) => push_number(alloc, out, text.len() as usize),
-                Err(refusal) => push_refusal(alloc, out, refusal),
-            },
-        }
+pub fn tell_long(alloc: Global, line: &str, out: &mut String) -> Result<(), AllocError> {
+    match word_of(line) {
+        ("most", _) => write!(out, " {MAX_CHARS}"),
+        ("memory", _) => write!(out, " {}", TextRefusal::OutOfMemory),
+        (count, end) => match long_text(alloc, number_of(count), &bytes_of(alloc, end)?)? {
+            Ok(text) => write!(out, " {}", text.len()),
+            Err(refusal) => write!(out, " {refusal}"),
+        },
     }
 }
 
@@ -74,20 +58,10 @@ pub fn push_text(out: &mut String, text: &Text) -> Result<(), AllocError> {
 }
 
 /// Adds the line and the column of each offset.
-fn push_places(alloc: Global, out: &mut String, text: &Text) -> Result<(), AllocError> {
+fn push_places(out: &mut String, text: &Text) -> Result<(), AllocError> {
     for at in 0..text.len() + 1 {
         let (line, column) = text.line_col(at);
-        out.push_str(format!(in alloc; " {line}:{column}")?.as_str())?;
+        write!(out, " {line}:{column}")?;
     }
     Ok(())
-}
-
-/// Adds a number.
-fn push_number(alloc: Global, out: &mut String, number: usize) -> Result<(), AllocError> {
-    out.push_str(format!(in alloc; " {number}")?.as_str())
-}
-
-/// Adds the text of a refusal.
-fn push_refusal(alloc: Global, out: &mut String, refusal: TextRefusal) -> Result<(), AllocError> {
-    out.push_str(format!(in alloc; " {refusal}")?.as_str())
 }

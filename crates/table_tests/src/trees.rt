@@ -30,8 +30,8 @@ impl Tell for Failing<MemoryTree> {
     fn tell(&mut self, alloc: Global, line: &str, out: &mut String) -> Result<(), AllocError> {
         match line {
             "faults" => {
-                push_count(alloc, out, self.inner.faults.get())?;
-                push_count(alloc, out, self.plan.faults())
+                let (inner, own) = (self.inner.faults.get(), self.plan.faults());
+                write!(out, " {inner} {own}")
             }
             path => tell_file(alloc, self, path, out),
         }
@@ -41,21 +41,24 @@ impl Tell for Failing<MemoryTree> {
 impl<R: Files> Tell for FolderTree<'_, R> {
     fn tell(&mut self, alloc: Global, line: &str, out: &mut String) -> Result<(), AllocError> {
         match line {
-            "faults" => push_count(alloc, out, self.faults.get()),
+            "faults" => write!(out, " {}", self.faults.get()),
             path => tell_file(alloc, self, path, out),
         }
     }
 }
 
 /// A small file, one that is as long as may be, and one that is a byte longer.
+static FILES: [(&str, usize); 3] = [
+    ("small", 3),
+    ("full", MAX_FILE_LEN),
+    ("long", MAX_FILE_LEN + 1),
+];
+
+/// Those files.
 fn memory_tree(alloc: Global) -> Result<MemoryTree, AllocError> {
     let mut files = BTreeMap::new(alloc);
-    for (path, len) in [
-        ("small", 3),
-        ("full", MAX_FILE_LEN),
-        ("long", MAX_FILE_LEN + 1),
-    ] {
-        files.insert(Name::of(alloc, path)?, vec![in alloc; b'a'; len]?)?;
+    for (path, len) in &FILES {
+        files.insert(Name::of(alloc, path)?, vec![in alloc; b'a'; *len]?)?;
     }
     Ok(MemoryTree::new(files))
 }
@@ -68,13 +71,8 @@ fn tell_file<T: Tree>(
     out: &mut String,
 ) -> Result<(), AllocError> {
     match tree.read_file(alloc, &Name::of(alloc, path)?) {
-        Ok(bytes) => out.push_str(format!(in alloc; " {} bytes", bytes.len())?.as_str()),
+        Ok(bytes) => write!(out, " {} bytes", bytes.len()),
         Err(ReadFileError::OutOfMemory) => Err(AllocError),
-        Err(error) => out.push_str(format!(in alloc; " {error:?}")?.as_str()),
+        Err(error) => write!(out, " {error:?}"),
     }
-}
-
-/// Adds a count.
-fn push_count(alloc: Global, out: &mut String, count: u64) -> Result<(), AllocError> {
-    out.push_str(format!(in alloc; " {count}")?.as_str())
 }

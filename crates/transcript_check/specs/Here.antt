@@ -94,7 +94,7 @@ abbrev pub tells_in : World → ℕ → Line → List ℕ → Bool
 tells_in world seat line text =
     option_map_or (λ answer. bytes_eq (told_text seat line.number answer) text) (answer_in world line.command) false
 
--- a section is behind its next record where that is told in a world; else it stands behind all that are told there
+-- where a record was told, a section comes to the same place behind all that are told in a world; else it stands there
 abbrev pub GoesBehindOne : Bool → List Entry → Cursor → Cursor → Bool → Type 0
 GoesBehindOne beside history cursor cursor' true = told_here beside history cursor ≡ told_here beside history cursor'
 GoesBehindOne beside history cursor cursor' false = told_here beside history cursor ≡ cursor'

@@ -1,5 +1,5 @@
--- Which block of some bytes is the first that doesn't fit: where the verdict on them stops. Blocks are counted from 0, so that the block of
--- an entry has the number of its position.
+-- Which block of some bytes is the first that doesn't fit: where the verdict on them stops.
+-- Blocks are counted from 0, so that the block of an entry has the number of its position.
 use Rattle.std.specs.Prelude.{ℕ, ◌≡◌, ◌↔◌, ◌+◌, ◌-◌, List, [], ◌∷◌, ◌++◌, length, take, drop, Option, Some, None, Result, Ok, Err, if◌then◌else◌, bytes_eq}
 use Rattle.ide_io.specs.Files.{TreeFiles}
 use Rattle.write_history.specs.declared.entry.Entry.{Entry}

@@ -43,8 +43,8 @@ abbrev pub tells_given_up : ℕ → ℕ → Command → List ℕ → Bool
 tells_given_up seat number (command.Soft attempts query) text = bytes_eq (told_text seat number (given_up seat attempts)) text
 tells_given_up seat number command text = false
 
--- Whether the record of a line with this text can stand here: the line adds nothing here and is answered so, or another section runs beside
--- and this tells that the line was given up
+-- Whether the record of a line with this text can stand here: the line adds nothing here and is answered so, or another lane or a worker runs
+-- beside and this tells that the line was given up
 abbrev pub is_told_here : Bool → List Entry → ℕ → Line → List ℕ → Bool
 is_told_here beside history seat line text =
     tells seat line.number (line_step history seat line) text || (beside && tells_given_up seat line.number line.command text)

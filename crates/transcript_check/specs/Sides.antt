@@ -28,8 +28,8 @@ abbrev pub IsNamed : World → ℕ → Option (ℕ × ℕ) → Type 0
 IsNamed world file None = file_of world file ≡ None
 IsNamed world file (Some named) = (named.0 ≡ file) × (named.1 ≡ stamp_of (file_of world file))
 
--- Whether the worker with a seat takes a file in as the entry with a text: no section is in the middle of a settle, the worker hasn't taken it
--- in, and it goes in
+-- Whether the worker with a seat takes a file in as the entry with a text: no section is in the middle of a settle, the worker hasn't taken it in
+-- at its stamp, and it goes in
 abbrev pub worker_goes : World → List Taking → ℕ → ℕ → List Cursor → List ℕ → Bool
 worker_goes world taken seat file cursors text =
     not (is_busy cursors) && (not (is_among seat file (stamp_of (file_of world file)) taken) && goes_in world seat 0 (intake_of world file) text)

@@ -1,12 +1,12 @@
 //! A section that goes alone, line by line.
-ghost use Rattle.std.specs.Prelude.{◌≡◌, IfOk, false, option_map, unwrap_or, bytes_eq};
+ghost use Rattle.std.specs.Prelude.{◌≡◌, IfOk, false, option_map, unwrap_or};
 ghost use Rattle.std.specs.Result.{result_map_both};
 ghost use Rattle.write_history.specs.declared.change.Change.TheVariants.{Create};
 ghost use Rattle.script_lang.specs.declared.command.Command.TheVariants as command;
 ghost use Rattle.script_lang.specs.Held.{AreOfPrelude, IsOfLine};
 ghost use Rattle.transcripts.specs.declared.loaded.Loaded.TheVariants as loaded;
 ghost use Rattle.transcripts.specs.Serial.{load_step, settle_step, step_of};
-ghost use Rattle.transcript_check.specs.Section.{is_settle, line_step, told_text};
+ghost use Rattle.transcript_check.specs.Section.{is_settle, line_step};
 ghost use Rattle.transcript_check.specs.Alone.{HasGone, HasTakenNext, left_where};
 ghost use Rattle.transcript_check.specs.Going.{HasComeAlone};
 
@@ -14,13 +14,13 @@ use crate::answering::settle_goes_on;
 use crate::block::Block;
 use crate::cursor::{change_so, take_lowest_so};
 use crate::stop::LineStop;
-use crate::told::is_answered_so;
+use crate::told::{answer_so, is_answered_so};
 use ide_text::{Name, SharedText};
 use replay::Replay;
 use script_lang::{Command, Line};
 use std::alloc::{AllocError, Global};
 use std::marker::Model;
-use transcripts::{Answer, Loaded, Record, record_text};
+use transcripts::{Answer, Loaded};
 use write_history::{Change, is_lawful_path};
 
 /// The texts of entries that are left, in order.
@@ -166,7 +166,9 @@ fn load_so(
         Loaded::Nothing => plain_so(alloc, replay, seat, line, text, made),
         Loaded::Text { text: content } => {
             let create = creating(line.number, path, content)?;
-            plain_so(alloc, replay, seat, &create, text, made)
+            let went = plain_so(alloc, replay, seat, &create, text, made);
+            drop(create);
+            went
         }
         Loaded::NotText { at } => {
             answer_so(alloc, seat, line.number, Answer::NotText { at: *at }, text)
@@ -197,20 +199,6 @@ fn creating(number: u32, path: &Name, content: &SharedText) -> Result<Line, Allo
         number,
         command: Command::Change(change),
     })
-}
-
-/// Whether a line that is answered so has a record with this text.
-fn answer_so(
-    alloc: Global,
-    seat: u32,
-    line: u32,
-    answer: Answer,
-    text: &Block<'_>,
-) -> Result<bool, AllocError>
-    ensures { IfOk result (λ so. so ≡ bytes_eq (told_text seat line answer) text.now) }
-{
-    let wanted = record_text(alloc, &Record { seat, line, answer })?;
-    Ok(text.is(&wanted))
 }
 
 /// Goes behind a line that is no settle, and for which nothing was read: it adds nothing and is answered so, or its changes

@@ -120,7 +120,7 @@ fn settle_answer(replay: &Replay) -> Option<Answer>
 pub(crate) fn settle_goes_on(replay: &Replay) -> bool
     ensures { result ≡ is_none (settle_in replay.now (lowest_unready replay.now)) }
 {
-    settle_answer(replay).is_none()
+    replay.lowest_unready().is_some() && replay.entries() < MAX_ENTRIES
 }
 
 /// The answer to a question.

@@ -8,13 +8,13 @@ ghost use Rattle.transcript_check.specs.Here.{HasToldOne, IsToldAll, HasMadeNext
 
 use crate::block::Block;
 use crate::entering::{enter_so, take_so};
-use crate::told::is_told_here;
+use crate::told::{answer_so, is_told_here};
 use replay::Replay;
 use script_lang::{Command, Line};
 use std::alloc::{AllocError, Global};
 use std::marker::Model;
-use transcripts::{Answer, Record, record_text};
-use write_history::Changes;
+use transcripts::Answer;
+use write_history::{Changes, Entry};
 
 /// A section on its way: its lines that are left, with the texts of their records, and whether it is in the middle of a
 /// settle.
@@ -151,45 +151,39 @@ pub(crate) fn change_so(
     requires { IsOfLine line.now.command }
     ensures { IfOk result (HasChanged replay.old replay.new seat line.now told.now text.now) }
 {
-    match &line.command {
-        Command::Change(change) => {
-            let changes = Changes::one(change.copy()?);
-            accept_so(alloc, replay, seat, line.number, changes, told, text)
-        }
-        Command::Group(changes) => {
-            accept_so(
-                alloc,
-                replay,
-                seat,
-                line.number,
-                changes.copy()?,
-                told,
-                text,
-            )
-        }
-        _ => Ok(false),
-    }
+    let changes = match &line.command {
+        Command::Change(change) => Changes::one(change.copy()?),
+        Command::Group(changes) => changes.copy()?,
+        _ => return Ok(false),
+    };
+    let entry = Entry {
+        seat,
+        line: line.number,
+        changes,
+    };
+    let went = accept_so(alloc, replay, &entry, told, text);
+    drop(entry);
+    went
 }
 
-/// Makes changes as the entry with this text, where the record of their line tells that they were accepted.
+/// Makes the changes of an entry as the one with this text, where the record of its line tells that they were accepted.
 fn accept_so(
     alloc: Global,
     replay: &mut Replay,
-    seat: u32,
-    line: u32,
-    changes: Changes,
+    entry: &Entry,
     told: &Block<'_>,
     text: &Block<'_>,
 ) -> Result<bool, AllocError>
-    requires { list_all is_edit changes ≡ true }
-    ensures { IfOk result (HasEnteredSo replay.old replay.new seat line changes told.now text.now) }
+    requires { list_all is_edit entry.now.changes ≡ true }
+    ensures { IfOk result
+        (HasEnteredSo replay.old replay.new entry.now.seat entry.now.line entry.now.changes
+        told.now text.now) }
 {
     let answer = Answer::Accepted {
         at: replay.entries() + 1,
     };
-    let wanted = record_text(alloc, &Record { seat, line, answer })?;
-    if !told.is(&wanted) {
+    if !answer_so(alloc, entry.seat, entry.line, answer, told)? {
         return Ok(false);
     }
-    enter_so(alloc, replay, seat, line, changes, text)
+    enter_so(alloc, replay, entry, text)
 }

@@ -10,25 +10,19 @@ use replay::{EnterRefusal, IntakeRefusal, Replay};
 use std::alloc::{AllocError, Global};
 use write_history::{Change, Changes, Entry, line_of};
 
-/// Lets changes in as the entry with this text, or finds that they don't go in so: one is refused, or the entry is printed
-/// otherwise. It costs the entry and what its changes do.
+/// Lets the changes of an entry in as the one with this text, or finds that they don't go in so: one is refused, or the entry
+/// is printed otherwise. It costs the entry and what its changes do.
 pub(crate) fn enter_so(
     alloc: Global,
     replay: &mut Replay,
-    seat: u32,
-    line: u32,
-    changes: Changes,
+    entry: &Entry,
     text: &Block<'_>,
 ) -> Result<bool, AllocError>
-    requires { list_all is_edit changes ≡ true }
-    ensures { IfOk result (HasGoneIn replay.old replay.new seat line changes text.now) }
+    requires { list_all is_edit entry.now.changes ≡ true }
+    ensures { IfOk result
+        (HasGoneIn replay.old replay.new entry.now.seat entry.now.line entry.now.changes text.now) }
 {
-    let entry = Entry {
-        seat,
-        line,
-        changes,
-    };
-    let wanted = line_of(alloc, replay.entries() + 1, &entry)?;
+    let wanted = line_of(alloc, replay.entries() + 1, entry)?;
     if !text.is(&wanted) {
         return Ok(false);
     }
@@ -60,8 +54,9 @@ pub(crate) fn take_so(
         line,
         changes: Changes::one(Change::Intake { file, stamp }),
     };
-    let wanted = line_of(alloc, replay.entries() + 1, &entry)?;
-    if !text.is(&wanted) {
+    let wanted = line_of(alloc, replay.entries() + 1, &entry);
+    drop(entry);
+    if !text.is(&wanted?) {
         return Ok(false);
     }
     match replay.take_in(alloc, file) {

@@ -194,7 +194,9 @@ fn misfit_among(
         (λ found. found ≡ misfit_among loads.now script.now workers entries.now records.now) }
 {
     let mut replay = Replay::empty(alloc);
-    goes_through(alloc, &mut replay, script, workers, loads, entries, records)
+    let found = goes_through(alloc, &mut replay, script, workers, loads, entries, records);
+    drop(replay);
+    found
 }
 
 /// Goes through the texts of a run with a workspace without a file, and without an entry, up to the first misfit.

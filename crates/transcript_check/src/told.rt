@@ -2,7 +2,7 @@
 ghost use Rattle.std.specs.Prelude.{ℕ, ◌≡◌, ◌&&◌, IfOk, length, take, bytes_eq, codes, ◌++◌, OnOk};
 ghost use Rattle.std.specs.Fmt.{decimal};
 ghost use Rattle.script_lang.specs.Held.{IsOfLine, IsNoLoad};
-ghost use Rattle.transcript_check.specs.Section.{tells_given_up};
+ghost use Rattle.transcript_check.specs.Section.{tells_given_up, told_text};
 ghost use Rattle.transcript_check.specs.Here.{IsToldIn, head_in, tells_in};
 
 use crate::answering::answer_here;
@@ -10,10 +10,10 @@ use crate::block::Block;
 use replay::Replay;
 use script_lang::{Command, Line};
 use std::alloc::{AllocError, Global};
-use transcripts::{Record, record_text};
+use transcripts::{Answer, Record, record_text};
 
-/// Whether the record of a line with this text can stand here: the line adds nothing and is answered so, or another
-/// section runs beside and the text tells that the line was given up. Where the text holds at another prefix, it costs
+/// Whether the record of a line with this text can stand here: the line adds nothing and is answered so, or another lane or
+/// a worker runs beside and the text tells that the line was given up. Where the text holds at another prefix, it costs
 /// nothing that grows.
 pub(crate) fn is_told_here(
     alloc: Global,
@@ -36,7 +36,7 @@ pub(crate) fn is_told_here(
     is_answered_so(alloc, replay, seat, line, text)
 }
 
-/// Whether another section runs beside and the text tells that the line was given up.
+/// Whether another lane or a worker runs beside and the text tells that the line was given up.
 fn is_left(alloc: Global, beside: bool, line: &Line, text: &Block<'_>) -> Result<bool, AllocError>
     ensures { IfOk result
         (λ left. (seat : ℕ)
@@ -113,13 +113,21 @@ pub(crate) fn is_answered_so(
     let Some(answer) = answer_here(alloc, replay, line)? else {
         return Ok(false);
     };
-    let wanted = record_text(
-        alloc,
-        &Record {
-            seat,
-            line: line.number,
-            answer,
-        },
-    )?;
-    Ok(text.is(&wanted))
+    answer_so(alloc, seat, line.number, answer, text)
+}
+
+/// Whether a line that is answered so has a record with this text.
+pub(crate) fn answer_so(
+    alloc: Global,
+    seat: u32,
+    line: u32,
+    answer: Answer,
+    text: &Block<'_>,
+) -> Result<bool, AllocError>
+    ensures { IfOk result (λ so. so ≡ bytes_eq (told_text seat line answer) text.now) }
+{
+    let record = Record { seat, line, answer };
+    let wanted = record_text(alloc, &record);
+    drop(record);
+    Ok(text.is(&wanted?))
 }

@@ -41,7 +41,8 @@ pub record IsDone (history : List Entry) (seat : ℕ) (line : Line) (load : Load
   pub seen : high.seen ≡ length (start ++ own)
   pub sights : low.sights ≤ high.sights
 
--- The soft question of a line was given up, having found as often as it was allowed that a write waits; nothing was made
+-- The soft question of a line was given up: it has found that a write waits at least as often as it was allowed attempts, or its count stands
+-- at the last value; nothing was made
 pub record IsGivenUp (seat : ℕ) (line : Line) (low : Progress) (own : List Entry) (answer : Answer) (high : Progress) : Type 0 where
   pub attempts : ℕ
   pub query : Query
@@ -56,7 +57,7 @@ pub record IsGivenUp (seat : ℕ) (line : Line) (low : Progress) (own : List Ent
   pub seen : high.seen ≡ low.seen
   pub sights : high.sights ≡ sighted.after
 
--- what the answer to a line says: it was done, or, only where another section runs beside, given up
+-- what the answer to a line says: it was done, or, only where another lane or a worker runs beside, given up
 abbrev pub Fits : Bool → List Entry → ℕ → Line → Loaded → Progress → List Entry → Answer → Progress → Type 0
 Fits beside history seat line load low own answer high =
     IsDone history seat line load low own answer high ⊎ ((beside ≡ true) × IsGivenUp seat line low own answer high)
@@ -102,7 +103,7 @@ LanesFit beside history low seat [] entries records = records ≡ []
 LanesFit beside history low seat (lane ∷ lanes) entries records =
     FitsLane beside history seat low lane entries (LanesFit beside history low (suc seat) lanes entries) records
 
--- a prefix of the history of this length, not shorter than what the worker had seen, after which no file is unready
+-- a prefix of the history of this length, not shorter than what the worker had seen as it began, after which no file is unready
 pub record IsReadyAt (history : List Entry) (low len : ℕ) : Type 0 where
   pub start : List Entry
   pub stands : IsPrefix start history

@@ -74,7 +74,7 @@ abbrev pub settle_answer : ℕ → Option Refusal → Answer
 settle_answer at None = Smart at
 settle_answer at (Some why) = Refused at None why
 
--- a settle takes in every unready file, in order of ids, one entry each
+-- a settle takes in every unready file, in order of ids, one entry each, up to the first whose intake is refused
 abbrev pub settle_step : List Entry → ℕ → ℕ → CommandStep
 settle_step history seat line = retold settle_answer (serial.settle_step history seat line)
 

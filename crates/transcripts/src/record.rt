@@ -101,13 +101,11 @@ impl Records {
     }
 
     /// Adds all records of another list, or changes nothing where there is no memory.
-    pub fn append(&mut self, other: Records) -> Result<(), AllocError>
+    pub fn append(&mut self, mut other: Records) -> Result<(), AllocError>
         ensures ok { OnOk result (self.new ≡ self.old ++ other) }
         ensures err { OnErr result (self.new ≡ self.old) }
     {
-        let Records { mut records } = other;
-        self.records.append(&mut records)?;
-        Ok(())
+        self.records.append(&mut other.records)
     }
 
     /// The records.

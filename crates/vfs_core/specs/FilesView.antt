@@ -5,7 +5,7 @@ use Rattle.vfs_core.specs.declared.row.FileRow.{FileRow}
 use Rattle.vfs_core.specs.Row.{row_in, id_in, has_path}
 
 -- the rows of all files that were ever made, and the stamp that is drawn next; the other fields are room, and only
--- `HasRowRoom`, `HasPathRoom` and `KeepsRoom` speak of them
+-- `HasRowRoom`, `HasPathRoom` and `KeepsRoom` speak of them, and what `sweep` says of the rows
 pub record FilesView : Type 0 where
   pub rows : List (Option FileRow)
   pub next_stamp : ℕ

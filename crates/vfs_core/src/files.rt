@@ -186,7 +186,7 @@ impl Files {
             stamp,
             indexed: None,
         };
-        self.put(id, Some(row));
+        drop(self.put(id, Some(row)));
         id
     }
 
@@ -227,7 +227,7 @@ impl Files {
         ensures stamp { self.new.next_stamp ≡ self.old.next_stamp }
         ensures keeps_room { KeepsRoom self.old self.new }
     {
-        self.put(id, None);
+        drop(self.put(id, None));
     }
 
     /// Lets a live file count as indexed at its stamp. It takes no memory and constant time.
@@ -244,7 +244,7 @@ impl Files {
     {
         if let Some(row) = self.rows.put(id, None) {
             let indexed = Some(row.stamp);
-            self.rows.put(id, Some(FileRow { indexed, ..row }));
+            drop(self.rows.put(id, Some(FileRow { indexed, ..row })));
         }
     }
 

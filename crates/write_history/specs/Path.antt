@@ -1,4 +1,4 @@
--- Lawful paths of files, and which files are Java sources.
+-- Lawful paths of files.
 use Rattle.std.specs.Prelude.{ℕ, Bool, not, ◌&&◌, ◌||◌, List, [], ◌∷◌, length, nat_lt, nat_le, ◌==◌, if◌then◌else◌, bytes_eq, codes}
 use Rattle.std.specs.List.{list_all}
 

@@ -49,6 +49,6 @@ settled_from history seat line (id ∷ ids) =
     settled_unless (list_refusal (fold history) (intake_of (fold history) id)) (intake_entry history seat line id)
     (settled_from (history ++ intake_entry history seat line id ∷ []) seat line ids)
 
--- a settle takes in every unready file, in order of ids
+-- a settle takes in every unready file, in order of ids, up to the first whose intake is refused
 abbrev pub settled : List Entry → ℕ → ℕ → Settled
 settled history seat line = settled_from history seat line (unready_ids (fold history))

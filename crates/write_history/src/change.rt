@@ -67,21 +67,24 @@ impl Change {
         ensures { IfOk result (λ copy. copy ≡ self.now) }
     {
         Ok(match self {
-            Change::Create { path, text } => Change::Create {
-                path: path.copy()?,
-                text: text.share()?,
-            },
-            Change::Write { path, text } => Change::Write {
-                path: path.copy()?,
-                text: text.share()?,
-            },
+            Change::Create { path, text } => {
+                let (path, text) = copied(path, text)?;
+                Change::Create { path, text }
+            }
+            Change::Write { path, text } => {
+                let (path, text) = copied(path, text)?;
+                Change::Write { path, text }
+            }
             Change::Delete { path } => Change::Delete { path: path.copy()? },
             Change::OpenDoc { path } => Change::OpenDoc { path: path.copy()? },
-            Change::Insert { path, at, text } => Change::Insert {
-                path: path.copy()?,
-                at: *at,
-                text: text.share()?,
-            },
+            Change::Insert { path, at, text } => {
+                let (path, text) = copied(path, text)?;
+                Change::Insert {
+                    path,
+                    at: *at,
+                    text,
+                }
+            }
             Change::Erase { path, from, to } => Change::Erase {
                 path: path.copy()?,
                 from: *from,
@@ -100,4 +103,12 @@ impl Change {
             },
         })
     }
+}
+
+/// A path once more, and a text that is shared.
+fn copied(path: &Name, text: &SharedText) -> Result<(Name, SharedText), AllocError>
+    ensures { IfOk result (λ copied. copied ≡ (path.now, text.now)) }
+{
+    let path = path.copy()?;
+    Ok((path, text.share()?))
 }

@@ -1,9 +1,10 @@
 //! How the transcript prints an entry of the history, and why a change was refused.
-ghost use Rattle.std.specs.Prelude.{◌≡◌, ◌++◌, IfOk, OnOk, string_bytes};
+ghost use Rattle.std.specs.Prelude.{◌≡◌, ◌++◌, IfOk, OnOk, codes, decimal, encode_utf8_all, string_bytes};
 ghost use Rattle.write_history.specs.Print.{entry_line, change_text, changes_text, group_line, group_text};
 
 use crate::pieces::{push_named, push_numbered};
 use crate::{Change, Entry, Refusal};
+use ide_text::Name;
 use std::alloc::{AllocError, Global};
 use std::fmt;
 
@@ -68,26 +69,14 @@ fn push_change(out: &mut String, change: &Change) -> Result<(), AllocError>
     ensures { OnOk result (string_bytes out.new ≡ string_bytes out.old ++ change_text change.now) }
 {
     match change {
-        Change::Create { path, text } => {
-            push_named(out, "create ", path)?;
-            push_numbered(out, " ", text.len() as u64)
-        }
-        Change::Write { path, text } => {
-            push_named(out, "write ", path)?;
-            push_numbered(out, " ", text.len() as u64)
-        }
+        Change::Create { path, text } => push_at(out, "create ", path, text.len() as u64),
+        Change::Write { path, text } => push_at(out, "write ", path, text.len() as u64),
         Change::Delete { path } => push_named(out, "delete ", path),
         Change::OpenDoc { path } => push_named(out, "open ", path),
         Change::Insert { path, at, text } => {
-            push_named(out, "insert ", path)?;
-            push_numbered(out, " ", *at as u64)?;
-            push_numbered(out, " ", text.len() as u64)
+            push_span(out, "insert ", path, *at, text.len() as u64)
         }
-        Change::Erase { path, from, to } => {
-            push_named(out, "erase ", path)?;
-            push_numbered(out, " ", *from as u64)?;
-            push_numbered(out, " ", *to as u64)
-        }
+        Change::Erase { path, from, to } => push_span(out, "erase ", path, *from, *to as u64),
         Change::Commit { path } => push_named(out, "commit ", path),
         Change::Save { path } => push_named(out, "save ", path),
         Change::CloseDoc { path } => push_named(out, "close ", path),
@@ -102,6 +91,30 @@ fn push_change(out: &mut String, change: &Change) -> Result<(), AllocError>
     }
 }
 
+/// Adds a text, and a name and a number behind it.
+fn push_at(out: &mut String, before: &str, path: &Name, number: u64) -> Result<(), AllocError>
+    ensures { OnOk result (string_bytes out.new ≡ string_bytes out.old
+        ++ (before.now ++ encode_utf8_all path.now ++ codes " " ++ decimal number)) }
+{
+    push_named(out, before, path)?;
+    push_numbered(out, " ", number)
+}
+
+/// Adds a text, and a name and two numbers behind it.
+fn push_span(
+    out: &mut String,
+    before: &str,
+    path: &Name,
+    at: u32,
+    number: u64,
+) -> Result<(), AllocError>
+    ensures { OnOk result (string_bytes out.new ≡ string_bytes out.old
+        ++ (before.now ++ encode_utf8_all path.now ++ codes " " ++ decimal at ++ codes " " ++ decimal number)) }
+{
+    push_at(out, before, path, at as u64)?;
+    push_numbered(out, " ", number)
+}
+
 impl fmt::Display for Refusal {
     ghost use Rattle.std.specs.Prelude.{Some};
     ghost use Rattle.write_history.specs.Print.{why_text};
@@ -110,21 +123,21 @@ impl fmt::Display for Refusal {
 
     fn fmt<W: fmt::Write>(&self, f: &mut fmt::Formatter<W>) -> fmt::Result {
         match self {
-            Refusal::NoSuchFile => write!(f, "no-such-file"),
-            Refusal::PathTaken => write!(f, "path-taken"),
-            Refusal::BadPath => write!(f, "bad-path"),
-            Refusal::NotOpen => write!(f, "not-open"),
-            Refusal::AlreadyOpen => write!(f, "already-open"),
+            Refusal::NoSuchFile => f.write_str("no-such-file"),
+            Refusal::PathTaken => f.write_str("path-taken"),
+            Refusal::BadPath => f.write_str("bad-path"),
+            Refusal::NotOpen => f.write_str("not-open"),
+            Refusal::AlreadyOpen => f.write_str("already-open"),
             Refusal::BadRange { length } => write!(f, "bad-range {length}"),
-            Refusal::Unsaved => write!(f, "unsaved"),
-            Refusal::Uncommitted => write!(f, "uncommitted"),
-            Refusal::Conflict => write!(f, "conflict"),
-            Refusal::FilesFull => write!(f, "files-full"),
-            Refusal::DocsFull => write!(f, "docs-full"),
+            Refusal::Unsaved => f.write_str("unsaved"),
+            Refusal::Uncommitted => f.write_str("uncommitted"),
+            Refusal::Conflict => f.write_str("conflict"),
+            Refusal::FilesFull => f.write_str("files-full"),
+            Refusal::DocsFull => f.write_str("docs-full"),
             Refusal::TextFull { count } => write!(f, "text-full {count}"),
             Refusal::Stale { made, present } => write!(f, "stale {made} {present}"),
-            Refusal::HistoryFull => write!(f, "history-full"),
-            Refusal::OutOfMemory => write!(f, "out-of-memory"),
+            Refusal::HistoryFull => f.write_str("history-full"),
+            Refusal::OutOfMemory => f.write_str("out-of-memory"),
         }
     }
 }

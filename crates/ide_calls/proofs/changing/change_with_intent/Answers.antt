@@ -1,4 +1,4 @@
-use Rattle.ide_calls.proofs.Words.{rules, view_of}
+use Rattle.ide_calls.proofs.Words.{rules, advances_on, view_of}
 use Rattle.ide_calls.proofs.ChangeLemmas.{has_accepted, has_left, one_made, is_refused}
 use Rattle.ide_calls.proofs.changing.change_with_intent.Goals as goal
 
@@ -19,3 +19,6 @@ returns-in_err-planned-clause-refused g c =
 
 pub returns-in-Ok-clause-one : goal.returns-in-Ok-clause-one
 returns-in-Ok-clause-one g c = one_made _ (view_of c.plan.new.pass) _ c.args.entry c.in_ok-planned.ensures.ok.read c.in-Ok.ensures.ok
+
+pub returns-in-Ok-clause-advances : goal.returns-in-Ok-clause-advances
+returns-in-Ok-clause-advances g c = advances_on _ _ _ c.in_ok-planned.ensures.ok.read.learned.advances c.in-Ok.ensures.advances

@@ -1,4 +1,4 @@
-use Rattle.ide_calls.proofs.Words.{refl, ◌∙◌}
+use Rattle.ide_calls.proofs.Words.{refl, advances_on, ◌∙◌}
 use Rattle.ide_calls.proofs.StepLemmas.{answered_by_read, taken_in}
 use Rattle.ide_calls.proofs.intake.take_in_with_intent.Goals as goal
 
@@ -23,3 +23,8 @@ returns-in_ok-write_entry-in-Prepared-clause-ok g c =
     taken_in c.args.seat c.args.made.file c.args.made.stamp c.in-Prepared.at c.in-Prepared.ready c.one-changes.result _ _ _
     (rw c.in-Prepared.is at c.in_ok-judge_with_intent.ensures.ok) c.one-changes.ensures c.write_entry.ensures.advances
     c.in_ok-write_entry-in-Prepared.ensures.ok c.write_entry.ensures.legal
+
+pub returns-in_ok-write_entry-in-Prepared-clause-advances : goal.returns-in_ok-write_entry-in-Prepared-clause-advances
+returns-in_ok-write_entry-in-Prepared-clause-advances g c =
+    let judged = rw c.in-Prepared.is at c.in_ok-judge_with_intent.ensures.ok in
+    advances_on _ _ _ judged.read.learned.advances c.write_entry.ensures.advances

@@ -34,3 +34,12 @@ returns-in-Ok-Full-clause-err g c =
 
 pub returns-in-Err-clause-err : goal.returns-in-Err-clause-err
 returns-in-Err-clause-err g c = c.loop.invariant.part _ (nothing_yet c.args.seat c.args.line _ _ c.in-Err.ensures.err)
+
+pub returns-in-Ok-Smart-clause-advances : goal.returns-in-Ok-Smart-clause-advances
+returns-in-Ok-Smart-clause-advances g c = advances_on _ _ _ c.loop.invariant.advances c.take_lowest_in.ensures.advances
+
+pub returns-in-Ok-Full-clause-advances : goal.returns-in-Ok-Full-clause-advances
+returns-in-Ok-Full-clause-advances g c = advances_on _ _ _ c.loop.invariant.advances c.take_lowest_in.ensures.advances
+
+pub returns-in-Err-clause-advances : goal.returns-in-Err-clause-advances
+returns-in-Err-clause-advances g c = advances_on _ _ _ c.loop.invariant.advances c.take_lowest_in.ensures.advances

@@ -1,4 +1,4 @@
-use Rattle.std.proofs.Common.{◌≡◌, ◌+◌, ◌++◌, drop, length, true}
+use Rattle.std.proofs.Common.{◌≡◌, ◌+◌, ◌++◌, drop, true}
 use Rattle.std.specs.Prelude.{vec_len, vec_capacity}
 use Rattle.std.specs.Char.{is_ascii}
 use Rattle.std.specs.List.{list_all}
@@ -12,5 +12,5 @@ invariant-loop-c l = record {
   all : l.bytes.items ++ drop l.c-index l.chars ≡ l.initial.bytes.items ++ l.chars;
   ascii : IsAscii l.initial.bytes.items → IsAscii l.bytes.items;
   room : vec_capacity l.bytes ≡ vec_capacity l.initial.bytes;
-  len : vec_len l.bytes + length (drop l.c-index l.chars) ≡ vec_len l.initial.bytes + length l.chars;
+  len : vec_len l.bytes ≡ vec_len l.initial.bytes + l.c-index;
 }

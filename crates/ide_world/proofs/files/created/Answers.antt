@@ -2,4 +2,4 @@ use Rattle.ide_world.proofs.KindLemmas.{create_builds}
 use Rattle.ide_world.proofs.files.created.Goals as goal
 
 pub returns : goal.returns
-returns c = rw (c.in_ok-copy.ensures, c.in_ok-share.ensures, c.next_stamp.ensures, c.made.ensures.value) (create_builds _ _ _ c.requires)
+returns c = rw (c.in_ok-stamped_row.ensures, c.made.ensures.value) (create_builds _ _ _ c.requires)

@@ -6,7 +6,7 @@ use Rattle.ide_world.proofs.files.written.Goals as goal
 pub returns : goal.returns
 returns c =
     let builds = write_builds c.in-Some.ensures.draft.files c.in-Some.ensures.found c.args.text.now in
-    rw (c.in_ok-copy.ensures, c.in_ok-share.ensures, c.next_stamp.ensures) (elim c.match-summary.branch [
+    rw c.in-Ok.ensures (elim c.match-summary.branch [
       | in-Some-summary+in_ok-open-in-Some-summary w ↦
           rw w.doc-is (builds _ (Some _) (sym w.in-Some-summary.is ∙ c.summary.ensures.value) w.in_ok-open-in-Some-summary.ensures.document)
       | in-None w ↦

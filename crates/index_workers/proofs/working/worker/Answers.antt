@@ -1,5 +1,5 @@
 use Rattle.std.proofs.Common.{rules}
-use Rattle.index_workers.proofs.WorkLemmas.{same_on, none_taken, only_taken, not_yet, goes_on, ends}
+use Rattle.index_workers.proofs.WorkLemmas.{same_on, none_taken, only_taken, not_yet, in_part, goes_on, ends}
 use Rattle.index_workers.proofs.working.worker.Goals as goal
 
 pub loop-turn-init : goal.loop-turn-init
@@ -12,6 +12,12 @@ loop-turn-init g c = record {
 
 pub returns-in_err-step-clause-hints : goal.returns-in_err-step-clause-hints
 returns-in_err-step-clause-hints g c = only_taken _ _ _ _ c.loop-turn.invariant.hints c.in_err-step.ensures.step.2
+
+pub returns-in_err-step-clause-err : goal.returns-in_err-step-clause-err
+returns-in_err-step-clause-err g c =
+    let step = c.in_err-step.ensures in
+    let h = in_part _ _ _ _ _ _ _ _ _ _ _ c.loop-turn.invariant.on step.step.2 step.pass.advances step.err in
+    search (rules, h)
 
 pub returns-in-Some-clause-hints : goal.returns-in-Some-clause-hints
 returns-in-Some-clause-hints g c = only_taken _ _ _ _ c.loop-turn.invariant.hints c.in_ok-step.ensures.step.2

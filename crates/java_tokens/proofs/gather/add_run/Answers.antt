@@ -9,6 +9,6 @@ add-requires-clause-inside c =
     omega (arith, inside, c.requires, prefix_len-le-length continues_word (drop c.args.at piece), length-drop c.args.at piece)
 
 -- the run that was added
-pub returns-in_ok-add : goal.returns-in_ok-add
-returns-in_ok-add c =
-    rw (added_run c.args.place c.args.at c.args.end c.args.piece.now c.requires (sym c.begins_word_at.ensures ∙ c.if-begins_word_at.true)) c.in_ok-add.ensures
+pub returns-then-begins_word_at : goal.returns-then-begins_word_at
+returns-then-begins_word_at c =
+    rw (added_run c.args.place c.args.at c.args.end c.args.piece.now c.requires (sym c.begins_word_at.ensures ∙ c.if-begins_word_at.true)) c.add.ensures

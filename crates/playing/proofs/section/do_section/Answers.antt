@@ -23,3 +23,11 @@ loop-line-preserved g c =
 
 pub returns-clause-done : goal.returns-clause-done
 returns-clause-done g c = section_over _ _ _ _ _ _ _ _ c.loop-line.line-index _ (omega (arith, c.loop-line-test.false)) c.loop-line.invariant.under_way
+
+pub returns-in_err-do_line-clause-pass : goal.returns-in_err-do_line-clause-pass
+returns-in_err-do_line-clause-pass g c =
+    let before = c.loop-line.invariant.pass in let after = c.in_err-do_line.ensures.pass in record {
+      rests = after.rests;
+      same = c.passes_stay_the_same.ensures _ _ _ before.same after.same;
+      advances = advances_on _ _ _ before.advances after.advances;
+    }

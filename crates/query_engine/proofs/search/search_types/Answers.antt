@@ -1,14 +1,15 @@
-use Rattle.query_engine.proofs.FoundLemmas.{types_sorted, ◌≡◌, [], length, sym, ◌∙◌, le_refl, rules, eqb-true, nil_from_length, types_of, AskedEach}
+use Rattle.query_engine.proofs.FoundLemmas.{types_sorted, refl, ◌≡◌, [], length, sym, ◌∙◌, le_refl, rules, eqb-true, nil_from_length, types_of, AskedEach}
 use Rattle.std.specs.Vec.{vec_len}
 use Rattle.query_engine.proofs.SearchLemmas.{before_first, before_next, found_all}
-use Rattle.query_engine.proofs.LookLemmas.{looked_unseen, paces_none, paces_wanting, paces_on, paces_stopped, looks_few}
+use Rattle.query_engine.proofs.LookLemmas.{AskRefusal, Err, Result, looked_unseen, paces_none, paces_wanting, paces_on, paces_stopped, looks_few}
+use Rattle.query_engine.specs.declared.reached.Reached.{Reached}
 use Rattle.query_engine.proofs.search.search_types.Goals as goal
 
 pub loop-level-init : goal.loop-level-init
 loop-level-init g c = record {
   can = c.requires.can;
   stays = g.met.W.Watch.stays_itself c.args.watch.now;
-  before = rw (c.in_ok-of.ensures, c.new.ensures) (before_first (types_of c.args.state.now.world) c.args.name.now);
+  before = rw (c.in_ok-reached.ensures, c.new.ensures) (before_first (types_of c.args.state.now.world) c.args.name.now);
   paced = paces_none (rw c.new.ensures (le_refl _));
 }
 
@@ -22,14 +23,15 @@ returns-then-is_empty-clause-found g c =
 pub returns-then-is_empty-clause-looked : goal.returns-then-is_empty-clause-looked
 returns-then-is_empty-clause-looked g c = looks_few c.loop-level.invariant.paced c.loop-level.invariant.paced.looked
 
-pub returns-in_err-ask_each-clause-looked : goal.returns-in_err-ask_each-clause-looked
-returns-in_err-ask_each-clause-looked g c =
-    let paced = paces_stopped g.met.W.Watch.stays_on c.loop-level.invariant.stays c.loop-level.invariant.paced c.from_residual-in_err-ask_each.result
-    c.in_err-ask_each.ensures.early c.from_residual-in_err-ask_each.ensures.1 c.in_err-ask_each.ensures.paced in
+pub returns-in-Err-clause-looked : goal.returns-in-Err-clause-looked
+returns-in-Err-clause-looked g c =
+    let stopped : Result Reached AskRefusal = Err c.in-Err.refusal in
+    let paced = paces_stopped g.met.W.Watch.stays_on c.loop-level.invariant.stays c.loop-level.invariant.paced stopped c.in-Err.ensures.early refl
+    c.in-Err.ensures.paced in
     looks_few paced paced.looked
 
-pub returns-in_err-of-clause-looked : goal.returns-in_err-of-clause-looked
-returns-in_err-of-clause-looked g c =
+pub returns-in_err-reached-clause-looked : goal.returns-in_err-reached-clause-looked
+returns-in_err-reached-clause-looked g c =
     let paced = paces_wanting {asked = []} {asked' = []} c.from_residual.result {met = 0} {met' = 0} c.from_residual.ensures.1 in looks_few paced paced.looked
 
 pub loop-level-preserved : goal.loop-level-preserved
@@ -37,12 +39,12 @@ loop-level-preserved g c =
     let was = c.loop-level.search in
     let each : AskedEach (types_of c.args.state.now.world) c.loop-level.level was.reached.next was.asked (record { seen = was.reached.seen; next = [] })
     c.ask_each.new.search.asked c.ask_each.new.search.reached =
-    rw (c.take_next-names.ensures.rest, c.take_next-names.ensures.names) at c.in_ok-ask_each.ensures.each in
+    rw (c.take_next-names.ensures.rest, c.take_next-names.ensures.names) at c.in_default.ensures.each in
     record {
       can = c.ask_each.ensures.again;
       stays = g.met.W.Watch.stays_on _ _ _ c.loop-level.invariant.stays c.ask_each.ensures.stays;
       before = before_next c.loop-level.invariant.before (types_sorted c.offsets_rise.ensures c.args.state.now.world) each;
-      paced = paces_on g.met.W.Watch.stays_on c.loop-level.invariant.stays c.loop-level.invariant.paced c.in_ok-ask_each.ensures.paced;
+      paced = paces_on g.met.W.Watch.stays_on c.loop-level.invariant.stays c.loop-level.invariant.paced c.in_default.ensures.paced;
     }
 
 pub returns-clause-looked : goal.returns-clause-looked

@@ -3,13 +3,12 @@ use Rattle.query_engine.proofs.stub_rows.stub_rows.Goals as goal
 
 pub loop-id-preserved : goal.loop-id-preserved
 loop-id-preserved g c =
-    let row = rw c.continued-file.ensures.file at c.in_ok-row.ensures.row in
-    let rows = made_more _ c.in-Some.ensures.steps c.in_ok-push.ensures.ok c.len.ensures c.loop-id.invariant.rows row c.in_ok-look_after.ensures.looked in
+    let added = rw c.continued-file.ensures.file at c.in_ok-add_stub.ensures.added in
+    let rows = made_more c.in-Some.ensures.steps c.loop-id.invariant.rows added c.in_ok-add_stub.ensures.looked in
     search (rules, rows, g.met.W.Watch.stays_on)
 
-pub returns-in_err-look_after-clause-looked : goal.returns-in_err-look_after-clause-looked
-returns-in_err-look_after-clause-looked g c =
-    let stop = c.in_err-look_after.ensures in
-    made_stopped _ c.in-Some.ensures.steps c.in_ok-push.ensures.ok c.len.ensures c.loop-id.invariant.rows (Unit {0}) _
-    c.from_residual-in_err-look_after.result _ g.met.W.Watch.stays_on c.loop-id.invariant.stays stop.early stop.looked
-    c.from_residual-in_err-look_after.ensures.1
+pub returns-in_err-add_stub-clause-looked : goal.returns-in_err-add_stub-clause-looked
+returns-in_err-add_stub-clause-looked g c =
+    let stop = c.in_err-add_stub.ensures in
+    made_stopped c.in-Some.ensures.steps c.loop-id.invariant.rows (Unit {0}) _
+    c.from_residual.result _ g.met.W.Watch.stays_on c.loop-id.invariant.stays stop.early stop.looked c.from_residual.ensures.1

@@ -3,8 +3,8 @@ use Rattle.stub_index.proofs.MentionLemmas.{stepped}
 use Rattle.stub_index.proofs.super_names.add_under.Goals as goal
 
 -- a name that is mentioned here last gets a row
-pub loop-name-preserved-in_ok-push : goal.loop-name-preserved-in_ok-push
-loop-name-preserved-in_ok-push c =
+pub loop-name-preserved-in_ok-add_row : goal.loop-name-preserved-in_ok-add_row
+loop-name-preserved-in_ok-add_row c =
     let split : c.loop-name.left.now ≡ c.in-Some.name.now ∷ c.in-Some.rest.now = search rules in
     let last : c.is_last.result ≡ true = search rules in
     stepped (λ m. get_by (λ k. slice_cmp nat_cmp m k.now) c.in_ok-mentions.mentions) c.in-Some.name.now c.in-Some.rest.now _ c.loop-name.rows.items _ _
