@@ -32,7 +32,7 @@ is said of bytes that they may have had.
 | after a prefix of that history | `IsDone.stands`: `start`, and what the command made behind it, begin the history |
 | a prefix that holds all that its lane had seen | `IsDone.late` and the marks of `SectionFits`; a lane begins at the mark behind the prelude, the last section behind all others |
 | a settle that goes through leaves nothing unready | the law `a_settle_readies_all` of `history_laws` on `settled`: where that isn't refused; where it is, a file stays unready and the history is full |
-| `cancelled` only where the lane's pass saw pending writes | `IsGivenUp`: the record's counts of sights rose by at least as many as it was allowed attempts, or the later one stands at its last value (`HasRisenBy`); `Fits` and `run_beside`: only in a lane that has another lane or a worker beside it. That these counts are the pass's is `HasSighted` (of `soft_ask`), which alone makes a `Sighted` |
+| `cancelled` only where the lane's pass saw pending writes | `IsGivenUp`: the record's count of sights rose by exactly as many as it was allowed attempts, or stands at its last value (`counted_by`); `Fits` and `run_beside`: only in a lane that has another lane or a worker beside it. That these counts are the pass's is `HasSighted` (of `soft_ask`), which alone makes a `Sighted` |
 | what workers made | `RunFits.worked` (`WorkerFits`): of each worker, intakes without a line, no two of the same file and stamp, as many as it tells; `EndFits` |
 
 ## The headline, in reading order

@@ -17,15 +17,15 @@ pub use Rattle.action_lock.specs.declared.view.Ended.{Ended}
 pub use Rattle.action_lock.specs.declared.view.Phase.{Phase}
 pub use Rattle.action_lock.specs.declared.view.Phase.TheVariants.{Out, Marking, Shutting, Opening, Entering, Lacking, Backing, Reading}
 pub use Rattle.action_lock.specs.declared.view.View.{View}
-pub use Rattle.action_lock.specs.Counts.{counted, HasRisen}
+pub use Rattle.action_lock.specs.Counts.{counted}
 pub use Rattle.action_lock.specs.Passes.{view_of, IsSamePass, IsWriting, IsOut, IsPassOf}
 pub use Rattle.action_lock.specs.Reads.{HasLooked}
 pub use Rattle.action_lock.specs.Rule.{SeesAll, IsSound, IsHoused, IsKept, entries_of, IsRecorded, KnowsPlaces, turns, gate_word, IsPlaced}
-pub use Rattle.action_lock.specs.Slots.{MayKeep, writing_hand, shut_hand, HasNoHome}
+pub use Rattle.action_lock.specs.Slots.{MayKeep, writing_hand, shut_hand, kept_of, HasNoHome}
 pub use Rattle.action_lock.specs.Steps.{with_phase, looked, Looks, marked, opened, placing, sights_after, told, Tells, KnowsItsLists, splitting, split_off}
-pub use Rattle.action_lock.specs.Steps.{joined, end_of, Learns}
+pub use Rattle.action_lock.specs.Steps.{joined, end_of, Learns, ticket_off, catching_up, caught_up}
 pub use Rattle.action_lock.specs.Views.{Tally, Writing, weight, weight_in, here, intending, writes, times, number_count, number_is, leading, numbers}
-pub use Rattle.action_lock.specs.Views.{first_view, spent_view, tally, below, fresh}
+pub use Rattle.action_lock.specs.Views.{first_view, spent_view, ticket_view, tally, below, fresh}
 pub use Rattle.action_lock.specs.Words.{word_at, count, intents, own_place, has_pending, place_of, has_turn}
 pub use Rattle.list_laws.specs.Prefixes.{IsPrefix, longer}
 pub use Rattle.list_laws.specs.Rows.{one_if}
@@ -34,6 +34,8 @@ pub use Rattle.list_laws.proofs.EachLemmas.{each_set, Each, each_snoc}
 pub use Rattle.list_laws.proofs.PrefixLemmas.{front_all, front_trans, front_whole, front_same_filter, longer_is, longer_front, front_longer_left}
 pub use Rattle.list_laws.proofs.PrefixLemmas.{front_longer_right, filter_none, All-weaken, front_self, front_between, front_filter, filter_more, filter_same}
 pub use Rattle.list_laws.proofs.TotalLemmas.{total-set, total-at, total-two, total-same, total-only, total-append, total-below, total-plus, total-zero}
+use Rattle.std.specs.Prelude.{Result, Ok, Err, IfOk}
+use Rattle.std.specs.declared.alloc.AllocError.{AllocError}
 use Rattle.list_laws.proofs.RowLemmas.{one_if_le}
 use lib.Seq.{set-get_or}
 use Rattle.action_lock.specs.Watching.{looked_on}
@@ -107,7 +109,7 @@ module _ {E : Type 0} where
       where
         reads_by_number : (i : ℕ) (v : View E) → get_elem? vs i ≡ some v → (number : Option ℕ) → v.number ≡ number → (weight p v).readers ≤ 1
             → (weight p v).readers ≤ numbers v
-        reads_by_number i v at None is once = omega (arith, ap (λ (u : View E). (weight p u).readers) ((r.each i v at).spent is))
+        reads_by_number i v at None is once = omega (arith, ap (λ (u : View E). (weight p u).readers) ((r.each i v at).unnumbered is))
         reads_by_number i v at (Some n) is once = omega (arith, ap number_count is, once)
 
   module _ (vs : List (View E)) (id : ℕ) {v : View E} (at : get_elem? vs id ≡ some v) (w : View E) where
@@ -158,7 +160,7 @@ abbrev pub IsLeft : Tally → ℕ → Type 0
 IsLeft t n = (n ≡ gate_word t) × (turns t ≤ 1) × (t.readers + 65537 * t.writers ≤ 65537)
 
 -- a step at a place: what its view weighs there before it and after, and that it weighs the same elsewhere
-pub record IsStep {E : Type 0} (places q : ℕ) (v w : View E) (a b : Tally) : Type 0 where
+pub record IsStepAt {E : Type 0} (places q : ℕ) (v w : View E) (a b : Tally) : Type 0 where
   pub within : q < places
   pub from : weight q v ≡ a
   pub to : weight q w ≡ b
@@ -167,7 +169,7 @@ pub record IsStep {E : Type 0} (places q : ℕ) (v w : View E) (a b : Tally) : T
 -- a step at a place where its view has the weight of `P`, with `h` 1 where that is its own, and then that of `Q`: the phases weigh the same elsewhere
 pub step_at : {E : Type 0} {places : ℕ} (q h : ℕ) {v w : View E} (P Q : Phase) → q < places → here q v ≡ h
     → ((p : ℕ) → p < places → weight p v ≡ weight_in (here p v) p P) → named w ≡ named v → w.phase ≡ Q
-    → ((p : ℕ) → p < places → p ≢ q → weight_in (here p v) p Q ≡ weight_in (here p v) p P) → IsStep places q v w (weight_in h q P) (weight_in h q Q)
+    → ((p : ℕ) → p < places → p ≢ q → weight_in (here p v) p Q ≡ weight_in (here p v) p P) → IsStepAt places q v w (weight_in h q P) (weight_in h q Q)
 step_at q h {v} {w} P Q within own before same is else_same = record {
   within = within;
   from = before q within ∙ (λ i. weight_in (own i) q P);
@@ -224,14 +226,14 @@ module _ {H S E : Type 0} {number_of : E → ℕ} {stands : H → List E → Typ
 
     -- a step at the view's own place, from a phase of a reader to another
     pub own_step : (P Q : Phase) → v.phase ≡ P → w.phase ≡ Q → ((p : ℕ) → weight_in 0 p Q ≡ weight_in 0 p P)
-        → IsStep places (own_place v.places v.number) v w (weight_in 1 (own_place v.places v.number) P) (weight_in 1 (own_place v.places v.number) Q)
+        → IsStepAt places (own_place v.places v.number) v w (weight_in 1 (own_place v.places v.number) P) (weight_in 1 (own_place v.places v.number) Q)
     own_step P Q is is' else_same = let own = own_place v.places v.number in
         step_at own 1 P Q (own_within v.places places v.number r.placed.some_place (r.placed.spread id v at)) (ap one_if (eq-eqb own own refl))
         (λ p _. weighs_as p v v refl is) same is'
         (λ p _ apart. subst (λ h. weight_in h p Q ≡ weight_in h p P) (sym (ap one_if (ne_eqb own p (λ e. apart (sym e))))) (else_same p))
 
     module _ (intent : w.intent ≡ v.intent) (sound : IsSound number_of r.history r.drawn w) {q word : ℕ} (is_at : word ≡ word_at q) {a b : Tally}
-        (step : IsStep places q v w a b) where
+        (step : IsStepAt places q v w a b) where
       abbrev After : List (View E)
       After = set s.views id w
 
@@ -328,11 +330,14 @@ keeps_between {E} number_of seen {longer} {history} lower upper e both = let tes
 
 module _ {E : Type 0} {number_of : E → ℕ} {history : List E} {drawn : ℕ} where
   -- the view of a new pass, which has made nothing
-  pub fresh_sound : (places : ℕ) (number : Option ℕ) (given : ℕ) (seen : List E) → (number ≡ None → fresh places number given seen ≡ spent_view)
+  pub fresh_sound : (places : ℕ) (number : Option ℕ) (given : ℕ) (seen : List E) → (number ≡ None → fresh places number given seen ≡ ticket_view seen)
       → (number ≡ Some 0 → given ≡ drawn) → IsPrefix seen history
       → ((n : ℕ) → number ≡ Some n → ([] ≡ entries_of number_of n history) × ([] ≡ entries_of number_of n seen))
       → IsSound number_of history drawn (fresh places number given seen)
-  fresh_sound places number given seen spent counts front mine = search (rules, spent, counts, front, mine)
+  fresh_sound places number given seen unnumbered counts front mine = search (rules, unnumbered, counts, front, mine)
+
+  pub ticket_sound : (seen : List E) → IsPrefix seen history → IsSound number_of history drawn (ticket_view seen)
+  ticket_sound seen front = fresh_sound 0 None 0 seen (λ _. refl) (λ e. absurd (cc)) front (λ k e. absurd (cc))
 
   module _ {v : View E} (sound : IsSound number_of history drawn v) where
     -- a view that is current intends, and has seen the whole history
@@ -346,11 +351,11 @@ module _ {E : Type 0} {number_of : E → ℕ} {history : List E} {drawn : ℕ} w
     module _ {n : ℕ} (has : v.number ≡ Some n) where
       -- the same pass, which has seen as much or more
       pub sound_more : {phase : Phase} {intent current : Bool} {seen : List E} {olds : List (List E)} {ended : List (Ended E)} {reads : List ℕ}
-          {looks checks earlier held sights last : ℕ}
+          {looks checks earlier held sights written last : ℕ}
           → (0 < writes phase → intent ≡ true) → (current ≡ true → (intent ≡ true) × (seen ≡ history)) → SeesAll phase (seen ≡ history)
           → IsPrefix v.seen seen → IsPrefix seen history → All (λ old. IsPrefix old seen) olds → All (Keeps number_of history seen) ended
           → IsSound number_of history drawn (let then : View E = record v { phase = phase; intent = intent; current = current; seen = seen; olds = olds } in
-          record then { ended = ended; reads = reads; looks = looks; checks = checks; earlier_checks = earlier; held = held; sights = sights; last = last })
+          record then { ended = ended; reads = reads; looks = looks; checks = checks; earlier_checks = earlier; held = held; sights = sights; writes = written; last = last })
       sound_more asks whole entered lower upper olds ended = let mine = λ (k : ℕ) (is : v.number ≡ Some k).
           keeps_between number_of v.seen lower upper record { number = k; entries = v.mine; sights = 0 } (sound.mine k is) in
           search (rules, sound, has, asks, whole, entered, upper, olds, mine, ended)
@@ -367,10 +372,11 @@ module _ {E : Type 0} {number_of : E → ℕ} {history : List E} {drawn : ℕ} w
       told_all = sound_more sound.asks is_current sound.entered (front_self v.seen) sound.seen (All-nil (λ old. IsPrefix old v.seen)) sound.ended
 
       -- all of the history is seen
-      pub entered : {phase : Phase} {current : Bool} {looks checks earlier last : ℕ} {reads : List ℕ}
+      pub entered : {phase : Phase} {current : Bool} {looks checks earlier written last : ℕ} {reads : List ℕ}
           → (0 < writes phase → v.intent ≡ true) → (current ≡ true → v.intent ≡ true) → SeesAll phase (history ≡ history)
           → IsSound number_of history drawn
-          (record v { phase = phase; current = current; seen = history; reads = reads; looks = looks; checks = checks; earlier_checks = earlier; last = last })
+          (let then : View E = record v { phase = phase; current = current; seen = history; reads = reads; looks = looks } in
+          record then { checks = checks; earlier_checks = earlier; writes = written; last = last })
       entered asks intends sees = sound_more asks (λ e. (intends e, refl)) sees sound.seen (front_self history)
           (λ k d l. front_trans _ v.seen history (sound.olds k d l) sound.seen) (λ k d l. ((sound.ended k d l).0, (sound.ended k d l).0))
 
@@ -474,6 +480,13 @@ in_hand places carried home found hand last = last ∙ ap (λ l. (places - 1, Ho
 -- Steps on numbers keep the rule: a load that tells a seat what a join left, and that it knows its own lists, splitting off a pass with the next number,
 -- and taking in the view of a pass that was met. With them the rule at the beginning, and what it says where number 0 has met all others.
 
+-- what a place is to keep stands for what the home value stands for
+pub may_keep : {H S E : Type 0} (stands : H → List E → Type 0) (share_stands : S → List E → Type 0) (home : H) (entries : List E)
+    (made : Result S AllocError) → IfOk made (λ s. (xs : List E) → stands home xs → share_stands s xs) → stands home entries
+    → MayKeep {H = H} share_stands entries (kept_of made)
+may_keep stands share_stands home entries (Ok share) told stood = told entries stood
+may_keep stands share_stands home entries (Err refused) told stood = tt
+
 -- what a slot that may be kept by a place holds is no home value
 pub no_home : {H S E : Type 0} (share_stands : S → List E → Type 0) (entries : List E) (kept : Slot H S) → MayKeep share_stands entries kept → HasNoHome kept
 no_home share_stands entries (Home home) may = absurd may
@@ -500,10 +513,10 @@ module _ {E : Type 0} where
 
   module _ {number_of : E → ℕ} {history : List E} {drawn : ℕ} where
     -- a view without a number weighs nothing
-    no_weight : (f : View E → ℕ) → f (spent_view {E = E}) ≡ 0 → (v : View E) (number : Option ℕ) → v.number ≡ number → IsSound number_of history drawn v
+    no_weight : (f : View E → ℕ) → ((seen : List E) → f (ticket_view seen) ≡ 0) → (v : View E) (number : Option ℕ) → v.number ≡ number → IsSound number_of history drawn v
         → numbers v ≡ 0 → f v ≡ 0
-    no_weight f none_spent v None is sound none_left = ap f (sound.spent is) ∙ none_spent
-    no_weight f none_spent v (Some n) is sound none_left = absurd (omega (arith, ap number_count is))
+    no_weight f none_seen v None is sound none_left = ap f (sound.unnumbered is) ∙ none_seen v.seen
+    no_weight f none_seen v (Some n) is sound none_left = absurd (omega (arith, ap number_count is))
 
     module _ {vs : List (View E)} (r : IsRecorded number_of history drawn vs) (id : ℕ) (v : View E) (at : get_elem? vs id ≡ some v) where
       all_known : All (λ e. number_of e < drawn) v.seen
@@ -511,12 +524,12 @@ module _ {E : Type 0} where
 
       module _ (leads : v.number ≡ Some 0) (full : v.drawn ≡ length v.ended + 1) where
         -- number 0, where it has met every other number, weighs as much as all
-        alone : (f : View E → ℕ) → f (spent_view {E = E}) ≡ 0 → total f vs ≡ f v
-        alone f none_spent = total-only numbers f vs id v at (omega (arith, ap number_count leads, (r.each id v at).counts leads, r.in_all))
-            (λ j w there none_left. no_weight f none_spent w w.number refl (r.each j w there) none_left)
+        alone : (f : View E → ℕ) → ((seen : List E) → f (ticket_view seen) ≡ 0) → total f vs ≡ f v
+        alone f none_seen = total-only numbers f vs id v at (omega (arith, ap number_count leads, (r.each id v at).counts leads, r.in_all))
+            (λ j w there none_left. no_weight f none_seen w w.number refl (r.each j w there) none_left)
 
         has_all : (k : ℕ) → k < drawn → times k v ≡ 1
-        has_all k below = sym (alone (times k) refl) ∙ (r.once k ∙ ap one_if (lt-ltb k drawn below))
+        has_all k below = sym (alone (times k) (λ _. refl)) ∙ (r.once k ∙ ap one_if (lt-ltb k drawn below))
 
         -- and has seen the whole history
         seen_whole : v.seen ≡ history
@@ -555,10 +568,10 @@ module _ {E : Type 0} (vs : List (View E)) (id : ℕ) (v : View E) (at : get_ele
 
   module _ {number_of : E → ℕ} {history : List E} {drawn : ℕ} where
     -- a view knows of the new number, or hasn't number 0
-    given_more : (u : View E) (given : ℕ) → IsSound number_of history drawn u → (u.number ≡ None → record u { drawn = given } ≡ spent_view)
+    given_more : (u : View E) (given : ℕ) → IsSound number_of history drawn u → (u.number ≡ None → record u { drawn = given } ≡ ticket_view u.seen)
         → (u.number ≡ Some 0 → given ≡ drawn + 1)
         → IsSound number_of history (drawn + 1) (record u { drawn = given })
-    given_more u given sound spent counts = search (rules, sound, spent, counts)
+    given_more u given sound unnumbered counts = search (rules, sound, unnumbered, counts)
 
     split_recorded : IsRecorded number_of history drawn vs → v.number ≡ Some 0 → v.drawn < 65536 → IsRecorded number_of history (drawn + 1) Split
     split_recorded r leads room = let sound = r.each id v at in let is_drawn : v.drawn ≡ drawn = sound.counts leads in
@@ -573,7 +586,7 @@ module _ {E : Type 0} (vs : List (View E)) (id : ℕ) (v : View E) (at : get_ele
           each = each_snoc (IsSound number_of history (drawn + 1)) (set vs id (splitting v)) (split_off v)
               (each_set (IsSound number_of history (drawn + 1)) vs id (splitting v)
               (given_more v (v.drawn + 1) sound (λ none_there. absurd (cc)) (λ e. ap (λ (d : ℕ). d + 1) (sound.counts e)))
-              (λ j u apart there. let sound' = r.each j u there in given_more u u.drawn sound' sound'.spent
+              (λ j u apart there. let sound' = r.each j u there in given_more u u.drawn sound' sound'.unnumbered
               (λ e. absurd (omega (arith, total-two leading vs id j v u apart at there, ap (number_is 0) leads, ap (number_is 0) e, r.one_leads)))))
               (fresh_sound v.places (Some v.drawn) 0 v.seen (λ e. absurd (cc)) (λ e. absurd (let z : v.drawn ≡ 0 = cc in omega arith)) sound.seen
               (λ n e. let same : drawn ≡ n = cc in (no_entries number_of n same history r.known, no_entries number_of n same v.seen (all_known r id v at))));
@@ -589,29 +602,70 @@ module _ {E : Type 0} where
   numbers_joined v w = let ended : length (end_of w.number w) ≡ number_count w.number = grind (arith) in
       omega (arith, length-append v.ended (end_of w.number w ++ w.ended), length-append (end_of w.number w) w.ended, ended)
 
-  joined_sound : {number_of : E → ℕ} {history : List E} {drawn n : ℕ} {v w : View E} → v.number ≡ Some n → IsSound number_of history drawn v
-      → IsSound number_of history drawn w → v.phase ≡ Out → IsSound number_of history drawn (joined v w)
-  joined_sound {number_of} {history} {v = v} {w = w} has sound sound' is =
-      let seen : List E = longer v.seen w.seen in let Known : Ended E → Type 0 = Keeps number_of history seen in
-      let Front : List E → Type 0 = λ old. IsPrefix old seen in
-      let left : IsPrefix v.seen seen = front_longer_left v.seen w.seen history sound.seen sound'.seen in
-      let right : IsPrefix w.seen seen = front_longer_right v.seen w.seen history sound.seen sound'.seen in
-      let whole : IsPrefix seen history = longer_front v.seen w.seen history sound.seen sound'.seen in let its = keeps_between number_of w.seen right whole in
-      let current = λ (e : v.current ≡ true). longer_is v.seen w.seen (λ l. l ≡ history) (λ _. sound.current e)
-      (λ more. front_whole w.seen history sound'.seen (omega (arith, ap length (sound.current e)))) in
-      sound_more sound has sound.asks (λ e. (sound.current_intends e, current e)) (subst (λ p. SeesAll p (seen ≡ history)) (sym is) tt) left whole
-      (All-cons Front v.seen (w.seen ∷ (v.olds ++ w.olds)) left (All-cons Front w.seen (v.olds ++ w.olds) right (All-append Front v.olds w.olds
-      (λ k d l. front_trans _ v.seen seen (sound.olds k d l) left) (λ k d l. front_trans _ w.seen seen (sound'.olds k d l) right))))
-      (All-append Known v.ended (end_of w.number w ++ w.ended) (λ k d l. keeps_between number_of v.seen left whole (get_or v.ended k d) (sound.ended k d l))
-      (All-append Known (end_of w.number w) w.ended (ends_known Known w w.number
-      (λ n e. its record { number = n; entries = w.mine; sights = w.sights } (sound'.mine n e))) (λ k d l. its (get_or w.ended k d) (sound'.ended k d l))))
+  module _ {number_of : E → ℕ} {history : List E} {drawn n : ℕ} {v w : View E} (has : v.number ≡ Some n) (sound : IsSound number_of history drawn v)
+      (sound' : IsSound number_of history drawn w) (is : v.phase ≡ Out) where
+    -- the longer of what two views have seen, which the history begins with, and which begins with both
+    abbrev Both : List E
+    Both = longer v.seen w.seen
+
+    left : IsPrefix v.seen Both
+    left = front_longer_left v.seen w.seen history sound.seen sound'.seen
+
+    right : IsPrefix w.seen Both
+    right = front_longer_right v.seen w.seen history sound.seen sound'.seen
+
+    whole : IsPrefix Both history
+    whole = longer_front v.seen w.seen history sound.seen sound'.seen
+
+    -- one of them takes it in, and keeps this of passes that were met
+    taken_in : (ended : List (Ended E)) → All (Keeps number_of history Both) ended
+        → IsSound number_of history drawn (record v { seen = Both; olds = v.seen ∷ w.seen ∷ (v.olds ++ w.olds); ended = ended })
+    taken_in ended all_kept = let Front : List E → Type 0 = λ old. IsPrefix old Both in
+        let current = λ (e : v.current ≡ true). longer_is v.seen w.seen (λ l. l ≡ history) (λ _. sound.current e)
+        (λ more. front_whole w.seen history sound'.seen (omega (arith, ap length (sound.current e)))) in
+        sound_more sound has sound.asks (λ e. (sound.current_intends e, current e)) (subst (λ p. SeesAll p (Both ≡ history)) (sym is) tt) left whole
+        (All-cons Front v.seen (w.seen ∷ (v.olds ++ w.olds)) left (All-cons Front w.seen (v.olds ++ w.olds) right (All-append Front v.olds w.olds
+        (λ k d l. front_trans _ v.seen Both (sound.olds k d l) left) (λ k d l. front_trans _ w.seen Both (sound'.olds k d l) right))))
+        all_kept
+
+    own_ended : All (Keeps number_of history Both) v.ended
+    own_ended = λ k d l. keeps_between number_of v.seen left whole (get_or v.ended k d) (sound.ended k d l)
+
+    caught_sound : IsSound number_of history drawn (catching_up v w)
+    caught_sound = taken_in v.ended own_ended
+
+    joined_sound : IsSound number_of history drawn (joined v w)
+    joined_sound = let Known : Ended E → Type 0 = Keeps number_of history Both in let its = keeps_between number_of w.seen right whole in
+        taken_in (v.ended ++ (end_of w.number w ++ w.ended)) (All-append Known v.ended (end_of w.number w ++ w.ended) own_ended
+        (All-append Known (end_of w.number w) w.ended (ends_known Known w w.number
+        (λ n e. its record { number = n; entries = w.mine; sights = w.sights } (sound'.mine n e))) (λ k d l. its (get_or w.ended k d) (sound'.ended k d l))))
+
+module _ {E : Type 0} (vs : List (View E)) (id : ℕ) (v : View E) (at : get_elem? vs id ≡ some v) where
+  -- the views with a ticket of what one of them has seen
+  abbrev Ticketed : List (View E)
+  Ticketed = set vs id v ++ ticket_off v ∷ []
+
+  -- it weighs nothing
+  no_heavier : (f : View E → ℕ) → f (ticket_off v) ≡ 0 → total f Ticketed ≡ total f vs
+  no_heavier f nothing = omega (arith, total-append f (set vs id v) (ticket_off v ∷ []), total-same f vs id v v at refl, nothing)
+
+  ticket_recorded : {number_of : E → ℕ} {history : List E} {drawn : ℕ} → IsRecorded number_of history drawn vs → IsRecorded number_of history drawn Ticketed
+  ticket_recorded {number_of} {history} {drawn} r = let sound = r.each id v at in record {
+    one_leads = no_heavier leading refl ∙ r.one_leads;
+    once = λ n. no_heavier (times n) refl ∙ r.once n;
+    in_all = no_heavier numbers refl ∙ r.in_all;
+    limit = r.limit;
+    known = r.known;
+    each = each_snoc (IsSound number_of history drawn) (set vs id v) (ticket_off v)
+        (each_set (IsSound number_of history drawn) vs id v sound (λ j u _. r.each j u)) (ticket_sound v.seen sound.seen);
+  }
 
 module _ {H S E : Type 0} (number_of : E → ℕ) (stands : H → List E → Type 0) (share_stands : S → List E → Type 0) (places : ℕ) where
   pub tells : (slots id : ℕ) {n : ℕ} (me : Me (Slot H S) (View E)) → me.0.number ≡ Some n
       → Allows (IsKept number_of stands share_stands places) slots id me count (λ x. x) (Tells number_of (step slots count 0 0 none) me)
   tells slots id me has s r _ at _ = let sound = r.recorded.each id me.0 at in
       let rule = quiet r id at (told me.0) refl count refl refl (told_all sound has) in
-      (told me.0, keeps, tt, rule, (refl, sound.olds, knows r.recorded id me.0 at []))
+      (told me.0, keeps, tt, rule, (refl, refl, sound.olds, knows r.recorded id me.0 at []))
 
   pub splits : (id : ℕ) (v : View E) → v.number ≡ Some 0 → v.drawn < 65536
       → Splits (IsKept number_of stands share_stands places) id v (splitting v) (split_off v)
@@ -621,23 +675,31 @@ module _ {H S E : Type 0} (number_of : E → ℕ) (stands : H → List E → Typ
       (λ p. tally_is p (Split s.views id v at) s.views (λ f none_more. unchanged s.views id v at (λ (u : View E). f (weight p u)) refl none_more))
       (unchanged s.views id v at (λ (u : View E). one_if u.intent) refl refl))
 
-  pub joins : (id : ℕ) (v : View E) (other : ℕ) (w : View E) (n m : ℕ) → v.number ≡ Some n → v.phase ≡ Out → w.number ≡ Some m → 0 < m → w.phase ≡ Out
-      → w.intent ≡ false
-      → Joins (IsKept number_of stands share_stands places) id v other w (joined v w) spent_view
-  joins id v other w n m has is has' follows is' free s r at apart there = let both : View E = joined v w in let each = r.recorded.each in
+  pub tickets : (id : ℕ) (v : View E) → Splits (IsKept number_of stands share_stands places) id v v (ticket_off v)
+  tickets id v s r at = kept_by (ticket_recorded s.views id v at r.recorded) (placed_same r.placed (Ticketed s.views id v at)
+      (each_snoc (KnowsPlaces places) (set s.views id v) (ticket_off v) (spread_set s.views id at v refl places r.placed.spread) (λ n none_there. absurd (cc)))
+      (λ p. tally_is p (Ticketed s.views id v at) s.views (λ f nothing. no_heavier s.views id v at (λ (u : View E). f (weight p u)) nothing))
+      (no_heavier s.views id v at (λ (u : View E). one_if u.intent) refl))
+
+  -- a view takes in another, which is out and has no intent: what they weigh together stays
+  merges : (id : ℕ) (v : View E) (other : ℕ) (w : View E) (seen : List E) (olds : List (List E)) (ended : List (Ended E))
+      → (let both : View E = record v { seen = seen; olds = olds; ended = ended } in
+      w.phase ≡ Out → w.intent ≡ false → leading w ≡ 0 → ((k : ℕ) → times k both ≡ times k v + times k w) → numbers both ≡ numbers v + numbers w
+      → ((history : List E) (drawn : ℕ) → IsSound number_of history drawn v → IsSound number_of history drawn w → IsSound number_of history drawn both)
+      → Joins (IsKept number_of stands share_stands places) id v other w both spent_view)
+  merges id v other w seen olds ended is' free follows once in_all sound s r at apart there =
+      let both : View E = record v { seen = seen; olds = olds; ended = ended } in let each = r.recorded.each in
       let there' : get_elem? s.views other ≡ some w = sym (set_else s.views id other both apart) ∙ there in
       let kept : (f : View E → ℕ) → f both + f (spent_view {E = E}) ≡ f v + f w → total f (set (set s.views id both) other spent_view) ≡ total f s.views =
       λ f same. omega (arith, total-set f s.views id v both at, total-set f (set s.views id both) other w spent_view there) in
       kept_by record {
-        one_leads = kept leading (omega (arith, ap (number_is 0) has', ap one_if (ne_eqb m 0 (λ e. omega arith)))) ∙ r.recorded.one_leads;
-        once = λ k. kept (times k) (omega (arith, times_joined k v w)) ∙ r.recorded.once k;
-        in_all = kept numbers (omega (arith, numbers_joined v w)) ∙ r.recorded.in_all;
+        one_leads = kept leading (omega (arith, follows)) ∙ r.recorded.one_leads;
+        once = λ k. kept (times k) (omega (arith, once k)) ∙ r.recorded.once k;
+        in_all = kept numbers (omega (arith, in_all)) ∙ r.recorded.in_all;
         limit = r.recorded.limit;
         known = r.recorded.known;
-        each = each_set (IsSound number_of r.history r.drawn) (set s.views id both) other spent_view
-            (fresh_sound 0 None 0 [] (λ _. refl) (λ e. absurd (cc)) (r.history, refl) (λ k e. absurd (cc)))
-            (λ j u _. each_set (IsSound number_of r.history r.drawn) s.views id both
-            (joined_sound has (each id v at) (each other w there') is) (λ i x _. each i x) j u);
+        each = each_set (IsSound number_of r.history r.drawn) (set s.views id both) other spent_view (ticket_sound [] (r.history, refl))
+            (λ j u _. each_set (IsSound number_of r.history r.drawn) s.views id both (sound r.history r.drawn (each id v at) (each other w there')) (λ i x _. each i x) j u);
       }
       (placed_same r.placed (set (set s.views id both) other spent_view)
       (each_set (KnowsPlaces places) (set s.views id both) other spent_view (λ k none_there. absurd (cc))
@@ -646,6 +708,22 @@ module _ {H S E : Type 0} (number_of : E → ℕ) (stands : H → List E → Typ
       tally_is p (set (set s.views id both) other spent_view) s.views
       (λ f _. kept (λ (u : View E). f (weight p u)) (ap (λ t. f (weight p v) + f t) (sym none_there))))
       (kept (λ (u : View E). one_if u.intent) (λ k. one_if v.intent + one_if (sym free k))))
+
+  pub joins : (id : ℕ) (v : View E) (other : ℕ) (w : View E) (n m : ℕ) → v.number ≡ Some n → v.phase ≡ Out → w.number ≡ Some m → 0 < m → w.phase ≡ Out
+      → w.intent ≡ false
+      → Joins (IsKept number_of stands share_stands places) id v other w (joined v w) spent_view
+  joins id v other w n m has is has' follows is' free =
+      merges id v other w (longer v.seen w.seen) (v.seen ∷ w.seen ∷ (v.olds ++ w.olds)) (v.ended ++ (end_of w.number w ++ w.ended)) is' free
+      (ap (number_is 0) has' ∙ ap one_if (ne_eqb m 0 (λ e. omega arith))) (λ k. times_joined k v w) (numbers_joined v w)
+      (λ _ _ sound sound'. joined_sound has sound sound' is)
+
+  -- what a ticket tells is taken in
+  pub catches_up : (id : ℕ) (v : View E) (other : ℕ) (w : View E) (n : ℕ) → v.number ≡ Some n → v.phase ≡ Out → w ≡ ticket_view w.seen
+      → Joins (IsKept number_of stands share_stands places) id v other w (catching_up v w) spent_view
+  catches_up id v other w n has is ticket =
+      merges id v other w (longer v.seen w.seen) (v.seen ∷ w.seen ∷ (v.olds ++ w.olds)) v.ended (ap (λ (u : View E). u.phase) ticket)
+      (ap (λ (u : View E). u.intent) ticket) (ap leading ticket) (λ k. omega (arith, ap (times k) ticket)) (omega (arith, ap numbers ticket))
+      (λ _ _ sound sound'. caught_sound has sound sound' is)
 
 -- what holds of an element holds of each in the list of it alone
 only : {A : Type 0} (P : A → Type 0) (x : A) → P x → Each P (x ∷ [])
@@ -697,19 +775,19 @@ module _ {H S : Type 0} where
         → IsClosed stands found slots v.seen × KnowsItsLists number_of v × (found ≡ places)
     closes id found v words slots own leads full is (s, (r, at), words_are, as_long, there) =
         let known : found ≡ places = sym own ∙ r.placed.spread id v at 0 leads in let weighs = alone r.recorded id v at leads full in
-        let home = r.placed.home.at_home (weighs (λ (u : View E). (weight 0 u).writers) refl ∙ ap (λ P. (weight_in (here 0 v) 0 P).writers) is) in
+        let home = r.placed.home.at_home (weighs (λ (u : View E). (weight 0 u).writers) (λ _. refl) ∙ ap (λ P. (weight_in (here 0 v) 0 P).writers) is) in
         let home_there = there places (Home home.0) home.1 in
         let home_stands = subst (stands home.0) (sym (seen_whole r.recorded id v at leads full)) home.2 in
         let others : (p : ℕ) → p < places → (kept : Slot H S) × (get_elem? slots p ≡ some kept) × HasNoHome kept = λ p l.
-        let kept = (r.placed.each p l).at_home (weighs (λ (u : View E). (weight p u).holders) refl ∙ ap (λ P. (weight_in (here p v) p P).holders) is) in
+        let kept = (r.placed.each p l).at_home (weighs (λ (u : View E). (weight p u).holders) (λ _. refl) ∙ ap (λ P. (weight_in (here p v) p P).holders) is) in
         (kept.0, there p kept.0 kept.1, no_home share_stands r.history kept.0 kept.2) in
         (rw known (search (rules, home_there, home_stands, others)), knows r.recorded id v at v.olds, known)
 
 -- Looks, one after another.
 
--- a sight is one more, or the count has come to its end
-pub found_mark : (sights found : ℕ) (b : Bool) → b ≡ has_pending found → b ≡ true → HasRisen sights (sights_after sights found)
-found_mark sights found b is e = rw (sym is ∙ e) (grind (arith, nat_tests))
+-- a sight is one more
+pub found_mark : (sights found : ℕ) (b : Bool) → b ≡ has_pending found → b ≡ true → sights_after sights found ≡ counted sights
+found_mark sights found b is e = rw (sym is ∙ e) refl
 
 -- one look more
 pub looked_again : {E : Type 0} (u v w : View E) (found : ℕ) → HasLooked u v → w ≡ looked found v → HasLooked u w

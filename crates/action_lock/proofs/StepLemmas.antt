@@ -56,27 +56,27 @@ module _ {H S E : Type 0} (number_of : E → ℕ) (stands : H → List E → Typ
             let taken = or_one found in
             let rule = intent_set r at w refl refl (renewed sound has (λ _. refl) (λ e. (refl, sound.current e)) sound.entered) (bit_or found 1)
             (omega arith) (omega arith) in
-            rw test (w, keeps, tt, rule, refl)
+            rw test (w, keeps, tt, rule, (refl, refl))
         | inr test ↦
             let apart = eqb-false found 0 test in let taken : bit_or found 1 ≡ found = or_one found ∙ omega arith in
             let rule = quiet r id at (held_up me.0) refl intents refl refl (renewed sound has sound.asks (is_current sound) sound.entered) in
-            rw (test, taken) (held_up me.0, keeps, tt, rule, refl)
+            rw (test, taken) (held_up me.0, keeps, tt, rule, (refl, refl))
       ]
 
   pub releases : me.0.phase ≡ Out → me.0.intent ≡ true → Lets intents (λ _. 0) (λ _. Releases (step slots intents 0 0 none) me 0)
   releases is has_it s r _ at _ = let w : View E = released me.0 in let sound = r.recorded.each id me.0 at in let one = r.placed.one_intent in
       let b = total-set (λ (u : View E). one_if u.intent) s.views id me.0 w at in let one_had : one_if me.0.intent ≡ 1 = ap one_if has_it in
       let rule = intent_set r at w refl refl (renewed sound has (λ some_mark. absurd (omega (arith, ap writes is))) (λ e. absurd (cc)) sound.entered) 0
-      (omega arith) (omega arith) in (w, keeps, tt, rule, refl)
+      (omega arith) (omega arith) in (w, keeps, tt, rule, (refl, refl))
 
   module _ (word : ℕ) where
-    pub looks : Lets word (λ x. x) (Looks (step slots word 0 0 none) me)
-    looks s r _ at _ = let w : View E = checked (get_or s.words word 0) me.0 in let sound = r.recorded.each id me.0 at in
-        (w, keeps, tt, quiet r id at w refl word refl refl (renewed sound has sound.asks (is_current sound) sound.entered), refl)
-
     module _ (place : ℕ) (is_at : word ≡ word_at place) (is_own : place ≡ own_place me.0.places me.0.number) where
       own : word ≡ word_at (own_place me.0.places me.0.number)
       own = is_at ∙ ap word_at is_own
+
+      pub looks : Lets word (λ x. x) (Looks (step slots word 0 0 none) me)
+      looks s r _ at _ = let w : View E = checked (get_or s.words word 0) me.0 in let sound = r.recorded.each id me.0 at in
+          (w, keeps, tt, quiet r id at w refl word refl refl (renewed sound has sound.asks (is_current sound) sound.entered), (own, refl))
 
       pub holds : (share : S) → me.0.phase ≡ Entering → me.1 ≡ (own_place me.0.places me.0.number, Share share) ∷ [] → share_stands share me.0.seen
           → Lets word (λ x. (x + 7) % 2 ^ 64) (Holds (step slots word 7 0 none) me)
@@ -84,23 +84,23 @@ module _ {H S E : Type 0} (number_of : E → ℕ) (stands : H → List E → Typ
           let w : View E = with_phase Reading me.0 in let sound = r.recorded.each id me.0 at in let all_seen = rw is at sound.entered in
           moved_home r id at w refl refl (renewed sound has (λ some_mark. absurd (omega arith)) (is_current sound) all_seen) own
           (own_step r id at w refl Entering Reading is refl (λ p. refl)) (λ m. (omega arith, omega arith, omega arith)) me.1
-          (Holds (step slots word 7 0 none) me 0) (λ _. refl) carries (rw all_seen at stood) (λ m. (omega arith, omega arith)) refl
+          (Holds (step slots word 7 0 none) me 0) (λ _. refl) carries (rw all_seen at stood) (λ m. (omega arith, omega arith)) (own, refl)
 
       pub exits : me.0.phase ≡ Reading → Lets word (λ x. (x + (2 ^ 64 - 8)) % 2 ^ 64) (Exits (step slots word 8 0 none) me)
       exits is s r _ at _ = moved_still r id at (with_phase Out me.0) refl refl (out_sound has (r.recorded.each id me.0 at)) own
           (own_step r id at (with_phase Out me.0) refl Reading Out is refl (λ p. refl)) (λ m. (omega arith, omega arith, omega arith)) me.1
-          (Exits (step slots word 8 0 none) me 0) (λ _. refl) (λ m. omega arith) refl
+          (Exits (step slots word 8 0 none) me 0) (λ _. refl) (λ m. omega arith) (own, refl)
 
       pub goes_back : me.0.phase ≡ Backing → Lets word (λ x. (x + (2 ^ 64 - 1)) % 2 ^ 64) (Exits (step slots word 1 0 none) me)
       goes_back is s r _ at _ = moved_still r id at (with_phase Out me.0) refl refl (out_sound has (r.recorded.each id me.0 at)) own
           (own_step r id at (with_phase Out me.0) refl Backing Out is refl (λ p. refl)) (λ m. (omega arith, omega arith, omega arith)) me.1
-          (Exits (step slots word 1 0 none) me 0) (λ _. refl) (λ m. omega arith) refl
+          (Exits (step slots word 1 0 none) me 0) (λ _. refl) (λ m. omega arith) (own, refl)
 
       pub gives_up : me.0.phase ≡ Lacking → me.1 ≡ (own_place me.0.places me.0.number, Empty) ∷ []
           → Lets word (λ x. (x + (2 ^ 64 - 1)) % 2 ^ 64) (Backs (step slots word 1 0 none) me)
       gives_up is carries s r _ at _ = moved_home r id at (with_phase Out me.0) refl refl (out_sound has (r.recorded.each id me.0 at)) own
           (own_step r id at (with_phase Out me.0) refl Lacking Out is refl (λ p. refl)) (λ m. (omega arith, omega arith, omega arith)) me.1
-          (Backs (step slots word 1 0 none) me 0) (λ _. refl) carries tt (λ m. (omega arith, omega arith)) refl
+          (Backs (step slots word 1 0 none) me 0) (λ _. refl) carries tt (λ m. (omega arith, omega arith)) (own, refl)
 
       module _ (is : me.0.phase ≡ Out) (s : State (Slot H S) (View E)) (r : IsKept number_of stands share_stands places s)
           (at : get_elem? s.views id ≡ some me.0) where
@@ -146,7 +146,8 @@ module _ {H S E : Type 0} (number_of : E → ℕ) (stands : H → List E → Typ
             by_kept turned home.0 home.1 home.2
 
       pub enters : me.0.phase ≡ Out → Lets word (λ x. bit_or x 1) (Enters number_of share_stands (step slots word 1 0 none) me)
-      enters is s r _ at _ = by_bits is s r at (has_pending (get_or s.words word 0)) (has_turn (get_or s.words word 0)) refl
+      enters is s r _ at _ = let e = by_bits is s r at (has_pending (get_or s.words word 0)) (has_turn (get_or s.words word 0)) refl in
+          (e.0, e.1, e.2, e.3, (own, e.4))
 
     pub marks : (q : ℕ) → word ≡ word_at q → q < me.0.places → me.0.phase ≡ marked q → me.0.intent ≡ true
         → Lets word (λ x. (x + 4) % 2 ^ 64) (Marks (step slots word 4 0 none) me)
@@ -157,13 +158,14 @@ module _ {H S E : Type 0} (number_of : E → ℕ) (stands : H → List E → Typ
         (step_at q (here q v) (Marking q) (Marking (q + 1)) (omega (arith, r.placed.spread id v at n has)) refl
         (λ p l. ap (weight_in (here p v) p) is ∙ marked_weighs (here p v) p q) refl refl (λ p l apart. rw (below_other p q apart) refl))
         (λ m. (omega arith, omega arith, omega arith)) me.1 (Marks (step slots word 4 0 none) me 0) (λ _. refl) (λ m. omega arith)
-        (λ k. (with_phase (Marking (sym place k + 1)) v, me.1))
+        (is_at ∙ ap word_at (sym place), λ k. (with_phase (Marking (sym place k + 1)) v, me.1))
 
     -- a place behind the first
     pub shuts : (q : ℕ) → word ≡ word_at q → 0 < q → q < me.0.places → me.0.phase ≡ Shutting q → me.0.intent ≡ true
         → Lets word (λ x. either (eqb x 4) 7 x) (Shuts (step slots word 4 7 none) me)
     shuts q is_at some_shut within is intends s r _ at _ = elim (cases_Bool (eqb (get_or s.words word 0) 4)) [
-      | inr other ↦ rw other (me.0, keeps, tt, quiet r id at me.0 refl word refl refl (r.recorded.each id me.0 at), refl)
+      | inr other ↦ let place : place_of word ≡ q = omega arith in
+          rw other (me.0, keeps, tt, quiet r id at me.0 refl word refl refl (r.recorded.each id me.0 at), (is_at ∙ ap word_at (sym place), refl))
       | inl alone ↦
           let four = eqb-true (get_or s.words word 0) 4 alone in let v : View E = me.0 in let w : View E = with_phase (Shutting (q + 1)) v in
           let sound = r.recorded.each id v at in let place : place_of word ≡ q = omega arith in
@@ -173,8 +175,10 @@ module _ {H S E : Type 0} (number_of : E → ℕ) (stands : H → List E → Typ
           let open_there = below_no q q (omega arith) in let one_more = below_yes q (q + 1) (omega arith) in
           let m = moving r id at w refl refl sound' is_at step in let kept = (r.placed.each q step.within).at_home (omega arith) in
           rw alone (moved_out r id at w refl refl sound' is_at step {n = 7} (λ m. (omega arith, omega arith, omega arith)) me.1
-          (ShutsAt true (place_of word) me) (λ e. absurd (omega arith)) kept.1 (λ m. omega arith)
-          (kept.0, no_home share_stands r.history kept.0 kept.2, (λ k. (with_phase (Shutting (sym place k + 1)) v, (sym place k, kept.0) ∷ me.1))))
+          (λ m. (word ≡ word_at (place_of word)) × ShutsAt true (place_of word) me m) (λ e. absurd (omega arith)) kept.1 (λ m. omega arith) (
+            is_at ∙ ap word_at (sym place),
+            (kept.0, no_home share_stands r.history kept.0 kept.2, (λ k. (with_phase (Shutting (sym place k + 1)) v, (sym place k, kept.0) ∷ me.1))),
+          ))
     ]
 
     pub opens : (q : ℕ) (kept : Slot H S) (more : List (ℕ × Slot H S)) → word ≡ word_at q → 0 < q → q < me.0.places → me.0.phase ≡ opened me.0.places (q + 1)
@@ -188,15 +192,16 @@ module _ {H S E : Type 0} (number_of : E → ℕ) (stands : H → List E → Typ
         (step_at q (here q v) (Opening (q + 1)) (Opening q) (omega arith) refl
         (λ p l. ap (weight_in (here p v) p) is ∙ opened_weighs v.places (here p v) p (q + 1) (omega arith)) refl refl
         (λ p l apart. rw (below_other p q apart) refl))
-        (λ m. (omega arith, omega arith, omega arith)) me.1 (λ m. m ≡ (with_phase (Opening (place_of word)) v, rest me.1)) (λ e. absurd (omega arith)) carries
-        (rw all_seen at stood) (λ m. (omega arith, omega arith)) (λ k. (with_phase (Opening (sym place k)) v, rest (sym carries k)))
+        (λ m. (omega arith, omega arith, omega arith)) me.1 (λ m. (word ≡ word_at (place_of word)) × (m ≡ (with_phase (Opening (place_of word)) v, rest me.1)))
+        (λ e. absurd (omega arith)) carries
+        (rw all_seen at stood) (λ m. (omega arith, omega arith)) (is_at ∙ ap word_at (sym place), λ k. (with_phase (Opening (sym place k)) v, rest (sym carries k)))
 
     -- the first place, with which the home value is taken
     pub claims : word ≡ word_at 0 → me.0.phase ≡ Marking me.0.places → me.0.intent ≡ true → Lets word (λ x. either (eqb x 4) 7 x)
         (Claims number_of stands (step slots word 4 7 none) me)
     claims is_at is intends = as_known slots id n word (λ x. either (eqb x 4) 7 x) (Claims number_of stands (step slots word 4 7 none) me) me has
         (λ s r _ at _. elim (cases_Bool (eqb (get_or s.words word 0) 4)) [
-          | inr other ↦ rw other (me.0, keeps, tt, quiet r id at me.0 refl word refl refl (r.recorded.each id me.0 at), refl)
+          | inr other ↦ rw other (me.0, keeps, tt, quiet r id at me.0 refl word refl refl (r.recorded.each id me.0 at), (is_at, refl))
           | inl alone ↦
               let four = eqb-true (get_or s.words word 0) 4 alone in let v : View E = me.0 in let w : View E = shutting r.history v in
               let sound = r.recorded.each id v at in let first_marked = below_yes 0 v.places r.placed.some_place in
@@ -211,7 +216,7 @@ module _ {H S E : Type 0} (number_of : E → ℕ) (stands : H → List E → Typ
               (set first v.places none) (λ j l apart. set_else first v.places j none (λ e. omega arith) ∙ set_else s.homes 0 j none apart)
               (λ free. absurd (omega arith)) (λ _. set_else first v.places 0 none (λ e. omega arith) ∙ there_set s.homes 0 none kept.1)
               record { at_home = λ none_writes. absurd (omega arith); away = λ some_write. there_set first v.places none home_there } in
-              rw alone (w, chain (takes 0 _) (takes _ _), (kept.1, home_there), rule, (r.history, home.0, kept.0, learned sound, home.2, shut, refl))
+              rw alone (w, chain (takes 0 _) (takes _ _), (kept.1, home_there), rule, (is_at, (r.history, home.0, kept.0, learned sound, home.2, shut, refl)))
         ])
 
     -- the first place, with which the home value is given back
@@ -235,7 +240,7 @@ module _ {H S E : Type 0} (number_of : E → ℕ) (stands : H → List E → Typ
         both (λ j l apart. set_else first 0 j (some kept) apart ∙ set_else s.homes v.places j (some (Home home)) (λ e. omega arith))
         (λ _. (kept, there_set first 0 (some kept) kept_gone, rw all_seen at may)) (λ some_holds. absurd (omega arith))
         record { at_home = λ none_writes. (home, home_there, rw all_seen at stood); away = λ some_write. absurd (omega arith) }) in
-        (w, chain gives gives, (tt, tt), rule, (λ k. (w, rest (rest (carries k))))))
+        (w, chain gives gives, (tt, tt), rule, (is_at, λ k. (w, rest (rest (carries k))))))
 
 module _ {H S E : Type 0} (number_of : E → ℕ) (stands : H → List E → Type 0) (share_stands : S → List E → Type 0)
     (one_list : (home : H) (xs ys : List E) → stands home xs → stands home ys → xs ≡ ys) where
@@ -273,7 +278,11 @@ module _ {H S E : Type 0} (number_of : E → ℕ) (stands : H → List E → Typ
       (λ p. same_tally s.views id at w p (weighs_as p v w refl refl)) (λ p. set_else s.words count (word_at p) n (λ x. omega arith))
       (set_else s.words count intents n (λ x. omega arith) ∙ (placed.intents_are ∙ ap some (sym same_intents)))
       (omega (arith, placed.one_intent, same_intents)) (there_set s.words count n placed.count_is ∙ ap some (omega arith))) in
-      let told : Places stands (step slots count 1 0 none) me 0 (w, me.1) = λ other made carries' stood'.
-      let its = rw (home_one other home (front_same carries carries')) at stood' in
-      let same : entry ≡ made = cc (append_cancel_left v.seen (entry ∷ []) (made ∷ []) (one_list home _ _ stood its)) in ap (λ e. (placing e v, me.1)) same in
+      let told : Places stands (step slots count 1 0 none) me 0 (w, me.1) = (
+        refl,
+        refl,
+        λ other made carries' stood'.
+            let its = rw (home_one other home (front_same carries carries')) at stood' in
+            let same : entry ≡ made = cc (append_cancel_left v.seen (entry ∷ []) (made ∷ []) (one_list home _ _ stood its)) in ap (λ e. (placing e v, me.1)) same,
+      ) in
       (w, keeps, tt, rule, told))

@@ -1,5 +1,6 @@
 -- What callers rest on
 pub mod Counts
+pub mod Polls
 pub mod Words
 pub mod Slots
 pub mod Views
@@ -8,6 +9,7 @@ pub mod Passes
 pub mod Reads
 pub mod Readings
 pub mod Writings
+pub mod Tickets
 -- The rule and its steps
 pub mod Rule
 pub mod Steps

@@ -2,7 +2,7 @@
 use Rattle.std.specs.Prelude.{◌≡◌, ◌⊎◌, ℕ, ◌+◌, List, [], ◌∷◌, ◌++◌, length, true, false, Some, None}
 use Rattle.action_lock.specs.declared.home.Home.{Ghosts}
 use Rattle.action_lock.specs.declared.view.Phase.{Phase}
-use Rattle.action_lock.specs.declared.view.Phase.TheVariants.{Out, Entering, Lacking, Reading}
+use Rattle.action_lock.specs.declared.view.Phase.TheVariants.{Out, Entering, Lacking, Reading, Marking}
 use Rattle.action_lock.specs.declared.view.View.{View}
 use Rattle.action_lock.specs.declared.pass.Pass.{Pass}
 use Rattle.action_lock.specs.declared.lock.ActionLock.{ActionLock}
@@ -89,6 +89,10 @@ module _ {H E S : Type 0} {g : Ghosts H E S} where
     pub intent : (view_of p).intent ≡ true
     pub told : (view_of p).olds ≡ []
     pub no_share : p.share ≡ None
+
+  -- the pass is one of this lock, and has marked all places: it is to write once their readers have left
+  abbrev pub Announces : ActionLock H E S → Pass H E S g → Type 0
+  Announces l p = IsWriting l p (Marking (view_of p).places) []
 
   -- this home value is in the pass's hand, before the empty slots of the places that it has shut
   abbrev pub InHand : Pass H E S g → H → Type 0

@@ -1,5 +1,5 @@
 -- What an attempt to read, and a write, leave of the pass's view.
-use Rattle.std.specs.Prelude.{◌≡◌, ℕ, ◌<◌, ◌≤◌, true, false, ◌⊎◌}
+use Rattle.std.specs.Prelude.{◌≡◌, ℕ, ◌≤◌, true, false, ◌⊎◌, min}
 use Rattle.action_lock.specs.declared.refusal.ReadRefusal.{ReadRefusal}
 use Rattle.action_lock.specs.declared.refusal.ReadRefusal.TheVariants.{Pending, Turn, OutOfMemory}
 use Rattle.action_lock.specs.declared.view.Phase.{Phase}
@@ -26,9 +26,9 @@ module _ {E : Type 0} where
       pub learns : Learns number_of v w.seen
       pub after : w ≡ with_phase phase (entering w.last w.seen v)
 
-    -- there was no memory for a share: the pass has looked, or was let in and has left
+    -- there was no memory for a share: the pass has looked, and found no pending mark, or was let in and has left
     abbrev pub HasFailed : View E → View E → Type 0
-    HasFailed v w = (w ≡ looked w.last v) ⊎ HasRead Out v w
+    HasFailed v w = ((has_pending w.last ≡ false) × (w ≡ looked w.last v)) ⊎ HasRead Out v w
 
     -- the word that was found is the one that the refusal shows, and nothing else was learned; where there was no memory, what `HasFailed` says
     abbrev pub IsRefused : ReadRefusal → View E → View E → Type 0
@@ -36,10 +36,10 @@ module _ {E : Type 0} where
     IsRefused (Turn word) v w = (has_pending word ≡ false) × (has_turn word ≡ true) × (w ≡ looked word v)
     IsRefused OutOfMemory v w = HasFailed v w
 
-  -- the pass was let in, and has looked at its place's word in the last of its reads
-  pub record HasChecked (v w : View E) : Type 0 where
+  -- the pass was let in, and has looked at its place's word so many times in the last of its reads, as far as a `u64` counts
+  pub record HasChecked (looks : ℕ) (v w : View E) : Type 0 where
     pub earlier : all_checks v ≤ w.earlier_checks
-    pub some : 0 < w.checks
+    pub times : min w.checks 18446744073709551615 ≡ min looks 18446744073709551615
 
   -- after some looks, or none
   pub record HasWaited (then : View E → View E → Type 0) (v w : View E) : Type 0 where

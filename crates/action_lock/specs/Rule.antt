@@ -12,7 +12,7 @@ use Rattle.action_lock.specs.declared.view.Ended.{Ended}
 use Rattle.action_lock.specs.declared.view.View.{View}
 use Rattle.action_lock.specs.Slots.{MayKeep}
 use Rattle.action_lock.specs.Words.{count, intents, word_at}
-use Rattle.action_lock.specs.Views.{Tally, tally, writes, intending, leading, numbers, times, spent_view}
+use Rattle.action_lock.specs.Views.{Tally, tally, writes, intending, leading, numbers, times, ticket_view}
 use Rattle.list_laws.specs.Totals.{total}
 use Rattle.list_laws.specs.Prefixes.{IsPrefix}
 use Rattle.list_laws.specs.Rows.{one_if}
@@ -44,8 +44,8 @@ module _ {E : Type 0} (number_of : E → ℕ) where
   module _ (history : List E) (drawn : ℕ) where
     -- what holds of one view beside the history
     pub record IsSound (v : View E) : Type 0 where
-      -- a view without a number is that of a seat that was joined: out, with nothing in hand and nothing known
-      pub spent : v.number ≡ None → v ≡ spent_view
+      -- a view without a number is that of a ticket, or of a seat that was joined and knows nothing: out, with nothing in hand or of its own
+      pub unnumbered : v.number ≡ None → v ≡ ticket_view v.seen
       -- the view of number 0 knows how many numbers were given
       pub counts : v.number ≡ Some 0 → v.drawn ≡ drawn
       -- only a holder of the intent marks, shuts and opens places

@@ -1,5 +1,6 @@
 -- What the slots of the lock's table hold.
-use Rattle.std.specs.Prelude.{ℕ, zero, suc, ◌-◌, List, [], ◌∷◌}
+use Rattle.std.specs.Prelude.{ℕ, zero, suc, ◌-◌, List, [], ◌∷◌, Result, Ok, Err}
+use Rattle.std.specs.declared.alloc.AllocError.{AllocError}
 use Rattle.action_lock.specs.declared.slot.Slot.{Slot}
 use Rattle.action_lock.specs.declared.slot.Slot.TheVariants.{Home, Share, Empty}
 
@@ -15,6 +16,11 @@ module _ {H S : Type 0} where
   MayKeep share_stands entries (Home home) = ⊥
   MayKeep share_stands entries (Share share) = share_stands share entries
   MayKeep share_stands entries Empty = Unit {0}
+
+  -- what a place is to keep, where a share was made for it or there was no memory for one
+  abbrev pub kept_of : Result S AllocError → Slot H S
+  kept_of (Ok share) = Share share
+  kept_of (Err refused) = Empty
 
   -- The hand of a seat that has shut so many of a lock's places, and has let go what they kept: the slots from the last shut to the first,
   -- and that of the home value, all empty

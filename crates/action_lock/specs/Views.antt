@@ -1,5 +1,5 @@
 -- Views: what they weigh in the words, and which numbers they have.
-use Rattle.std.specs.Prelude.{ℕ, ◌+◌, Bool, true, false, ◌==◌, nat_lt, List, [], length, Option, Some, None}
+use Rattle.std.specs.Prelude.{ℕ, ◌+◌, false, ◌==◌, nat_lt, List, [], length, Option, Some, None}
 use Rattle.action_lock.specs.declared.view.Phase.{Phase}
 use Rattle.action_lock.specs.declared.view.Phase.TheVariants.{Out, Entering, Lacking, Backing, Reading, Marking, Shutting, Opening}
 use Rattle.action_lock.specs.declared.view.Ended.{Ended}
@@ -120,6 +120,7 @@ module _ {E : Type 0} where
     checks = 0;
     earlier_checks = 0;
     held = 0;
+    writes = 0;
     last = 0;
   }
 
@@ -127,6 +128,10 @@ module _ {E : Type 0} where
   abbrev pub first_view : ℕ → View E
   first_view places = fresh places (Some 0) 1 []
 
+  -- the view of a ticket of what was seen: it has no number, is out, and has nothing of its own
+  abbrev pub ticket_view : List E → View E
+  ticket_view seen = fresh 0 None 0 seen
+
   -- the view of a seat that was joined to another
   abbrev pub spent_view : View E
-  spent_view = fresh 0 None 0 []
+  spent_view = ticket_view []

@@ -3,6 +3,7 @@
 
 mod gate;
 mod home;
+pub mod laws;
 mod lock;
 mod pass;
 mod places;
@@ -12,7 +13,9 @@ mod refusal;
 mod rule;
 mod slot;
 mod steps;
+mod ticket;
 mod view;
+mod waiting;
 mod watch;
 mod words;
 mod write_steps;
@@ -26,5 +29,6 @@ pub use reading::Reading;
 pub use refusal::{IntentRefusal, ReadRefusal, SplitRefusal};
 pub use rule::GateRule;
 pub use slot::Slot;
+pub use ticket::Ticket;
 pub use view::{Ended, Phase, View};
 pub use watch::Watch;

@@ -17,6 +17,7 @@ use crate::view::View;
 use crate::words::{COUNT, MOST_PLACES, WORDS};
 use atomic_table::{Refused, Table};
 use std::alloc::{AllocError, AllocFailed, Global};
+use std::sync::atomic::AtomicU64;
 
 /// How many numbers a lock has.
 const NUMBERS: u32 = 65536;
@@ -26,6 +27,8 @@ const NUMBERS: u32 = 65536;
 pub struct ActionLock<H: Home> {
     pub(crate) table: Table<Slot<H, H::Share>, View<H::Entry>, u32, GateRule<H>, Global>,
     pub(crate) alloc: Global,
+    /// How many passes sleep on a word, or are about to.
+    pub(crate) sleepers: AtomicU64,
     ghost sized: { (table.shared.table_id.words ≡ 544) × (table.shared.table_id.slots ≡ table.shared.key + 1) },
 }
 
@@ -62,7 +65,12 @@ impl<H: Home> ActionLock<H> {
                     sights: 0,
                     share: None,
                 };
-                Ok((ActionLock { table, alloc }, pass))
+                let lock = ActionLock {
+                    table,
+                    alloc,
+                    sleepers: AtomicU64::new(0),
+                };
+                Ok((lock, pass))
             }
             Err(Refused { slots }) => Err(AllocFailed {
                 value: home_behind(slots),
@@ -147,7 +155,11 @@ impl<H: Home> ActionLock<H> {
         ensures stands { H.stands result (view_of pass).seen }
         ensures knows { KnowsItsLists H.number_of (view_of pass) }
     {
-        let ActionLock { table, alloc: _ } = self;
+        let ActionLock {
+            table,
+            alloc: _,
+            sleepers: _,
+        } = self;
         let Pass {
             seat,
             number: _,

@@ -2,16 +2,16 @@
 ghost use Rattle.std.specs.Prelude.{◌≡◌, ◌+◌, ◌<◌, List, ◌∷◌, []};
 ghost use Rattle.action_lock.specs.declared.slot.Slot.TheVariants.{Home};
 ghost use Rattle.action_lock.specs.declared.view.Phase.TheVariants.{Out, Marking, Shutting, Opening};
-ghost use Rattle.action_lock.specs.Slots.{HasNoHome, MayKeep, shut_hand};
-ghost use Rattle.action_lock.specs.Steps.{Learns, shutting, opened, with_phase};
+ghost use Rattle.action_lock.specs.Slots.{HasNoHome, kept_of, shut_hand};
+ghost use Rattle.action_lock.specs.Steps.{Learns, announced, shutting, opened, with_phase};
 ghost use Rattle.action_lock.specs.Views.{Writing};
-ghost use Rattle.action_lock.specs.Passes.{view_of, IsSamePass, Intends, IsWriting, InHand, Writes, HandStands};
+ghost use Rattle.action_lock.specs.Passes.{view_of, IsSamePass, Intends, Announces, IsWriting, InHand, Writes, HandStands};
 
 use crate::home::Home;
 use crate::lock::ActionLock;
 use crate::pass::Pass;
 use crate::slot::Slot;
-use crate::words::{PENDING, word_at};
+use std::alloc::AllocError;
 use std::sync::Wait;
 
 impl<H: Home> ActionLock<H> {
@@ -19,8 +19,8 @@ impl<H: Home> ActionLock<H> {
     pub(crate) fn mark_all(&self, pass: &mut Pass<H>)
         requires { Intends self.now pass.old }
         ensures same { IsSamePass pass.old pass.new }
-        ensures marks { IsWriting self.now pass.new (Marking (view_of pass.new).places) [] }
-        ensures view { with_phase Out (view_of pass.new) ≡ with_phase Out (view_of pass.old) }
+        ensures marks { Announces self.now pass.new }
+        ensures view { view_of pass.new ≡ announced (view_of pass.old) }
     {
         for place in 0..pass.places() {
             self.mark(pass, place);
@@ -37,11 +37,12 @@ impl<H: Home> ActionLock<H> {
         ensures view { view_of pass.new ≡ shutting (view_of pass.new).seen (view_of pass.old) }
         ensures stands { H.stands result (view_of pass.new).seen }
     {
+        let mut turns = 0;
         for _ in rt.forever() {
             if self.claim(pass) {
                 return self.empty_first(pass);
             }
-            self.linger(word_at(0), u64::MAX, PENDING);
+            turns = self.wait_for_readers(rt, 0, turns);
         }
         unreachable!()
     }
@@ -92,13 +93,14 @@ impl<H: Home> ActionLock<H> {
             (shut_hand (view_of pass.new).places (place + 1)) }
         ensures view { with_phase Out (view_of pass.new) ≡ with_phase Out (view_of pass.old) }
     {
+        let mut turns = 0;
         for _ in rt.forever() {
             if self.shut(pass, place) {
                 let shared = &self.table.shared;
                 shared.exchange(&mut pass.seat, place, Slot::Empty).clear();
                 return;
             }
-            self.linger(word_at(place), u64::MAX, PENDING);
+            turns = self.wait_for_readers(rt, place, turns);
         }
         unreachable!()
     }
@@ -152,17 +154,6 @@ impl<H: Home> ActionLock<H> {
         self.open_first(pass, home);
     }
 
-    /// What a place is to keep: a share of the home value, or nothing where there is no memory.
-    fn kept_of(&self, home: &H) -> Slot<H, H::Share>
-        ensures { (entries : List H.Entry) → H.stands home.now entries
-            → MayKeep H.share_stands entries result }
-    {
-        match home.share(self.alloc) {
-            Ok(share) => Slot::Share(share),
-            Err(_) => Slot::Empty,
-        }
-    }
-
     /// Opens a place behind the first.
     fn open_at(&self, pass: &mut Pass<H>, place: usize, home: &H)
         requires within { (0 < place) × (place < (view_of pass.old).places) }
@@ -175,7 +166,8 @@ impl<H: Home> ActionLock<H> {
         ensures view { with_phase Out (view_of pass.new) ≡ with_phase Out (view_of pass.old) }
     {
         let shared = &self.table.shared;
-        let kept = self.kept_of(home);
+        let made = home.share(self.alloc);
+        let kept = kept_of(made);
         shared.exchange(&mut pass.seat, place, kept).clear();
         self.open(pass, place);
     }
@@ -191,12 +183,23 @@ impl<H: Home> ActionLock<H> {
     {
         let shared = &self.table.shared;
         let behind = pass.places();
-        let kept = self.kept_of(&home);
+        let made = home.share(self.alloc);
+        let kept = kept_of(made);
         shared.exchange(&mut pass.seat, 0, kept).clear();
         pass.seat.turn();
         shared
             .exchange(&mut pass.seat, behind, Slot::Home(home))
             .clear();
         self.end(pass);
+    }
+}
+
+/// What a place is to keep: the share that was made for it, or nothing where there was no memory for one.
+fn kept_of<H, S: Drop>(made: Result<S, AllocError>) -> Slot<H, S>
+    ensures { result ≡ kept_of made }
+{
+    match made {
+        Ok(share) => Slot::Share(share),
+        Err(_) => Slot::Empty,
     }
 }

@@ -1,6 +1,6 @@
 //! What each step tells, as the table of steps says.
 ghost use Rattle.action_lock.specs.Views.{spent_view};
-ghost use Rattle.action_lock.specs.Steps.{Looks, Enters, Holds, Exits, Backs, Tells, Takes, Releases, Marks, Claims, Shuts, Places, Opens, Ends, splitting, split_off, joined};
+ghost use Rattle.action_lock.specs.Steps.{Looks, Enters, Holds, Exits, Backs, Tells, Takes, Releases, Marks, Claims, Shuts, Places, Opens, Ends, splitting, split_off, joined, ticket_off, catching_up};
 
 use crate::home::Home;
 use crate::slot::Slot;
@@ -121,6 +121,24 @@ pub(crate) struct Glue;
 
 impl<E> Join<View<E>> for Glue {
     ghost both = { joined };
+
+    ghost spent = { spent_view };
+}
+
+// A ticket is split off, which changes nothing else.
+pub(crate) struct Issue;
+
+impl<E> Split<View<E>> for Issue {
+    ghost left = { λ v. v };
+
+    ghost right = { ticket_off };
+}
+
+// A ticket is taken in.
+pub(crate) struct CatchUp;
+
+impl<E> Join<View<E>> for CatchUp {
+    ghost both = { catching_up };
 
     ghost spent = { spent_view };
 }

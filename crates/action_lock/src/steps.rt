@@ -12,24 +12,9 @@ use crate::pass::Pass;
 use crate::plays::{Back, Enter, Exit, Hold, Look};
 use crate::refusal::ReadRefusal;
 use crate::slot::Slot;
-use crate::words::{INTENT, PENDING, READER, TURN, has_pending, has_turn, sights_after, word_at};
+use crate::words::{READER, TURN, has_pending, has_turn, sights_after, word_at};
 use std::alloc::{AllocError, Global};
-use std::hint::spin_loop;
 use std::sync::Wait;
-use std::thread;
-use std::time::Duration;
-
-/// How often a waiting call looks at a word before it lets other threads run.
-const SPINS: u32 = 100;
-
-/// How often a pass that waits for the intent looks for a while before it sleeps.
-const BUSY_TURNS: u32 = 200;
-
-/// By how much each sleep is longer than the one before, in microseconds.
-const NAP_STEP: u32 = 20;
-
-/// The longest sleep, in microseconds.
-const MOST_NAP: u32 = 1_000;
 
 impl<H: Home> ActionLock<H> {
     /// The one step that decides a read.
@@ -69,7 +54,8 @@ impl<H: Home> ActionLock<H> {
     {
         let shared = &self.table.shared;
         let word = word_at(pass.place());
-        shared.fetch_sub::<Exit>(&mut pass.seat, word, READER);
+        let found = shared.fetch_sub::<Exit>(&mut pass.seat, word, READER);
+        self.wake_writer(word, found);
     }
 
     /// The turn is given back, with nothing done.
@@ -81,7 +67,8 @@ impl<H: Home> ActionLock<H> {
     {
         let shared = &self.table.shared;
         let word = word_at(pass.place());
-        shared.fetch_sub::<Exit>(&mut pass.seat, word, TURN);
+        let found = shared.fetch_sub::<Exit>(&mut pass.seat, word, TURN);
+        self.wake_writer(word, found);
     }
 
     /// The turn of a place that keeps no share is given back, with the empty slot.
@@ -93,7 +80,8 @@ impl<H: Home> ActionLock<H> {
     {
         let shared = &self.table.shared;
         let word = word_at(pass.place());
-        shared.fetch_sub::<Back>(&mut pass.seat, word, TURN);
+        let found = shared.fetch_sub::<Back>(&mut pass.seat, word, TURN);
+        self.wake_writer(word, found);
     }
 
     pub(crate) fn look_at_gate(&self, pass: &mut Pass<H>) -> u64
@@ -195,45 +183,17 @@ impl<H: Home> ActionLock<H> {
             (IsOut self.now pass.new
             × HasWaited (HasFailed H.number_of) (view_of pass.old) (view_of pass.new)) }
     {
+        let mut turns = 0;
         for _ in rt.forever() {
             match self.try_enter(alloc, pass) {
                 Ok(()) => return Ok(()),
                 Err(ReadRefusal::OutOfMemory) => return Err(AllocError),
-                Err(ReadRefusal::Pending { word: _ }) => self.pause(pass),
+                Err(ReadRefusal::Pending { word: _ }) => {
+                    turns = self.wait_for_place(rt, pass, turns)
+                }
                 Err(ReadRefusal::Turn { word: _ }) => self.pause(pass),
             }
         }
         unreachable!()
-    }
-
-    /// Looks at the pass's place until it might enter, for a short while, and then lets other threads run. These looks are not counted.
-    pub fn pause(&self, pass: &Pass<H>) {
-        self.linger(word_at(pass.place()), PENDING | TURN, 0);
-    }
-
-    /// Looks at these marks of the word until they are as awaited, for a short while, and then lets other threads run.
-    pub(crate) fn linger(&self, word: usize, marks: u64, awaited: u64)
-        requires { word < 544 }
-    {
-        for _ in 0..SPINS {
-            if self.table.shared.peek(word) & marks == awaited {
-                return;
-            }
-            spin_loop();
-        }
-        thread::yield_now();
-    }
-
-    /// Waits for the intent, which another pass has, and answers with how often it has waited. The first few times it looks at the
-    /// word and lets other threads run; then it sleeps, a little longer each time, so that a long wait keeps no processor busy.
-    pub(crate) fn wait_for_intent<R: Wait>(&self, rt: &R, turns: u32) -> u32 {
-        if turns < BUSY_TURNS {
-            self.linger(INTENT, u64::MAX, 0);
-        } else {
-            let nap = (turns - BUSY_TURNS + 1).min(MOST_NAP / NAP_STEP) * NAP_STEP;
-            let nap = Duration::from_micros(nap as u64);
-            self.table.shared.park_timeout(rt, INTENT, 1, nap);
-        }
-        turns.saturating_add(1)
     }
 }

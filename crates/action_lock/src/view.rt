@@ -65,6 +65,8 @@ pub struct View<E> {
     pub earlier_checks: u64,
     /// How often it found the intent taken.
     pub held: u64,
+    /// How often it came to write.
+    pub writes: u64,
     /// The word of its place that it found last.
     pub last: u64,
 }

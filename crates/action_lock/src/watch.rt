@@ -1,6 +1,6 @@
 //! What a piece of work looks at, now and then, to learn whether it is to end early.
 ghost use Rattle.std.specs.Prelude.{◌≡◌, ℕ, ◌≤◌, IsTrue, IsFalse};
-ghost use Rattle.action_lock.specs.Counts.{counted, HasRisen};
+ghost use Rattle.action_lock.specs.Counts.{counted};
 
 /// Counts its looks and its sightings. A count goes up to 2^64 - 1 and stands there.
 pub trait Watch {
@@ -23,7 +23,7 @@ pub trait Watch {
         ensures stays { stays self.old self.new }
         ensures looks { looks self.new ≡ counted (looks self.old) }
         ensures kept { sightings self.old ≤ sightings self.new }
-        ensures seen { IsTrue result → HasRisen (sightings self.old) (sightings self.new) }
+        ensures seen { IsTrue result → sightings self.new ≡ counted (sightings self.old) }
         ensures unseen { IsFalse result → sightings self.new ≡ sightings self.old };
 
     ghost stays_itself: { (watch : Self) → stays watch watch };

@@ -36,6 +36,7 @@ impl<H: Home> ActionLock<H> {
     {
         let shared = &self.table.shared;
         shared.store::<Release>(&mut pass.seat, INTENT, 0);
+        self.wake_for_intent();
     }
 
     /// The pending mark of a place is set: from now on no reader enters by it.
@@ -107,7 +108,9 @@ impl<H: Home> ActionLock<H> {
             ) }
     {
         let shared = &self.table.shared;
-        shared.store::<Open>(&mut pass.seat, word_at(place), 0);
+        let word = word_at(place);
+        shared.store::<Open>(&mut pass.seat, word, 0);
+        self.wake(word);
     }
 
     /// The first place is opened, with what it is to keep, and the home value is given back.
@@ -121,6 +124,8 @@ impl<H: Home> ActionLock<H> {
         ensures view { pass.new.seat.me ≡ (with_phase Out (view_of pass.old), []) }
     {
         let shared = &self.table.shared;
-        shared.store::<End>(&mut pass.seat, word_at(0), 0);
+        let word = word_at(0);
+        shared.store::<End>(&mut pass.seat, word, 0);
+        self.wake(word);
     }
 }

@@ -3,8 +3,8 @@ ghost use Rattle.std.specs.Prelude.{◌≡◌, ◌∷◌, ◌++◌, [], OnOk, On
 ghost use Rattle.std.specs.Borrow.{sem};
 ghost use Rattle.action_lock.specs.declared.view.Phase.TheVariants as phase;
 ghost use Rattle.action_lock.specs.Advances.{Advances};
-ghost use Rattle.action_lock.specs.Steps.{finished, held_up, released, with_intent, with_phase};
-ghost use Rattle.action_lock.specs.Passes.{view_of, IsSamePass, IsPassOf, Intends, InHand, Writes, HandStands, HasAdded};
+ghost use Rattle.action_lock.specs.Steps.{announced, finished, held_up, released, with_intent, with_phase};
+ghost use Rattle.action_lock.specs.Passes.{view_of, IsSamePass, IsPassOf, Intends, Announces, InHand, Writes, HandStands, HasAdded};
 ghost use Rattle.action_lock.specs.Reads.{HasClaimed};
 ghost use Rattle.action_lock.specs.Writings.{lends_home, HasIntended};
 
@@ -51,16 +51,26 @@ impl<H: Home> Pass<H> {
         unreachable!()
     }
 
-    /// Begins to write, as soon as the readers of each place have left; no reader enters meanwhile. May block.
-    pub fn write<R: Wait>(&mut self, rt: &R, lock: &ActionLock<H>)
+    /// Says that it is to write: from now on no reader enters. It does not wait; `write` goes on.
+    pub fn announce(&mut self, lock: &ActionLock<H>)
         requires { Intends lock.now self.old }
+        ensures same { IsSamePass self.old self.new }
+        ensures announces { Announces lock.now self.new }
+        ensures view { view_of self.new ≡ announced (view_of self.old) }
+        ensures advances { Advances (view_of self.old) (view_of self.new) }
+    {
+        lock.mark_all(self);
+    }
+
+    /// Begins to write, once it is announced, as soon as the readers of each place have left; no reader enters meanwhile. May block.
+    pub fn write<R: Wait>(&mut self, rt: &R, lock: &ActionLock<H>)
+        requires { Announces lock.now self.old }
         ensures same { IsSamePass self.old self.new }
         ensures writes { Writes lock.now self.new }
         ensures stands { HandStands self.new (view_of self.new).seen }
         ensures claimed { HasClaimed H.number_of (view_of self.old) (view_of self.new) }
         ensures advances { Advances (view_of self.old) (view_of self.new) }
     {
-        lock.mark_all(self);
         let home = lock.shut_first(rt, self);
         lock.shut_others(rt, self);
         lock.lay(self, home);

@@ -1,5 +1,5 @@
 //! Which files may have rows under a key.
-ghost use Rattle.std.specs.Prelude.{◌≡◌, ℕ, [], Bool, false, Some, if◌then◌else◌, ◌||◌, ◌&&◌, not, ◌==◌, OnErr, OnOk, IfOk};
+ghost use Rattle.std.specs.Prelude.{◌≡◌, ℕ, [], Bool, false, Some, None, if◌then◌else◌, ◌||◌, ◌&&◌, not, ◌==◌, OnErr, OnOk, IfOk};
 ghost use Rattle.std.specs.Ordering.{nat_cmp};
 ghost use Rattle.std.specs.Option.{is_some};
 ghost use Rattle.std.specs.Map.{lookup};
@@ -90,9 +90,10 @@ impl<K: Eq + Hash> Postings<K> {
     pub(crate) fn take_out(&mut self, key: &K, file: u32)
     where
         K: Drop,
-        ensures { (k : K) (j : ℕ)
+        ensures placed { (k : K) (j : ℕ)
             → is_placed K.eq self.new k j
             ≡ (is_placed K.eq self.old k j && not (K.eq key.now k && j == file)) }
+        ensures gone { ids_at K.eq key.now self.new ≡ [] → lookup (K.eq key.now) self.new ≡ None }
     {
         let Some(ids) = self.files.get_mut(key) else {
             return;

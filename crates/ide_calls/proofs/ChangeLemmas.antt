@@ -1,6 +1,6 @@
 -- Changes that went in behind what a read found, or are refused by it.
 use Rattle.ide_calls.proofs.Words.{◌≡◌, ℕ, ◌+◌, ◌≤◌, ◌<◌, List, [], ◌∷◌, Option, Some, None, Result, IfOk, IfErr, rules, length, refl, ap, arith, IfOk-weaker}
-use Rattle.ide_calls.proofs.Words.{◌++◌, IfErr-weaker, ◌==◌, option_map, length-append, View, Advances, finished, released, HasIntended, Change, Entry, Refusal}
+use Rattle.ide_calls.proofs.Words.{◌++◌, IfErr-weaker, ◌==◌, option_map, length-append, View, Advances, written, released, HasIntended, Change, Entry, Refusal}
 use Rattle.ide_calls.proofs.Words.{max_entries, fold, list_refusal, ListRefusal, IsLegal, entries-fold, hinted, HasReadOnce, filter}
 use Rattle.list_laws.proofs.RowLemmas.{count_le}
 use Rattle.ide_calls.specs.declared.accepted.Accepted.{Accepted}
@@ -10,7 +10,7 @@ use Rattle.ide_calls.specs.Change.{HasAccepted, HasLeft, HasRefused, IsGroupRefu
 use Rattle.ide_calls.specs.Planned.{IsUnplanned}
 use Rattle.ide_calls.proofs.MadeLemmas.{made_by_step, found_by_read, made_behind_read, answered_within, advances_within}
 
-module _ (v u w : View Entry) (entry : Entry) (read : HasReadOnce v u) (is : w ≡ finished entry u) where
+module _ (v u w : View Entry) (entry : Entry) (read : HasReadOnce v u) (is : w ≡ written entry u) where
   -- the entry went in behind all that was seen, where none of its changes is refused
   pub has_accepted : (at : ℕ) → v.number ≡ Some entry.seat → list_refusal (fold u.seen) entry.changes ≡ None → at ≡ (fold u.seen).entries → IsLegal w.seen
       → Advances u w → HasAccepted v w entry.line entry.changes (at + 1)
@@ -27,7 +27,7 @@ module _ (v u w : View Entry) (entry : Entry) (read : HasReadOnce v u) (is : w �
 
 -- a pass has made no more entries than there are: where the history has room for one more, no more than it may have, with that one
 pub few_own : (v w : View Entry) (entry : Entry) (seen : List Entry) → v.mine ≡ filter (λ (e : Entry). e.seat == entry.seat) seen
-    → seen ≡ v.seen → (fold v.seen).entries < max_entries → w ≡ finished entry v → length w.mine ≤ max_entries
+    → seen ≡ v.seen → (fold v.seen).entries < max_entries → w ≡ written entry v → length w.mine ≤ max_entries
 few_own v w entry seen mine same room is =
     let own : length v.mine ≤ length seen = rw mine (count_le (λ (e : Entry). e.seat == entry.seat) seen) in
     rw is (omega (arith, own, length-append v.mine (entry ∷ []), ap length same, entries-fold v.seen, room))

@@ -1,8 +1,9 @@
 -- What a read found, and what was made or answered in a part of a call.
-use Rattle.ide_calls.proofs.Words.{◌≡◌, ℕ, List, [], ◌∷◌, Option, Some, ◌∙◌, rules, front_self, front_trans, View, Advances, finished, released, HasIntended}
+use Rattle.ide_calls.proofs.Words.{◌≡◌, ℕ, List, [], ◌∷◌, Option, Some, ◌∙◌, rules, front_self, front_trans, View, Advances, written, released, HasIntended}
 use Rattle.ide_calls.proofs.Words.{Entry, IsLegal, SerialStep, HasMade, HasFound, IsAnswered, IsAnsweredByRead, HasOnlyLearned, HasReadOnce, advances_on}
-use Rattle.ide_calls.proofs.Words.{le_trans, ◌++◌, refl, Result, IfOk, AllocError, IfOk-weaker, IsPrefix, with_phase, entries-fold, World, fold, Task}
+use Rattle.ide_calls.proofs.Words.{arith, le_trans, ◌++◌, refl, Result, IfOk, AllocError, IfOk-weaker, IsPrefix, with_phase, entries-fold, World, fold, Task}
 use Rattle.ide_calls.proofs.Words.{task_with_id, IsOfWorld, FirstRead, IsFirstRead, HasReadFirst}
+use Rattle.action_lock.specs.Polls.{LooksThrough, StopsUnseen}
 use Rattle.action_lock.specs.Reads.{HasRead, HasWaited}
 use Rattle.nonblocking_read.specs.Soft.{HasOnlyRead, HasReadLast}
 use Rattle.queries.specs.declared.query.Query.{Query}
@@ -22,7 +23,7 @@ pub found_by_read : (v w : View Entry) → HasReadOnce v w → HasFound v w
 found_by_read v w read = search (rules, read, front_self v.reads)
 
 -- after a read, one entry is made
-pub made_behind_read : (v u w : View Entry) (entry : Entry) → HasReadOnce v u → Advances u w → w ≡ finished entry u → IsLegal w.seen
+pub made_behind_read : (v u w : View Entry) (entry : Entry) → HasReadOnce v u → Advances u w → w ≡ written entry u → IsLegal w.seen
     → HasMade v w u.seen (entry ∷ [])
 made_behind_read v u w entry read later after legal =
     search (rules, read, advances_on v u w read.learned.advances later, after, legal, front_self v.reads)
@@ -51,11 +52,17 @@ module _ (v inner inner' w : View Entry) (intended : HasIntended v inner) (after
       let made : HasMade inner inner' h.answered.start h.answered.own = search (rules, inside, h) in
       made_by_step _ _ h.seat (search (rules, intended, h)) (made_within _ _ made) (h.answered.is h.seat h.number)
 
+-- looks through, and then no memory
+pub through_stops : {W : Type 0} (looks_of sights_of : W → ℕ) (n : ℕ) (old new : W) → LooksThrough looks_of sights_of n old new
+    → StopsUnseen looks_of sights_of n old new
+through_stops looks_of sights_of n old new all = let looks = all.looks in record { some = omega arith; few = omega arith; unseen = all.unseen }
+
 -- ---- a read that has ended, and what was found by it
 
 -- a soft read that gave an answer has found what is now seen
-pub found_softly : (number_of : Entry → ℕ) (v w : View Entry) → HasOnlyRead v w → HasReadLast number_of v w → IsLegal w.seen → HasFound v w
-found_softly number_of v w only last legal = search (rules, only, last, legal)
+pub found_softly : (number_of : Entry → ℕ) (looks : ℕ) (v w : View Entry) → HasOnlyRead v w → HasReadLast number_of looks v w → IsLegal w.seen
+    → HasFound v w
+found_softly number_of looks v w only last legal = search (rules, only, last, legal)
 
 -- what is replied in the world that is now seen, which a read has found
 pub is_replied : (seat : ℕ) (v w : View Entry) (query : Query) (replied : Replied) → v.number ≡ Some seat → HasFound v w

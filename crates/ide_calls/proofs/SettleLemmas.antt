@@ -4,7 +4,7 @@ use Rattle.ide_calls.proofs.Words.{option_map_or, AllocError, append-nil, drop_a
 use Rattle.ide_calls.proofs.Words.{task_of_made, tasks_of, IsTask, HasBegun, HasJoined, GoesOnAhead, StaysOfWorld, rules, ℕ, arith, le-leb, front_self}
 use Rattle.ide_calls.proofs.Words.{front_nil, View, advances_on, Refusal, max_entries, HasMade, settled, with_entry, intake_entry, HasOnlyLearned, IsSmart}
 use Rattle.ide_calls.proofs.Words.{map, subst, IsEnd, HasTaken, HasGoneOn, HasGonePartly, GoesThrough, FillsUp, IfOk, IfErr, IfOk-weaker, IfErr-weaker, released}
-use Rattle.ide_calls.proofs.Words.{HasIntended, settle_step, IsAnsweredByRead, Stops, on_ok_weaker, Change, Advances, finished, true}
+use Rattle.ide_calls.proofs.Words.{HasIntended, settle_step, IsAnsweredByRead, Stops, on_ok_weaker, Change, Advances, written, true}
 use Rattle.std.proofs.lemmas.List.{map-append}
 use Rattle.std.proofs.lemmas.List.Elements.{All-nil, All-cons, All-head, All-append, All-weaker, All-drop}
 use Rattle.std.proofs.lemmas.List.Concat.{flat_map-append}
@@ -91,7 +91,7 @@ end_on seat line len v w turn =
 
 -- a turn that found the lowest unready file, and wrote its intake, took it in
 pub taken_on : (seat line file stamp : ℕ) (steps : List Step) (changes : List Change) (v w x : View Entry) → HasFoundLowest v w (Prepared file stamp steps)
-    → changes ≡ Intake file stamp ∷ [] → x ≡ finished (record { seat = seat; line = line; changes = changes }) w → Advances w x → x.current ≡ true
+    → changes ≡ Intake file stamp ∷ [] → x ≡ written (record { seat = seat; line = line; changes = changes }) w → Advances w x → x.current ≡ true
     → HasTaken seat line v x
 taken_on seat line file stamp steps changes v w x found one after further current =
     let prepared = found.lowest_so in

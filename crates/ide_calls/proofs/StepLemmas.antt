@@ -2,7 +2,7 @@
 use Rattle.ide_calls.proofs.Words.{◌≡◌, ℕ, true, false, refl, sym, ap, ◌∙◌, Some, None, Option, arith, IfNone, option_map, option_and_then, World, file_of}
 use Rattle.ide_calls.proofs.Words.{is_unready, lowest_unready, stamp_of, Job, Task, task_with_id, first_unready_from, file_to_index, probe_in, IsWork, IsChoice}
 use Rattle.ide_calls.proofs.Words.{task_of_job, rules, ◌+◌, List, [], ◌∷◌, length, append_assoc, Result, IfOk, AllocError, IfOk-weaker, View, Advances}
-use Rattle.ide_calls.proofs.Words.{finished, released, HasIntended, Change, Entry, fold, IsLegal, entry_of, FirstRead, HasReadOnce, HasReadFirst, HasJudged}
+use Rattle.ide_calls.proofs.Words.{written, released, HasIntended, Change, Entry, fold, IsLegal, entry_of, FirstRead, HasReadOnce, HasReadFirst, HasJudged}
 use Rattle.ide_calls.proofs.Words.{HasAnswered, IsAnsweredBy, IfSome}
 use Rattle.ide_world.specs.declared.step.Step.{Step}
 use Rattle.write_history.specs.declared.change.Change.TheVariants.{Intake}
@@ -60,7 +60,7 @@ answered_by_read seat file stamp v w step read is = record { last = w.seen; own 
 -- data that were judged to fit went in
 pub taken_in : (seat file stamp len : ℕ) (steps : List Step) (changes : List Change) (v u w : View Entry)
     → HasJudged file stamp v u (Prepared len steps) → changes ≡ Intake file stamp ∷ [] → Advances u w
-    → w ≡ finished (entry_of seat 0 changes) u → IsLegal w.seen → HasAnswered seat file stamp v w (Taken (len + 1))
+    → w ≡ written (entry_of seat 0 changes) u → IsLegal w.seen → HasAnswered seat file stamp v w (Taken (len + 1))
 taken_in seat file stamp len steps changes v u w judged intake later after legal =
     search (rules, after, judged, intake, made_behind_read v u w (entry_of seat 0 changes) judged.read later after legal)
 

@@ -8,6 +8,7 @@ pub use Rattle.std.specs.declared.alloc.AllocError.{AllocError}
 pub use Rattle.action_lock.specs.Advances.{Advances}
 pub use Rattle.action_lock.specs.Passes.{Intends, IsSamePass, view_of}
 pub use Rattle.action_lock.specs.Steps.{finished, released, with_phase}
+pub use Rattle.ide_calls.specs.Made.{written, unwritten}
 pub use Rattle.action_lock.specs.Writings.{HasIntended}
 pub use Rattle.action_lock.specs.declared.view.View.{View}
 pub use Rattle.history_laws.proofs.StampLemmas.{entries-fold}

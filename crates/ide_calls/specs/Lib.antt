@@ -20,12 +20,15 @@ pub mod Ahead
 -- What these cite from below: prefixes, passes, replies, the world and its changes
 pub use Rattle.list_laws.specs.Prefixes
 pub use Rattle.action_lock.specs.Counts
+pub use Rattle.action_lock.specs.Polls
 pub use Rattle.action_lock.specs.Advances
 pub use Rattle.action_lock.specs.Passes
 pub use Rattle.action_lock.specs.Steps
 pub use Rattle.nonblocking_read.specs.Soft
+pub use Rattle.nonblocking_read.specs.Polled
 pub use Rattle.query_engine.specs.Reply
 pub use Rattle.query_engine.specs.Listed
+pub use Rattle.query_engine.specs.Looks
 pub use Rattle.ide_world.specs.Ready
 pub use Rattle.write_history.specs.World
 pub use Rattle.write_history.specs.Fold

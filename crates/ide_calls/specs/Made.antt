@@ -1,11 +1,12 @@
 -- What a call of the IDE leaves of a pass's view.
-use Rattle.std.specs.Prelude.{ℕ, ◌≡◌, List, [], ◌∷◌, ◌++◌, length, Some}
+use Rattle.std.specs.Prelude.{ℕ, ◌≡◌, ◌+◌, List, [], ◌∷◌, ◌++◌, length, Some}
 use Rattle.list_laws.specs.Prefixes.{IsPrefix}
 use Rattle.action_lock.specs.declared.home.Home.{Ghosts}
 use Rattle.action_lock.specs.declared.view.View.{View}
 use Rattle.action_lock.specs.declared.pass.Pass.{Pass}
 use Rattle.action_lock.specs.declared.lock.ActionLock.{ActionLock}
 use Rattle.action_lock.specs.Advances.{Advances}
+use Rattle.action_lock.specs.Steps.{finished}
 use Rattle.action_lock.specs.Passes.{view_of, IsSamePass, IsPassOf}
 use Rattle.write_history.specs.declared.entry.Entry.{Entry}
 use Rattle.write_history.specs.Fold.{IsLegal}
@@ -18,6 +19,14 @@ pub record Continues {g : Ghosts IdeHome Entry IdeShare} (lock : ActionLock IdeH
   pub rests : IsPassOf lock q
   pub same : IsSamePass p q
   pub advances : Advances (view_of p) (view_of q)
+
+-- nothing was written, while the pass could have
+abbrev pub unwritten : View Entry → View Entry
+unwritten v = record v { writes = v.writes + 1 }
+
+-- the entry was written
+abbrev pub written : Entry → View Entry → View Entry
+written entry v = finished entry (unwritten v)
 
 -- one of the reads that the view gained found this history
 pub record HasReadOf (v w : View Entry) (before : List Entry) : Type 0 where

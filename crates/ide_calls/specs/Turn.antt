@@ -3,7 +3,7 @@ use Rattle.std.specs.Prelude.{ℕ, ◌≡◌, List, [], ◌∷◌, ◌++◌, len
 use Rattle.list_laws.specs.Prefixes.{IsPrefix}
 use Rattle.action_lock.specs.declared.view.View.{View}
 use Rattle.action_lock.specs.Advances.{Advances}
-use Rattle.action_lock.specs.Steps.{finished}
+use Rattle.ide_calls.specs.Made.{written}
 use Rattle.write_history.specs.declared.change.Change.TheVariants.{Intake}
 use Rattle.write_history.specs.declared.entry.Entry.{Entry}
 use Rattle.write_history.specs.declared.refusal.Refusal.{Refusal}
@@ -77,7 +77,7 @@ pub record HasTaken (seat line : ℕ) (v w : View Entry) : Type 0 where
   pub id : ℕ
   pub unready : lowest_unready (fold between.seen) ≡ Some id
   pub accepted : list_refusal (fold between.seen) (intake_of (fold between.seen) id) ≡ None
-  pub after : w ≡ finished (intake_entry between.seen seat line id) between
+  pub after : w ≡ written (intake_entry between.seen seat line id) between
   pub advances : Advances v w
   pub current : w.current ≡ true
 

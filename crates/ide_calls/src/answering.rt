@@ -1,8 +1,9 @@
 //! The answer to a question, at a moment of the workspace.
-ghost use Rattle.std.specs.Prelude.{◌≡◌, ◌≤◌, IfOk, IfErr, OnOk, IsSome};
-ghost use Rattle.action_lock.specs.Counts.{counted, HasRisen};
+ghost use Rattle.std.specs.Prelude.{◌≡◌, ℕ, IfOk, IsSome};
+ghost use Rattle.nonblocking_read.specs.Polled.{HasPolled};
 ghost use Rattle.write_history.specs.World.{file_of};
 ghost use Rattle.query_engine.specs.Listed.{path_at};
+ghost use Rattle.query_engine.specs.Looks.{MayLook};
 ghost use Rattle.ide_calls.specs.Replied.{IsRepliedIn};
 
 use crate::replied::Replied;
@@ -16,7 +17,7 @@ use queries::Query;
 use query_engine::AskRefusal;
 use std::alloc::{AllocError, Global};
 
-/// Answers a question, unless the watch sees that the work is to end. It looks before it has an answer.
+/// Answers a question, unless the watch sees that the work is to end. It looks as often as the question may.
 pub(crate) fn reply_by<W: Watch>(
     alloc: Global,
     state: &State,
@@ -27,9 +28,8 @@ pub(crate) fn reply_by<W: Watch>(
     ensures again { W.can_look watch.new }
     ensures stays { W.stays watch.old watch.new }
     ensures ok { IfOk result (IsRepliedIn state.now.world query.now) }
-    ensures looked { OnOk result (counted (W.looks watch.old) ≤ W.looks watch.new) }
-    ensures stopped { IfErr result
-        (λ why. why ≡ Stopped.Seen → HasRisen (W.sightings watch.old) (W.sightings watch.new)) }
+    ensures polled { (n : ℕ) × MayLook state.now.world query.now n
+        × HasPolled W.looks W.sightings W.stays result n watch.old watch.new }
 {
     unready_files_have_an_order();
     let reply = match query_engine::ask(alloc, state, query, watch) {

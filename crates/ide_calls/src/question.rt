@@ -16,10 +16,13 @@ pub(crate) struct Question<'a> {
 impl<'a> Work<IdeHome> for Question<'a> {
     ghost use Rattle.write_history.specs.Fold.{fold, IsLegal};
     ghost use Rattle.ide_calls.specs.Replied.{IsRepliedIn};
+    ghost use Rattle.query_engine.specs.Looks.{MayLook};
 
     type Out = Replied;
 
     ghost fits = { λ work out entries. IsRepliedIn (fold entries) work.query.now out × IsLegal entries };
+
+    ghost owes = { λ work entries n. MayLook (fold entries) work.query.now n };
 
     fn run<W: Watch>(
         &mut self,

@@ -1,5 +1,5 @@
 //! New shares for readers.
-ghost use Rattle.std.specs.Prelude.{◌≡◌};
+ghost use Rattle.std.specs.Prelude.{◌≡◌, ◌+◌};
 ghost use Rattle.action_lock.specs.Passes.{view_of, IsPassOf};
 ghost use Rattle.ide_calls.specs.Made.{Continues};
 
@@ -13,8 +13,10 @@ pub fn renew<R: Wait>(rt: &R, lock: &ActionLock<IdeHome>, pass: &mut Pass<IdeHom
     requires { IsPassOf lock.now pass.old }
     ensures pass { Continues lock.now pass.old pass.new }
     ensures mine { (view_of pass.new).mine ≡ (view_of pass.old).mine }
+    ensures wrote { (view_of pass.new).writes ≡ (view_of pass.old).writes + 1 }
 {
     pass.intent(rt, lock);
+    pass.announce(lock);
     pass.write(rt, lock);
     pass.abandon(lock);
     pass.release(lock);

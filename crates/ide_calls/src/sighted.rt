@@ -1,6 +1,6 @@
 //! The sightings for which a soft question was cancelled.
 ghost use Rattle.std.specs.Prelude.{◌≡◌};
-ghost use Rattle.action_lock.specs.Counts.{HasRisenBy};
+ghost use Rattle.action_lock.specs.Counts.{counted_by};
 
 use std::marker::Model;
 
@@ -14,19 +14,20 @@ pub struct Sighted {
 }
 
 impl Model for Sighted {
-    ghost use Rattle.action_lock.specs.Counts.{HasRisenBy};
+    ghost use Rattle.std.specs.Prelude.{◌≡◌};
+    ghost use Rattle.action_lock.specs.Counts.{counted_by};
     ghost use Rattle.ide_calls.specs.Sighting.{Sighting};
 
     ghost Value = { Sighting };
 
     ghost view = { λ s. record { seat = s.seat; attempts = s.attempts; before = s.before; after = s.after } };
 
-    ghost invariant = { λ s. HasRisenBy s.attempts s.before s.after };
+    ghost invariant = { λ s. s.after ≡ counted_by s.attempts s.before };
 }
 
 impl Sighted {
     pub(crate) fn new(seat: u32, attempts: u32, before: u64, after: u64) -> Sighted
-        requires { HasRisenBy attempts before after }
+        requires { after ≡ counted_by attempts before }
         ensures { result
             ≡ record { seat = seat; attempts = attempts; before = before; after = after } }
     {
@@ -59,10 +60,10 @@ impl Sighted {
         self.before
     }
 
-    /// How often it had found it at the end of the call: at least once more for each attempt.
+    /// How often it had found it at the end of the call: once more for each attempt.
     pub fn after(&self) -> u64
         ensures value { result ≡ self.now.after }
-        ensures risen { HasRisenBy self.now.attempts self.now.before self.now.after }
+        ensures risen { self.now.after ≡ counted_by self.now.attempts self.now.before }
     {
         self.after
     }

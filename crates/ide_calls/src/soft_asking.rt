@@ -1,10 +1,9 @@
 //! Questions that end early where a write waits.
 ghost use Rattle.std.specs.Prelude.{◌≡◌, ◌<◌, IfOk, IfErr, OnOk};
 ghost use Rattle.action_lock.specs.Passes.{view_of, IsPassOf};
-ghost use Rattle.action_lock.specs.Reads.{HasChecked};
 ghost use Rattle.ide_calls.specs.Made.{Continues};
 ghost use Rattle.ide_calls.specs.Replied.{HasReplied};
-ghost use Rattle.ide_calls.specs.SoftRefusal.{IsSoftlyRefused};
+ghost use Rattle.ide_calls.specs.SoftRefusal.{HasGivenWay, IsSoftlyRefused};
 
 use crate::IdeHome;
 use crate::question::Question;
@@ -19,7 +18,7 @@ use std::alloc::Global;
 use std::sync::Wait;
 
 /// Answers a question as `ask` does, but gives way to writes: an attempt that sees that one waits ends, and after
-/// `attempts` of them the call ends too. An answer comes from a read that looked whether one waits. May block.
+/// `attempts` of them the call ends too. An answer comes from a read that looked as often as the question owes, and saw none. May block.
 pub fn soft_ask<R: Wait, G: Gate>(
     rt: &R,
     alloc: Global,
@@ -34,8 +33,9 @@ pub fn soft_ask<R: Wait, G: Gate>(
     ensures pass { Continues lock.now pass.old pass.new }
     ensures mine { (view_of pass.new).mine ≡ (view_of pass.old).mine }
     ensures ok { IfOk result (HasReplied (view_of pass.old) (view_of pass.new) query.now) }
-    ensures looked { OnOk result (HasChecked (view_of pass.old) (view_of pass.new)) }
-    ensures cancelled { IfErr result
+    ensures gave_way { OnOk result
+        (HasGivenWay attempts query.now (view_of pass.old) (view_of pass.new)) }
+    ensures refused { IfErr result
         (IsSoftlyRefused (view_of pass.old) (view_of pass.new) attempts) }
 {
     histories_go_on();

@@ -5,7 +5,7 @@ ghost use Rattle.write_history.specs.Fold.{fold, IsLegal};
 ghost use Rattle.ide_world.specs.Ready.{IsReadyFor, Makes, hinted};
 ghost use Rattle.action_lock.specs.Advances.{Advances};
 ghost use Rattle.action_lock.specs.Passes.{view_of, IsSamePass, Intends};
-ghost use Rattle.action_lock.specs.Steps.{finished};
+ghost use Rattle.ide_calls.specs.Made.{unwritten, written};
 
 use crate::home::IdeHome;
 use action_lock::{ActionLock, Pass};
@@ -34,13 +34,14 @@ pub fn write_entry<R: Wait>(
     ensures current { (view_of pass.new).current ≡ true }
     ensures legal { IsLegal (view_of pass.new).seen }
     ensures advances { Advances (view_of pass.old) (view_of pass.new) }
-    ensures ok { OnOk result (view_of pass.new ≡ finished entry (view_of pass.old)) }
+    ensures ok { OnOk result (view_of pass.new ≡ written entry (view_of pass.old)) }
     ensures few { OnOk result (length (view_of pass.new).mine ≤ max_entries) }
     ensures unready { IfOk result
         (λ file. file ≡ hinted (fold (view_of pass.old).seen) entry.changes) }
-    ensures err { OnErr result (view_of pass.new ≡ view_of pass.old) }
+    ensures err { OnErr result (view_of pass.new ≡ unwritten (view_of pass.old)) }
 {
     histories_go_on();
+    pass.announce(lock);
     pass.write(rt, lock);
     match pass.home_mut(lock).accept(ready, entry) {
         Ok(unready) => {

@@ -1,9 +1,13 @@
 -- What reads and writes do to the bytes that a source has left and a sink has taken.
 -- `None` stands for bytes that are not told, and stays `None`.
-use Rattle.std.specs.Prelude.{◌≡◌, ℕ, ◌<◌, ◌≤◌, List, Option, Result, length, take, MatchResult}
+use Rattle.std.specs.Prelude.{◌≡◌, ℕ, ◌<◌, ◌≤◌, Bool, List, Option, None, Result, length, take, MatchResult, if◌then◌else◌}
 use Rattle.std.specs.Io.KnownBytes.{IsAtEnd, append_known, prepend_known}
 use Rattle.ide_io.specs.Fault.{next_count}
 use Rattle.ide_io.specs.Ends.{ends_after}
+
+-- the known bytes, where they are told
+abbrev pub told : Bool → Option (List ℕ) → Option (List ℕ)
+told tells known = if tells then known else None
 
 -- `read(into)` took the n bytes that it gave at `Ok(n)` from the front, none only at the end or with
 -- no room, and took nothing at `Err`

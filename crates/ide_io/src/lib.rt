@@ -1,8 +1,8 @@
 //! The outside world as three traits: a source of bytes, a tree of files and a sink of bytes.
 //!
 //! Each object counts its faults, and a call that answers `Failed` has raised that count. Objects
-//! in memory tell the bytes that they hold, so that contracts speak of them; the adapters over
-//! the system tell none.
+//! in memory tell the bytes that they hold, so that contracts speak of them; an adapter over std does so
+//! where it is made to, and those over the system's streams and files tell none.
 #![tactic(auto)]
 
 mod bytes_sink;

@@ -90,6 +90,10 @@ pub fn run_process<R: Threads + Wait + Sync, S: Source, T: Tree, K: Sink, E: Sin
         (λ status. EndsUnread (read S.Source script.old script.new) (asked T.Tree tree.old tree.new)
         (written K.Sink out.old out.new) (written E.Sink error.old error.new) status
         (exit_status result)) }
+    ensures within { exit_status result ≢ exit_code Status.ScriptTooLong
+        → TakesAtMost max_bytes (S.left script.old) (S.left script.new) }
+    ensures end_once { TellsEndOnce (S.ends script.old) (S.ends script.new) }
+    ensures files { T.files tree.new ≡ T.files tree.old }
 {
     ExitCode::from(match words {
         Ok(words) => run_main(rt, alloc, words, script, tree, out, error),

@@ -90,6 +90,7 @@ fn write_once<R: Wait>(rt: &R, lock: &ActionLock<Counter>, pass: &mut Pass<Count
     ensures { IsPassOf lock.now pass.new × HasKept (view_of pass.old) (view_of pass.new) }
 {
     pass.intent(rt, lock);
+    pass.announce(lock);
     pass.write(rt, lock);
     if pass.home_mut(lock).step() {
         pass.finish(lock);

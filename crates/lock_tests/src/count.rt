@@ -1,6 +1,6 @@
 //! A piece of work: it looks once and so many times more, and then counts the notes.
-ghost use Rattle.std.specs.Prelude.{◌≡◌, ◌≤◌, length, IsTrue, IsFalse};
-ghost use Rattle.action_lock.specs.Counts.{counted, HasRisen};
+ghost use Rattle.std.specs.Prelude.{◌≡◌, ◌+◌, length, IsTrue, IsFalse};
+ghost use Rattle.action_lock.specs.Polls.{LooksThrough, StopsAtSight};
 
 use crate::board::{Board, Note};
 use action_lock::{Gate, Point, Watch};
@@ -23,6 +23,8 @@ impl<'a> Work<Board> for Count<'a> {
 
     ghost fits = { λ work out notes. out ≡ length notes };
 
+    ghost owes = { λ work notes n. n ≡ work.more_looks + 1 };
+
     fn run<W: Watch>(
         &mut self,
         _alloc: Global,
@@ -41,15 +43,16 @@ fn sees_within<W: Watch>(watch: &mut W, clock: &AtomicU64, more: u64) -> bool
     requires { W.can_look watch.old }
     ensures again { W.can_look watch.new }
     ensures stays { W.stays watch.old watch.new }
-    ensures looked { counted (W.looks watch.old) ≤ W.looks watch.new }
-    ensures seen { IsTrue result → HasRisen (W.sightings watch.old) (W.sightings watch.new) }
-    ensures unseen { IsFalse result → W.sightings watch.new ≡ W.sightings watch.old }
+    ensures seen { IsTrue result
+        → StopsAtSight W.looks W.sightings W.stays (more + 1) watch.old watch.new }
+    ensures unseen { IsFalse result
+        → LooksThrough W.looks W.sightings (more + 1) watch.old watch.new }
 {
     if watch.look() {
         return true;
     }
     clock.fetch_add(1, Ordering::SeqCst);
-    for _ in 0..more {
+    for looks in 0..more {
         thread::yield_now();
         if watch.look() {
             return true;

@@ -20,4 +20,6 @@ mod stage;
 #[cfg(test)]
 mod tests;
 #[cfg(test)]
+mod tickets;
+#[cfg(test)]
 mod writes;

@@ -26,7 +26,7 @@ pub struct Scene {
 }
 
 /// The pass whose number is so many behind the next. Those between are met at once.
-fn drawn_behind(lock: &ActionLock<Board>, first: &mut Pass<Board>, skipped: u32) -> Pass<Board>
+pub fn drawn_behind(lock: &ActionLock<Board>, first: &mut Pass<Board>, skipped: u32) -> Pass<Board>
     requires pass { IsPassOf lock.now first.old }
     requires leads { ((view_of first.old).number ≡ Some 0) × (0 < (view_of first.old).drawn) }
     requires room { (view_of first.old).drawn + skipped < 65536 }
@@ -62,7 +62,7 @@ fn is_full(lock: &ActionLock<Board>, first: &mut Pass<Board>) -> bool
 }
 
 /// A lock over an empty board, and its first pass.
-fn begun(alloc: Global, refused: (u64, u64)) -> Option<(ActionLock<Board>, Pass<Board>)>
+pub fn begun(alloc: Global, refused: (u64, u64)) -> Option<(ActionLock<Board>, Pass<Board>)>
     ensures { IfSome result (λ made. IsPassOf made.0 made.1 × (view_of made.1 ≡ first_view 32)) }
 {
     let board = Board::empty(alloc, refused.0, refused.1).ok()?;
@@ -105,7 +105,7 @@ fn lane(pass: Pass<Board>) -> Lane
 }
 
 /// The home value, and whether each lane was right, where the first pass is the last one when all others were met, and not before.
-fn ended(
+pub fn ended(
     lock: ActionLock<Board>,
     first: Lane,
     one: Lane,

@@ -63,6 +63,7 @@ pub fn change_planned<R: Wait, H: Home, C: Plans<H>>(
     };
     let plan = what.plan(reading.share());
     reading.leave();
+    pass.announce(lock);
     pass.write(rt, lock);
     what.carry_out(pass.home_mut(lock), plan, number);
     pass.finish(lock);
@@ -129,6 +130,7 @@ fn add<R: Wait, H: Home, C: Adds<H>>(
     ensures at_once { IsTrue result → (view_of pass.old).current ≡ true
         → HasMadeAtOnce (view_of pass.old) (view_of pass.new) }
 {
+    pass.announce(lock);
     pass.write(rt, lock);
     match what.make(pass.home_mut(lock), number) {
         Ok(()) => {

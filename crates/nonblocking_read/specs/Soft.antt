@@ -13,11 +13,10 @@ module _ {E : Type 0} where
     pub mine : w.mine ≡ v.mine
 
   -- The last read of the pass is the one that has just ended, so all that it has seen was the whole history in between.
-  -- The entries with its number in it are those that it made
-  pub record HasReadLast (number_of : E → ℕ) (v w : View E) : Type 0 where
+  -- The entries with its number in it are those that it made, and it looked at the gate in this read so many times
+  pub record HasReadLast (number_of : E → ℕ) (looks : ℕ) (v w : View E) : Type 0 where
     pub earlier : List ℕ
     pub reads : IsPrefix v.reads earlier
     pub last : w.reads ≡ earlier ++ length w.seen ∷ []
     pub own : (n : ℕ) → w.number ≡ Some n → w.mine ≡ entries_of number_of n w.seen
-    -- it looked at the gate while it was open
-    pub checked : HasChecked v w
+    pub checked : HasChecked looks v w

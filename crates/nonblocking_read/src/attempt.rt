@@ -1,9 +1,9 @@
 //! One attempt of a soft read.
-ghost use Rattle.std.specs.Prelude.{◌≡◌, ◌<◌, ◌↔◌, ℕ, List, Ok, Err, IfOk, IfErr};
-ghost use Rattle.action_lock.specs.Counts.{HasRisen};
+ghost use Rattle.std.specs.Prelude.{◌≡◌, ◌↔◌, ℕ, List, IfOk};
 ghost use Rattle.action_lock.specs.Passes.{view_of, IsSamePass, IsPassOf};
 ghost use Rattle.action_lock.specs.Readings.{IsReading, IsSameRead, loan_of, pass_of};
 ghost use Rattle.action_lock.specs.Reads.{HasLooked};
+ghost use Rattle.nonblocking_read.specs.Attempts.{SeesBy, outcome_of, miss_of, IsMade};
 ghost use Rattle.nonblocking_read.specs.Soft.{HasOnlyRead, HasReadLast};
 
 use crate::work::{Stopped, Work};
@@ -11,6 +11,7 @@ use action_lock::{ActionLock, Gate, Home, Pass, Point, ReadRefusal, Reading};
 use std::alloc::Global;
 
 /// Why an attempt gave no answer.
+#[derive(Clone, Copy)]
 pub(crate) enum Miss {
     /// The pending mark was seen, at the gate or by the work.
     Seen,
@@ -32,11 +33,13 @@ pub(crate) fn attempt<H: Home, K: Work<H>, G: Gate>(
     ensures view { HasOnlyRead (view_of pass.old) (view_of pass.new) }
     ensures meaning { (out : K.Out) (entries : List H.Entry)
         → K.fits work.old out entries ↔ K.fits work.new out entries }
+    ensures owed { (entries : List H.Entry) (n : ℕ)
+        → K.owes work.old entries n ↔ K.owes work.new entries n }
     ensures ok { IfOk result
-        (λ out. K.fits work.old out (view_of pass.new).seen
-        × HasReadLast H.number_of (view_of pass.old) (view_of pass.new)) }
-    ensures seen { IfErr result
-        (λ miss. miss ≡ Miss.Seen → HasRisen (view_of pass.old).sights (view_of pass.new).sights) }
+        (λ out. (looks : ℕ) × K.fits work.old out (view_of pass.new).seen
+        × K.owes work.old (view_of pass.new).seen looks
+        × HasReadLast H.number_of looks (view_of pass.old) (view_of pass.new)) }
+    ensures sights { SeesBy result (view_of pass.old).sights (view_of pass.new).sights }
 {
     let seat = pass.number();
     match pass.try_read(alloc, lock) {
@@ -63,13 +66,11 @@ fn work_in<'a, H: Home, K: Work<H>, G: Gate>(
     ensures view { HasLooked (view_of (pass_of reading.old)) (view_of (pass_of reading.new)) }
     ensures meaning { (out : K.Out) (entries : List H.Entry)
         → K.fits work.old out entries ↔ K.fits work.new out entries }
-    ensures ok { IfOk result
-        (λ out. K.fits work.old out (view_of (pass_of reading.new)).seen
-        × (0 < (view_of (pass_of reading.new)).checks)) }
-    ensures seen { IfErr result
-        (λ miss. miss ≡ Miss.Seen
-        → HasRisen (view_of (pass_of reading.old)).sights
-        (view_of (pass_of reading.new)).sights) }
+    ensures owed { (entries : List H.Entry) (n : ℕ)
+        → K.owes work.old entries n ↔ K.owes work.new entries n }
+    ensures ok { IfOk result (λ out. K.fits work.old out (view_of (pass_of reading.new)).seen) }
+    ensures polled { (looks : ℕ) × K.owes work.old (view_of (pass_of reading.new)).seen looks
+        × IsMade result looks (view_of (pass_of reading.old)) (view_of (pass_of reading.new)) }
 {
     let share = reading.apart();
     let made = work.run(alloc, &share, reading);
@@ -87,8 +88,7 @@ fn tell<T, G: Gate>(gate: &G, seat: u32, made: &Result<T, Stopped>) {
 
 /// What an attempt gives whose work gave this.
 fn outcome<T>(made: Result<T, Stopped>) -> Result<T, Miss>
-    ensures ok { IfOk result (λ out. made ≡ Ok out) }
-    ensures seen { IfErr result (λ miss. miss ≡ Miss.Seen → made ≡ Err Stopped.Seen) }
+    ensures { result ≡ outcome_of made }
 {
     match made {
         Ok(out) => Ok(out),
@@ -99,7 +99,7 @@ fn outcome<T>(made: Result<T, Stopped>) -> Result<T, Miss>
 
 /// Why an attempt gives no answer whose read was refused.
 fn miss_of(refusal: ReadRefusal) -> Miss
-    ensures seen { result ≡ Miss.Seen → (word : ℕ) × (refusal ≡ ReadRefusal.Pending word) }
+    ensures { result ≡ miss_of refusal }
 {
     match refusal {
         ReadRefusal::Pending { word: _ } => Miss::Seen,

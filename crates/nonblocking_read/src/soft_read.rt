@@ -1,7 +1,8 @@
 //! The soft read: attempts until one gives an answer, or too many saw that a write waits.
-ghost use Rattle.std.specs.Prelude.{◌≡◌, ◌+◌, ◌<◌, ◌↔◌, ◌⊎◌, ℕ, List, IfOk, IfErr};
-ghost use Rattle.action_lock.specs.Counts.{HasRisenBy};
+ghost use Rattle.std.specs.Prelude.{◌<◌, ◌↔◌, ℕ, List, IfOk};
 ghost use Rattle.action_lock.specs.Passes.{view_of, IsSamePass, IsPassOf};
+ghost use Rattle.nonblocking_read.specs.Attempts.{SpendsAfter};
+ghost use Rattle.nonblocking_read.specs.Polled.{HasSpent};
 ghost use Rattle.nonblocking_read.specs.Soft.{HasOnlyRead, HasReadLast};
 
 use crate::attempt::{Miss, attempt};
@@ -19,7 +20,8 @@ pub enum SoftRefusal {
     OutOfMemory,
 }
 
-/// Reads and works until an attempt gives an answer, or `attempts` of them saw that a write waits. One that finds another seat's turn is
+/// Reads and works until an attempt gives an answer, or `attempts` of them saw that a write waits. Behind one that saw it the call waits until
+/// that write is through, 100 milliseconds at most, so that one write doesn't use up several attempts. One that finds another seat's turn is
 /// tried again and not counted. May block.
 pub fn soft<R: Wait, H: Home, K: Work<H>, G: Gate>(
     rt: &R,
@@ -36,13 +38,13 @@ pub fn soft<R: Wait, H: Home, K: Work<H>, G: Gate>(
     ensures view { HasOnlyRead (view_of pass.old) (view_of pass.new) }
     ensures meaning { (out : K.Out) (entries : List H.Entry)
         → K.fits work.old out entries ↔ K.fits work.new out entries }
+    ensures owed { (entries : List H.Entry) (n : ℕ)
+        → K.owes work.old entries n ↔ K.owes work.new entries n }
     ensures ok { IfOk result
-        (λ out. K.fits work.old out (view_of pass.new).seen
-        × HasReadLast H.number_of (view_of pass.old) (view_of pass.new)) }
-    ensures cancelled { IfErr result
-        (λ refusal. (n : ℕ) → refusal ≡ SoftRefusal.Cancelled n
-        → (n ≡ attempts)
-        × HasRisenBy attempts (view_of pass.old).sights (view_of pass.new).sights) }
+        (λ out. (looks : ℕ) × K.fits work.old out (view_of pass.new).seen
+        × K.owes work.old (view_of pass.new).seen looks
+        × HasReadLast H.number_of looks (view_of pass.old) (view_of pass.new)) }
+    ensures spent { HasSpent result attempts (view_of pass.old).sights (view_of pass.new).sights }
 {
     let mut spent = 0;
     for _ in rt.forever() {
@@ -50,7 +52,7 @@ pub fn soft<R: Wait, H: Home, K: Work<H>, G: Gate>(
             Ok(out) => return Ok(out),
             Err(miss) => {
                 spent = spent_after(miss, spent, attempts)?;
-                lock.pause(pass);
+                wait_after(rt, lock, pass, miss);
             }
         }
     }
@@ -60,11 +62,7 @@ pub fn soft<R: Wait, H: Home, K: Work<H>, G: Gate>(
 /// How many attempts saw that a write waits, this one that missed among them; or the refusal, where no more may follow.
 fn spent_after(miss: Miss, spent: u32, attempts: u32) -> Result<u32, SoftRefusal>
     requires { spent < attempts }
-    ensures ok { IfOk result
-        (λ now. (now < attempts) × ((now ≡ spent) ⊎ ((miss ≡ Miss.Seen) × (now ≡ spent + 1)))) }
-    ensures cancelled { IfErr result
-        (λ refusal. (n : ℕ) → refusal ≡ SoftRefusal.Cancelled n
-        → (n ≡ attempts) × (miss ≡ Miss.Seen) × (spent + 1 ≡ attempts)) }
+    ensures { SpendsAfter miss spent attempts result }
 {
     match miss {
         Miss::OutOfMemory => Err(SoftRefusal::OutOfMemory),
@@ -76,5 +74,14 @@ fn spent_after(miss: Miss, spent: u32, attempts: u32) -> Result<u32, SoftRefusal
                 Ok(spent + 1)
             }
         }
+    }
+}
+
+/// Waits until another attempt may do better than one that missed so.
+fn wait_after<R: Wait, H: Home>(rt: &R, lock: &ActionLock<H>, pass: &Pass<H>, miss: Miss) {
+    match miss {
+        Miss::Seen => lock.wait_for_mark(rt, pass),
+        Miss::Turn => lock.pause(pass),
+        Miss::OutOfMemory => {}
     }
 }

@@ -1,6 +1,6 @@
 //! A piece of work that can be stopped.
-ghost use Rattle.std.specs.Prelude.{◌≡◌, ◌≤◌, ◌↔◌, List, IfOk, IfErr, OnOk};
-ghost use Rattle.action_lock.specs.Counts.{counted, HasRisen};
+ghost use Rattle.std.specs.Prelude.{◌≡◌, ◌↔◌, ℕ, List, IfOk};
+ghost use Rattle.nonblocking_read.specs.Polled.{HasPolled};
 
 use action_lock::{Home, Watch};
 use std::alloc::Global;
@@ -14,13 +14,16 @@ pub enum Stopped {
     OutOfMemory,
 }
 
-/// Work on what a share stands for. It looks at its watch now and then, at least once before it has an answer.
+/// Work on what a share stands for. It looks at its watch as often as it owes, and ends at the look that sees something.
 pub trait Work<H: Home> {
     /// The answer.
     type Out;
 
     // The answer is one to this work, on this list of entries.
     ghost fits: { Self → Self.Out → List H.Entry → Type 0 };
+
+    // So many looks are owed by a run on this list of entries, where no look sees anything.
+    ghost owes: { Self → List H.Entry → ℕ → Type 0 };
 
     /// Works on the share until it has an answer, or its watch has seen that it is to end.
     fn run<W: Watch>(
@@ -37,8 +40,9 @@ pub trait Work<H: Home> {
         ensures ok { IfOk result
             (λ out. (entries : List H.Entry) → H.share_stands share.now entries
             → fits self.old out entries) }
-        ensures looked { OnOk result (counted (W.looks watch.old) ≤ W.looks watch.new) }
-        ensures stopped { IfErr result
-            (λ why. why ≡ Stopped.Seen
-            → HasRisen (W.sightings watch.old) (W.sightings watch.new)) };
+        ensures owed { (entries : List H.Entry) (n : ℕ)
+            → owes self.old entries n ↔ owes self.new entries n }
+        ensures polled { (entries : List H.Entry) → H.share_stands share.now entries
+            → (n : ℕ) × owes self.old entries n
+            × HasPolled W.looks W.sightings W.stays result n watch.old watch.new };
 }

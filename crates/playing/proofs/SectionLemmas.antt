@@ -3,8 +3,8 @@ use Rattle.playing.proofs.Words.{ℕ, ◌≡◌, inl, inr, Bool, true, false, �
 use Rattle.playing.proofs.Words.{[], ◌∷◌, ◌++◌, length, ⊎_elim, sym, ◌∙◌, le_refl, le_trans, append_assoc, drop, get_or, drop_more, drop_all, IfOk-weaker}
 use Rattle.playing.proofs.Words.{front_self, front_length, front_trans, IsPrefix, one_if, View, Advances, all_checks, Entry, World, fold, Query, Command, Soft}
 use Rattle.playing.proofs.Words.{Line, HasReplied, Tells, Reply, IsAnswered, Finding, NoAnswer, Loaded, Answer, CommandStep, told, retold, step_of}
-use Rattle.playing.proofs.Words.{answer_of, query_step, first_load, later_loads, Record, Progress, Fits, SectionFits, IsSoftlyAnswered, IsLineAnswered, is_soft}
-use Rattle.playing.proofs.Words.{reply_answer, HasCheckedIf, HasAnsweredLine, progress_of, is_reply, looks_owed, HasAdded}
+use Rattle.playing.proofs.Words.{answer_of, query_step, first_load, later_loads, Record, Progress, Fits, SectionFits, IsSoftlyAnswered, IsLineAnswered}
+use Rattle.playing.proofs.Words.{reply_answer, GaveWayFor, IsGivenUpBy, HasAnsweredLine, progress_of, OwesFor, AreOwed, HasPaid, HasAdded, subst, min}
 use Rattle.shared_ide.specs.Reply.TheVariants as reply
 use Rattle.write_history.specs.Serial as serial
 
@@ -36,9 +36,9 @@ replies v w query replied h = rw (← tells_answer (fold h.answered.answered.sta
 
 module _ (beside : Bool) (line : Line) (load : Loaded) (v w : View Entry) where
   -- the command of a line was done, and no soft question beside others
-  pub line_done : (command : Command) {E : Type 0} (result : Result Answer E) → line.command ≡ command → (is_soft command && beside) ≡ false
+  pub line_done : (command : Command) {E : Type 0} (result : Result Answer E) → line.command ≡ command → GaveWayFor command beside v w
       → IfOk result (IsAnswered (λ start seat. step_of load start seat line.number command) v w) → IfOk result (IsLineAnswered beside line load v w)
-  line_done command result is hard h = IfOk-weaker result _ _ (λ answer done. inl (rw is done, rw (is, hard) tt)) h
+  line_done command result is hard h = IfOk-weaker result _ _ (λ answer done. inl (rw is done, rw is hard)) h
 
   -- the soft question of a line was answered, or given up
   pub line_softly : (attempts : ℕ) (query : Query) {E : Type 0} (result : Result Answer E) → beside ≡ true → line.command ≡ Soft attempts query
@@ -73,12 +73,32 @@ module _ (beside : Bool) (seat : ℕ) (line : Line) (load : Loaded) (v w : View 
       let late = le_trans behind.0 (front_length v.seen w.seen advances.seen) in
       record { own = []; high = high; mine = g.cancelled.mine ∙ sym (append-nil v.mine); behind = (late, le_refl w.sights); fits = fits }
 
--- a look for an answer that had to look, and none for a question that was given up
-look_owed : (soft reply : Bool) (v w : View Entry) → Advances v w → HasCheckedIf soft v w ⊎ (reply ≡ false)
-    → all_checks v + one_if (soft && reply) ≤ all_checks w
-look_owed true true v w advances (inl checked) = omega (arith, checked.earlier, checked.some)
-look_owed true true v w advances (inr none) = absurd (cc)
-look_owed soft reply v w advances h = omega (arith, advances.checks)
+-- the pass looked as often as the answer to a command takes, whatever is seen later
+record Pays (command : Command) (beside : Bool) (v w : View Entry) (answer : Answer) : Type 0 where
+  its : ℕ
+  owed : (seen : List Entry) → IsPrefix w.seen seen → OwesFor command beside seen answer its
+  paid : all_checks v + its ≤ all_checks w
+
+-- a command that was answered has paid
+pays : (command : Command) (beside : Bool) (load : Loaded) (number seat : ℕ) (v w : View Entry) (answer : Answer) → v.number ≡ Some seat → Advances v w
+    → (IsAnswered (λ start seat. step_of load start seat number command) v w answer × GaveWayFor command beside v w)
+    ⊎ ((beside ≡ true) × IsGivenUpBy command v w answer) → Pays command beside v w answer
+pays (Soft attempts query) true load number seat v w answer is advances (inl (a, way)) =
+    let nothing : a.own ≡ [] = ap (λ (s : CommandStep). s.added) (sym (a.is seat is)) in
+    let same : w.seen ≡ a.start = a.seen ∙ (ap (λ (o : List Entry). a.start ++ o) nothing ∙ append-nil a.start) in
+    let step : query_step a.start query ≡ told answer =
+    a.is seat is ∙ ap (λ (o : List Entry). record { added = o; answer = answer }) nothing in
+    let told_here : query_step w.seen query ≡ told answer = rw same step in
+    record {
+      its = min way.looks 18446744073709551615;
+      owed = λ seen front. inl record { start = w.seen; stands = front; answered = told_here; number = way.looks; owed = way.owed; looks_are = refl };
+      paid = omega (arith, way.checked.earlier, way.checked.times);
+    }
+pays (Soft attempts query) true load number seat v w answer is advances (inr (runs, g)) =
+    record { its = 0; owed = λ seen front. inr record { sighted = _; told = g.cancelled.told; none = refl }; paid = omega (arith, advances.checks) }
+pays (Soft attempts query) false load number seat v w answer is advances h =
+    record { its = 0; owed = λ seen front. refl; paid = omega (arith, advances.checks) }
+pays command beside load number seat v w answer is advances h = record { its = 0; owed = λ seen front. refl; paid = omega (arith, advances.checks) }
 
 module _ (beside : Bool) (seat : ℕ) (lines : List Line) (loads : List Loaded) (v : View Entry) (old : List Record) where
   -- A section in progress: with whatever records of the lines that are left fit a history that begins with all that is now seen, all its
@@ -90,7 +110,10 @@ module _ (beside : Bool) (seat : ℕ) (lines : List Line) (loads : List Loaded) 
     added : new ≡ old ++ records
     mine : w.mine ≡ v.mine ++ own
     behind : (mark.seen ≤ length w.seen) × (mark.sights ≤ w.sights)
-    looked : (later : List Record) → all_checks v + looks_owed beside lines (records ++ later) ≤ all_checks w + looks_owed beside lines_left later
+    paid : ℕ
+    owed : (seen : List Entry) → IsPrefix w.seen seen → (later : List Record) (more : ℕ) → AreOwed beside seen lines_left later more
+        → AreOwed beside seen lines (records ++ later) (paid + more)
+    looked : all_checks v + paid ≤ all_checks w
     fits : (history : List Entry) → IsPrefix w.seen history → (later : List Record) (own_later : List Entry) (high : Progress)
         → SectionFits beside history seat mark lines_left loads_left later own_later high
         → SectionFits beside history seat (progress_of v) lines loads (records ++ later) (own ++ own_later) high
@@ -99,8 +122,19 @@ module _ (beside : Bool) (seat : ℕ) (lines : List Line) (loads : List Loaded) 
   pub section_begins : IsUnderWay v old lines loads
   section_begins =
       let added : old ≡ old ++ [] = sym (append-nil old) in let mine : v.mine ≡ v.mine ++ [] = sym (append-nil v.mine) in
-      let looked = λ (later : List Record). le_refl (all_checks v + looks_owed beside lines later) in let mark = progress_of v in
-      record { records = []; own = []; mark = mark; added = added; mine = mine; behind = (le_refl _, le_refl _); looked = looked; fits = λ _ _ _ _ _ h. h }
+      let mark = progress_of v in
+      record {
+        records = [];
+        own = [];
+        mark = mark;
+        added = added;
+        mine = mine;
+        behind = (le_refl _, le_refl _);
+        paid = 0;
+        owed = λ seen front later more h. subst (AreOwed beside seen lines later) (let e : more ≡ 0 + more = omega arith in e) h;
+        looked = omega arith;
+        fits = λ _ _ _ _ _ h. h;
+      }
 
   -- after the line at a place
   pub section_turn : (w u : View Entry) (new newer : List Record) (i : ℕ) (line : Line) (load : Loaded) (loads_left later : List Loaded)
@@ -111,8 +145,7 @@ module _ (beside : Bool) (seat : ℕ) (lines : List Line) (loads : List Loaded) 
       let here : drop i lines ≡ line ∷ drop (i + 1) lines = cc (drop_more lines i line within) in
       let h = rw here at under_way in let a = rw first at answers in
       let m = moved beside seat line (first_load loads_left) w u h.mark a.answer (before.number ∙ number) advances h.behind a.answered in
-      let look = look_owed (is_soft line.command && beside) (is_reply a.answer) w u advances
-      (⊎_elim (λ done. inl done.1) (λ given_up. inr (ap is_reply given_up.1.cancelled.told)) a.answered) in
+      let p = pays line.command beside (first_load loads_left) line.number seat w u a.answer (before.number ∙ number) advances a.answered in
       let one : Record = record { seat = seat; line = line.number; answer = a.answer } in
       rw others (record {
         records = h.records ++ one ∷ [];
@@ -121,7 +154,12 @@ module _ (beside : Bool) (seat : ℕ) (lines : List Line) (loads : List Loaded) 
         added = cc (a.added, h.added, append_assoc old h.records (one ∷ []));
         mine = cc (m.mine, h.mine, append_assoc v.mine h.own m.own);
         behind = m.behind;
-        looked = λ more. rw append_assoc (omega (arith, h.looked (one ∷ more), look));
+        paid = h.paid + p.its;
+        owed = λ seen front more n rest. rw append_assoc (subst (AreOwed beside seen lines (h.records ++ one ∷ more))
+            (let e : h.paid + (p.its + n) ≡ h.paid + p.its + n = omega arith in e)
+            (h.owed seen (front_trans w.seen u.seen seen advances.seen front) (one ∷ more) (p.its + n)
+            record { its = p.its; others = n; owed = p.owed seen front; owed_later = rest; sum = refl }));
+        looked = omega (arith, h.looked, p.paid);
         fits = λ history front more own_more high rest. simp append_assoc
             (h.fits history (front_trans w.seen u.seen history advances.seen front) (one ∷ more) (m.own ++ own_more) high
             (search (rules, m.fits history front, rest)));
@@ -133,5 +171,6 @@ module _ (beside : Bool) (seat : ℕ) (lines : List Line) (loads : List Loaded) 
   section_over w new i loads_left past under_way =
       let h = rw (drop_all i lines past) at under_way in
       let fits = λ (history : List Entry) (front : IsPrefix w.seen history). simp append-nil at (h.fits history front [] [] h.mark (refl, refl, refl)) in
-      let looked : all_checks v + looks_owed beside lines h.records ≤ all_checks w = let all = simp append-nil at (h.looked []) in omega arith in
+      let owed = simp append-nil at (h.owed w.seen (front_self w.seen) [] 0 refl) in
+      let looked : HasPaid beside lines h.records v w = record { looks = h.paid + 0; owed = owed; paid = omega (arith, h.looked) } in
       search (rules, h, fits, looked)

@@ -2,6 +2,8 @@
 pub use Rattle.std.proofs.Common.{All, Bool, Err, IfOk, List, None, Ok, OnOk, Result, Some, [], ap, append-nil, append_assoc, arith, cond, drop, eqb, false}
 pub use Rattle.std.proofs.Common.{filter, get_or, inl, inr, le_refl, le_trans, length, length-append, refl, reverse, rules, suc, sym, take, true, ℕ, ⊎_elim}
 pub use Rattle.std.proofs.Common.{◌&&◌, ◌++◌, ◌+◌, ◌-◌, ◌<◌, ◌∙◌, ◌∷◌, ◌≡◌, ◌≤◌, ◌⊎◌}
+pub use Rattle.std.proofs.Common.{subst}
+pub use Rattle.std.specs.Prelude.{min}
 pub use Rattle.std.proofs.lemmas.Bool.{and_parts, cases_Bool, eq-eqb, eqb-true, ne_eqb}
 pub use Rattle.std.proofs.lemmas.List.{append_cancel_left, drop_all, drop_at, drop_more, get_or-reverse, length-reverse, reverse-reverse, take_all}
 pub use Rattle.std.proofs.lemmas.List.Concat.{flat_map-append}
@@ -46,8 +48,8 @@ pub use Rattle.write_history.specs.Fold.{fold}
 pub use Rattle.write_history.specs.Path.{is_path}
 pub use Rattle.write_history.specs.World.{World}
 pub use Rattle.write_history.specs.declared.entry.Entry.{Entry}
-pub use Rattle.playing.specs.Answered.{HasAnsweredLine, HasCheckedIf, IsLineAnswered, IsSoftlyAnswered, is_soft, reply_answer}
-pub use Rattle.playing.specs.Done.{HasAdded, is_reply, looks_owed, progress_of}
+pub use Rattle.playing.specs.Answered.{GaveWayFor, HasAnsweredLine, IsGivenUpBy, IsLineAnswered, IsSoftlyAnswered, reply_answer}
+pub use Rattle.playing.specs.Done.{AreOwed, HasAdded, HasPaid, OwesFor, progress_of}
 pub use Rattle.playing.specs.Players.{AllFrom, CanMeet, CanRun, HasBegun, HasDoneDuty, HasGathered, HasMet, HasRun, HaveGathered, IsBegun, IsDutyAt, IsDutyOf}
 pub use Rattle.playing.specs.Players.{IsWhole, kept_of, records_of, worked_of}
 pub use Rattle.playing.specs.Rounds.{HasDoneAlone, HasPlayed, IsAlone, IsSeatFrom}

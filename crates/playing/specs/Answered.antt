@@ -1,7 +1,6 @@
 -- How the command of one line is answered.
-use Rattle.std.specs.Prelude.{ℕ, ◌≡◌, ◌⊎◌, Bool, true, false, ◌&&◌, List, [], ◌∷◌, ◌++◌, None}
+use Rattle.std.specs.Prelude.{ℕ, ◌≡◌, ◌⊎◌, Bool, true, false, List, [], ◌∷◌, ◌++◌, None}
 use Rattle.action_lock.specs.declared.view.View.{View}
-use Rattle.action_lock.specs.Reads.{HasChecked}
 use Rattle.write_history.specs.declared.entry.Entry.{Entry}
 use Rattle.write_history.specs.declared.refusal.Refusal.TheVariants as why
 use Rattle.queries.specs.declared.query.Query.{Query}
@@ -9,7 +8,7 @@ use Rattle.shared_ide.specs.Reply.{Reply}
 use Rattle.shared_ide.specs.Reply.TheVariants as reply
 use Rattle.shared_ide.specs.Made.{IsAnswered}
 use Rattle.transcripts.specs.Sighting.{Sighting}
-use Rattle.shared_ide.specs.SoftRefusal.{HasSighted}
+use Rattle.shared_ide.specs.SoftRefusal.{HasGivenWay, HasSighted}
 use Rattle.script_lang.specs.declared.command.Command.{Command}
 use Rattle.script_lang.specs.declared.command.Command.TheVariants.{Soft}
 use Rattle.script_lang.specs.declared.line.Line.{Line}
@@ -32,20 +31,20 @@ pub record IsCancelled (attempts : ℕ) (v w : View Entry) (answer : Answer) : T
   pub sights : HasSighted v w attempts sighted
   pub mine : w.mine ≡ v.mine
 
--- a soft question was answered by a read that looked whether a write waits, or given up
+-- a soft question was answered by a read that looked as often as it owes whether a write waits, or given up
 abbrev pub IsSoftlyAnswered : ℕ → Query → View Entry → View Entry → Answer → Type 0
 IsSoftlyAnswered attempts query v w answer =
-    (IsAnswered (λ start seat. query_step start query) v w answer × HasChecked v w) ⊎ IsCancelled attempts v w answer
+    (IsAnswered (λ start seat. query_step start query) v w answer × HasGivenWay attempts query v w) ⊎ IsCancelled attempts v w answer
 
--- a question that gives way to writes
-abbrev pub is_soft : Command → Bool
-is_soft (Soft attempts query) = true
-is_soft command = false
+-- a soft question was answered by a read that looked as often as it owes whether a write waits, where it had to
+abbrev pub GaveWayWhere : Bool → ℕ → Query → View Entry → View Entry → Type 0
+GaveWayWhere true attempts query v w = HasGivenWay attempts query v w
+GaveWayWhere false attempts query v w = Unit {0}
 
--- the answer came from a read that looked whether a write waits, where it had to
-abbrev pub HasCheckedIf : Bool → View Entry → View Entry → Type 0
-HasCheckedIf true v w = HasChecked v w
-HasCheckedIf false v w = Unit {0}
+-- so the command was, if it is one
+abbrev pub GaveWayFor : Command → Bool → View Entry → View Entry → Type 0
+GaveWayFor (Soft attempts query) beside v w = GaveWayWhere beside attempts query v w
+GaveWayFor command beside v w = Unit {0}
 
 -- the soft question of a command was given up
 pub record IsGivenUpBy (command : Command) (v w : View Entry) (answer : Answer) : Type 0 where
@@ -54,10 +53,11 @@ pub record IsGivenUpBy (command : Command) (v w : View Entry) (answer : Answer) 
   pub soft : command ≡ Soft attempts query
   pub cancelled : IsCancelled attempts v w answer
 
--- The command of a line was done, a soft question by a read that looked where another lane or a worker runs beside; or, only there, it was given up
+-- The command of a line was done, a soft question by a read that looked as often as it owes where another lane or a worker runs beside; or, only
+-- there, it was given up
 abbrev pub IsLineAnswered : Bool → Line → Loaded → View Entry → View Entry → Answer → Type 0
 IsLineAnswered beside line load v w answer =
-    (IsAnswered (λ start seat. step_of load start seat line.number line.command) v w answer × HasCheckedIf (is_soft line.command && beside) v w)
+    (IsAnswered (λ start seat. step_of load start seat line.number line.command) v w answer × GaveWayFor line.command beside v w)
     ⊎ ((beside ≡ true) × IsGivenUpBy line.command v w answer)
 
 -- the command of a line was answered, and its record added to others

@@ -5,22 +5,21 @@ pub use Rattle.query_engine.proofs.Words.{cases_Bool, ◌&&◌, fun_ext, drop_mo
 pub use Rattle.query_engine.proofs.Words.{RiseFrom, World, File, file_of, id_at, has_path, shown_text, AreFrom, text_at, itself, stub_at, IfSome, false, ◌++◌}
 pub use Rattle.query_engine.proofs.Words.{common_steps, map-append, All-nil, All-append, All-map, max_chars, Java, Properties, keys_of, places_of_key}
 pub use Rattle.query_engine.proofs.Words.{lowest_unready, found, found_from, stubs_in, masks_in, of_files, of_world, word_in, Listed, AreLive, AreAhead}
-pub use Rattle.query_engine.proofs.Words.{listed_at, offset_in, path_at, word_found, ◌/◌, sum, subst, inl, inr, AllPairs, filter-append, AllPairs-filter}
-pub use Rattle.query_engine.proofs.Words.{is_type, has_super, ListedType, StandsBefore, all_supers, rows_a_look, MayLook, types_in, types_of, take, IsSomeAnd}
+pub use Rattle.query_engine.proofs.Words.{listed_at, offset_in, path_at, word_found, ◌/◌, subst, inl, inr, AllPairs, filter-append, AllPairs-filter}
+pub use Rattle.query_engine.proofs.Words.{is_type, has_super, ListedType, StandsBefore, met_count, rows_a_look, MayLook, types_in, types_of, take, IsSomeAnd}
 pub use Rattle.query_engine.proofs.Words.{option_to_list, Ok, append_assoc, flat_map, flat_map-append, length-append, Usages, AskRefusal, NotReady, PlaceRow}
 pub use Rattle.query_engine.proofs.Words.{place_row, uses_in, reply, LooksThrough, first_uses, has_code, uses_at, uses_found, not-true, not-false, rules}
-pub use Rattle.query_engine.proofs.Words.{eqb-true, nil_from_length, AskedEach, Finding, OutOfMemory}
+pub use Rattle.query_engine.proofs.Words.{eqb-true, nil_from_length, AskedEach, Finding, OutOfMemory, nat_tests, AllByRecursion}
+pub use Rattle.query_engine.proofs.Words.{recursion_from_All, filter_passes}
 use Rattle.std.proofs.Math.ListN.{drop_of_length-le}
 use Rattle.std.proofs.Math.Seq.{take-nil}
 use Rattle.std.proofs.lemmas.List.Quantifiers.{position-Some}
 use Rattle.std.proofs.lemmas.Option.{IfSome_then}
-use Rattle.std.proofs.lemmas.Bool.Decides.{nat_tests}
 use Rattle.std.proofs.lemmas.Simd.{map-map}
 use Rattle.dumb_mode.specs.declared.kind.FileKind.{FileKind}
 use Rattle.dumb_mode.specs.Filter.{has_kind}
 use Rattle.query_engine.specs.declared.answer.WordRow.{WordRow}
 use Rattle.query_engine.proofs.MemberLemmas.{filter_all, filter_two, filter_of_map, pairs_nil, pairs_append, pairs_map}
-use Rattle.std.proofs.lemmas.List.Sums.{sum_by-cons}
 use Rattle.java_tokens.specs.Places.{places_of, is_in_code, RiseFrom as PlacesRise}
 use Rattle.java_tokens.specs.Words.{words_of, mask_in}
 use Rattle.query_engine.proofs.LookLemmas.{looked_through}
@@ -237,15 +236,24 @@ namers_are name world =
     (λ id file xs rs is h. simp (filter-append, filter_of_map, filter_two, h)
     (ap (λ p. map (λ s. (id, s)) (filter p (listing_of (shown_text file))) ++ filter it rs) one))
 
--- the names of supers, counted
-supers_counted : (types : List ListedType) → all_supers types ≡ sum (map (λ t. length t.1.supers) types)
-supers_counted [] = refl
-supers_counted (t ∷ ts) = grind (arith, supers_counted ts, sum_by-cons (λ (n : ℕ). n) (length t.1.supers) (map (λ t. length t.1.supers) ts))
+-- the types of a world are types
+pub types_typed : (world : World) → AllByRecursion (λ t. is_type t.1 ≡ true) (types_of world)
+types_typed world =
+    let typed = λ (t : ListedType). is_type t.1 ≡ true in
+    recursion_from_All typed (types_of world)
+    (found_law {X = Stub} Java (stubs_in is_type) types_in world (λ id xs rs. All typed rs) (λ id. All-nil typed) (λ id xs rs h. h)
+    (λ id file xs rs is h. All-append typed (types_in id file) rs
+    (All-map typed (λ s. (id, s)) (filter is_type (listing_of (shown_text file))) (filter_passes is_type (listing_of (shown_text file)))) h))
 
--- as many looks as there are full 256 names of supers, at most
-pub few_may : (world : World) (name : List ℕ) {number : ℕ} → lowest_unready world ≡ None → number ≤ all_supers (types_of world) / rows_a_look
-    → MayLook world (query.Inheritors name) (1 + number)
-few_may world name {number} smart few = (omega arith, rw (smart, sym (supers_counted (types_of world))) (omega (arith, few)))
+-- as many looks as there are full 256 types that are met
+pub met_may : (world : World) (name : List ℕ) → lowest_unready world ≡ None
+    → MayLook world (query.Inheritors name) (1 + met_count name (types_of world) / rows_a_look)
+met_may world name smart = rw smart refl
+
+-- where a file is unready, none is met
+pub dumb_met : (world : World) (name : List ℕ) (e : AskRefusal) → IsSomeAnd (lowest_unready world) (λ file. e ≡ NotReady file)
+    → MayLook world (query.Inheritors name) (1 + 0)
+dumb_met world name e h = grind (arith, h)
 
 -- ---- where a name is used in the files of a world, with a look after each file that uses it
 

@@ -2,12 +2,13 @@
 pub use Rattle.query_engine.proofs.Words.{ℕ, ◌≡◌, ◌≤◌, ◌+◌, ◌/◌, ◌%◌, List, [], ◌∷◌, ◌++◌, map, length, refl, ap, ◌∙◌, append_assoc, arith, Result, Ok, Err}
 pub use Rattle.query_engine.proofs.Words.{IsErrAnd, common_steps, length-append, AskRefusal, Cancelled, OutOfMemory, rows_a_look, looks_at, HasLooked}
 pub use Rattle.query_engine.proofs.Words.{LooksThrough, StopsUnseen, EndsEarly, Bool, true, false, ◌&&◌, ◌||◌, if◌then◌else◌, filter, sym, OnOk, list_any}
-pub use Rattle.query_engine.proofs.Words.{bytes_eq, false≢true, bytes_eq-Decides, is_type, has_super, ListedType, is_asked, asked_supers, all_supers, Paces}
-pub use Rattle.query_engine.proofs.Words.{LooksFew, ◌≢◌, subst, Option, Some, None, IsSomeAnd, IsOk, World, lowest_unready, Finding, NotReady, NoAnswer}
-pub use Rattle.query_engine.proofs.Words.{not_ready, reply, unless_unready, LaterLooks, just, at_most, looks_after, AreLooks, MayLook, later_looks}
+pub use Rattle.query_engine.proofs.Words.{bytes_eq, false≢true, bytes_eq-Decides, is_type, has_super, ListedType, is_asked, asked_supers, each_once, Paces}
+pub use Rattle.query_engine.proofs.Words.{AreAmong, fun_ext, cases_Bool, inl, inr, AllByRecursion, on_ok_weaker, ◌≢◌, subst, Option, Some, None}
+pub use Rattle.query_engine.proofs.Words.{IsSomeAnd, IsOk, World, lowest_unready, Finding, NotReady, NoAnswer}
+pub use Rattle.query_engine.proofs.Words.{not_ready, reply, unless_unready, looks_after, MayLook, later_looks}
 pub use Rattle.query_engine.proofs.Words.{HasLookedFor, GivesReply, RepliesTo, le_refl, rules, IfSome, AreAhead, IsListed, itself, place_found, drop, row_of}
 pub use Rattle.query_engine.proofs.Words.{listed_at, path_at, stub_at, text_at, AreFrom, meet_all, row_found, AreLive, word_found}
-use Rattle.query_engine.proofs.MemberLemmas.{filter_few}
+use Rattle.query_engine.proofs.MemberLemmas.{filter_none, bytes_eq_swap}
 use Rattle.action_lock.specs.Counts.{counted}
 use Rattle.queries.specs.declared.query.Query.{Query}
 
@@ -46,6 +47,11 @@ module _ {W : Type 0} (l s : W → ℕ) (st : W → W → Type 0) where
   looked_early X Y (Err f) Cancelled old new told early few q = rw told (search (arith, q))
   looked_early X Y (Err f) OutOfMemory old new told early few q = rw told (search (arith, q))
   looked_early X Y (Err f) e old new told early few q = absurd early
+
+  -- nobody looked, and memory ran out
+  pub looked_wanting : {X : Type 0} (n : ℕ) (r : Result X AskRefusal) (watch : W) → IsErrAnd r (λ f. f ≡ OutOfMemory) → HasLooked l s st r n watch watch
+  looked_wanting n (Ok x) watch told = absurd told
+  looked_wanting n (Err f) watch told = rw told (looked_unseen (omega arith) (looked_not refl))
 
   -- a count of looks doesn't fall
   pub looked_up : {X : Type 0} (n : ℕ) (r : Result X AskRefusal) (old new : W) → HasLooked l s st r n old new → l old ≤ l new
@@ -110,82 +116,160 @@ module _ {W F : Type 0} {l s : W → ℕ} {all : List F} {met met' : ℕ} {x : F
       (looked_on {X = X} _ (Err e) new on (pace_sum met met' h.more 1 h.after) kept h.looked q)
 
 -- ---- looks of a search, one for each full 256 types that it meets. It meets those that name a name that is asked for, and each name is asked
+-- for once
 
--- a wider test keeps more: one more, where something that passes it alone is there
-filter_wider : {X : Type 0} (p q r : X → Bool) → ((x : X) → p x ≡ true → q x ≡ true) → ((x : X) → r x ≡ true → (p x ≡ false) × (q x ≡ true)) → (xs : List X)
-    → (if list_any r xs then 1 else 0) + length (filter p xs) ≤ length (filter q xs)
-filter_wider p q r wider new [] = omega arith
-filter_wider p q r wider new (x ∷ xs) = grind (arith, wider x, new x, filter_wider p q r wider new xs)
+-- the first of names that are among others is, and so are those behind it
+pub first_among : {left rest : List (List ℕ)} {name : List ℕ} (all : List (List ℕ)) → left ≡ name ∷ rest → AreAmong left all → AreAmong (name ∷ []) all
+first_among all next among other is = among other (rw next (grind (arith, is)))
+
+pub rest_among : {left rest : List (List ℕ)} {name : List ℕ} (all : List (List ℕ)) → left ≡ name ∷ rest → AreAmong left all → AreAmong rest all
+rest_among all next among other is = among other (rw next (grind (arith, is)))
+
+-- a wider test keeps as many or more
+filter_wider : {X : Type 0} (p q : X → Bool) → ((x : X) → p x ≡ true → q x ≡ true) → (xs : List X) → length (filter p xs) ≤ length (filter q xs)
+filter_wider p q wider [] = omega arith
+filter_wider p q wider (x ∷ xs) = grind (arith, wider x, filter_wider p q wider xs)
+
+-- names that hold all others are named as often or more
+asked_wider : (asked all : List (List ℕ)) → AreAmong asked all → (types : List ListedType) → asked_supers types asked ≤ asked_supers types all
+asked_wider asked all among [] = omega arith
+asked_wider asked all among (t ∷ ts) =
+    omega (arith, asked_wider asked all among ts, filter_wider (λ n. is_asked n asked) (λ n. is_asked n all) among (each_once t.1.supers))
+
+-- the same names are named as often
+pub asked_same : (asked asked' : List (List ℕ)) → ((other : List ℕ) → is_asked other asked' ≡ is_asked other asked) → (types : List ListedType)
+    → asked_supers types asked' ≡ asked_supers types asked
+asked_same asked asked' same [] = refl
+asked_same asked asked' same (t ∷ ts) =
+    omega (arith, asked_same asked asked' same ts, ap (λ p. length (filter p (each_once t.1.supers))) (fun_ext same))
+
+-- no name is named by none
+asked_none : (types : List ListedType) → asked_supers types [] ≡ 0
+asked_none [] = refl
+asked_none (t ∷ ts) = omega (arith, asked_none ts, ap length (filter_none (λ (n : List ℕ). false) (λ n. refl) (each_once t.1.supers)))
 
 module _ (asked asked' : List (List ℕ)) (name : List ℕ) (asks : (other : List ℕ) → is_asked other asked' ≡ (bytes_eq other name || is_asked other asked)) where
-  -- names that weren't asked for before, but now are
-  cost : (r : List ℕ → Bool) → ((n : List ℕ) → r n ≡ true → (is_asked n asked ≡ false) × (is_asked n asked' ≡ true)) → (types : List ListedType)
-      → length (filter (λ t. is_type t.1 && list_any r t.1.supers) types) + asked_supers types asked ≤ asked_supers types asked'
-  cost r new [] = omega arith
-  cost r new (t ∷ ts) =
-      let wider = filter_wider (λ n. is_asked n asked) (λ n. is_asked n asked') r (λ n h. grind (arith, h, asks n)) new t.1.supers in
-      grind (arith, cost r new ts, wider)
+  -- a name that was asked for before
+  pub asks_same : is_asked name asked ≡ true → (other : List ℕ) → is_asked other asked' ≡ is_asked other asked
+  asks_same was other =
+      asks other ∙ elim (cases_Bool (bytes_eq other name)) [
+        | inl same ↦ rw (same, (bytes_eq-Decides other name).0 same, was) refl
+        | inr apart ↦ rw apart refl
+      ]
 
-  -- a name that wasn't asked for before
-  pub cost_more : is_asked name asked ≡ false → (types : List ListedType)
-      → length (filter (λ t. has_super name t.1) types) + asked_supers types asked ≤ asked_supers types asked'
-  cost_more fresh =
-      cost (bytes_eq name)
-      (λ n h. rw (sym ((bytes_eq-Decides name n).0 h)) (fresh, grind (arith, asks name, (bytes_eq-Decides name name).1 refl)))
+  -- a name that wasn't, among the names of a type
+  cost_of : is_asked name asked ≡ false → (supers : List (List ℕ))
+      → (if list_any (bytes_eq name) supers then 1 else 0) + length (filter (λ n. is_asked n asked) (each_once supers))
+      ≡ length (filter (λ n. is_asked n asked') (each_once supers))
+  cost_of fresh [] = refl
+  cost_of fresh (x ∷ xs) = elim (cases_Bool (bytes_eq name x)) [
+    | inl same ↦
+        let is = (bytes_eq-Decides name x).0 same in
+        let new : is_asked x asked ≡ false = rw is at fresh in
+        let now : is_asked x asked' ≡ true = asks x ∙ rw ((bytes_eq-Decides x name).1 (sym is)) refl in
+        let there : list_any (bytes_eq name) xs ≡ is_asked x xs = rw is refl in
+        grind (arith, same, new, now, there, cost_of fresh xs)
+    | inr apart ↦
+        let other : bytes_eq x name ≡ false = sym (bytes_eq_swap name x) ∙ apart in
+        let still : is_asked x asked' ≡ is_asked x asked = asks x ∙ rw other refl in
+        grind (arith, apart, still, cost_of fresh xs)
+  ]
 
-  -- a name that was
-  pub cost_same : (types : List ListedType) → asked_supers types asked ≤ asked_supers types asked'
-  cost_same types = omega (arith, cost (λ n. false) (λ n h. absurd (false≢true h)) types)
-
--- no more than all names of supers
-cost_few : (types : List ListedType) (asked : List (List ℕ)) → asked_supers types asked ≤ all_supers types
-cost_few [] asked = omega arith
-cost_few (t ∷ ts) asked = omega (arith, cost_few ts asked, filter_few (λ name. is_asked name asked) t.1.supers)
+  -- and among those of types
+  pub cost_more : is_asked name asked ≡ false → (types : List ListedType) → AllByRecursion (λ t. is_type t.1 ≡ true) types
+      → length (filter (λ t. has_super name t.1) types) + asked_supers types asked ≡ asked_supers types asked'
+  cost_more fresh [] typed = refl
+  cost_more fresh (t ∷ ts) typed = grind (arith, typed.0, cost_of fresh t.1.supers, cost_more fresh ts typed.1)
 
 module _ {W : Type 0} {l s : W → ℕ} {st : W → W → Type 0} {types : List ListedType} {asked asked' : List (List ℕ)} where
   -- nothing is met
-  pub paces_none : {X : Type 0} {x : X} {met : ℕ} {watch : W} → asked_supers types asked ≤ asked_supers types asked'
-      → Paces l s st types (Ok x) asked met asked' met watch watch
-  paces_none more = record { more = 0; few = omega (arith, cost_few types asked); looked = looked_not (omega arith); after = (omega arith, omega arith) }
+  pub paces_none : {X : Type 0} {x : X} {names : List (List ℕ)} {met : ℕ} {watch : W} → ((other : List ℕ) → is_asked other asked' ≡ is_asked other asked)
+      → Paces l s st types names (Ok x) asked met asked' met watch watch
+  paces_none same = record {
+    reach = asked';
+    within = λ all was more name is. was name (sym (same name) ∙ is);
+    more = 0;
+    sum = omega (arith, asked_same asked asked' same types);
+    looked = looked_not (omega arith);
+    after = (refl, omega arith);
+  }
 
   -- nothing is met, and memory ran out
-  pub paces_wanting : {X : Type 0} (r : Result X AskRefusal) {met met' : ℕ} {watch : W} → IsErrAnd r (λ f. f ≡ OutOfMemory)
-      → Paces l s st types r asked met asked' met' watch watch
+  pub paces_wanting : {X : Type 0} (r : Result X AskRefusal) {names : List (List ℕ)} {met met' : ℕ} {watch : W} → IsErrAnd r (λ f. f ≡ OutOfMemory)
+      → Paces l s st types names r asked met asked' met' watch watch
   paces_wanting (Ok x) told = absurd told
-  paces_wanting (Err f) told =
-      record { more = 0; few = omega (arith, cost_few types asked); looked = rw told (looked_unseen (omega arith) (looked_not refl)); after = tt }
+  paces_wanting {X} (Err f) told = record {
+    reach = asked;
+    within = λ all was more. was;
+    more = 0;
+    sum = omega arith;
+    looked = looked_wanting l s st {X = X} _ (Err f) _ told;
+    after = tt;
+  }
 
   -- the types that name a name are met
-  pub paces_met : {X : Type 0} (r : Result X AskRefusal) (more : ℕ) {met met' : ℕ} {old new : W} → more + asked_supers types asked ≤ asked_supers types asked'
-      → OnOk r (met' % rows_a_look ≡ (met + more) % rows_a_look) → HasLooked l s st r ((met % rows_a_look + more) / rows_a_look) old new
-      → Paces l s st types r asked met asked' met' old new
-  paces_met (Ok x) more cost after q = record { more = more; few = omega (arith, cost_few types asked'); looked = q; after = (cost, after) }
-  paces_met (Err e) more cost after q = record { more = more; few = omega (arith, cost_few types asked'); looked = q; after = tt }
+  pub paces_met : {X : Type 0} (r : Result X AskRefusal) (name : List ℕ) (more : ℕ) {met met' : ℕ} {old new : W}
+      → ((other : List ℕ) → is_asked other asked' ≡ (bytes_eq other name || is_asked other asked))
+      → more + asked_supers types asked ≡ asked_supers types asked' → OnOk r (met' % rows_a_look ≡ (met + more) % rows_a_look)
+      → HasLooked l s st r ((met % rows_a_look + more) / rows_a_look) old new → Paces l s st types (name ∷ []) r asked met asked' met' old new
+  paces_met r name more asks cost after q = record {
+    reach = asked';
+    within = λ all was one other is. grind (arith, asks other, was other, one other, is);
+    more = more;
+    sum = cost;
+    looked = q;
+    after = on_ok_weaker r (λ same. (refl, same)) after;
+  }
 
-  module _ {X Y : Type 0} {y : Y} {asked'' : List (List ℕ)} {met met' met'' : ℕ} {old mid new : W} (on : (x y z : W) → st x y → st y z → st x z)
-      (kept : st old mid) (p : Paces {X = Y} l s st types (Ok y) asked met asked' met' old mid) where
+  module _ {X Y : Type 0} {y : Y} {names names' asked'' : List (List ℕ)} {met met' met'' : ℕ} {old mid new : W} (on : (x y z : W) → st x y → st y z → st x z)
+      (kept : st old mid) (p : Paces {X = Y} l s st types names (Ok y) asked met asked' met' old mid) (some : AreAmong names' names) where
     -- one after the other
-    pub paces_on : {r : Result X AskRefusal} → Paces l s st types r asked' met' asked'' met'' mid new → Paces l s st types r asked met asked'' met'' old new
+    pub paces_on : {r : Result X AskRefusal} → Paces l s st types names' r asked' met' asked'' met'' mid new
+        → Paces l s st types names r asked met asked'' met'' old new
     paces_on {r} q = record {
+      reach = q.reach;
+      within = λ all was more. q.within all (subst (λ a. AreAmong a all) p.after.0 (p.within all was more)) (λ name is. more name (some name is));
       more = p.more + q.more;
-      few = omega (arith, p.after.0, q.few);
+      sum = omega (arith, p.sum, q.sum, ap (asked_supers types) p.after.0);
       looked = looked_on _ r new on (pace_sum met met' p.more q.more p.after.1) kept p.looked q.looked;
-      after = grind (arith, p.after.0, p.after.1, q.after);
+      after = on_ok_weaker r (λ a. (a.0, omega (arith, p.after.1, a.1))) q.after;
     }
 
     -- where the second ends early, a call that gives its refusal
     pub paces_stopped : {e : AskRefusal} {Z : Type 0} (r : Result Z AskRefusal) → EndsEarly e → IsErrAnd r (λ f. f ≡ e)
-        → Paces {X = X} l s st types (Err e) asked' met' asked'' met'' mid new → Paces l s st types r asked met asked'' met'' old new
+        → Paces {X = X} l s st types names' (Err e) asked' met' asked'' met'' mid new → Paces l s st types names r asked met asked'' met'' old new
     paces_stopped (Ok z) ends told q = absurd told
     paces_stopped {e} {Z} (Err f) ends told q =
-        let h = paces_on q in
-        record { more = h.more; few = h.few; looked = looked_early l s st X Z (Err f) e old new told ends (omega arith) h.looked; after = tt }
+        let h = paces_on q in record {
+          reach = h.reach;
+          within = h.within;
+          more = h.more;
+          sum = h.sum;
+          looked = looked_early l s st X Z (Err f) e old new told ends (omega arith) h.looked;
+          after = tt;
+        }
 
-  -- all looks of a search
-  pub looks_few : {X Y : Type 0} {r' : Result Y AskRefusal} {r : Result X AskRefusal} {met' : ℕ} {old new : W}
-      (p : Paces l s st types r' asked 0 asked' met' old new)
-      → HasLooked l s st r ((0 % rows_a_look + p.more) / rows_a_look) old new → LooksFew l s st types r old new
-  looks_few p q = record { number = (0 % rows_a_look + p.more) / rows_a_look; few = omega (arith, p.few); looked = q }
+-- all looks of a search that asks for no other names than these
+module _ {W X : Type 0} {l s : W → ℕ} {st : W → W → Type 0} {types : List ListedType} {all asked : List (List ℕ)} {r : Result X AskRefusal} {met : ℕ}
+    {old new : W} (p : Paces l s st types all r [] 0 asked met old new) where
+  pub looks_few : (0 % rows_a_look + p.more) / rows_a_look ≤ asked_supers types all / rows_a_look
+  looks_few =
+      let among = p.within all (λ name is. absurd (false≢true is)) (λ name is. is) in
+      omega (arith, p.sum, asked_none types, asked_wider p.reach all among types)
+
+  -- it ended early
+  pub looks_some : {Y : Type 0} {e : AskRefusal} (r' : Result Y AskRefusal) → EndsEarly e → IsErrAnd r' (λ f. f ≡ e) → r ≡ Err e
+      → HasLooked l s st r' (asked_supers types all / rows_a_look) old new
+  looks_some {Y} {e} r' ends told is = looked_early l s st X Y r' e old new told ends looks_few (rw is at p.looked)
+
+-- and all of these in the end
+pub looks_all : {W X : Type 0} {l s : W → ℕ} {st : W → W → Type 0} {types : List ListedType} {all asked : List (List ℕ)} {x : X} {met : ℕ} {old new : W}
+    → Paces {X = X} l s st types all (Ok x) [] 0 asked met old new → ((other : List ℕ) → is_asked other asked ≡ is_asked other all)
+    → LooksThrough l s (asked_supers types all / rows_a_look) old new
+looks_all {l = l} {s} {types = types} {all} {asked} {old = old} {new} p same =
+    let sum : 0 % rows_a_look + p.more ≡ asked_supers types all =
+    omega (arith, p.sum, asked_none types, ap (asked_supers types) p.after.0, asked_same all asked same types) in
+    subst (λ n. LooksThrough l s (n / rows_a_look) old new) sum p.looked
 
 -- ---- replies, by what is found, and the first look before them
 
@@ -228,11 +312,7 @@ module _ {W : Type 0} {l s : W → ℕ} {st : W → W → Type 0} {world : World
   pub stopped_first : (X : Type 0) (e : AskRefusal) (r : Result Finding AskRefusal) (old new : W) → e ≡ Cancelled → IsErrAnd r (λ f. f ≡ e)
       → HasLooked {X = X} l s st (Err e) 1 old new → HasLookedFor l s st world query r old new
   stopped_first X e r old new is told q =
-      let some = elim (looks_after world query) as (λ looks. (later : ℕ) × AreLooks looks (1 + later)) [
-        | just later ↦ (later, refl)
-        | at_most later ↦ (0, (omega arith, omega arith))
-      ] in
-      record { number = 1 + some.0; may = some.1; looked = looked_early l s st X Finding r e old new told (rw is tt) (omega arith) q }
+      record { number = 1 + looks_after world query; may = refl; looked = looked_early l s st X Finding r e old new told (rw is tt) (omega arith) q }
 
   -- the first look saw nothing, and the question was replied to
   pub looked_first : {r : Result Finding AskRefusal} {old mid new : W} → ((x y z : W) → st x y → st y z → st x z) → st old mid

@@ -1,6 +1,7 @@
 -- What lists have, through a filter and a map, and lists in order.
 use Rattle.query_engine.proofs.Words.{◌≡◌, ◌≤◌, zero, suc, Bool, true, false, ◌&&◌, List, [], ◌∷◌, ◌++◌, map, length, filter, All, refl, ap, ◌∙◌, arith}
 use Rattle.query_engine.proofs.Words.{AllPairs, Contains, list_any, cond_both, get_or-map, length-map, All-head, All-tail, All-append, All-map, All-filter}
+use Rattle.query_engine.proofs.Words.{list_any_at, bytes_eq, bytes_eq-Decides, sym, ℕ, one_answer}
 use Rattle.query_engine.proofs.Words.{All-weaker, All-contains, All-contains_itself, filter_passes, Contains-append_right, AllPairs-cons}
 
 module _ {X : Type 0} where
@@ -38,6 +39,16 @@ module _ {X : Type 0} where
   filter_two p q [] = refl
   filter_two p q (x ∷ xs) = grind (arith, filter_two p q xs)
 
+-- one of a list passes a test
+pub any_of : {X : Type 0} (test : X → Bool) (xs : List X) (x : X) → Contains xs x → test x ≡ true → list_any test xs ≡ true
+any_of test xs x (k, inside, is) passes = list_any_at test xs k x inside (rw is passes)
+
+-- two names are the same either way
+pub bytes_eq_swap : (xs ys : List ℕ) → bytes_eq xs ys ≡ bytes_eq ys xs
+bytes_eq_swap xs ys =
+    one_answer (bytes_eq xs ys) (bytes_eq ys xs) (bytes_eq-Decides xs ys)
+    ((λ h. sym ((bytes_eq-Decides ys xs).0 h)), (λ h. (bytes_eq-Decides ys xs).1 (sym h)))
+
 module _ {X Y : Type 0} (f : X → Y) where
   -- a test of what is made of each
   pub filter_of_map : (p : Y → Bool) (xs : List X) → filter p (map f xs) ≡ map f (filter (λ x. p (f x)) xs)
@@ -48,6 +59,11 @@ module _ {X Y : Type 0} (f : X → Y) where
   pub any_made : (test : Y → Bool) (q : X → Bool) (xs : List X) → list_any test (map f (filter q xs)) ≡ list_any (λ x. q x && test (f x)) xs
   any_made test q [] = refl
   any_made test q (x ∷ xs) = grind (arith, any_made test q xs)
+
+  -- a test of what is made of each
+  pub any_map : (test : Y → Bool) (xs : List X) → list_any test (map f xs) ≡ list_any (λ x. test (f x)) xs
+  any_map test [] = refl
+  any_map test (x ∷ xs) = grind (arith, any_map test xs)
 
   pub has_map : (xs : List X) (x : X) → Contains xs x → Contains (map f xs) (f x)
   has_map xs x h = (h.0, rw length-map h.1, get_or-map f xs h.0 x (f x) h.1 ∙ ap f h.2)

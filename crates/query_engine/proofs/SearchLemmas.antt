@@ -7,15 +7,16 @@ pub use Rattle.query_engine.proofs.Words.{bytes_eq-Decides, has_super, names_any
 pub use Rattle.query_engine.proofs.Words.{IfSome, false≢true, cases_eq, ne_eqb, nil_from_length, filter-append, inheritors_of, Precedes, Seen, is_level}
 pub use Rattle.query_engine.proofs.Words.{with_this, tagged, LevelsRise, IsFound, map, All, nat_cmp, is_lt, World, LevelRow, AreAhead, stub_at, seen_listing}
 pub use Rattle.query_engine.proofs.Words.{seen_row, RowsRise, with_row_level, level_row, max_chars, IsLawfulList, listing_of, IsNamedIn, types_of, Java}
-pub use Rattle.query_engine.proofs.Words.{stubs_in, is_type, is_eq, rules, Ok, Paces}
+pub use Rattle.query_engine.proofs.Words.{stubs_in, is_type, is_eq, rules, Ok, Paces, AreAmong, asked_for, Contains, subst, and_parts, Any-from_list_any}
+pub use Rattle.query_engine.proofs.Words.{Contains-append_left, All-contains, All-map, All-filter, All-contains_itself, filter_passes, nat_tests, one_answer}
 use Rattle.std.specs.BTreeMap.{insert_entry}
 use Rattle.std.proofs.Math.Bool.{or-false, or_assoc}
-use Rattle.query_engine.proofs.MemberLemmas.{pairs_head, pairs_tail, filter_none, filter_two, filter_all, filter_few, filter_of_map}
+use Rattle.query_engine.proofs.MemberLemmas.{pairs_head, pairs_tail, filter_none, filter_two, filter_all, filter_few, filter_of_map, any_made, any_map, any_of}
+use Rattle.query_engine.proofs.MemberLemmas.{has_map, has_filter, filter_has, bytes_eq_swap}
 use Rattle.query_engine.specs.Inheritors.{levels_from}
 use Rattle.query_engine.proofs.LevelLemmas.{found_in, left_by, left_fewer, levels_sorted}
 use Rattle.std.specs.List.Sorted.{IsNonDecreasingBy, IsStableBy, ties}
 use Rattle.query_engine.proofs.FoundLemmas.{found_is, found_ahead as all_ahead, rise}
-use Rattle.std.specs.Bool.{one_answer}
 use Rattle.std.specs.Cmp.Lexicographic.{slice_cmp}
 use Rattle.std.specs.BTreeSet.{BTreeSet, Updates}
 use Rattle.std.proofs.lemmas.Map.Text.{is_eq-slice_cmp}
@@ -143,12 +144,18 @@ levels_enough (suc more) level names left few =
       | inr some ↦ levels_enough more (level + 1) (names_of (found_in names left)) (left_by names left) (omega (arith, left_fewer names left (omega arith)))
     ])
 
+-- the types that have a level
+abbrev pub found_by_now : (ListedType → Option ℕ) → List ListedType → List ListedType
+found_by_now levels types = filter (λ t. is_some (levels t)) types
+
 -- Before a level: what was found makes, with what the levels from here on give, all types that come from the name.
 pub record IsBefore (types : List ListedType) (name : List ℕ) (level : ℕ) (names : List (List ℕ)) (asked : List (List ℕ)) (seen : Seen) : Type 0 where
   pub levels : ListedType → Option ℕ
   pub is : seen ≡ leveled levels types
   pub lower : (t : ListedType) → IfSome (levels t) (λ l. l < level)
   pub none_more : (other : List ℕ) → is_asked other asked ≡ true → (t : ListedType) → has_super other t.1 ≡ true → is_some (levels t) ≡ true
+  pub known : (other : List ℕ)
+      → (is_asked other asked || is_asked other names) ≡ (bytes_eq other name || is_asked other (names_of (found_by_now levels types)))
   pub whole : (k : ℕ) → filter (λ found. found.0 == k) (inheritors_of name types)
       ≡ tagged k (with_this k levels types) ++ filter (λ found. found.0 == k) (levels_from (length types) level names (without levels types))
 
@@ -159,12 +166,27 @@ before_first types name = record {
   is = none types;
   lower = λ t. tt;
   none_more = λ other is. absurd (false≢true is);
+  known = λ other. rw (filter_none (λ (t : ListedType). false) (λ t. refl) types) refl;
   whole = λ k. rw (filter_none (λ (t : ListedType). false) (λ t. refl) types, filter_all types) refl;
 }
   where
     none : (ts : List ListedType) → [] ≡ leveled (λ t. None) ts
     none [] = refl
     none (t ∷ ts) = none ts
+
+-- names that were asked for one after another are asked for now
+asked_each : (types : List ListedType) (level : ℕ) (names : List (List ℕ)) (asked asked' : List (List ℕ)) (reached reached' : Reached)
+    → AskedEach types level names asked reached asked' reached' → (other : List ℕ) → is_asked other asked' ≡ (is_asked other names || is_asked other asked)
+asked_each types level [] asked asked' reached reached' (same, still) other = rw same refl
+asked_each types level (name ∷ names) asked asked' reached reached' (a, r, has, rest) other =
+    grind (arith, has.asks other, asked_each types level names a asked' r reached' rest other)
+
+-- the names of the types that have a level, when others have got one
+named_more : (F : ListedType → Option ℕ) (level : ℕ) (p : ListedType → Bool) (test : List ℕ → Bool) (ts : List ListedType)
+    → (list_any test (names_of (found_by_now F ts)) || list_any test (names_of (filter p (without F ts))))
+    ≡ list_any test (names_of (found_by_now (stepped F level p) ts))
+named_more F level p test [] = refl
+named_more F level p test (t ∷ ts) = grind (arith, common_steps, named_more F level p test ts)
 
 module _ {types : List ListedType} {name : List ℕ} {level : ℕ} {names asked : List (List ℕ)} {seen : Seen}
     (b : IsBefore types name level names asked seen) where
@@ -218,6 +240,10 @@ module _ {types : List ListedType} {name : List ℕ} {level : ℕ} {names asked 
         is = at.seen;
         lower = λ t. grind (arith, b.lower t);
         none_more = at.none_more;
+        known = λ other.
+            let each_of = asked_each types level names _ _ _ _ each other in
+            let more = named_more b.levels level (names_any names) (bytes_eq other) types in
+            grind (arith, b.known other, each_of, more, at.next (bytes_eq other));
         whole = λ k. rw (split reached'.next agree, filter-append, ← append_assoc, found_by k) at (b.whole k);
       }
 
@@ -228,6 +254,70 @@ levels_rise (x ∷ xs) sorted = (
   recursion_from_All (λ y. x.0 ≤ y.0) xs (λ k d inside. grind (arith, sorted 0 (suc k) d (omega arith) (omega arith))),
   levels_rise xs (λ i j d less inside. sorted (suc i) (suc j) d (omega arith) (omega arith)),
 )
+
+module _ {types : List ListedType} {name : List ℕ} {level : ℕ} {names asked : List (List ℕ)} {seen : Seen}
+    (b : IsBefore types name level names asked seen) where
+  -- a type that was found comes from the name
+  found_comes : (t : ListedType) → Contains types t → is_some (b.levels t) ≡ true → Contains (map (λ found. found.1) (inheritors_of name types)) t
+  found_comes t there found = at_level (b.levels t) refl
+    where
+      at_level : (o : Option ℕ) → b.levels t ≡ o → Contains (map (λ found. found.1) (inheritors_of name types)) t
+      at_level None is = absurd (false≢true (rw is at found))
+      at_level (Some k) is =
+          let fits : is_level k (b.levels t) ≡ true = rw is (grind (arith, nat_tests)) in
+          let here = has_map (λ (t : ListedType). (k, t)) _ t (has_filter (λ t. is_level k (b.levels t)) types t there fits) in
+          let among = subst (λ l. Contains {X = ℕ × ListedType} l (k, t)) (sym (b.whole k)) (Contains-append_left _ _ (k, t) here) in
+          has_map (λ (found : ℕ × ListedType). found.1) _ (k, t) (filter_has (λ found. found.0 == k) (inheritors_of name types) (k, t) among).0
+
+  -- and its name is among theirs
+  named_comes : (other : List ℕ) → is_asked other (names_of (found_by_now b.levels types)) ≡ true
+      → is_asked other (names_of (map (λ found. found.1) (inheritors_of name types))) ≡ true
+  named_comes other is =
+      let by_type = any_made (λ (t : ListedType). t.1.name) (bytes_eq other) (λ t. is_some (b.levels t)) types in
+      let (k, t, inside, at, both) = Any-from_list_any (λ t. is_some (b.levels t) && bytes_eq other t.1.name) types (sym by_type ∙ is) in
+      let (has, eq) = and_parts _ _ both in
+      any_of (bytes_eq other) _ t.1.name (has_map (λ (t : ListedType). t.1.name) _ t (found_comes t (k, inside, at) has)) eq
+
+  -- so the names that come next are those of such types, or the name itself
+  pub names_among : AreAmong names (asked_for name types)
+  names_among other is = grind (arith, b.known other, is, named_comes other)
+
+-- in the end the names of all types that come from the name were asked for
+pub all_asked : {types : List ListedType} {name : List ℕ} {level : ℕ} {asked : List (List ℕ)} {seen : Seen} → IsBefore types name level [] asked seen
+    → (other : List ℕ) → is_asked other asked ≡ is_asked other (asked_for name types)
+all_asked {types} {name} {level} {asked} b other =
+    let known : is_asked other asked ≡ (bytes_eq other name || is_asked other (names_of (found_by_now b.levels types))) =
+    grind (arith, b.known other) in
+    let same = one_answer (is_asked other (names_of (found_by_now b.levels types))) _ ((λ h. h), (λ h. h)) (named_found, named_comes b other) in
+    known ∙ ap (λ r. bytes_eq other name || r) same
+  where
+    level_there : (level : ℕ) (o : Option ℕ) → is_level level o ≡ true → is_some o ≡ true
+    level_there level None is = absurd (false≢true is)
+    level_there level (Some l) is = refl
+
+    -- what comes from the name was found
+    comes_found : (x : ℕ × ListedType) → Contains (inheritors_of name types) x → Contains types x.1 × (is_some (b.levels x.1) ≡ true)
+    comes_found x there =
+        let P = λ (f : ℕ × ListedType). Contains types f.1 × (is_some (b.levels f.1) ≡ true) in
+        let p = λ (t : ListedType). is_level x.0 (b.levels t) in
+        let whole : filter (λ found. found.0 == x.0) (inheritors_of name types) ≡ tagged x.0 (with_this x.0 b.levels types) =
+        rw (no_level (length types) level (without b.levels types), append-nil) at (b.whole x.0) in
+        let here = has_filter (λ found. found.0 == x.0) (inheritors_of name types) x there (grind (arith, nat_tests)) in
+        All-contains P _ x
+        (All-map P (λ t. (x.0, t)) (with_this x.0 b.levels types)
+        (λ i d inside. (All-filter p (Contains types) types (All-contains_itself types) i d inside, level_there x.0 _ (filter_passes p types i d inside))))
+        (subst (λ l. Contains l x) whole here)
+
+    named_found : is_asked other (names_of (map (λ found. found.1) (inheritors_of name types))) ≡ true
+        → is_asked other (names_of (found_by_now b.levels types)) ≡ true
+    named_found is =
+        let by_type = any_map (λ (t : ListedType). t.1.name) (bytes_eq other) (map (λ found. found.1) (inheritors_of name types)) in
+        let by_found = any_map (λ (f : ℕ × ListedType). f.1) (λ t. bytes_eq other t.1.name) (inheritors_of name types) in
+        let (k, x, inside, at, eq) = Any-from_list_any (λ (f : ℕ × ListedType). bytes_eq other f.1.1.name) (inheritors_of name types)
+        (sym by_found ∙ sym by_type ∙ is) in
+        let (there, has) = comes_found x (k, inside, at) in
+        any_made (λ (t : ListedType). t.1.name) (bytes_eq other) (λ t. is_some (b.levels t)) types
+        ∙ any_of (λ t. is_some (b.levels t) && bytes_eq other t.1.name) types x.1 there (rw (has, eq) refl)
 
 -- no name is left, and the search ends
 pub found_all : {types : List ListedType} {name : List ℕ} {level : ℕ} {asked : List (List ℕ)} {seen : Seen} → AllPairs StandsBefore types
@@ -320,6 +410,4 @@ pub asked_more : (name : Bor (List ℕ)) (old new : BTreeSet (Bor (List ℕ))) �
     → (other : List ℕ) → is_asked other (seen_names new.keys) ≡ (bytes_eq other name.now || is_asked other (seen_names old.keys))
 asked_more name old new updates other =
     let key : Bor (List ℕ) = record { ref_ptr = (0, 0); now = other } in
-    let swap = one_answer (bytes_eq name.now other) (bytes_eq other name.now) (bytes_eq-Decides name.now other)
-    ((λ h. sym ((bytes_eq-Decides other name.now).0 h)), (λ h. (bytes_eq-Decides other name.now).1 (sym h))) in
-    grind (arith, updates.0 key, is_eq-slice_cmp name.now other, swap, asked_is other old.keys, asked_is other new.keys)
+    grind (arith, updates.0 key, is_eq-slice_cmp name.now other, bytes_eq_swap name.now other, asked_is other old.keys, asked_is other new.keys)

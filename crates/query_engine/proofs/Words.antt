@@ -12,6 +12,9 @@ pub use Rattle.std.proofs.lemmas.List.Elements.{All-append, All-cons, All-contai
 pub use Rattle.std.proofs.lemmas.List.Elements.{All-weaker, Contains-append_left, Contains-append_right, filter-append, filter_passes, recursion_from_All}
 pub use Rattle.std.proofs.lemmas.List.Folds.{Any-from_list_any, list_any-append, list_any_at}
 pub use Rattle.std.proofs.lemmas.List.Kept.{AllPairs-cons, AllPairs-filter}
+pub use Rattle.std.proofs.lemmas.Bool.Decides.{nat_tests}
+pub use Rattle.std.proofs.lemmas.Result.{on_ok_weaker}
+pub use Rattle.std.specs.Bool.{one_answer}
 pub use Rattle.std.proofs.lemmas.Slice.Eq.{bytes_eq-Decides}
 pub use Rattle.std.specs.List.{AllByRecursion, AllPairs, Contains, flat_map, list_any}
 pub use Rattle.std.specs.Option.{option_map_or, option_or}
@@ -30,16 +33,16 @@ pub use Rattle.write_history.specs.World.{File, World, file_of, has_path, id_at,
 pub use Rattle.query_engine.specs.Fits.{has_super, is_class, is_method}
 pub use Rattle.query_engine.specs.Given.{GivesReply, RepliesTo, declared_reply}
 pub use Rattle.query_engine.specs.Inheritors.{EndsChain, IsChain, IsLeast, IsOnLevel, ListedType, Precedes, StandsBefore, inheritors_of, last_of, names_any}
-pub use Rattle.query_engine.specs.Inheritors.{names_of}
+pub use Rattle.query_engine.specs.Inheritors.{asked_for, asked_supers, each_once, is_asked, met_count, names_of}
 pub use Rattle.query_engine.specs.Leveled.{RowsRise, seen_listing, seen_row, with_row_level}
 pub use Rattle.query_engine.specs.Listed.{AreAhead, AreFrom, AreLive, IsListed, Listed, has_code, itself, listed_at, offset_in, path_at, place_found}
 pub use Rattle.query_engine.specs.Listed.{row_found, stub_at, text_at, uses_at, uses_found, word_found}
-pub use Rattle.query_engine.specs.Looks.{AreLooks, EndsEarly, HasLooked, HasLookedFor, LaterLooks, LooksThrough, MayLook, StopsUnseen, at_most, first_uses}
-pub use Rattle.query_engine.specs.Looks.{just, later_looks, looks_after, looks_at, rows_a_look}
-pub use Rattle.query_engine.specs.Paces.{LooksFew, Paces}
+pub use Rattle.query_engine.specs.Looks.{EndsEarly, HasLooked, HasLookedFor, LooksThrough, MayLook, StopsUnseen, first_uses, later_looks, looks_after}
+pub use Rattle.query_engine.specs.Looks.{looks_at, rows_a_look}
+pub use Rattle.query_engine.specs.Paces.{AreAmong, Paces}
 pub use Rattle.query_engine.specs.Reply.{NoAnswer, not_ready, level_row, of_files, of_world, place_row, reply, row_of, rows_in, types_in, types_of}
 pub use Rattle.query_engine.specs.Reply.{unless_unready, uses_in, word_in}
-pub use Rattle.query_engine.specs.Search.{AskedEach, HasAsked, IsFound, LevelsRise, Location, Reached, Seen, all_supers, asked_supers, is_asked, is_level}
+pub use Rattle.query_engine.specs.Search.{AskedEach, HasAsked, IsFound, LevelsRise, Location, Reached, Seen, is_level}
 pub use Rattle.query_engine.specs.Search.{is_seen, leveled, location_cmp, location_of, meet, meet_all, tagged, with_this}
 pub use Rattle.query_engine.specs.declared.answer.AskRefusal.{AskRefusal}
 pub use Rattle.query_engine.specs.declared.answer.AskRefusal.TheVariants.{Cancelled, NotReady, OutOfMemory}

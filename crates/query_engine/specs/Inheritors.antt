@@ -1,6 +1,8 @@
 -- The types that come from a name: those that name it behind `extends` or `implements`, those that name these, and so on.
-use Rattle.std.specs.Prelude.{ℕ, zero, suc, ◌≡◌, ◌≤◌, ◌<◌, ◌⊎◌, ◌+◌, Bool, true, not, List, [], ◌∷◌, ◌++◌, length, map, filter, Option, Some, None, All, Contains}
+use Rattle.std.specs.Prelude.{ℕ, zero, suc, ◌≡◌, ◌≤◌, ◌<◌, ◌⊎◌, ◌+◌, Bool, true, not, if◌then◌else◌, List, [], ◌∷◌, ◌++◌, length, map, filter}
+use Rattle.std.specs.Prelude.{Option, Some, None, All, Contains}
 use Rattle.std.specs.List.{list_any}
+use Rattle.std.specs.Str.{bytes_eq}
 use Rattle.stub_tree.specs.declared.stub.Stub.{Stub}
 use Rattle.query_engine.specs.Fits.{has_super}
 
@@ -61,3 +63,25 @@ StandsBefore t u = (t.0 < u.0) ⊎ ((t.0 ≡ u.0) × (t.1.at < u.1.at))
 -- one stands before the other: by level, then by file, then by offset
 abbrev pub Precedes : ℕ × ListedType → ℕ × ListedType → Type 0
 Precedes a b = (a.0 < b.0) ⊎ ((a.0 ≡ b.0) × StandsBefore a.1 b.1)
+
+-- the name is one of these
+abbrev pub is_asked : List ℕ → List (List ℕ) → Bool
+is_asked name asked = list_any (bytes_eq name) asked
+
+-- names, each of them once
+abbrev pub each_once : List (List ℕ) → List (List ℕ)
+each_once [] = []
+each_once (name ∷ names) = if is_asked name names then each_once names else name ∷ each_once names
+
+-- how many of some names these types have behind `extends` and `implements`, each type each name once
+abbrev pub asked_supers : List ListedType → List (List ℕ) → ℕ
+asked_supers [] asked = 0
+asked_supers (t ∷ types) asked = length (filter (λ name. is_asked name asked) (each_once t.1.supers)) + asked_supers types asked
+
+-- the names that a search for the types that come from a name asks for: the name itself, and the names of these types
+abbrev pub asked_for : List ℕ → List ListedType → List (List ℕ)
+asked_for name types = name ∷ names_of (map (λ found. found.1) (inheritors_of name types))
+
+-- How many types such a search meets: each type once for each of these names that it has behind `extends` or `implements`.
+abbrev pub met_count : List ℕ → List ListedType → ℕ
+met_count name types = asked_supers types (asked_for name types)

@@ -19,3 +19,4 @@ pub use Rattle.java_tokens.specs.Places
 pub use Rattle.property_index.specs.Keys
 pub use Rattle.ide_text.specs.Place
 pub use Rattle.action_lock.specs.Counts
+pub use Rattle.action_lock.specs.Polls

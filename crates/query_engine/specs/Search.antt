@@ -1,15 +1,15 @@
 -- A search for the types that come from a name, level by level.
-use Rattle.std.specs.Prelude.{ℕ, ◌≡◌, ◌≤◌, ◌+◌, ◌==◌, Bool, false, ◌||◌, if◌then◌else◌, List, [], ◌∷◌, ◌++◌, length, map, filter, Option, Some, None, is_some}
+use Rattle.std.specs.Prelude.{ℕ, ◌≡◌, ◌≤◌, ◌==◌, Bool, false, ◌||◌, if◌then◌else◌, List, [], ◌∷◌, ◌++◌, map, filter, Option, Some, None, is_some}
 use Rattle.std.specs.Option.{option_map_or}
 use Rattle.std.specs.declared.cmp.Ordering.{Ordering}
-use Rattle.std.specs.List.{list_any, fold, AllByRecursion}
+use Rattle.std.specs.List.{fold, AllByRecursion}
 use Rattle.std.specs.Map.{lookup}
 use Rattle.std.specs.Str.{bytes_eq}
 use Rattle.std.specs.Ordering.{nat_cmp, ordering_then}
 use Rattle.std.specs.BTreeMap.{insert_entry, is_at}
 use Rattle.stub_tree.specs.declared.stub.Stub.{Stub}
 use Rattle.query_engine.specs.Fits.{has_super}
-use Rattle.query_engine.specs.Inheritors.{ListedType, inheritors_of}
+use Rattle.query_engine.specs.Inheritors.{ListedType, inheritors_of, is_asked}
 
 -- where a declaration stands: a file's id and an offset
 abbrev pub Location : Type 0
@@ -46,10 +46,6 @@ meet level reached t =
 abbrev pub meet_all : ℕ → Reached → List ListedType → Reached
 meet_all level reached types = fold (meet level) reached types
 
--- the name is among those that were asked for
-abbrev pub is_asked : List ℕ → List (List ℕ) → Bool
-is_asked name asked = list_any (bytes_eq name) asked
-
 -- A name is asked for at a level, among these types: those that name it are met, and where it was asked for before, nothing happens.
 pub record HasAsked (types : List ListedType) (level : ℕ) (name : List ℕ) (asked : List (List ℕ)) (reached : Reached) (asked' : List (List ℕ)) (reached' : Reached) : Type 0 where
   pub asks : (other : List ℕ) → is_asked other asked' ≡ (bytes_eq other name || is_asked other asked)
@@ -60,16 +56,6 @@ abbrev pub AskedEach : List ListedType → ℕ → List (List ℕ) → List (Lis
 AskedEach types level [] asked reached asked' reached' = (asked' ≡ asked) × (reached' ≡ reached)
 AskedEach types level (name ∷ names) asked reached asked' reached' =
     (a : List (List ℕ)) × (r : Reached) × HasAsked types level name asked reached a r × AskedEach types level names a r asked' reached'
-
--- how many of the names behind `extends` and `implements` of these types were asked for
-abbrev pub asked_supers : List ListedType → List (List ℕ) → ℕ
-asked_supers [] asked = 0
-asked_supers (t ∷ types) asked = length (filter (λ name. is_asked name asked) t.1.supers) + asked_supers types asked
-
--- how many names stand behind `extends` and `implements` of these types
-abbrev pub all_supers : List ListedType → ℕ
-all_supers [] = 0
-all_supers (t ∷ types) = length t.1.supers + all_supers types
 
 -- a type at the front of what was found, where it has a level
 abbrev pub with_level : ListedType → Option ℕ → Seen → Seen

@@ -1,7 +1,7 @@
 //! The names whose types a search has asked for.
 ghost use Rattle.std.specs.Prelude.{◌≡◌, ◌||◌, not, ℕ, List, [], IfOk, OnOk};
 ghost use Rattle.std.specs.Str.{bytes_eq};
-ghost use Rattle.query_engine.specs.Search.{is_asked};
+ghost use Rattle.query_engine.specs.Inheritors.{is_asked};
 
 use ide_text::Name;
 use std::alloc::{AllocError, Global};

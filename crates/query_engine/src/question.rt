@@ -22,7 +22,8 @@ use queries::Query;
 use std::alloc::Global;
 
 /// Answers a question. It looks at the watch as it begins and after each 256 rows (for usages after each file of the
-/// answer), and ends where the watch sees that the work is to end.
+/// answer, for inheritors after each 256 types that the search meets), and ends where the watch sees that the work is to
+/// end.
 ///
 /// It costs the rows of the answer, and the texts of the files that they are of; the work of a status is constant.
 pub fn ask<W: Watch>(

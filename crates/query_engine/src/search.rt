@@ -1,10 +1,11 @@
 //! A search for the types that come from a name, level by level. Each name is asked for once.
-ghost use Rattle.std.specs.Prelude.{◌≡◌, ◌+◌, ◌/◌, ◌%◌, None, IfOk, IfErr, OnOk, length};
+ghost use Rattle.std.specs.Prelude.{◌≡◌, ◌+◌, ◌/◌, ◌%◌, ◌∷◌, [], None, IfOk, IfErr, OnOk, length};
 ghost use Rattle.write_history.specs.World.{lowest_unready};
+ghost use Rattle.query_engine.specs.Inheritors.{met_count};
 ghost use Rattle.query_engine.specs.Reply.{types_of};
 ghost use Rattle.query_engine.specs.Looks.{rows_a_look, HasLooked, EndsEarly};
 ghost use Rattle.query_engine.specs.Search.{meet_all, HasAsked, AskedEach, IsFound};
-ghost use Rattle.query_engine.specs.Paces.{Paces, LooksFew};
+ghost use Rattle.query_engine.specs.Paces.{Paces};
 
 use crate::answer::AskRefusal;
 use crate::asked_names::AskedNames;
@@ -39,8 +40,8 @@ pub(crate) fn search_types<'a, W: Watch>(
     ensures stays { W.stays watch.old watch.new }
     ensures found { IfOk result
         (λ reached. IsFound (types_of state.now.world) name.now reached.seen) }
-    ensures looked { LooksFew W.looks W.sightings W.stays
-        (types_of state.now.world) result watch.old watch.new }
+    ensures looked { HasLooked W.looks W.sightings W.stays result
+        (met_count name.now (types_of state.now.world) / rows_a_look) watch.old watch.new }
     ensures early { IfErr result EndsEarly }
 {
     offsets_rise();
@@ -83,8 +84,8 @@ fn ask_each<'a, W: Watch>(
         (types_of state.now.world) level names.entry.items search.old.asked search.old.reached
         search.new.asked search.new.reached) }
     ensures paced { Paces W.looks W.sightings W.stays
-        (types_of state.now.world) result search.old.asked search.old.met search.new.asked
-        search.new.met watch.old watch.new }
+        (types_of state.now.world) names.entry.items result search.old.asked search.old.met
+        search.new.asked search.new.met watch.old watch.new }
     ensures early { IfErr result EndsEarly }
 {
     for name in names {
@@ -110,8 +111,8 @@ fn ask_types<'a, W: Watch>(
         (types_of state.now.world) level name.now search.old.asked search.old.reached
         search.new.asked search.new.reached) }
     ensures paced { Paces W.looks W.sightings W.stays
-        (types_of state.now.world) result search.old.asked search.old.met search.new.asked
-        search.new.met watch.old watch.new }
+        (types_of state.now.world) (name.now ∷ []) result search.old.asked search.old.met
+        search.new.asked search.new.met watch.old watch.new }
     ensures early { IfErr result EndsEarly }
 {
     if search.asked.add(name)? {

@@ -7,6 +7,7 @@ mod questions;
 mod renewing;
 mod shared;
 mod threads;
+mod tickets;
 
 pub use ide_calls::{
     ChangeRefusal, GroupChangeRefusal, Replied, Reply, SettleRefusal, SoftAskRefusal, Stepped,
@@ -15,3 +16,4 @@ pub use ide_calls::{
 pub use index_workers::{End, IdePass, Worked, laws};
 pub use shared::SharedIde;
 pub use threads::may_go_to_threads;
+pub use tickets::IdeTicket;

@@ -1,8 +1,7 @@
 //! Questions about the shared workspace.
 ghost use Rattle.std.specs.Prelude.{◌≡◌, ◌<◌, IfOk, IfErr, OnOk};
-ghost use Rattle.action_lock.specs.Reads.{HasChecked};
 ghost use Rattle.ide_calls.specs.Replied.{HasReplied};
-ghost use Rattle.ide_calls.specs.SoftRefusal.{IsSoftlyRefused};
+ghost use Rattle.ide_calls.specs.SoftRefusal.{HasGivenWay, IsSoftlyRefused};
 ghost use Rattle.index_workers.specs.Passes.{ide_view};
 ghost use Rattle.shared_ide.specs.Passes.{IsIdePassOf, Continues};
 
@@ -35,7 +34,8 @@ impl SharedIde {
     }
 
     /// Answers a question as `ask` does, but gives way to writes: an attempt that sees that one waits ends, and after
-    /// `attempts` of them the call ends too. An answer comes from a read that looked whether one waits. May block.
+    /// `attempts` of them the call ends too; between two of them it waits for the write that it gave way to, 100 milliseconds at most. An answer
+    /// comes from a read that looked whether a write waits as often as the question owes (`looks_after`), and saw none. May block.
     pub fn soft_ask<R: Wait, G: Gate>(
         &self,
         rt: &R,
@@ -50,8 +50,9 @@ impl SharedIde {
         ensures pass { Continues self.now pass.old pass.new }
         ensures mine { (ide_view pass.new).mine ≡ (ide_view pass.old).mine }
         ensures ok { IfOk result (HasReplied (ide_view pass.old) (ide_view pass.new) query.now) }
-        ensures looked { OnOk result (HasChecked (ide_view pass.old) (ide_view pass.new)) }
-        ensures cancelled { IfErr result
+        ensures gave_way { OnOk result
+            (HasGivenWay attempts query.now (ide_view pass.old) (ide_view pass.new)) }
+        ensures refused { IfErr result
             (IsSoftlyRefused (ide_view pass.old) (ide_view pass.new) attempts) }
         ensures hints { pass.new.queue ≡ pass.old.queue }
     {

@@ -1,5 +1,5 @@
 //! New shares for the readers of the shared workspace.
-ghost use Rattle.std.specs.Prelude.{◌≡◌};
+ghost use Rattle.std.specs.Prelude.{◌≡◌, ◌+◌};
 ghost use Rattle.index_workers.specs.Passes.{ide_view};
 ghost use Rattle.shared_ide.specs.Passes.{IsIdePassOf, Continues};
 
@@ -15,6 +15,7 @@ impl SharedIde {
         requires { IsIdePassOf self.now pass.old }
         ensures pass { Continues self.now pass.old pass.new }
         ensures mine { (ide_view pass.new).mine ≡ (ide_view pass.old).mine }
+        ensures wrote { (ide_view pass.new).writes ≡ (ide_view pass.old).writes + 1 }
         ensures hints { pass.new.queue ≡ pass.old.queue }
     {
         ide_calls::renew(rt, &self.lock, &mut pass.lock);

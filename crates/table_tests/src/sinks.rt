@@ -36,7 +36,7 @@ fn tell_room(alloc: Global, room: usize, out: &mut String) -> Result<(), AllocEr
 
 /// Writes by a writer of std.
 fn tell_writer(alloc: Global, out: &mut String) -> Result<(), AllocError> {
-    let mut sink = WriterSink::new(Vec::new(alloc));
+    let mut sink = WriterSink::telling(Vec::new(alloc));
     let outcome = write_all(&mut sink, DIGITS.as_bytes());
     push_outcome(out, outcome, &sink.writer)
 }

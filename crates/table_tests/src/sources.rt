@@ -12,7 +12,7 @@ pub fn tell(alloc: Global, line: &str, out: &mut String) -> Result<(), AllocErro
         ("limit", limit) => tell_limit(alloc, number_of(limit) as usize, out),
         ("fails", call) => tell_fault(alloc, u64::from(number_of(call)), out),
         _ => {
-            let mut reader = ReaderSource::new(DIGITS.as_bytes());
+            let mut reader = ReaderSource::telling(DIGITS.as_bytes());
             push_outcome(out, &read_all(alloc, &mut reader, 10))
         }
     }

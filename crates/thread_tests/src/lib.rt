@@ -15,6 +15,8 @@ mod drawn;
 #[cfg(test)]
 mod faults;
 #[cfg(test)]
+mod gate;
+#[cfg(test)]
 mod judging;
 #[cfg(test)]
 mod lanes;

@@ -2,6 +2,7 @@
 use crate::crossing::are_crossings_right;
 use crate::damaged::are_counted;
 use crate::faults::{fault_of_lanes, fault_of_sessions};
+use crate::gate::ends_with_its_lanes;
 use crate::misfits::fault_of_misfits;
 use crate::parts::is_played_in_parts;
 use crate::running::{Drawn, fault_of_mistakes, fault_of_scenes, wrong_seed};
@@ -29,6 +30,13 @@ fn lanes_and_workers_that_meet(rt: HostRuntime) -> Result<(), Fail> {
 #[test]
 fn parsed_played_and_printed(rt: HostRuntime) -> Result<(), Fail> {
     assert!(rt; is_played_in_parts(&rt, rt.alloc())?);
+    Ok(())
+}
+
+/// Workers with nothing to do go on until all lanes have ended.
+#[test]
+fn the_gate_ends_with_its_lanes(rt: HostRuntime) -> Result<(), Fail> {
+    assert!(rt; ends_with_its_lanes(&rt, rt.alloc())?);
     Ok(())
 }
 

@@ -8,6 +8,7 @@ pub use Rattle.transcript_check.proofs.Words.{bytes_eq-Decides, Command, Loaded,
 pub use Rattle.transcript_check.proofs.Words.{given_up, not, tells_given_up, or_cases, not-true, is_told_here, told_from, made_from, ◌&&◌, ◌⊎◌, eqb, same_Some}
 pub use Rattle.transcript_check.proofs.Words.{fold, both_ways, and_parts, cases_lt, cases_Bool, told, append-nil, filter-append, list_refusal, CommandStep}
 pub use Rattle.transcript_check.proofs.Words.{made_by, Cursor, is_nil, NextEntry, is_settle, made_by_line, Nothing}
+use Rattle.transcripts.specs.Counts.{counted_by}
 use Rattle.std.specs.Str.Parse.{AllDigits, digits_value_after}
 use Rattle.std.specs.Char.{digit_value}
 use Rattle.std.proofs.lemmas.Fmt.{decimal_is_IsNumeral}
@@ -136,9 +137,9 @@ section_of_texts {seat = seat} sights (was_done {line = line} start made later l
     )
 section_of_texts {beside} {history} {seat} {len} sights (was_given_up {line = line} {text = text} is told fits) =
     let (attempts, query, soft, gave) = gave_up seat line.number line.command text told in
-    let (records, high, rest, are) = section_of_texts (sights + attempts) fits in
-    let answer : Answer = Cancelled (record { seat = seat; attempts = attempts; before = sights; after = sights + attempts }) in
-    let given : Fits beside history seat line Nothing (record { seen = len; sights = sights }) [] answer (record { seen = len; sights = sights + attempts }) =
+    let after : ℕ = counted_by attempts sights in let (records, high, rest, are) = section_of_texts after fits in
+    let answer : Answer = Cancelled (record { seat = seat; attempts = attempts; before = sights; after = after }) in
+    let given : Fits beside history seat line Nothing (record { seen = len; sights = sights }) [] answer (record { seen = len; sights = after }) =
     inr (is, search (rules, soft)) in
     (record { seat = seat; line = line.number; answer = answer } ∷ records, high, search (rules, given, rest), λ i. gave i ∷ are i)
 

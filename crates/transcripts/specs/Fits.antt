@@ -1,7 +1,7 @@
 -- What the records of a run say of a history that others write too: each command was done behind a prefix of it.
 use Rattle.std.specs.Prelude.{ℕ, suc, ◌≡◌, ◌+◌, ◌≤◌, ◌⊎◌, nat_lt, Bool, true, false, List, [], ◌∷◌, ◌++◌, length, All, None}
 use Rattle.list_laws.specs.Prefixes.{IsPrefix}
-use Rattle.action_lock.specs.Counts.{HasRisenBy}
+use Rattle.action_lock.specs.Counts.{counted_by}
 use Rattle.action_lock.specs.Rule.{entries_of}
 use Rattle.write_history.specs.declared.entry.Entry.{Entry}
 use Rattle.write_history.specs.World.{lowest_unready}
@@ -41,8 +41,8 @@ pub record IsDone (history : List Entry) (seat : ℕ) (line : Line) (load : Load
   pub seen : high.seen ≡ length (start ++ own)
   pub sights : low.sights ≤ high.sights
 
--- The soft question of a line was given up: it has found that a write waits at least as often as it was allowed attempts, or its count stands
--- at the last value; nothing was made
+-- The soft question of a line was given up: it has found that a write waits as often as it was allowed attempts, or its count stands at the
+-- last value; nothing was made
 pub record IsGivenUp (seat : ℕ) (line : Line) (low : Progress) (own : List Entry) (answer : Answer) (high : Progress) : Type 0 where
   pub attempts : ℕ
   pub query : Query
@@ -53,7 +53,7 @@ pub record IsGivenUp (seat : ℕ) (line : Line) (low : Progress) (own : List Ent
   pub seat_is : sighted.seat ≡ seat
   pub allowed : sighted.attempts ≡ attempts
   pub before : low.sights ≤ sighted.before
-  pub risen : HasRisenBy attempts sighted.before sighted.after
+  pub risen : sighted.after ≡ counted_by attempts sighted.before
   pub seen : high.seen ≡ low.seen
   pub sights : high.sights ≡ sighted.after
 

@@ -9,6 +9,7 @@ pub mod Transcript
 pub mod Play
 -- What these cite from below: scripts, answers, and the history
 pub use Rattle.list_laws.specs.Prefixes
+pub use Rattle.action_lock.specs.Counts
 pub use Rattle.script_lang.specs.Grammar
 pub use Rattle.query_engine.specs.Reply
 pub use Rattle.query_engine.specs.Inheritors

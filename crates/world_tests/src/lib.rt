@@ -7,6 +7,8 @@ mod asked;
 #[cfg(test)]
 mod calls;
 #[cfg(test)]
+mod counted;
+#[cfg(test)]
 mod courses;
 #[cfg(test)]
 mod kinds;
@@ -18,3 +20,5 @@ mod looks;
 mod reach;
 #[cfg(test)]
 mod tests;
+#[cfg(test)]
+mod yielding;

@@ -1,4 +1,7 @@
 //! How often a question looks while it is answered, and where it is stopped.
+ghost use Rattle.std.specs.Prelude.{◌≡◌, true, IfOk};
+ghost use Rattle.write_history.specs.Changes.{is_edit};
+
 use crate::asked::{Asked, extension_of, query_of, row_count};
 use crate::calls::{put, share_of, text_of};
 use crate::late::late_intake;
@@ -73,16 +76,27 @@ fn add(
     line: &str,
     count: u32,
 ) -> Result<(), AllocError> {
+    put(alloc, home, file_of_lines(alloc, path, line, count)?)?;
+    Ok(())
+}
+
+/// The change that makes a file with so many times this line.
+pub fn file_of_lines(
+    alloc: Global,
+    path: Name,
+    line: &str,
+    count: u32,
+) -> Result<Change, AllocError>
+    ensures { IfOk result (λ change. is_edit change ≡ true) }
+{
     let mut text = String::new(alloc);
     for _ in 0..count {
         text.push_str(line)?;
     }
-    let change = Change::Create {
+    Ok(Change::Create {
         path,
         text: text_of(alloc, &text)?,
-    };
-    put(alloc, home, change)?;
-    Ok(())
+    })
 }
 
 /// Adds how often the question looks, and how many rows it gives, with a watch that sees nothing; and the same with one

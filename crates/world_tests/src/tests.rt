@@ -1,7 +1,10 @@
 //! What courses come to.
-use crate::asked::Asked;
+use crate::asked::{Asked, query_of};
 use crate::calls::Edit;
 use crate::courses::{Course, told};
+use crate::looks::file_of_lines;
+use crate::yielding::{Told, asked_beside};
+use ide_text::Name;
 use std::test::Fail;
 
 /// Courses, and what they come to.
@@ -337,6 +340,70 @@ static COURSES: [(Course, &str); 32] = [
 fn courses(rt: HostRuntime) -> Result<(), Fail> {
     for (course, wanted) in &COURSES {
         assert_eq!(rt; told(rt.alloc(), *course)?.as_str(), *wanted);
+    }
+    Ok(())
+}
+
+/// A question about a file with so many times a line, asked of a workspace under the lock while a write is announced behind this look, if it
+/// isn't 0, and how often it looks and how many rows it gives.
+struct Beside {
+    line: &'static str,
+    count: u32,
+    asked: Asked,
+    announced_at: u64,
+    wanted: Told,
+}
+
+/// A question looks once and after each 256 rows or types, also under the lock; the first look behind the announcement is its last.
+static BESIDE: [Beside; 5] = [
+    Beside {
+        line: "class N {}\n",
+        count: 20_000,
+        asked: Asked::Class("N"),
+        announced_at: 0,
+        wanted: (79, Some(20_000)),
+    },
+    Beside {
+        line: "class N {}\n",
+        count: 20_000,
+        asked: Asked::Class("N"),
+        announced_at: 40,
+        wanted: (41, None),
+    },
+    Beside {
+        line: "class T extends N {}\n",
+        count: 600,
+        asked: Asked::Inheritors("N"),
+        announced_at: 0,
+        wanted: (3, Some(600)),
+    },
+    Beside {
+        line: "class T extends N {}\n",
+        count: 600,
+        asked: Asked::Inheritors("N"),
+        announced_at: 1,
+        wanted: (2, None),
+    },
+    Beside {
+        line: "class T extends N {}\n",
+        count: 600,
+        asked: Asked::Inheritors("N"),
+        announced_at: 2,
+        wanted: (3, None),
+    },
+];
+
+#[test]
+fn questions_end_at_the_look_that_sees_a_write(rt: HostRuntime) -> Result<(), Fail> {
+    let alloc = rt.alloc();
+    for beside in &BESIDE {
+        let path = Name::of(alloc, "A.java")?;
+        let change = file_of_lines(alloc, path, beside.line, beside.count)?;
+        let query = query_of(alloc, beside.asked)?;
+        match asked_beside(&rt, alloc, change, &query, beside.announced_at) {
+            Ok(told) => assert_eq!(rt; told, Some(beside.wanted)),
+            Err((_lock, _pass)) => panic!(rt; "the second pass has been met"),
+        }
     }
     Ok(())
 }

@@ -1,11 +1,10 @@
-use Rattle.std.proofs.Common.{◌≡◌, ◌≤◌}
-use Rattle.action_lock.specs.Counts.{counted}
+use Rattle.std.proofs.Common.{◌≡◌, ◌+◌}
+use Rattle.action_lock.specs.Polls.{LooksThrough}
 use Rattle.lock_tests.proofs.count.sees_within.Given as goal
 
-abbrev pub invariant-loop : goal.invariant-loop
-invariant-loop g l = record {
+abbrev pub invariant-loop-looks : goal.invariant-loop-looks
+invariant-loop-looks g l = record {
   can : g.W.Watch.can_look l.watch;
   stays : g.W.Watch.stays l.fn.watch l.watch;
-  looked : counted (g.W.Watch.looks l.fn.watch) ≤ g.W.Watch.looks l.watch;
-  unseen : g.W.Watch.sightings l.watch ≡ g.W.Watch.sightings l.fn.watch;
+  looked : LooksThrough g.W.Watch.looks g.W.Watch.sightings (l.looks + 1) l.fn.watch l.watch;
 }

@@ -8,23 +8,23 @@ do_group-requires-clause-edits g c = rw c.in_ok-copy-in-Group.ensures (rw c.in-G
 
 pub returns-in_ok-copy-in-Change-clause-answer : goal.returns-in_ok-copy-in-Change-clause-answer
 returns-in_ok-copy-in-Change-clause-answer g c =
-    line_done _ _ _ _ _ _ _ (c.in-Change.is ∙ ap command.Change (sym c.in_ok-copy-in-Change.ensures)) refl c.do_change.ensures.answer
+    line_done _ _ _ _ _ _ _ (c.in-Change.is ∙ ap command.Change (sym c.in_ok-copy-in-Change.ensures)) tt c.do_change.ensures.answer
 
 pub returns-in_ok-copy-in-Group-clause-answer : goal.returns-in_ok-copy-in-Group-clause-answer
 returns-in_ok-copy-in-Group-clause-answer g c =
-    line_done _ _ _ _ _ _ _ (c.in-Group.is ∙ ap command.Group (sym c.in_ok-copy-in-Group.ensures)) refl c.do_group.ensures.answer
+    line_done _ _ _ _ _ _ _ (c.in-Group.is ∙ ap command.Group (sym c.in_ok-copy-in-Group.ensures)) tt c.do_group.ensures.answer
 
 pub returns-in-Load-clause-answer : goal.returns-in-Load-clause-answer
-returns-in-Load-clause-answer g c = line_done _ _ _ _ _ _ _ c.in-Load.is refl c.do_load.ensures.answer
+returns-in-Load-clause-answer g c = line_done _ _ _ _ _ _ _ c.in-Load.is tt c.do_load.ensures.answer
 
 pub returns-in-Settle-clause-answer : goal.returns-in-Settle-clause-answer
-returns-in-Settle-clause-answer g c = line_done _ _ _ _ _ _ _ c.in-Settle.is refl c.do_settle.ensures.answer
+returns-in-Settle-clause-answer g c = line_done _ _ _ _ _ _ _ c.in-Settle.is tt c.do_settle.ensures.answer
 
 pub returns-in-Ask-clause-answer : goal.returns-in-Ask-clause-answer
-returns-in-Ask-clause-answer g c = line_done _ _ _ _ _ _ _ c.in-Ask.is refl c.do_ask.ensures.answer
+returns-in-Ask-clause-answer g c = line_done _ _ _ _ _ _ _ c.in-Ask.is tt c.do_ask.ensures.answer
 
 pub returns-in-Soft-clause-answer : goal.returns-in-Soft-clause-answer
 returns-in-Soft-clause-answer g c = line_softly _ _ _ _ _ _ _ _ c.if-beside.true c.in-Soft.is c.do_soft_ask.ensures.answer
 
 pub returns-in-Soft-2-clause-answer : goal.returns-in-Soft-2-clause-answer
-returns-in-Soft-2-clause-answer g c = line_done _ _ _ _ _ _ _ c.in-Soft-2.is c.if-beside.false c.do_ask-in-Soft-2.ensures.answer
+returns-in-Soft-2-clause-answer g c = line_done _ _ _ _ _ _ _ c.in-Soft-2.is (rw c.if-beside.false tt) c.do_ask-in-Soft-2.ensures.answer

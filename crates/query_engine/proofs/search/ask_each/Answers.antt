@@ -1,5 +1,5 @@
-use Rattle.query_engine.proofs.Words.{length, refl, ap, sym, le_refl, ◌∙◌, arith, rules, nil_from_length, types_of, asked_supers}
-use Rattle.query_engine.proofs.LookLemmas.{paces_none, paces_on, paces_stopped}
+use Rattle.query_engine.proofs.Words.{length, refl, ap, sym, ◌∙◌, arith, rules, nil_from_length}
+use Rattle.query_engine.proofs.LookLemmas.{first_among, rest_among, paces_none, paces_on, paces_stopped}
 use Rattle.query_engine.proofs.search.ask_each.Goals as goal
 
 pub loop-name-init : goal.loop-name-init
@@ -7,7 +7,8 @@ loop-name-init g c = record {
   can = c.requires.can;
   stays = g.met.W.Watch.stays_itself c.args.watch.now;
   each = λ asked' reached' h. rw c.into_iter-name-iterator.ensures.into_iter_gives.0 at h;
-  paced = paces_none (le_refl (asked_supers (types_of c.args.state.now.world) c.args.search.now.asked));
+  paced = paces_none (λ other. refl);
+  left = rw c.into_iter-name-iterator.ensures.into_iter_gives.0 (λ name is. is);
   long = search rules;
 }
 
@@ -19,14 +20,17 @@ loop-name-preserved g c =
       stays = g.met.W.Watch.stays_on _ _ _ c.loop-name.invariant.stays c.ask_types.ensures.stays;
       each = λ asked' reached' h. c.loop-name.invariant.each asked' reached'
           (rw c.in-Some.ensures.steps.0 (now.asked, now.reached, rw c.name.ensures at c.in_ok-ask_types.ensures.asked, h));
-      paced = paces_on g.met.W.Watch.stays_on c.loop-name.invariant.stays c.loop-name.invariant.paced c.in_ok-ask_types.ensures.paced;
+      paced = paces_on g.met.W.Watch.stays_on c.loop-name.invariant.stays c.loop-name.invariant.paced
+          (first_among c.args.names.items c.in-Some.ensures.steps.0 c.loop-name.invariant.left) (rw c.name.ensures at c.in_ok-ask_types.ensures.paced);
+      left = rest_among c.args.names.items c.in-Some.ensures.steps.0 c.loop-name.invariant.left;
       long = omega (arith, c.loop-name.invariant.long, ap length c.in-Some.ensures.steps.0, c.in-Some.ensures.steps.1);
     }
 
 pub returns-in_err-ask_types-clause-paced : goal.returns-in_err-ask_types-clause-paced
 returns-in_err-ask_types-clause-paced g c =
-    paces_stopped g.met.W.Watch.stays_on c.loop-name.invariant.stays c.loop-name.invariant.paced c.from_residual.result c.in_err-ask_types.ensures.early
-    c.from_residual.ensures.1 c.in_err-ask_types.ensures.paced
+    paces_stopped g.met.W.Watch.stays_on c.loop-name.invariant.stays c.loop-name.invariant.paced
+    (first_among c.args.names.items c.in-Some.ensures.steps.0 c.loop-name.invariant.left) c.from_residual.result c.in_err-ask_types.ensures.early
+    c.from_residual.ensures.1 (rw c.name.ensures at c.in_err-ask_types.ensures.paced)
 
 pub returns-clause-each : goal.returns-clause-each
 returns-clause-each g c =

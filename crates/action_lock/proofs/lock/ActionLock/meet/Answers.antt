@@ -14,5 +14,5 @@ load-requires g c = let numbered = ap (λ m. m.0.number) c.join_seat.ensures.2 �
 -- what the other knows is the second of the lists that the join left to be told
 pub returns-clause-learns : goal.returns-clause-learns
 returns-clause-learns g c = let w = c.args.other.seat.me.0 in
-    let olds = subst (All (λ old. IsPrefix old c.join_seat.new.seat.me.0.seen)) (ap (λ m. m.0.olds) c.join_seat.ensures.2) c.load.ensures.2.1 in
-    subst (IsPrefix w.seen) (sym (ap (λ m. m.0.seen) c.load.ensures.2.0)) (olds 1 w.seen (omega arith))
+    let olds = subst (All (λ old. IsPrefix old c.join_seat.new.seat.me.0.seen)) (ap (λ m. m.0.olds) c.join_seat.ensures.2) c.load.ensures.2.2 in
+    subst (IsPrefix w.seen) (sym (ap (λ m. m.0.seen) c.load.ensures.2.1)) (olds 1 w.seen (omega arith))

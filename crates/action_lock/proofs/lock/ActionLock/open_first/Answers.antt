@@ -1,4 +1,4 @@
-use Rattle.action_lock.proofs.RuleLemmas.{◌≡◌, [], ◌∷◌, ap, ◌∙◌, sym, subst, rules, Home, Empty, HasNoHome, MayKeep, in_front, front_same, hand_two}
+use Rattle.action_lock.proofs.RuleLemmas.{◌≡◌, [], ◌∷◌, ap, ◌∙◌, sym, subst, rules, Home, Empty, HasNoHome, MayKeep, in_front, front_same, may_keep, hand_two}
 use Rattle.action_lock.proofs.RuleLemmas.{other_in_front, both_set}
 use Rattle.action_lock.proofs.lock.ActionLock.open_first.Goals as goal
 
@@ -21,5 +21,6 @@ end-requires g c = let home = c.args.home in let kept = c.kept_of-kept.result in
     let after = sym (both_set (c.requires.shuts.hand_is ∙ hand_two _ _ own) c.exchange.ensures.3 c.turn.ensures.2 c.exchange-2.ensures.3) in
     let hand = subst (λ m. m.1 ≡ (m.0.places, Home home) ∷ (0, kept) ∷ []) after (ap (λ n. (n, Home home) ∷ (0, kept) ∷ []) own) in
     let stood = subst (λ m. g.H.Home.stands home m.0.seen) after c.requires.stands in
-    let may = subst (λ m. MayKeep g.H.Home.share_stands m.0.seen kept) after (c.kept_of-kept.ensures _ c.requires.stands) in
+    let may = subst (λ m. MayKeep g.H.Home.share_stands m.0.seen kept) after (subst (MayKeep g.H.Home.share_stands _) (sym c.kept_of-kept.ensures)
+    (may_keep g.H.Home.stands _ c.args.home _ c.share-made.result c.share-made.ensures c.requires.stands)) in
     (home, kept, stood, may, search (rules, hand))

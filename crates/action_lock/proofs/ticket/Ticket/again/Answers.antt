@@ -1,0 +1,5 @@
+use Rattle.action_lock.proofs.RuleLemmas.{rules, tickets}
+use Rattle.action_lock.proofs.ticket.Ticket.again.Goals as goal
+
+pub split_seat-requires : goal.split_seat-requires
+split_seat-requires g c = (c.requires.table, search rules, tickets _ _ _ _ _ _)
